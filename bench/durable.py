@@ -1,5 +1,5 @@
 #!/usr/bin/env python3
-"""Measures what it costs to keep what is told, and prints two tables.
+"""Measures what it costs to keep what is told, and prints three tables.
 
     bench/durable.py [PROGRAM [KEEPER]]
 
@@ -9,7 +9,8 @@ that. Each figure is the best of five rounds and, behind the stroke, their media
 TMPDIR, so its disk is the one that is measured. Then a folder of a million changes is opened.
 
 Of KEEPER, below the host of `./zk serve --data`, creates and gets a second are counted as bench/serve.py does, over one server.
-Debian's ZooKeeper takes turns with it where it is installed, with its log synced, on the same disk.
+Debian's ZooKeeper takes turns with it where it is installed, with its log synced, on the same disk. The last table is that of
+bench/folders.py: folders that are compacted, opened, and shortened beneath load.
 """
 import os
 import shutil
@@ -24,6 +25,7 @@ import zlib
 sys.dont_write_bytecode = True
 HERE = os.path.dirname(os.path.abspath(__file__))
 sys.path[:0] = [HERE, f"{HERE}/../tools"]
+import folders  # noqa: E402
 import programs  # noqa: E402
 import serve  # noqa: E402
 import serving  # noqa: E402
@@ -216,6 +218,8 @@ def main():
     with tempfile.TemporaryDirectory(prefix="durable-") as room:
         told_lines(found[0], room)
         told_requests(found[1], room)
+        print()
+        folders.told_folders(found[1], room)
 
 
 if __name__ == "__main__":

@@ -53,6 +53,11 @@ __all__ = [
 
 DONE, PENDING, MEMORY, NO_SERVERS = range(4)
 MAX_NUMBER = 2**62 - 1
+MAX_SERVERS = 16
+MAX_CLIENTS = 32
+# The words of processes: the master, the servers and the clients.
+PROCESSES = frozenset(("m", *(f"s{server}" for server in range(1, MAX_SERVERS + 1)),
+                       *(f"c{client}" for client in range(MAX_CLIENTS))))
 MAX_DATA = 65536
 MAX_TTL = 1 << 20
 # The bytes of a buffer for answers; a longer answer has one of its own.
@@ -311,16 +316,17 @@ def _session(value: Any) -> bytes:
 
 
 def _server(value: Any) -> bytes:
-    return b"s" + _number(value, "a server", 1, 16)
+    return b"s" + _number(value, "a server", 1, MAX_SERVERS)
 
 
 def _process(value: Any) -> bytes:
     """The word of a process: m, s1 to s16, c0 to c31."""
     if not isinstance(value, str):
         raise TypeError(f"a process is a str, not {type(value).__name__}")
-    if not re.fullmatch(r"m|s([1-9]|1[0-6])|c([0-9]|[12][0-9]|3[01])", value):
+    word = str.__str__(value)
+    if word not in PROCESSES:
         raise ValueError(f"a process is m, s1 to s16 or c0 to c31, not {value!r}")
-    return str.__str__(value).encode("ascii")
+    return word.encode("ascii")
 
 
 def _line(words: Sequence[bytes]) -> bytes:
@@ -760,7 +766,7 @@ class Service:
     _at: Optional[int] = None
 
     def __init__(self, servers: int = 1) -> None:
-        number = int(_number(servers, "the number of servers", 1, 16))
+        number = int(_number(servers, "the number of servers", 1, MAX_SERVERS))
         # (aligned to 16 within the room, which Python doesn't move)
         self._room = ctypes.create_string_buffer(LIBRARY.jellqupas_size() + 15)
         # (what stands in the buffer ends at its first NUL, which no answer has)
@@ -789,7 +795,7 @@ class Service:
 
     def client(self, number: int) -> Client:
         """The client of this number, 1 to 31."""
-        return Client(self, int(_number(number, "a client", 1, 31)))
+        return Client(self, int(_number(number, "a client", 1, MAX_CLIENTS - 1)))
 
     @property
     def clock(self) -> Clock:
@@ -806,7 +812,7 @@ class Service:
         delivers it, and `Client.answer` then gives its result. Busy, Numbers, BadPath, BadData."""
         if not isinstance(call, Call):
             raise TypeError("a call is Create, Delete, Set, Get, .., as begin(1, Get('/a'))")
-        word = _number(client, "a client", 0, 31)
+        word = _number(client, "a client", 0, MAX_CLIENTS - 1)
         line, number = _line([word, b"begin", *call.words()]), int(word)
         self._play(_Asked(line, number, call), lambda text: _begun(call, number, _last(text)))
 

@@ -1,9 +1,9 @@
 """The gate: the toolchain's own over all but the edits, and then the edits.
 
-First comes a look at texts and layout, which fails in seconds (looks.py). Then `rt ci` runs,
-untouched, over a copy of the crates without their must-fail edits. So proofs, tests, programs and
-all that the toolchain refuses are its own verdict. Then each crate's edits are tried over what it
-built (rounds.py says how). What was built is copied back for the tests behind.
+First comes a look at texts, layout and limits, which fails in seconds (looks.py, limits.py). Then
+`rt ci` runs, untouched, over a copy of the crates without their must-fail edits. So proofs, tests,
+programs and all that the toolchain refuses are its own verdict. Then each crate's edits are tried
+over what it built (rounds.py says how). What was built is copied back for the tests behind.
 """
 import collections
 import os
@@ -19,6 +19,7 @@ from dataclasses import dataclass, field
 
 import edits
 import edits_test
+import limits
 import looks
 import rounds
 import sources
@@ -242,7 +243,7 @@ def gate(root, third=None, seconds=None):
     toolchain().rtlib.guarded()
     with tempfile.TemporaryDirectory(prefix=f"rt-copy-{os.getpid()}-") as room:
         copy(root, room)
-        outcome.wrong += looks.faults(room)
+        outcome.wrong += looks.faults(room) + limits.faults(root)
         is_well = not outcome.wrong
         outcome.times["looks at texts"] = time.monotonic() - began
         if is_well:

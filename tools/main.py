@@ -95,11 +95,11 @@ def keeper(mode):
     return programs.proved(name) or proving.prove(name, tell)
 
 
-def compact(mode, words):
-    """Shortens the journal of a server's folder, on which no server runs."""
-    folder = words_of.read("compact", words)["data"]
+def at_rest(mode, command, words):
+    """Does with a server's folder, on which no server runs, what the command says."""
+    folder = words_of.read(command, words)["data"]
     servers = serving.servers_of(folder)
-    become(keeper(mode), [folder, "compact", str(servers)])
+    become(keeper(mode), [folder, command, str(servers)])
 
 
 def prove(words):
@@ -138,12 +138,12 @@ def do(is_folder, words):
             refuse(wrong)
         if command == "serve":
             serve(mode, words, is_folder)
-        elif command == "compact":
-            compact(mode, words)
+        elif command in words_of.AT_REST:
+            at_rest(mode, command, words)
         else:
             run(mode, command, words, is_folder)
     elif mode:
-        refuse(f"{mode} wants script, race, serve or compact behind it, not '{command}'")
+        refuse(f"{mode} wants script, race, serve, compact, export or stat behind it, not '{command}'")
     elif command == "prove":
         prove(words)
     elif command == "clean":

@@ -29,6 +29,7 @@ A coordination service with ZooKeeper's data model and chain replication.
 ./zk serve --data DIR [--sync batch|never] [--journal MIB] ..
                               keeps what it told in DIR, shortened from MIB on (64)
 ./zk compact --data DIR       shortens a server's folder that isn't in use
+./zk export|stat --data DIR   writes its tree as a script; tells how large it is
 A script or race without a proved program builds one without proof, in a minute.
 
 ./zk prove [script|race|data|serve-data|serve|library]
@@ -38,7 +39,6 @@ A script or race without a proved program builds one without proof, in a minute.
 ./zk --unproved script ..     runs the one without proof; race, serve --data too
 ./zk --version                the version, and which program would run
 ./zk clean [--all]            removes what is kept and no checkout uses, or all
-./zk help                     this
 
 The status is the program's; 2: a word that isn't understood; 3: the program
 can't be built, or isn't proved. {kept}

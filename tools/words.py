@@ -20,7 +20,11 @@ OPTIONS = {
         "journal": (1, 1048576),
     },
     "compact": {"data": FOLDER},
+    "export": {"data": FOLDER},
+    "stat": {"data": FOLDER},
 }
+# What is done with a server's folder that isn't in use.
+AT_REST = ("compact", "export", "stat")
 # The servers of a race that doesn't name them.
 RACE_SERVERS = 3
 
@@ -70,8 +74,8 @@ def wrong(command, words):
     given = read(command, words)
     if isinstance(given, str):
         return given
-    if command == "compact" and not given:
-        return "compact wants --data DIR behind it"
+    if command in AT_REST and not given:
+        return f"{command} wants --data DIR behind it"
     for it in ("sync", "journal"):
         if it in given and "data" not in given:
             return f"--{it} wants --data beside it"

@@ -97,7 +97,7 @@ fn create(client: &mut Client, alloc: Global) -> Result<(), Fault>
     ensures { SameClient client.old client.new }
 {
     let path = Path::parse(alloc, "/config")?;
-    let reply = client.ask(Call::create(path, Data::empty(alloc)), PATIENCE)?;
+    let reply = client.ask(Call::create(path, Data::empty()), PATIENCE)?;
     match reply {
         Reply::Created(path) => {
             drop(path);

@@ -14,26 +14,15 @@ use Rattle.ztree.proofs.Children.{names_of_keys, parent_of_child}
 use Rattle.zcalls.specs.declared.refusal.Refusal.{Refusal}
 use Rattle.zcalls.specs.declared.refusal.Refusal.TheVariants.{Exhausted}
 use Rattle.zcalls.specs.declared.call.Create.{Create}
-use Rattle.zcalls.specs.declared.call.Kind.{Kind}
-use Rattle.zcalls.specs.declared.call.Kind.TheVariants.{Persistent, PersistentSequential, Ephemeral, EphemeralSequential, PersistentWithTtl, PersistentSequentialWithTtl}
 use Rattle.zcalls.specs.declared.call.Update.TheVariants as act
 use Rattle.zcalls.specs.declared.change.ChangeReply.TheVariants as did
 use Rattle.zcalls.specs.declared.reply.Reply.{Reply}
 use Rattle.zcalls.specs.declared.reply.Reply.TheVariants as reply
-use Rattle.zcalls.specs.Part.{create_step, create_refusals, made_path, is_sequential, owner_of, ttl_of, counter_at, unless_refused}
+use Rattle.zcalls.specs.Part.{create_step, create_refusals, made_path, owner_of, ttl_of, counter_at, unless_refused}
 use Rattle.zcalls.specs.Step.{step, is_exhausted, change_result}
-use Rattle.zcalls.proofs.Paths.{not_root, numbered-below_root}
+use Rattle.zcalls.proofs.Paths.{not_root, made-below_root}
 use Rattle.zanswering.specs.Stats.{made_stat}
 use Rattle.zanswering.specs.Laws.{now_of, MadeNodesHaveThisStat}
-
--- the path that a create makes is below the root
-made_below : (nodes : Nodes) (kind : Kind) (path : Path) → path ≢ [] → made_path nodes kind path ≢ []
-made_below nodes Persistent path below = below
-made_below nodes (PersistentWithTtl ttl) path below = below
-made_below nodes (Ephemeral session) path below = below
-made_below nodes PersistentSequential path below = numbered-below_root path (counter_at nodes (parent_of path)) below
-made_below nodes (PersistentSequentialWithTtl ttl) path below = numbered-below_root path (counter_at nodes (parent_of path)) below
-made_below nodes (EphemeralSequential session) path below = numbered-below_root path (counter_at nodes (parent_of path)) below
 
 -- what is there after a change of one node was there before
 changed-was : (nodes : Nodes) (path : Path) (f : Node → Node) (q : Path) (x : Node) → finite.get (with_change_at nodes path f) q ≡ Some x → (y : Node) × (finite.get nodes q ≡ Some y)
@@ -93,19 +82,19 @@ created : (t : Tree) (client : ℕ) (create : Create) (path : Path) → IsLawful
     → (exhausted : Bool) (refused : Option Refusal) → first_that_holds (create_refusals t client create) ≡ refused
     → Tells create path (if exhausted then (t, reply.Refused Exhausted) else
     change_result t (unless_refused refused (
-      with_node t (made_path t.nodes create.kind create.path) create.bytes (owner_of create.kind) (ttl_of create.kind) (is_sequential create.kind),
+      with_node t (made_path t.nodes create.kind create.path) create.bytes (owner_of create.kind.lifetime) (ttl_of create.kind.lifetime) create.kind.is_sequential,
       did.Created (made_path t.nodes create.kind create.path),
     )))
 created t client create path lawful true refused e told = cc
 created t client create path lawful false (Some refusal) e told = cc
 created t client create path lawful false None e told =
     let made = made_path t.nodes create.kind create.path in
-    let new = new_node create.bytes (owner_of create.kind) (ttl_of create.kind) (t.zxid + 1) t.time in
+    let new = new_node create.bytes (owner_of create.kind.lifetime) (ttl_of create.kind.lifetime) (t.zxid + 1) t.time in
     let tests = no_test_holds (create_refusals t client create) e in
-    let below = made_below t.nodes create.kind create.path (not_root create.path tests.1.0) in
+    let below = made-below_root t.nodes create.kind create.path (not_root create.path tests.1.0) in
     let same : made ≡ path = cc in
-    subst (λ p. stat_at (More t made new (with_child (t.zxid + 1) (is_sequential create.kind)) below) p ≡ Some (stat_with new 0)) same
-    (more-stat t made new (with_child (t.zxid + 1) (is_sequential create.kind)) below lawful tests.1.1.1.1.1.1.0)
+    subst (λ p. stat_at (More t made new (with_child (t.zxid + 1) create.kind.is_sequential) below) p ≡ Some (stat_with new 0)) same
+    (more-stat t made new (with_child (t.zxid + 1) create.kind.is_sequential) below lawful tests.1.1.1.1.1.1.0)
 
 pub made_nodes_have_this_stat : MadeNodesHaveThisStat
 unfolding step create_step

@@ -41,4 +41,4 @@ stat_told clock s = record {
 
 -- the stat of a node that a create has just made
 abbrev pub made_stat : Now → Create → Stat
-made_stat now create = stat_with (new_node create.bytes (owner_of create.kind) (ttl_of create.kind) now.zxid now.time) 0
+made_stat now create = stat_with (new_node create.bytes (owner_of create.kind.lifetime) (ttl_of create.kind.lifetime) now.zxid now.time) 0

@@ -19,7 +19,7 @@ pub fn made_stat(at: &Now, create: &Create) -> Stat
         mtime: at.time,
         version: 0,
         cversion: 0,
-        owner: create.kind.owner(),
+        owner: create.kind.lifetime.owner(),
         length: create.bytes.as_slice().len() as u64,
         children: 0,
     }

@@ -25,8 +25,8 @@ pub(crate) fn bytes_of(alloc: Global, bytes: &[u8]) -> Result<Bytes, Memory>
 pub(crate) fn path_told(alloc: Global, path: &Path) -> Result<Bytes, Memory>
     ensures { IfOk result (λ told. told ≡ text_of path.now) }
 {
-    // A path's text is short, and the clause of `names` says so.
-    let _ = path.names();
+    // So its text is short.
+    path.keeps_its_form();
     let text = path.to_string(alloc)?;
     bytes_of(alloc, text.as_bytes())
 }

@@ -1,3 +1,4 @@
 pub mod Each
 pub mod Plain
+pub mod Meanings
 pub mod SessionCalls

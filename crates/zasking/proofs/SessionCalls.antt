@@ -1,12 +1,13 @@
 -- A request's calls act for the session of its connection alone.
-use Rattle.std.proofs.Common.{◌≡◌, ℕ, Bool, true, false, if◌then◌else◌, List, [], ◌∷◌, Option, Ok, Err, refl, subst}
+use Rattle.std.proofs.Common.{◌≡◌, ℕ, List, [], ◌∷◌, Option, Ok, Err, refl}
 use Rattle.std.specs.Prelude.{ℤ, pos, nat_lt, length, Some, None}
 use Rattle.std.specs.List.{AllByRecursion}
 use Rattle.std.specs.Ordering.{int_eq}
 use Rattle.ztree.specs.Tree.{Path}
 use Rattle.zcalls.specs.declared.limits.TheConstants.{MAX_PARTS}
 use Rattle.zcalls.specs.declared.call.Kind.{Kind}
-use Rattle.zcalls.specs.declared.call.Kind.TheVariants.{Persistent, PersistentSequential, PersistentWithTtl, PersistentSequentialWithTtl, Ephemeral, EphemeralSequential}
+use Rattle.zcalls.specs.declared.call.Lifetime.TheVariants.{Persistent, WithTtl, Ephemeral}
+use Rattle.zcalls.specs.Part.{named, sequential}
 use Rattle.zcalls.specs.declared.call.Create.{Create}
 use Rattle.zcalls.specs.declared.call.Part.{Part}
 use Rattle.zcalls.specs.declared.call.Part.TheVariants as part
@@ -23,71 +24,36 @@ use Rattle.zjute.specs.declared.part.Part.{Part as AskedPart}
 use Rattle.zjute.specs.declared.part.Part.TheVariants as of_multi
 use Rattle.zjute.specs.declared.part.LookPart.{LookPart}
 use Rattle.zjute.specs.declared.part.LookPart.TheVariants as of_look
-use Rattle.zasking.specs.declared.fault.Unasked.{Unasked}
 use Rattle.zasking.specs.declared.fault.Unasked.TheVariants.{Refused}
 use Rattle.zasking.specs.declared.limits.TheConstants.{MAX_PATHS}
 use Rattle.zasking.specs.Asking.{Meaning, then_means, each_in, path_in, data_in, has_open_acl, kind_in, ttl_in, timed_kind_in}
 use Rattle.zasking.specs.Requests.{node_in, create_in, timed_create_in, delete_in, check_in, set_in, part_in, one, one_of_parts, multi_in, query_in, look_in, looks_in, watch_in, watched_in, look_alone, create_alone}
+use Rattle.zasking.proofs.Meanings.{choice, done, each_for, never, behind, through}
 use Rattle.zasking.specs.Laws.{IsForSession, PartIsFor, CallIsFor, CallsAreForTheirSession}
-
--- the steps of a meaning: what is done, what is refused, a choice, and what goes on
-abbrev meant : {A : Type 0} → A → Meaning A
-meant x = Ok x
-
-abbrev unmeant : {A : Type 0} → Unasked → Meaning A
-unmeant fault = Err fault
-
-done : {A : Type 0} (P : A → Type 0) (y : A) → P y → (x : A) → meant y ≡ meant x → P x
-done P y p x e = let same : y ≡ x = cc in subst P same p
-
-never : {A : Type 0} (P : A → Type 0) (fault : Unasked) (x : A) → unmeant fault ≡ meant x → P x
-never P fault x e = cc
-
-choice : {A : Type 0} (P : A → Type 0) (test : Bool) (m n : Meaning A) → ((x : A) → m ≡ Ok x → P x) → ((x : A) → n ≡ Ok x → P x) → (x : A) → (if test then m else n) ≡ Ok x → P x
-choice P true m n first second = first
-choice P false m n first second = second
-
-through : {A B : Type 0} (P : A → Type 0) (Q : B → Type 0) (m : Meaning A) (next : A → Meaning B)
-    → ((x : A) → m ≡ Ok x → P x) → ((x : A) → P x → (y : B) → next x ≡ Ok y → Q y) → (y : B) → then_means m next ≡ Ok y → Q y
-through P Q (Err fault) next first second y e = cc
-through P Q (Ok x) next first second y e = second x (first x refl) y e
-
--- what goes on, whatever was read
-behind : {A B : Type 0} (Q : B → Type 0) (m : Meaning A) (next : A → Meaning B) → ((x : A) (y : B) → next x ≡ Ok y → Q y) → (y : B) → then_means m next ≡ Ok y → Q y
-behind Q m next on = through (λ x. Unit {0}) Q m next (λ x e. tt) (λ x p. on x)
-
--- each of a list
-each_for : {A B : Type 0} (P : B → Type 0) (means : A → Meaning B) → ((x : A) (y : B) → means x ≡ Ok y → P y)
-    → (xs : List A) (ys : List B) → each_in means xs ≡ Ok ys → AllByRecursion P ys
-each_for P means each [] = done (AllByRecursion P) [] tt
-each_for P means each (x ∷ xs) =
-    through P (AllByRecursion P) (means x) (λ y. then_means (each_in means xs) (λ ys. Ok (y ∷ ys))) (each x)
-    (λ y is. through (AllByRecursion P) (AllByRecursion P) (each_in means xs) (λ ys. Ok (y ∷ ys)) (each_for P means each xs)
-    (λ ys are. done (AllByRecursion P) (y ∷ ys) (is, are)))
 
 module _ (session : ℕ) where
   abbrev Calls : List Call → Type 0
   Calls = AllByRecursion (CallIsFor session)
 
   abbrev Made : Create → Type 0
-  Made create = IsForSession session create.kind
+  Made create = IsForSession session create.kind.lifetime
 
-  kind_for : (flags : ℤ) (kind : Kind) → kind_in session flags ≡ Ok kind → IsForSession session kind
+  kind_for : (flags : ℤ) (kind : Kind) → kind_in session flags ≡ Ok kind → IsForSession session kind.lifetime
   kind_for flags =
-      let P = IsForSession session in
-      choice P (int_eq flags (pos 0)) (Ok Persistent) _ (done P Persistent tt)
-      (choice P (int_eq flags (pos 1)) (Ok (Ephemeral session)) _ (done P (Ephemeral session) refl)
-      (choice P (int_eq flags (pos 2)) (Ok PersistentSequential) _ (done P PersistentSequential tt)
-      (choice P (int_eq flags (pos 3)) (Ok (EphemeralSequential session)) _ (done P (EphemeralSequential session) refl)
+      let P = λ (k : Kind). IsForSession session k.lifetime in
+      choice P (int_eq flags (pos 0)) (Ok (named Persistent)) _ (done P (named Persistent) tt)
+      (choice P (int_eq flags (pos 1)) (Ok (named (Ephemeral session))) _ (done P (named (Ephemeral session)) refl)
+      (choice P (int_eq flags (pos 2)) (Ok (sequential Persistent)) _ (done P (sequential Persistent) tt)
+      (choice P (int_eq flags (pos 3)) (Ok (sequential (Ephemeral session))) _ (done P (sequential (Ephemeral session)) refl)
       (choice P (int_eq flags (pos 4)) (Err (Refused Unimplemented)) (Err (Refused BadArguments)) (never P (Refused Unimplemented)) (never P (Refused BadArguments))))))
 
-  timed_for : (ticks : ℕ) (flags : ℤ) (kind : Kind) → timed_kind_in ticks flags ≡ Ok kind → IsForSession session kind
+  timed_for : (ticks : ℕ) (flags : ℤ) (kind : Kind) → timed_kind_in ticks flags ≡ Ok kind → IsForSession session kind.lifetime
   timed_for ticks flags =
-      let P = IsForSession session in
-      choice P (int_eq flags (pos 5)) (Ok (PersistentWithTtl ticks)) _ (done P (PersistentWithTtl ticks) tt)
-      (choice P (int_eq flags (pos 6)) (Ok (PersistentSequentialWithTtl ticks)) (Err (Refused BadArguments)) (done P (PersistentSequentialWithTtl ticks) tt) (never P (Refused BadArguments)))
+      let P = λ (k : Kind). IsForSession session k.lifetime in
+      choice P (int_eq flags (pos 5)) (Ok (named (WithTtl ticks))) _ (done P (named (WithTtl ticks)) tt)
+      (choice P (int_eq flags (pos 6)) (Ok (sequential (WithTtl ticks))) (Err (Refused BadArguments)) (done P (sequential (WithTtl ticks)) tt) (never P (Refused BadArguments)))
 
-  node_for : (kind : Kind) (create : AskedCreate) → IsForSession session kind → (made : Create) → node_in kind create ≡ Ok made → Made made
+  node_for : (kind : Kind) (create : AskedCreate) → IsForSession session kind.lifetime → (made : Create) → node_in kind create ≡ Ok made → Made made
   node_for kind create is =
       behind Made (path_in create.path) _
       (λ path. choice Made (has_open_acl create.acls) (then_means (data_in create.bytes) (λ bytes. Ok (record { path = path; kind = kind; bytes = bytes }))) (Err (Refused InvalidAcl))
@@ -95,12 +61,12 @@ module _ (session : ℕ) where
       (never Made (Refused InvalidAcl)))
 
   create_for : (create : AskedCreate) (made : Create) → create_in session create ≡ Ok made → Made made
-  create_for create = through (IsForSession session) Made (kind_in session create.flags) (λ kind. node_in kind create) (kind_for create.flags) (λ kind. node_for kind create)
+  create_for create = through (λ (k : Kind). IsForSession session k.lifetime) Made (kind_in session create.flags) (λ kind. node_in kind create) (kind_for create.flags) (λ kind. node_for kind create)
 
   timed_create_for : (tick : ℕ) (timed : CreateTtl) (made : Create) → timed_create_in tick timed ≡ Ok made → Made made
   timed_create_for tick timed =
       behind Made (ttl_in tick timed.ttl) (λ ticks. then_means (timed_kind_in ticks timed.create.flags) (λ kind. node_in kind timed.create))
-      (λ ticks. through (IsForSession session) Made (timed_kind_in ticks timed.create.flags) (λ kind. node_in kind timed.create) (timed_for ticks timed.create.flags) (λ kind. node_for kind timed.create))
+      (λ ticks. through (λ (k : Kind). IsForSession session k.lifetime) Made (timed_kind_in ticks timed.create.flags) (λ kind. node_in kind timed.create) (timed_for ticks timed.create.flags) (λ kind. node_for kind timed.create))
 
   made_part : (m : Meaning Create) → ((made : Create) → m ≡ Ok made → Made made) → (p : Part) → then_means m (λ create. Ok (part.Create create)) ≡ Ok p → PartIsFor session p
   made_part m for = through Made (PartIsFor session) m (λ create. Ok (part.Create create)) for (λ create is. done (PartIsFor session) (part.Create create) is)

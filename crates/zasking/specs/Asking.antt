@@ -10,7 +10,8 @@ use Rattle.zpath.specs.Faults.{fault_of, names_of}
 use Rattle.ztree.specs.Tree.{Path}
 use Rattle.ztree.specs.declared.limits.TheConstants.{MAX_DATA, MAX_TTL}
 use Rattle.zcalls.specs.declared.call.Kind.{Kind}
-use Rattle.zcalls.specs.declared.call.Kind.TheVariants.{Persistent, PersistentSequential, PersistentWithTtl, PersistentSequentialWithTtl, Ephemeral, EphemeralSequential}
+use Rattle.zcalls.specs.declared.call.Lifetime.TheVariants.{Persistent, WithTtl, Ephemeral}
+use Rattle.zcalls.specs.Part.{named, sequential}
 use Rattle.zcalls.specs.declared.call.Expected.{Expected}
 use Rattle.zcalls.specs.declared.call.Expected.TheVariants.{Any, Exactly}
 use Rattle.zjute.specs.declared.acl.Acl.{Acl}
@@ -74,10 +75,10 @@ has_open_acl acls = false
 -- the kind of a node, for a session, by its number (`CreateMode`)
 abbrev pub kind_in : ℕ → ℤ → Meaning Kind
 kind_in session flags =
-    if int_eq flags (pos 0) then Ok Persistent else
-    if int_eq flags (pos 1) then Ok (Ephemeral session) else
-    if int_eq flags (pos 2) then Ok PersistentSequential else
-    if int_eq flags (pos 3) then Ok (EphemeralSequential session) else
+    if int_eq flags (pos 0) then Ok (named Persistent) else
+    if int_eq flags (pos 1) then Ok (named (Ephemeral session)) else
+    if int_eq flags (pos 2) then Ok (sequential Persistent) else
+    if int_eq flags (pos 3) then Ok (sequential (Ephemeral session)) else
     if int_eq flags (pos 4) then Err (Refused Unimplemented) else
     Err (Refused BadArguments)
 
@@ -92,6 +93,6 @@ ttl_in tick (negsuc n) = Err (Refused BadArguments)
 -- the kind of a node with this TTL, by its number (`CreateMode`)
 abbrev pub timed_kind_in : ℕ → ℤ → Meaning Kind
 timed_kind_in ticks flags =
-    if int_eq flags (pos 5) then Ok (PersistentWithTtl ticks) else
-    if int_eq flags (pos 6) then Ok (PersistentSequentialWithTtl ticks) else
+    if int_eq flags (pos 5) then Ok (named (WithTtl ticks)) else
+    if int_eq flags (pos 6) then Ok (sequential (WithTtl ticks)) else
     Err (Refused BadArguments)

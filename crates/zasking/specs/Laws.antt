@@ -6,8 +6,8 @@ use Rattle.std.specs.List.{AllByRecursion}
 use Rattle.ztree.specs.Tree.{Tree, Path}
 use Rattle.ztree.specs.declared.node.Node.{Node}
 use Rattle.zcalls.specs.Bounds.{IsBounded}
-use Rattle.zcalls.specs.declared.call.Kind.{Kind}
-use Rattle.zcalls.specs.declared.call.Kind.TheVariants.{Persistent, PersistentSequential, PersistentWithTtl, PersistentSequentialWithTtl, Ephemeral, EphemeralSequential}
+use Rattle.zcalls.specs.declared.call.Lifetime.{Lifetime}
+use Rattle.zcalls.specs.declared.call.Lifetime.TheVariants.{Persistent, WithTtl, Ephemeral}
 use Rattle.zcalls.specs.declared.call.Part.{Part as OfMulti}
 use Rattle.zcalls.specs.declared.call.Part.TheVariants as part
 use Rattle.zcalls.specs.declared.call.Update.{Update as Act}
@@ -18,18 +18,15 @@ use Rattle.zjute.specs.declared.request.Asked.{Asked}
 use Rattle.zasking.specs.declared.limits.TheConstants.{NO_VERSION}
 use Rattle.zasking.specs.Requests.{calls_in}
 
--- a node of this kind belongs to the session, or to none
-abbrev pub IsForSession : ℕ → Kind → Type 0
+-- a node of this lifetime belongs to the session, or to none
+abbrev pub IsForSession : ℕ → Lifetime → Type 0
 IsForSession session (Ephemeral owner) = owner ≡ session
-IsForSession session (EphemeralSequential owner) = owner ≡ session
 IsForSession session Persistent = Unit {0}
-IsForSession session PersistentSequential = Unit {0}
-IsForSession session (PersistentWithTtl ttl) = Unit {0}
-IsForSession session (PersistentSequentialWithTtl ttl) = Unit {0}
+IsForSession session (WithTtl ttl) = Unit {0}
 
 -- a part of a multi acts for the session
 abbrev pub PartIsFor : ℕ → OfMulti → Type 0
-PartIsFor session (part.Create create) = IsForSession session create.kind
+PartIsFor session (part.Create create) = IsForSession session create.kind.lifetime
 PartIsFor session (part.Delete delete) = Unit {0}
 PartIsFor session (part.SetData set) = Unit {0}
 PartIsFor session (part.Check check) = Unit {0}
@@ -37,7 +34,7 @@ PartIsFor session (part.Check check) = Unit {0}
 -- an update acts for the session: it opens no session, renews none, moves no clock, and closes no
 -- other
 abbrev pub UpdateIsFor : ℕ → Act → Type 0
-UpdateIsFor session (act.Create create) = IsForSession session create.kind
+UpdateIsFor session (act.Create create) = IsForSession session create.kind.lifetime
 UpdateIsFor session (act.Delete delete) = Unit {0}
 UpdateIsFor session (act.SetData set) = Unit {0}
 UpdateIsFor session (act.Multi parts) = AllByRecursion (PartIsFor session) parts

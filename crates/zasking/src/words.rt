@@ -8,7 +8,7 @@ use crate::limits::{ALL_PERMISSIONS, NO_VERSION};
 use crate::tick::TickLength;
 use std::alloc::Global;
 use std::str;
-use zcalls::{Data, Expected, Kind, SessionId, Ttl};
+use zcalls::{Data, Expected, Kind, Lifetime, SessionId, Ttl};
 use zjute::{Acl, Bytes, Code};
 use zpath::{Path, PathFault};
 use ztree::DataFault;
@@ -46,7 +46,7 @@ pub(crate) fn data_of(alloc: Global, bytes: &Option<Bytes>) -> Result<Data, Unas
     ensures fault { IfErr result (IsUnasked (data_in bytes.now)) }
 {
     let Some(bytes) = bytes else {
-        return Ok(Data::empty(alloc));
+        return Ok(Data::empty());
     };
     let bytes = Vec::from_slice(alloc, bytes.as_slice())?;
     match Data::new(alloc, bytes) {
@@ -101,10 +101,10 @@ pub(crate) fn kind_of(session: SessionId, flags: i32) -> Result<Kind, Unasked>
     ensures { result ≡ kind_in session flags }
 {
     match flags {
-        0 => Ok(Kind::Persistent),
-        1 => Ok(Kind::Ephemeral(session)),
-        2 => Ok(Kind::PersistentSequential),
-        3 => Ok(Kind::EphemeralSequential(session)),
+        0 => Ok(Kind::named(Lifetime::Persistent)),
+        1 => Ok(Kind::named(Lifetime::Ephemeral(session))),
+        2 => Ok(Kind::sequential(Lifetime::Persistent)),
+        3 => Ok(Kind::sequential(Lifetime::Ephemeral(session))),
         4 => Err(Unasked::Refused(Code::Unimplemented)),
         _ => Err(Unasked::Refused(Code::BadArguments)),
     }
@@ -126,8 +126,8 @@ pub(crate) fn timed_kind_of(ttl: Ttl, flags: i32) -> Result<Kind, Unasked>
     ensures { result ≡ timed_kind_in ttl flags }
 {
     match flags {
-        5 => Ok(Kind::PersistentWithTtl(ttl)),
-        6 => Ok(Kind::PersistentSequentialWithTtl(ttl)),
+        5 => Ok(Kind::named(Lifetime::WithTtl(ttl))),
+        6 => Ok(Kind::sequential(Lifetime::WithTtl(ttl))),
         _ => Err(Unasked::Refused(Code::BadArguments)),
     }
 }

@@ -4,7 +4,7 @@ use crate::stories::{Deed, Seen, Step};
 use std::alloc::Global;
 use std::test::Fail;
 use zaudit::{AuditFault, audit};
-use zcalls::{Call, CallNumber, ClientId, Create, Kind, Query, Reply, Update};
+use zcalls::{Call, CallNumber, ClientId, Create, Kind, Lifetime, Query, Reply, Update};
 use zliterals::{call_number, client, server};
 use zpath::Path;
 use zprotocol::Process;
@@ -24,8 +24,8 @@ fn process(number: u8) -> Process {
 fn creates(alloc: Global) -> Result<Call, Fail> {
     Ok(Call::Update(Update::Create(Create {
         path: Path::parse(alloc, "/a")?,
-        kind: Kind::Persistent,
-        bytes: Data::empty(alloc),
+        kind: Kind::named(Lifetime::Persistent),
+        bytes: Data::empty(),
     })))
 }
 
@@ -89,7 +89,7 @@ fn event(alloc: Global, seen: Seen) -> Result<CallEvent, Fail> {
         Seen::Told(made) => Ok(CallEvent::Answer(
             c,
             second,
-            Reply::Data(Data::empty(alloc), stat(made)),
+            Reply::Data(Data::empty(), stat(made)),
         )),
     }
 }
@@ -141,7 +141,7 @@ fn is_told(event: &CallEvent, seen: Seen) -> bool {
         (CallEvent::Begin(of, number, Call::Update(Update::Create(create))), Seen::Create) => {
             is_call(*of, *number, 1)
                 && is_the_node(&create.path)
-                && create.kind == Kind::Persistent
+                && create.kind == Kind::named(Lifetime::Persistent)
                 && create.bytes.as_slice().is_empty()
         }
         (CallEvent::Answer(of, number, Reply::Created(path)), Seen::Created) => {

@@ -16,7 +16,7 @@ use Rattle.ztree.proofs.Sorted.{paths_total}
 use Rattle.zcalls.specs.declared.call.Part.{Part}
 use Rattle.zcalls.specs.declared.change.Change.{Change}
 use Rattle.zcalls.specs.declared.change.Change.TheVariants.{Create, Delete, SetData}
-use Rattle.zcalls.specs.Part.{change_step, part_step, create_refusals, made_path, is_sequential, owner_of, ttl_of, is_spent, node_has}
+use Rattle.zcalls.specs.Part.{change_step, part_step, create_refusals, made_path, owner_of, ttl_of, is_spent, node_has}
 use Rattle.ztree.specs.Lawful.{AllNodes, AllSessions}
 use Rattle.zcalls.specs.Bounds.{IsWithin, IsBounded, IsGranted}
 use Rattle.zcalls.specs.support.Alone.{ChangesNodesAlone}
@@ -119,9 +119,9 @@ pub change_roomy : (k : ℕ) (t : Tree) (client : ℕ) (change : Change) → IsW
 change_roomy k t client (Create create) all =
     create_step-leaves (IsWithinAll (k + 1)) t client create
     (λ e. let tests = no_test_holds (create_refusals t client create) e in
-    let left = unspent t.nodes (parent_of create.path) (is_sequential create.kind) tests.1.1.1.1.0 in
-    added_within k t (made_path t.nodes create.kind create.path) create.bytes (owner_of create.kind) (ttl_of create.kind) (is_sequential create.kind) all
-    (subst (λ p. IsUnspent t.nodes p (is_sequential create.kind)) (sym (parent_of-made t.nodes create.kind create.path)) left))
+    let left = unspent t.nodes (parent_of create.path) create.kind.is_sequential tests.1.1.1.1.0 in
+    added_within k t (made_path t.nodes create.kind create.path) create.bytes (owner_of create.kind.lifetime) (ttl_of create.kind.lifetime) create.kind.is_sequential all
+    (subst (λ p. IsUnspent t.nodes p create.kind.is_sequential) (sym (parent_of-made t.nodes create.kind create.path)) left))
 change_roomy k t client (Delete delete) all = delete_step-leaves (IsWithinAll (k + 1)) t delete (λ e. dropped_within k t delete.path all)
 change_roomy k t client (SetData set) all = set_step-leaves (IsWithinAll (k + 1)) t set (written_within k t set.path set.bytes all)
 

@@ -13,7 +13,7 @@ use Rattle.ztree.proofs.Sorted.{paths_total}
 use Rattle.zcalls.specs.declared.call.Create.{Create as ToCreate}
 use Rattle.zcalls.specs.declared.call.Part.{Part}
 use Rattle.zcalls.specs.declared.call.Part.TheVariants.{Create, Delete, SetData, Check}
-use Rattle.zcalls.specs.Part.{part_step, create_refusals, made_path, counter_at, is_sequential, owner_of, ttl_of}
+use Rattle.zcalls.specs.Part.{part_step, create_refusals, made_path, counter_at, owner_of, ttl_of}
 use Rattle.zcalls.specs.CallRuns.{is_same, numbered_since, NumbersDiffer}
 use Rattle.zcalls.proofs.Bounds.{unspent}
 use Rattle.zcalls.proofs.Paths.{not_root, parent_of-made}
@@ -90,18 +90,18 @@ module _ (above : Path) where
   -- a create that was done
   module _ (made : List Path) (t : Tree) (create : ToCreate) (inv : HasNumbers made t.nodes)
       (below : create.path ≢ []) (there : has_node t.nodes (parent_of create.path) ≡ true)
-      (left : (n : Node) → finite.get t.nodes (parent_of create.path) ≡ Some n → is_sequential create.kind ≡ true → n.seq ≤ 2147483647) where
+      (left : (n : Node) → finite.get t.nodes (parent_of create.path) ≡ Some n → create.kind.is_sequential ≡ true → n.seq ≤ 2147483647) where
     abbrev path : Path
     path = made_path t.nodes create.kind create.path
 
     abbrev sequential : Bool
-    sequential = is_sequential create.kind
+    sequential = create.kind.is_sequential
 
     abbrev after : Tree
-    after = with_node t path create.bytes (owner_of create.kind) (ttl_of create.kind) sequential
+    after = with_node t path create.bytes (owner_of create.kind.lifetime) (ttl_of create.kind.lifetime) sequential
 
     abbrev new : Node
-    new = new_node create.bytes (owner_of create.kind) (ttl_of create.kind) (t.zxid + 1) t.time
+    new = new_node create.bytes (owner_of create.kind.lifetime) (ttl_of create.kind.lifetime) (t.zxid + 1) t.time
 
     stays : is_same above path ≡ false → HasNumbers made after.nodes
     stays other = (inv.0, each)
@@ -154,8 +154,8 @@ module _ (above : Path) where
       (λ e. let tests = no_test_holds (create_refusals t client create) e in
       let path = made_path t.nodes create.kind create.path in
       created made t create inv (not_root create.path tests.1.0) (is_there (has_node t.nodes (parent_of create.path)) tests.1.1.0)
-      (unspent t.nodes (parent_of create.path) (is_sequential create.kind) tests.1.1.1.1.0)
-      (is_same above path) refl (is_sequential create.kind && is_same above (parent_of path)) refl)
+      (unspent t.nodes (parent_of create.path) create.kind.is_sequential tests.1.1.1.1.0)
+      (is_same above path) refl (create.kind.is_sequential && is_same above (parent_of path)) refl)
   part-numbers made t client (Delete delete) inv = delete-leaves (numbered_since above) HasNumbers made t client delete (dropped-numbers made t delete.path inv)
   part-numbers made t client (SetData set) inv = set-leaves (numbered_since above) HasNumbers made t client set (λ stat. written-numbers made t set.path set.bytes inv)
   part-numbers made t client (Check check) inv = check-leaves (numbered_since above) HasNumbers made t client check inv

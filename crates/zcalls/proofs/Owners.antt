@@ -8,8 +8,8 @@ use Rattle.ztree.specs.declared.node.Node.{Node}
 use Rattle.ztree.specs.declared.session.Session.{Session}
 use Rattle.ztree.specs.Tree.{Nodes, Sessions, Path, has_node}
 use Rattle.ztree.specs.Lawful.{IsPersistent, IsOwner}
-use Rattle.zcalls.specs.declared.call.Kind.{Kind}
-use Rattle.zcalls.specs.declared.call.Kind.TheVariants.{Persistent, PersistentSequential, PersistentWithTtl, PersistentSequentialWithTtl, Ephemeral, EphemeralSequential}
+use Rattle.zcalls.specs.declared.call.Lifetime.{Lifetime}
+use Rattle.zcalls.specs.declared.call.Lifetime.TheVariants.{Persistent, WithTtl, Ephemeral}
 use Rattle.zcalls.specs.Part.{node_has, is_owned, is_gone, has_no_owner, owner_of, ttl_of}
 
 -- who isn't owned by a session is owned by nobody
@@ -45,19 +45,13 @@ session_there : (sessions : Sessions) (client id : ℕ) → is_gone sessions cli
 session_there sessions client id here = ap is_some (is_own sessions client id here).there
 
 -- the owner of a node that is made is nobody, or a session that is there
-pub owner_lives : (sessions : Sessions) (client : ℕ) (kind : Kind) → has_no_owner sessions client kind ≡ false → IsOwner sessions (owner_of kind)
+pub owner_lives : (sessions : Sessions) (client : ℕ) (lifetime : Lifetime) → has_no_owner sessions client lifetime ≡ false → IsOwner sessions (owner_of lifetime)
 owner_lives sessions client Persistent here = inl refl
-owner_lives sessions client PersistentSequential here = inl refl
-owner_lives sessions client (PersistentWithTtl ttl) here = inl refl
-owner_lives sessions client (PersistentSequentialWithTtl ttl) here = inl refl
+owner_lives sessions client (WithTtl ttl) here = inl refl
 owner_lives sessions client (Ephemeral session) here = inr (session_there sessions client session here)
-owner_lives sessions client (EphemeralSequential session) here = inr (session_there sessions client session here)
 
--- no kind has both an owner and a time to live
-pub one_end : (kind : Kind) → (ttl_of kind ≡ 0) ⊎ (owner_of kind ≡ 0)
+-- no lifetime has both an owner and a time to live
+pub one_end : (lifetime : Lifetime) → (ttl_of lifetime ≡ 0) ⊎ (owner_of lifetime ≡ 0)
 one_end Persistent = inl refl
-one_end PersistentSequential = inl refl
-one_end (PersistentWithTtl ttl) = inr refl
-one_end (PersistentSequentialWithTtl ttl) = inr refl
+one_end (WithTtl ttl) = inr refl
 one_end (Ephemeral session) = inl refl
-one_end (EphemeralSequential session) = inl refl

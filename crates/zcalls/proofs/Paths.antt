@@ -1,6 +1,6 @@
 -- A path and its parent, and that no path is over a limit.
-use Rattle.std.proofs.Common.{◌≡◌, ◌≢◌, ℕ, ◌≤◌, ◌<◌, true, false, [], ◌∷◌, ◌++◌, length, refl, ap, ◌∙◌, arith}
-use Rattle.std.specs.Prelude.{nat_le, nat_lt, ◌==◌}
+use Rattle.std.proofs.Common.{◌≡◌, ◌≢◌, ℕ, ◌≤◌, ◌<◌, Bool, true, false, [], ◌∷◌, ◌++◌, length, refl, ap, ◌∙◌, arith}
+use Rattle.std.specs.Prelude.{nat_le, nat_lt, ◌==◌, if◌then◌else◌}
 use Rattle.std.specs.List.{list_any, AllByRecursion}
 use Rattle.std.proofs.lemmas.Bool.Decides.{nat_tests}
 use Rattle.zpath.specs.Grammar.{IsName, IsPath, is_long, text_of}
@@ -8,7 +8,6 @@ use Rattle.zpath.specs.Numbered.{numbered_path, is_over}
 use Rattle.ztree.specs.Tree.{Path, Name, Nodes, parent_of}
 use Rattle.ztree.proofs.Nodes.{parent_of-front}
 use Rattle.zcalls.specs.declared.call.Kind.{Kind}
-use Rattle.zcalls.specs.declared.call.Kind.TheVariants.{Persistent, PersistentSequential, Ephemeral, EphemeralSequential, PersistentWithTtl, PersistentSequentialWithTtl}
 use Rattle.zcalls.specs.Part.{is_root, made_path, counter_at}
 
 pub record IsBelow (path above : Path) : Type 0 where
@@ -52,20 +51,18 @@ numbered-below_root (n ∷ []) counter below e = cc
 numbered-below_root (n ∷ m ∷ path) counter below e = cc
 
 pub parent_of-made : (nodes : Nodes) (kind : Kind) (path : Path) → parent_of (made_path nodes kind path) ≡ parent_of path
-parent_of-made nodes Persistent path = refl
-parent_of-made nodes (PersistentWithTtl ttl) path = refl
-parent_of-made nodes PersistentSequential path = parent_of-numbered path (counter_at nodes (parent_of path))
-parent_of-made nodes (PersistentSequentialWithTtl ttl) path = parent_of-numbered path (counter_at nodes (parent_of path))
-parent_of-made nodes (Ephemeral session) path = refl
-parent_of-made nodes (EphemeralSequential session) path = parent_of-numbered path (counter_at nodes (parent_of path))
+parent_of-made nodes kind path = by kind.is_sequential
+  where
+    by : (b : Bool) → parent_of (if b then numbered_path path (counter_at nodes (parent_of path)) else path) ≡ parent_of path
+    by true = parent_of-numbered path (counter_at nodes (parent_of path))
+    by false = refl
 
 pub made-below_root : (nodes : Nodes) (kind : Kind) (path : Path) → path ≢ [] → made_path nodes kind path ≢ []
-made-below_root nodes Persistent path below = below
-made-below_root nodes (PersistentWithTtl ttl) path below = below
-made-below_root nodes PersistentSequential path below = numbered-below_root path (counter_at nodes (parent_of path)) below
-made-below_root nodes (PersistentSequentialWithTtl ttl) path below = numbered-below_root path (counter_at nodes (parent_of path)) below
-made-below_root nodes (Ephemeral session) path below = below
-made-below_root nodes (EphemeralSequential session) path below = numbered-below_root path (counter_at nodes (parent_of path)) below
+made-below_root nodes kind path below = by kind.is_sequential
+  where
+    by : (b : Bool) → (if b then numbered_path path (counter_at nodes (parent_of path)) else path) ≢ []
+    by true = numbered-below_root path (counter_at nodes (parent_of path)) below
+    by false = below
 
 pub not_root : (path : Path) → is_root path ≡ false → path ≢ []
 not_root [] h e = cc

@@ -8,7 +8,7 @@ use Rattle.ztree.specs.Tree.{Tree, Nodes, Path, opening_tree, new_node, parent_o
 use Rattle.ztree.proofs.Sorted.{paths_total}
 use Rattle.zcalls.specs.declared.call.Part.{Part}
 use Rattle.zcalls.specs.declared.call.Part.TheVariants.{Create, Delete, SetData, Check}
-use Rattle.zcalls.specs.Part.{part_step, made_path, is_sequential, owner_of, ttl_of}
+use Rattle.zcalls.specs.Part.{part_step, made_path, owner_of, ttl_of}
 use Rattle.zcalls.specs.CallRuns.{is_same, sets_since, VersionCountsSets}
 use Rattle.zcalls.proofs.Folds.{LeavesDone, create-leaves, delete-leaves, set-leaves, check-leaves, kept_by_calls}
 use Rattle.zcalls.proofs.Traced.{traced, remained, same_of}
@@ -53,7 +53,7 @@ module _ (path : Path) where
   part-counts : (sets : ℕ) (t : Tree) (client : ℕ) (part : Part) → HasVersion sets t.nodes → LeavesDone (sets_since path) HasVersion sets part (part_step t client part)
   part-counts sets t client (Create create) inv =
       create-leaves (sets_since path) HasVersion sets t client create
-      (λ e. added-counts sets t (made_path t.nodes create.kind create.path) create.bytes (owner_of create.kind) (ttl_of create.kind) (is_sequential create.kind) inv)
+      (λ e. added-counts sets t (made_path t.nodes create.kind create.path) create.bytes (owner_of create.kind.lifetime) (ttl_of create.kind.lifetime) create.kind.is_sequential inv)
   part-counts sets t client (Delete delete) inv = delete-leaves (sets_since path) HasVersion sets t client delete (dropped-counts sets t delete.path inv)
   part-counts sets t client (SetData set) inv = set-leaves (sets_since path) HasVersion sets t client set (λ stat. written-counts sets t set.path set.bytes inv)
   part-counts sets t client (Check check) inv = check-leaves (sets_since path) HasVersion sets t client check inv

@@ -13,7 +13,7 @@ use Rattle.zcalls.specs.declared.refusal.Refusal.{Refusal}
 use Rattle.zcalls.specs.declared.refusal.Refusal.TheVariants.{SessionGone, TooManySessions, Exhausted}
 use Rattle.zcalls.specs.declared.reply.Reply.{Reply}
 use Rattle.zcalls.specs.declared.reply.Reply.TheVariants as reply
-use Rattle.zcalls.specs.Part.{change_step, create_step, delete_step, set_step, part_step, made_path, is_sequential, owner_of, is_gone, ttl_of}
+use Rattle.zcalls.specs.Part.{change_step, create_step, delete_step, set_step, part_step, made_path, owner_of, is_gone, ttl_of}
 use Rattle.zcalls.specs.declared.change.Change.{Change}
 use Rattle.zcalls.specs.declared.change.Change.TheVariants as change
 use Rattle.zcalls.specs.declared.change.ChangeReply.{ChangeReply}
@@ -86,7 +86,7 @@ written-dated zxid time t path bytes dated =
 change-dated : (zxid time : ℕ) (t : Tree) (client : ℕ) (change : Change) → IsDated zxid time t → Leaves (IsDated zxid time) (change_step t client change)
 change-dated zxid time t client (change.Create create) dated =
     create_step-leaves (IsDated zxid time) t client create
-    (λ e. added-dated zxid time t (made_path t.nodes create.kind create.path) create.bytes (owner_of create.kind) (ttl_of create.kind) (is_sequential create.kind) dated)
+    (λ e. added-dated zxid time t (made_path t.nodes create.kind create.path) create.bytes (owner_of create.kind.lifetime) (ttl_of create.kind.lifetime) create.kind.is_sequential dated)
 change-dated zxid time t client (change.Delete delete) dated = delete_step-leaves (IsDated zxid time) t delete (λ e. dropped-dated zxid time t delete.path dated)
 change-dated zxid time t client (change.SetData set) dated = set_step-leaves (IsDated zxid time) t set (written-dated zxid time t set.path set.bytes dated)
 

@@ -15,7 +15,7 @@ use Rattle.zcalls.specs.declared.reply.PartReply.{PartReply}
 use Rattle.zcalls.specs.declared.reply.PartReply.TheVariants as part_reply
 use Rattle.zcalls.specs.declared.reply.Reply.{Reply}
 use Rattle.zcalls.specs.declared.reply.Reply.TheVariants as reply
-use Rattle.zcalls.specs.Part.{part_step, is_sequential}
+use Rattle.zcalls.specs.Part.{part_step}
 use Rattle.zcalls.specs.Multi.{Run, run}
 use Rattle.zcalls.specs.Step.{step, is_exhausted}
 
@@ -161,7 +161,7 @@ with_made above made sequential part_reply.Checked = made
 -- the paths that sequential creates made beneath a node since the part that created it, after one
 -- more part
 abbrev pub numbered_since : Path → List Path → Part → PartReply → List Path
-numbered_since above made (part_of.Create create) answer = with_made above made (is_sequential create.kind) answer
+numbered_since above made (part_of.Create create) answer = with_made above made create.kind.is_sequential answer
 numbered_since above made (part_of.Delete delete) answer = made
 numbered_since above made (part_of.SetData set) answer = made
 numbered_since above made (part_of.Check check) answer = made

@@ -12,7 +12,8 @@ use Rattle.ztree.specs.declared.session.Session.{Session}
 use Rattle.ztree.specs.declared.limits.TheConstants.{MAX_NODES}
 use Rattle.zcalls.specs.declared.limits.TheConstants.{MAX_COUNTER}
 use Rattle.zcalls.specs.declared.call.Kind.{Kind}
-use Rattle.zcalls.specs.declared.call.Kind.TheVariants.{Persistent, PersistentSequential, PersistentWithTtl, PersistentSequentialWithTtl, Ephemeral, EphemeralSequential}
+use Rattle.zcalls.specs.declared.call.Lifetime.{Lifetime}
+use Rattle.zcalls.specs.declared.call.Lifetime.TheVariants.{Persistent, WithTtl, Ephemeral}
 use Rattle.zcalls.specs.declared.call.Expected.{Expected}
 use Rattle.zcalls.specs.declared.call.Expected.TheVariants.{Any, Exactly}
 use Rattle.zcalls.specs.declared.call.Create.{Create}
@@ -53,45 +54,35 @@ has_other_version (Exactly version) n = not (n.version == version)
 abbrev pub is_spent : Node → Bool
 is_spent n = nat_lt MAX_COUNTER n.seq
 
--- a node of this kind takes a number from its parent's counter
-abbrev pub is_sequential : Kind → Bool
-is_sequential Persistent = false
-is_sequential PersistentSequential = true
-is_sequential (PersistentWithTtl ttl) = false
-is_sequential (PersistentSequentialWithTtl ttl) = true
-is_sequential (Ephemeral session) = false
-is_sequential (EphemeralSequential session) = true
+-- a kind whose node has just the name that is asked for
+abbrev pub named : Lifetime → Kind
+named lifetime = record { lifetime = lifetime; is_sequential = false }
+
+-- a kind whose node takes a number from its parent's counter
+abbrev pub sequential : Lifetime → Kind
+sequential lifetime = record { lifetime = lifetime; is_sequential = true }
 
 -- the session that will own the node, or 0 for none
-abbrev pub owner_of : Kind → ℕ
+abbrev pub owner_of : Lifetime → ℕ
 owner_of Persistent = 0
-owner_of PersistentSequential = 0
-owner_of (PersistentWithTtl ttl) = 0
-owner_of (PersistentSequentialWithTtl ttl) = 0
+owner_of (WithTtl ttl) = 0
 owner_of (Ephemeral session) = session
-owner_of (EphemeralSequential session) = session
 
 -- the TTL of the node in ticks, or 0 for none
-abbrev pub ttl_of : Kind → ℕ
+abbrev pub ttl_of : Lifetime → ℕ
 ttl_of Persistent = 0
-ttl_of PersistentSequential = 0
-ttl_of (PersistentWithTtl ttl) = ttl
-ttl_of (PersistentSequentialWithTtl ttl) = ttl
+ttl_of (WithTtl ttl) = ttl
 ttl_of (Ephemeral session) = 0
-ttl_of (EphemeralSequential session) = 0
 
 -- the session is gone for this client: it doesn't exist, or belongs to another client
 abbrev pub is_gone : Sessions → ℕ → ℕ → Bool
 is_gone sessions client session = option_map_or (λ (s : Session). not (s.client == client)) (finite.get sessions session) true
 
 -- the node would belong to a session that is gone
-abbrev pub has_no_owner : Sessions → ℕ → Kind → Bool
+abbrev pub has_no_owner : Sessions → ℕ → Lifetime → Bool
 has_no_owner sessions client Persistent = false
-has_no_owner sessions client PersistentSequential = false
-has_no_owner sessions client (PersistentWithTtl ttl) = false
-has_no_owner sessions client (PersistentSequentialWithTtl ttl) = false
+has_no_owner sessions client (WithTtl ttl) = false
 has_no_owner sessions client (Ephemeral session) = is_gone sessions client session
-has_no_owner sessions client (EphemeralSequential session) = is_gone sessions client session
 
 -- the counter of the node at the path, or 0 if there is no node
 abbrev pub counter_at : Nodes → Path → ℕ
@@ -99,16 +90,16 @@ counter_at nodes path = option_map_or (λ n. n.seq) (finite.get nodes path) 0
 
 -- the path of the node that a create makes
 abbrev pub made_path : Nodes → Kind → Path → Path
-made_path nodes kind path = if is_sequential kind then numbered_path path (counter_at nodes (parent_of path)) else path
+made_path nodes kind path = if kind.is_sequential then numbered_path path (counter_at nodes (parent_of path)) else path
 
 -- the refusals of a client's create, in the order of the tests
 abbrev pub create_refusals : Tree → ℕ → Create → List (Bool × Refusal)
 create_refusals t client create =
-    (has_no_owner t.sessions client create.kind, SessionGone)
+    (has_no_owner t.sessions client create.kind.lifetime, SessionGone)
     ∷ (is_root create.path, NodeExists)
     ∷ (not (has_node t.nodes (parent_of create.path)), NoNode)
     ∷ (node_has is_owned t.nodes (parent_of create.path), NoChildrenForEphemerals)
-    ∷ (is_sequential create.kind && node_has is_spent t.nodes (parent_of create.path), SequenceFull)
+    ∷ (create.kind.is_sequential && node_has is_spent t.nodes (parent_of create.path), SequenceFull)
     ∷ (is_over (made_path t.nodes create.kind create.path), PathLimit)
     ∷ (has_node t.nodes (made_path t.nodes create.kind create.path), NodeExists)
     ∷ (nat_le MAX_NODES (finite.len t.nodes), Full)
@@ -144,7 +135,7 @@ unfoldable pub create_step : Tree → ℕ → Create → Result (Tree × ChangeR
 create_step t client create =
     let made = made_path t.nodes create.kind create.path in
     unless_refused (first_that_holds (create_refusals t client create))
-    (with_node t made create.bytes (owner_of create.kind) (ttl_of create.kind) (is_sequential create.kind), Created made)
+    (with_node t made create.bytes (owner_of create.kind.lifetime) (ttl_of create.kind.lifetime) create.kind.is_sequential, Created made)
 
 -- a delete removes one node that has no children
 unfoldable pub delete_step : Tree → Delete → Result (Tree × ChangeReply) Refusal

@@ -5,51 +5,29 @@ use crate::multi::Multi;
 use zpath::Path;
 use ztree::{ClientId, Data, SessionId, Ttl};
 
-/// The kind of a node that is created. "Sequential" appends ten digits of the parent's counter to
-/// the name.
+/// How long a node that is created stays.
 #[derive(Clone, Copy, Debug, PartialEq, Eq)]
-pub enum Kind {
+pub enum Lifetime {
     /// Persistent: the node stays until it is deleted.
     Persistent,
-    /// Persistent, and sequential.
-    PersistentSequential,
     /// Persistent with a TTL. A tick removes the node once the TTL since the last write of its data
     /// has passed, if it has no children.
-    PersistentWithTtl(Ttl),
-    /// Persistent with a TTL, and sequential.
-    PersistentSequentialWithTtl(Ttl),
+    WithTtl(Ttl),
     /// Ephemeral: the node belongs to the session with this id, and goes when the session ends.
     Ephemeral(SessionId),
-    /// Ephemeral, and sequential.
-    EphemeralSequential(SessionId),
 }
 
-impl Kind {
+impl Lifetime {
     ghost use Rattle.std.specs.Prelude.{◌≡◌};
-    ghost use Rattle.zcalls.specs.Part.{is_sequential, owner_of, ttl_of};
-
-    /// Returns whether the parent's counter goes into the name.
-    pub fn is_sequential(self) -> bool
-        ensures { result ≡ is_sequential self }
-    {
-        match self {
-            Kind::Persistent | Kind::PersistentWithTtl(_) | Kind::Ephemeral(_) => false,
-            Kind::PersistentSequential
-            | Kind::PersistentSequentialWithTtl(_)
-            | Kind::EphemeralSequential(_) => true,
-        }
-    }
+    ghost use Rattle.zcalls.specs.Part.{owner_of, ttl_of};
 
     /// Returns the id of the session that will own the node, or 0 for none.
     pub fn owner(self) -> u64
         ensures { result ≡ owner_of self }
     {
         match self {
-            Kind::Ephemeral(session) | Kind::EphemeralSequential(session) => session.number(),
-            Kind::Persistent
-            | Kind::PersistentSequential
-            | Kind::PersistentWithTtl(_)
-            | Kind::PersistentSequentialWithTtl(_) => 0,
+            Lifetime::Persistent | Lifetime::WithTtl(_) => 0,
+            Lifetime::Ephemeral(session) => session.number(),
         }
     }
 
@@ -58,11 +36,42 @@ impl Kind {
         ensures { result ≡ ttl_of self }
     {
         match self {
-            Kind::PersistentWithTtl(ttl) | Kind::PersistentSequentialWithTtl(ttl) => ttl.ticks(),
-            Kind::Persistent
-            | Kind::PersistentSequential
-            | Kind::Ephemeral(_)
-            | Kind::EphemeralSequential(_) => 0,
+            Lifetime::Persistent | Lifetime::Ephemeral(_) => 0,
+            Lifetime::WithTtl(ttl) => ttl.ticks(),
+        }
+    }
+}
+
+/// The kind of a node that is created: one of the modes of ZooKeeper's `CreateMode`.
+#[derive(Clone, Copy, Debug, PartialEq, Eq)]
+pub struct Kind {
+    /// How long it stays.
+    pub lifetime: Lifetime,
+    /// Whether ten digits of the parent's counter are appended to its name.
+    pub is_sequential: bool,
+}
+
+impl Kind {
+    ghost use Rattle.std.specs.Prelude.{◌≡◌};
+    ghost use Rattle.zcalls.specs.Part.{named, sequential};
+
+    /// A node of just the name that is asked for.
+    pub fn named(lifetime: Lifetime) -> Kind
+        ensures { result ≡ named lifetime }
+    {
+        Kind {
+            lifetime,
+            is_sequential: false,
+        }
+    }
+
+    /// A sequential node: ten digits of the parent's counter are appended to its name.
+    pub fn sequential(lifetime: Lifetime) -> Kind
+        ensures { result ≡ sequential lifetime }
+    {
+        Kind {
+            lifetime,
+            is_sequential: true,
         }
     }
 }

@@ -1,8 +1,10 @@
 //! Calls, and parts of a multi, each made in one line.
 
 ghost use Rattle.std.specs.Prelude.{◌≡◌};
+ghost use Rattle.zcalls.specs.Part.{named};
+ghost use Rattle.zcalls.specs.declared.call.Lifetime.TheVariants.{Persistent};
 
-use crate::call::{Call, Check, Create, Delete, Expected, Kind, Query, SetData, Update};
+use crate::call::{Call, Check, Create, Delete, Expected, Kind, Lifetime, Query, SetData, Update};
 use crate::multi::Multi;
 use zpath::Path;
 use ztree::{Data, SessionId};
@@ -51,9 +53,9 @@ impl Call {
     /// Creates a persistent node.
     pub fn create(path: Path, bytes: Data) -> Call
         ensures { result ≡ Call.Update (Update.Create
-            (record { path = path; kind = Kind.Persistent; bytes = bytes })) }
+            (record { path = path; kind = named Persistent; bytes = bytes })) }
     {
-        Call::create_as(path, Kind::Persistent, bytes)
+        Call::create_as(path, Kind::named(Lifetime::Persistent), bytes)
     }
 
     /// Creates a node of this kind.

@@ -12,7 +12,7 @@ use zpath::Name;
 
 impl Create {
     /// Returns a copy of the create.
-    pub fn copied(&self, alloc: Global) -> Result<Create, Memory>
+    pub fn copied(&self) -> Result<Create, Memory>
         ensures { IfOk result (λ copy. copy ≡ self.now) }
     {
         Ok(Create {
@@ -25,7 +25,7 @@ impl Create {
 
 impl Delete {
     /// Returns a copy of the delete.
-    pub fn copied(&self, alloc: Global) -> Result<Delete, Memory>
+    pub fn copied(&self) -> Result<Delete, Memory>
         ensures { IfOk result (λ copy. copy ≡ self.now) }
     {
         Ok(Delete {
@@ -37,7 +37,7 @@ impl Delete {
 
 impl SetData {
     /// Returns a copy of the set.
-    pub fn copied(&self, alloc: Global) -> Result<SetData, Memory>
+    pub fn copied(&self) -> Result<SetData, Memory>
         ensures { IfOk result (λ copy. copy ≡ self.now) }
     {
         Ok(SetData {
@@ -50,7 +50,7 @@ impl SetData {
 
 impl Check {
     /// Returns a copy of the check.
-    pub fn copied(&self, alloc: Global) -> Result<Check, Memory>
+    pub fn copied(&self) -> Result<Check, Memory>
         ensures { IfOk result (λ copy. copy ≡ self.now) }
     {
         Ok(Check {
@@ -66,10 +66,10 @@ impl Part {
         ensures { IfOk result (λ copy. copy ≡ self.now) }
     {
         match self {
-            Part::Create(wanted) => Ok(Part::Create(wanted.copied(alloc)?)),
-            Part::Delete(wanted) => Ok(Part::Delete(wanted.copied(alloc)?)),
-            Part::SetData(wanted) => Ok(Part::SetData(wanted.copied(alloc)?)),
-            Part::Check(wanted) => Ok(Part::Check(wanted.copied(alloc)?)),
+            Part::Create(wanted) => Ok(Part::Create(wanted.copied()?)),
+            Part::Delete(wanted) => Ok(Part::Delete(wanted.copied()?)),
+            Part::SetData(wanted) => Ok(Part::SetData(wanted.copied()?)),
+            Part::Check(wanted) => Ok(Part::Check(wanted.copied()?)),
         }
     }
 }
@@ -103,9 +103,9 @@ impl Update {
         ensures { IfOk result (λ copy. copy ≡ self.now) }
     {
         match self {
-            Update::Create(wanted) => Ok(Update::Create(wanted.copied(alloc)?)),
-            Update::Delete(wanted) => Ok(Update::Delete(wanted.copied(alloc)?)),
-            Update::SetData(wanted) => Ok(Update::SetData(wanted.copied(alloc)?)),
+            Update::Create(wanted) => Ok(Update::Create(wanted.copied()?)),
+            Update::Delete(wanted) => Ok(Update::Delete(wanted.copied()?)),
+            Update::SetData(wanted) => Ok(Update::SetData(wanted.copied()?)),
             Update::Multi(multi) => Ok(Update::Multi(multi.copied(alloc)?)),
             Update::Open(timeout) => Ok(Update::Open(*timeout)),
             Update::Ping(session) => Ok(Update::Ping(*session)),
@@ -117,7 +117,7 @@ impl Update {
 
 impl Query {
     /// Returns a copy of the query.
-    pub fn copied(&self, alloc: Global) -> Result<Query, Memory>
+    pub fn copied(&self) -> Result<Query, Memory>
         ensures { IfOk result (λ copy. copy ≡ self.now) }
     {
         match self {
@@ -135,7 +135,7 @@ impl Call {
     {
         match self {
             Call::Update(update) => Ok(Call::Update(update.copied(alloc)?)),
-            Call::Query(query) => Ok(Call::Query(query.copied(alloc)?)),
+            Call::Query(query) => Ok(Call::Query(query.copied()?)),
         }
     }
 }

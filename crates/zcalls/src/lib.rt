@@ -20,7 +20,9 @@ mod reply;
 mod rows;
 mod shared_entry;
 
-pub use call::{Call, Check, Create, Delete, Entry, Expected, Kind, Part, Query, SetData, Update};
+pub use call::{
+    Call, Check, Create, Delete, Entry, Expected, Kind, Lifetime, Part, Query, SetData, Update,
+};
 pub use call_number::CallNumber;
 pub use change::{Change, ChangeReply};
 pub use limits::{MAX_CALL_NUMBER, MAX_PARTS};

@@ -5,8 +5,7 @@ ghost use Rattle.std.specs.FinMap.{get};
 ghost use Rattle.ztree.specs.support.Samples.{at_a, some_node};
 ghost use Rattle.ztree.specs.Tree.{Tree, opening_tree};
 ghost use Rattle.ztree.specs.Sessions.{with_next_tick};
-ghost use Rattle.zcalls.specs.declared.call.Kind.TheVariants.{Persistent, Ephemeral};
-ghost use Rattle.zcalls.specs.declared.call.Kind.TheVariants.{PersistentWithTtl, PersistentSequentialWithTtl};
+ghost use Rattle.zcalls.specs.declared.call.Lifetime.TheVariants.{Persistent, WithTtl, Ephemeral};
 ghost use Rattle.zcalls.specs.declared.limits.TheConstants.{MAX_PARTS, MAX_COUNTER, MIN_TIMEOUT, MAX_TIMEOUT};
 ghost use Rattle.zcalls.specs.declared.limits.TheConstants.{MAX_CALL_NUMBER, MAX_RAISES};
 ghost use Rattle.zcalls.specs.declared.call.Expected.TheVariants.{Any, Exactly};
@@ -20,7 +19,7 @@ ghost use Rattle.zcalls.specs.declared.reply.Reply.TheVariants.{Refused, MultiRe
 ghost use Rattle.zcalls.specs.CallRuns.{is_success, is_change};
 ghost use Rattle.zcalls.specs.PlainTree.{plain_tree};
 ghost use Rattle.zcalls.specs.Part.{has_other_version, is_spent};
-ghost use Rattle.zcalls.specs.Part.{is_sequential, owner_of, ttl_of};
+ghost use Rattle.zcalls.specs.Part.{named, sequential, owner_of, ttl_of};
 ghost use Rattle.zcalls.specs.Multi.{run};
 ghost use Rattle.zcalls.specs.Step.{step, query_reply, is_exhausted, multi_result, tick_result};
 ghost use Rattle.zcalls.specs.support.Counting.{after, creates, deletes, told, told_no, seven, third_kept};
@@ -134,16 +133,16 @@ pub fn ticks_are_one_change()
         ≡ leaves t (without_a (without_7 t)) 1 1 }
 {}
 
-/// The attributes of the kinds with a TTL.
-pub fn kinds_with_a_ttl()
-    ensures ttl { ttl_of (PersistentWithTtl 5) ≡ 5 }
-    ensures sequential_ttl { ttl_of (PersistentSequentialWithTtl 6) ≡ 6 }
+/// What nodes of each lifetime have, and the names of both kinds.
+pub fn lifetimes_and_kinds()
+    ensures ttl { ttl_of (WithTtl 5) ≡ 5 }
     ensures none { ttl_of Persistent ≡ 0 }
     ensures ephemeral { ttl_of (Ephemeral 7) ≡ 0 }
-    ensures nobodys { owner_of (PersistentWithTtl 5) ≡ 0 }
-    ensures sequential_nobodys { owner_of (PersistentSequentialWithTtl 6) ≡ 0 }
-    ensures named { is_sequential (PersistentWithTtl 5) ≡ false }
-    ensures numbered { is_sequential (PersistentSequentialWithTtl 6) ≡ true }
+    ensures nobodys { owner_of (WithTtl 5) ≡ 0 }
+    ensures free { owner_of Persistent ≡ 0 }
+    ensures owned { owner_of (Ephemeral 7) ≡ 7 }
+    ensures name_as_asked { (named (WithTtl 5)).is_sequential ≡ false }
+    ensures numbered { (sequential (WithTtl 6)).is_sequential ≡ true }
 {}
 
 /// The limits as numbers.

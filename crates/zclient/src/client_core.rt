@@ -278,7 +278,7 @@ fn send_call<T: Drop>(
         }
         Call::Query(query) => {
             if let Some(tail) = tail {
-                let copy = query.copied(alloc)?;
+                let copy = query.copied()?;
                 out.put_reserved(Process::Server(*tail), Message::Query(number, copy));
             }
         }

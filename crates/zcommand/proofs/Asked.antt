@@ -1,13 +1,12 @@
 -- What is answered is what was asked for.
-use Rattle.std.proofs.Common.{◌≡◌, ◌⊎◌, inr, Result, Ok, Err, IfOk, IfErr}
-use Rattle.zcommand.specs.declared.order.Settings.{Settings}
+use Rattle.std.proofs.Common.{◌≡◌, ◌⊎◌, ℕ, inr, Result, Ok, Err, IfOk, IfErr}
 use Rattle.zcli.specs.declared.fault.WordsFault.{WordsFault}
 use Rattle.zcli.specs.declared.fault.WordsFault.TheVariants.{Memory}
 
-pub asked-ok : (asked answer : Result Settings WordsFault) → asked ≡ answer → IfOk answer (λ settings. asked ≡ Ok settings)
+pub asked-ok : (asked answer : Result ℕ WordsFault) → asked ≡ answer → IfOk answer (λ settings. asked ≡ Ok settings)
 asked-ok asked (Ok settings) is = is
 asked-ok asked (Err fault) is = tt
 
-pub asked-err : (asked answer : Result Settings WordsFault) → asked ≡ answer → IfErr answer (λ fault. (fault ≡ Memory) ⊎ (asked ≡ Err fault))
+pub asked-err : (asked answer : Result ℕ WordsFault) → asked ≡ answer → IfErr answer (λ fault. (fault ≡ Memory) ⊎ (asked ≡ Err fault))
 asked-err asked (Ok settings) is = tt
 asked-err asked (Err fault) is = inr is

@@ -6,12 +6,11 @@ use Rattle.zscript.specs.Outcome.{IsPlayed, IsCutBy, IsIdle, play_fault_text}
 use Rattle.zscript.specs.Servers.{IsServers}
 use Rattle.zscript.specs.declared.fault.PlayFault.{PlayFault}
 use Rattle.zscript.specs.declared.fault.PlayFault.TheVariants.{Memory}
-use Rattle.zcommand.specs.declared.order.Settings.TheVariants.{Script}
 use Rattle.zcommand.specs.Asked.{settings_asked}
 
 -- The words ask for a script over exactly this many servers.
 abbrev pub AskForServers : List (List ℕ) → ℕ → Type 0
-AskForServers words servers = IsServers servers × (settings_asked words ≡ Ok (Script servers))
+AskForServers words servers = IsServers servers × (settings_asked words ≡ Ok servers)
 
 -- Every line was played, by a chain of exactly the number of servers that the words ask for.
 abbrev pub IsPlayedAsAsked : List (List ℕ) → SourceRun → SinkRun → Type 0

@@ -4,11 +4,9 @@
 //! line, and returns the exit status.
 #![tactic(auto)]
 
-mod order;
 mod program;
 pub mod rows;
 mod words;
 
-pub use order::Settings;
 pub use program::command;
 pub use words::settings;

@@ -7,7 +7,6 @@ ghost use Rattle.zcommand.specs.Asked.{settings_asked};
 ghost use Rattle.zcli.specs.Telling.{IsTold};
 ghost use Rattle.zcommand.specs.Command.{IsPlayedAsAsked, IsCutAndTold};
 
-use crate::order::Settings;
 use crate::words::settings;
 use std::alloc::Global;
 use zcli::{WordsFault, refuse, tell};
@@ -44,11 +43,11 @@ pub fn command<S: Source, K: Sink, F: Sink>(
     ensures refused { result ≡ 2 → IsTold
         (sink_run F.took F.failed faults.old faults.new) (codes "zk: bad words") }
 {
-    let Settings::Script(servers) = match settings(alloc, words) {
-        Ok(settings) => settings,
+    let last = match settings(alloc, words) {
+        Ok(last) => last,
         Err(fault) => return refuse(fault, faults),
     };
-    match play(alloc, source, sink, servers) {
+    match play(alloc, source, sink, last) {
         Ok(()) => 0,
         Err(fault) => {
             tell(faults, fault.text());

@@ -3,14 +3,13 @@
 ghost use Rattle.std.specs.Prelude.{◌≡◌, codes, Err, Ok};
 ghost use Rattle.zcommand.specs.support.Rows.{text_asked};
 
-use crate::order::Settings;
 use zcli::WordsFault;
 
 /// Words of the program, separated by spaces, and how many servers they ask for.
 pub fn words_ask_for_servers()
-    ensures none { text_asked (codes "zk script") ≡ Ok (Settings.Script 1) }
-    ensures three { text_asked (codes "zk script --servers 3") ≡ Ok (Settings.Script 3) }
-    ensures most { text_asked (codes "zk script --servers=16") ≡ Ok (Settings.Script 16) }
+    ensures none { text_asked (codes "zk script") ≡ Ok 1 }
+    ensures three { text_asked (codes "zk script --servers 3") ≡ Ok 3 }
+    ensures most { text_asked (codes "zk script --servers=16") ≡ Ok 16 }
     ensures too_few { text_asked (codes "zk script --servers 0") ≡ Err WordsFault.BadWords }
     ensures too_many { text_asked (codes "zk script --servers 17") ≡ Err WordsFault.BadWords }
     ensures a_byte_more { text_asked (codes "zk script --servers 257") ≡ Err WordsFault.BadWords }

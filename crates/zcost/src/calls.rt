@@ -41,7 +41,7 @@ impl Calls {
     pub fn first(&self) -> Result<Entry, Trouble> {
         let create = Create {
             path: self.path.clone()?,
-            kind: zcalls::Kind::Persistent,
+            kind: zcalls::Kind::named(zcalls::Lifetime::Persistent),
             bytes: self.bytes.clone()?,
         };
         self.entry(0, Update::Create(create))

@@ -123,22 +123,19 @@ impl Chain {
 // Returns the servers of the initial chain.
 fn opened(alloc: Global, count: u8) -> Result<Vec<Server>, Trouble> {
     let mut servers = Vec::new(alloc);
+    let last = server_id(count)?;
     for number in 1..=count {
-        let pred = ServerId::new(number.saturating_sub(1));
-        let succ = if number < count {
-            ServerId::new(number.saturating_add(1))
-        } else {
-            None
-        };
-        servers.push(Server::first(alloc, pred, succ)?)?;
+        servers.push(Server::opening(alloc, server_id(number)?, last)?)?;
     }
     Ok(servers)
 }
 
 // Returns the server at a place, as the sender of a message.
 fn process(at: u8) -> Result<Process, Trouble> {
-    match ServerId::new(at.saturating_add(1)) {
-        Some(server) => Ok(Process::Server(server)),
-        None => Err(Trouble::BadOrder),
-    }
+    Ok(Process::Server(server_id(at.saturating_add(1))?))
+}
+
+// Returns the server with this number.
+fn server_id(number: u8) -> Result<ServerId, Trouble> {
+    ServerId::new(number).ok_or(Trouble::BadOrder)
 }

@@ -2,8 +2,6 @@
 use Rattle.std.specs.Prelude.{ℕ, if◌then◌else◌, List, [], ◌∷◌, codes, Option, Some, None, Result, Ok, Err}
 use Rattle.std.specs.Str.{bytes_eq}
 use Rattle.zcommand.specs.Asked.{settings_asked}
-use Rattle.zcommand.specs.declared.order.Settings.{Settings}
-use Rattle.zcommand.specs.declared.order.Settings.TheVariants.{Script}
 use Rattle.zcli.specs.declared.fault.WordsFault.{WordsFault}
 use Rattle.zcli.specs.declared.fault.WordsFault.TheVariants.{BadWords}
 use Rattle.zfile.specs.declared.mode.SyncMode.{SyncMode}
@@ -15,8 +13,8 @@ mode_of word =
     if bytes_eq word (codes "never") then Some Never else None
 
 -- whether to wait for the disk, and how many servers there are
-abbrev pub data_of : Option SyncMode → Result Settings WordsFault → Result (SyncMode × ℕ) WordsFault
-data_of (Some mode) (Ok (Script servers)) = Ok (mode, servers)
+abbrev pub data_of : Option SyncMode → Result ℕ WordsFault → Result (SyncMode × ℕ) WordsFault
+data_of (Some mode) (Ok servers) = Ok (mode, servers)
 data_of mode script = Err BadWords
 
 -- behind the program's name a folder and a mode, and then the words of a script

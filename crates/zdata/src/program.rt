@@ -14,7 +14,7 @@ use std::fs::{File, Files};
 use zcli::{WordsFault, tell};
 use zdurable::Durable;
 use zfile::{FileDevice, SyncMode};
-use zscript::{Servers, Sink, Source};
+use zscript::{ServerId, Sink, Source};
 
 // From so many bytes on it is told that a file is opened: that may take a second.
 const LONG: usize = 1_048_576;
@@ -55,7 +55,7 @@ fn run<R: Files<File = File> + Copy, S: Source, K: Sink, F: Sink>(
     let asked = data_settings(alloc, words)?;
     let device = FileDevice::open(alloc, files, folder, asked.mode)?;
     tell_opening(alloc, asked.mode, device.waiting(), faults);
-    let service = opened(alloc, device, asked.servers)?;
+    let service = opened(alloc, device, asked.last)?;
     answer(alloc, service, source, sink)
 }
 
@@ -76,16 +76,16 @@ fn answer<R: Files<File = File> + Copy, S: Source, K: Sink>(
 fn opened<R: Files<File = File> + Copy>(
     alloc: Global,
     device: FileDevice<R>,
-    servers: Servers,
+    last: ServerId,
 ) -> Result<Durable<FileDevice<R>>, DataFault>
     requires durable { Only (seen_of device) (MayLeaveOf device) }
     ensures serving { IfOk result (λ service. (batches : List (List ℕ))
-        × IsServing seen_of MayLeaveOf servers batches service) }
+        × IsServing seen_of MayLeaveOf last batches service) }
     ensures open { IfOk result IsOpen }
     ensures sound { IfOk result (IsSound seen_of MayLeaveOf) }
     ensures fault { IfErr result IsOfService }
 {
-    match Durable::open(alloc, device, servers) {
+    match Durable::open(alloc, device, last) {
         Ok(service) => Ok(service),
         Err((fault, _)) => Err(DataFault::Service(fault)),
     }

@@ -6,17 +6,17 @@ ghost use Rattle.zdata.specs.Asked.{data_asked, mode_of};
 
 use std::alloc::Global;
 use zcli::WordsFault;
-use zcommand::{Settings, settings};
+use zcommand::settings;
 use zfile::SyncMode;
-use zscript::Servers;
+use zscript::ServerId;
 
 /// What the words ask for, beside the folder: a script whose lines are kept.
 #[derive(Clone, Copy, Debug, PartialEq, Eq)]
 pub struct DataSettings {
     /// Whether it waits for the disk.
     pub mode: SyncMode,
-    /// How many servers the chain begins with.
-    pub servers: Servers,
+    /// The last server that the chain begins with.
+    pub last: ServerId,
 }
 
 /// Reads `NAME FOLDER batch|never script [--servers N]`. The folder may be any word. From `script` on the words are those of a
@@ -25,7 +25,7 @@ pub struct DataSettings {
 /// All else is `BadWords`. `Memory` comes only where memory runs out.
 pub fn data_settings<'a>(alloc: Global, words: &'a [&'a str]) -> Result<DataSettings, WordsFault>
     ensures ok { IfOk result (λ asked. data_asked (texts_of words.now)
-        ≡ Ok (asked.mode, asked.servers)) }
+        ≡ Ok (asked.mode, asked.last)) }
     ensures err { IfErr result (λ fault. (fault ≡ WordsFault.Memory)
         ⊎ (data_asked (texts_of words.now) ≡ Err fault)) }
 {
@@ -35,8 +35,8 @@ pub fn data_settings<'a>(alloc: Global, words: &'a [&'a str]) -> Result<DataSett
     let Some(mode) = mode_of(mode) else {
         return Err(WordsFault::BadWords);
     };
-    let Settings::Script(servers) = settings(alloc, &words[2..])?;
-    Ok(DataSettings { mode, servers })
+    let last = settings(alloc, &words[2..])?;
+    Ok(DataSettings { mode, last })
 }
 
 // Whether the word asks to wait for the disk.

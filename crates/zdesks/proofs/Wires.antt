@@ -1,5 +1,5 @@
 -- One link of many changes.
-use Rattle.std.proofs.Common.{◌+◌, ◌≡◌, ◌≢◌, ◌==◌, ◌<◌, ◌≤◌, ◌-◌, ℕ, zero, suc, Bool, true, false, if◌then◌else◌, List, [], ◌∷◌, ◌++◌, Some, None, map, length, set, get_or, sym, refl, ap, ◌∙◌, subst, ⊎_elim, eq-eqb, ne_eqb, nat_le, append-nil, append_assoc, length-set, arith}
+use Rattle.std.proofs.Common.{◌+◌, ◌≡◌, ◌≢◌, ◌==◌, ◌<◌, ◌≤◌, ◌-◌, ℕ, zero, suc, Bool, true, false, if◌then◌else◌, List, [], ◌∷◌, ◌++◌, Some, None, map, length, set, get_or, sym, refl, ap, ◌∙◌, subst, ⊎_elim, ne_eqb, nat_le, append-nil, append_assoc, length-set, arith}
 use Rattle.std.proofs.lemmas.Bool.Decides.{nat_tests}
 use Rattle.zprotocol.specs.declared.limits.TheConstants.{MAX_SERVERS}
 use mathlib.Core.Option.{some, some-ne-none}
@@ -8,6 +8,7 @@ use Rattle.atomic_table.proofs.Lists.{at_set}
 use Rattle.zprotocol.specs.declared.process.Process.{Process}
 use Rattle.zprotocol.specs.declared.process.Process.TheVariants.{Master, Server, Client}
 use Rattle.zworld_model.specs.Links.{is_same, messages_to}
+use Rattle.zworld_model.proofs.Processes.{same_itself}
 use Rattle.zserver.specs.Server.{TreeMessage}
 use Rattle.zrings.specs.declared.ends.Tx.{Tx}
 use Rattle.zrings.specs.declared.ends.Rx.{Rx}
@@ -32,12 +33,6 @@ same_desk a b c x y = record { me = y.me ∙ x.me; last = y.last ∙ x.last; cli
 
 pub same_books : (a b c : Desk) → SameBooks a b → SameBooks b c → SameBooks a c
 same_books a b c x y = record { trace = y.trace ∙ x.trace; told = y.told ∙ x.told; stamp = y.stamp ∙ x.stamp; is_cut = y.is_cut ∙ x.is_cut; lost = y.lost ∙ x.lost; room = λ r. y.room (x.room r) }
-
--- a process is itself
-pub same_self : (p : Process) → is_same p p ≡ true
-same_self Master = refl
-same_self (Server s) = eq-eqb s s refl
-same_self (Client c) = eq-eqb c c refl
 
 -- processes at two places are two
 abbrev pick : Bool → Bool → ℕ → Process
@@ -100,7 +95,7 @@ module _ (who : Self) (b : Books) (s : TreeStanding) (deeds : List TreeDeed) whe
   out_more t to m w k x x' a at is e =
       let p = process_at k in
       let rest = stamped b.stamp (messages_to p w) in
-      let same : is_same p to ≡ true = ap (λ q. is_same p q) (sym is) ∙ same_self p in
+      let same : is_same p to ≡ true = ap (λ q. is_same p q) (sym is) ∙ same_itself p in
       out_set t ((to, m) ∷ w) w k x' a
       (
       ap (λ l. l ++ rest) e
@@ -175,7 +170,7 @@ module _ (who : Self) (b : Books) (s : TreeStanding) (deeds : List TreeDeed) whe
         traced = a.traced;
         told = a.told;
         taken = each_set P Q b.ins k r' a.taken
-            (e ∙ ap (λ l. l ++ m ∷ []) (a.taken k r at ∙ append-nil (T k)) ∙ ap (λ x. T k ++ (if x then m ∷ [] else [])) (sym (same_self (process_at k))))
+            (e ∙ ap (λ l. l ++ m ∷ []) (a.taken k r at ∙ append-nil (T k)) ∙ ap (λ x. T k ++ (if x then m ∷ [] else [])) (sym (same_itself (process_at k))))
             (λ j y ne h. h ∙ ap (λ x. T j ++ (if x then m ∷ [] else [])) (sym (apart j k ne)));
         others = λ p out.
             let out' : IsOutside p (length b.ins) = λ i l. out i (let n = length-set b.ins k r' in omega arith) in

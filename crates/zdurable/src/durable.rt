@@ -19,7 +19,7 @@ use crate::limits::MAX_BATCH;
 use crate::playing::{is_whole, play, replayed};
 use std::alloc::Global;
 use zjournal::{Device, Journal, PutError, read_text};
-use zscript::Servers;
+use zscript::ServerId;
 use zworld::World;
 
 /// A service whose lines are kept.
@@ -35,40 +35,40 @@ impl<D: Device> Durable<D> {
     /// Opens the service of a file that a crash may have left, or of a new one: it plays the file's
     /// lines again. Where a line finds no memory, the file stays untouched. Opening may crash, too,
     /// and then the file stands for the same lines. An `Err` hands the device back.
-    pub fn open(alloc: Global, device: D, servers: Servers) -> Result<Durable<D>, (OpenFault, D)>
+    pub fn open(alloc: Global, device: D, last: ServerId) -> Result<Durable<D>, (OpenFault, D)>
         // After a restart, what is read is what is on the disk.
         requires durable { Only (D.seen device) (D.may_leave device) }
         ensures serving { IfOk result (λ service. (batches : List (List ℕ))
-            × StandsFor servers batches (D.seen device)
-            × IsServing D.seen D.may_leave servers batches service) }
+            × StandsFor last batches (D.seen device)
+            × IsServing D.seen D.may_leave last batches service) }
         ensures open { IfOk result IsOpen }
         ensures sound { IfOk result (IsSound D.seen D.may_leave) }
-        ensures any_moment { (batches : List (List ℕ)) → StandsFor servers batches (D.seen device)
+        ensures any_moment { (batches : List (List ℕ)) → StandsFor last batches (D.seen device)
             → IfOk result (λ service. LeavesOnly D.moment D.left_since device (disk_of service)
-            (StandsFor servers batches)) }
+            (StandsFor last batches)) }
         ensures any_moment_err { (batches : List (List ℕ))
-            → StandsFor servers batches (D.seen device)
+            → StandsFor last batches (D.seen device)
             → IfErr result (λ e. LeavesOnly D.moment D.left_since device e.1
-            (StandsFor servers batches)) }
+            (StandsFor last batches)) }
         ensures untouched { IfErr result (λ e. IsOfPlaying e.0
             → (D.seen e.1 ≡ D.seen device)
             × LeavesOnly D.moment D.left_since device e.1 (λ c. c ≡ D.seen device)) }
-        ensures fault { IfErr result (λ e. IsSuchFile servers (D.seen device) e.0) }
+        ensures fault { IfErr result (λ e. IsSuchFile last (D.seen device) e.0) }
         ensures failed { IfErr result (λ e. e.0 ≡ disk_failed → D.faults device < D.faults e.1) }
     {
         let mut device = device;
-        let text = match read_text(alloc, &mut device, servers.count()) {
+        let text = match read_text(alloc, &mut device, last.number()) {
             Ok(text) => text,
             Err(e) => return Err((OpenFault::Journal(e), device)),
         };
         if !is_whole(&text) {
             return Err((OpenFault::NotLines, device));
         }
-        let Ok(world) = replayed(alloc, servers, &text) else {
+        let Ok(world) = replayed(alloc, last, &text) else {
             return Err((OpenFault::Memory, device));
         };
         drop(text);
-        match zjournal::open(alloc, device, servers.count()) {
+        match zjournal::open(alloc, device, last.number()) {
             Ok((journal, _)) => Ok(Durable {
                 alloc,
                 world,

@@ -2,7 +2,7 @@
 //! only then answered. A service that is opened again plays the file's lines again.
 //!
 //! ```text
-//! let mut service = Durable::open(alloc, device, Servers::new(3))?;
+//! let mut service = Durable::open(alloc, device, ServerId::first())?;
 //! let answers = service.commit(b"1 create /a p aGk=\n1 get /a\n")?;    // kept, then told
 //! ```
 //!

@@ -13,7 +13,7 @@ use memchr::memchr;
 use std::alloc::{AllocError, Global};
 use zalloc::Memory;
 use zlines::{Line, LineFault, read_line};
-use zscript::{Servers, answer_line_strictly, script_world};
+use zscript::{ServerId, answer_line_strictly, script_world};
 use zworld::World;
 
 /// Plays the lines of a batch. Their answers are appended to `answers`, and what is kept of them to
@@ -116,11 +116,11 @@ fn keep(line: &[u8], kept: &mut Vec<u8>) -> Result<(), AllocError>
 }
 
 /// Returns the world that the lines of a text lead to.
-pub(crate) fn replayed(alloc: Global, servers: Servers, text: &[u8]) -> Result<World, Memory>
+pub(crate) fn replayed(alloc: Global, last: ServerId, text: &[u8]) -> Result<World, Memory>
     ensures { IfOk result (λ world. (told : List ℕ)
-        × ArePlayed (opening_of servers) (lines_of text.now) (world_between world.held) told) }
+        × ArePlayed (opening_of last) (lines_of text.now) (world_between world.held) told) }
 {
-    let mut world = script_world(alloc, servers.last())?;
+    let mut world = script_world(alloc, last)?;
     let Ok(()) = replay(alloc, &mut world, text) else {
         drop(world);
         return Err(Memory);

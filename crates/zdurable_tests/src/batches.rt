@@ -5,7 +5,8 @@ ghost use Rattle.zdurable.specs.Durable.{IsSound};
 use std::alloc::Global;
 use zdurable::Durable;
 use zjournal::Device;
-use zscript::{Servers, SliceSource, VecSink, play};
+use zliterals::server;
+use zscript::{SliceSource, VecSink, play};
 
 /// The batches, in the order in which they are put.
 pub const BATCHES: [&str; 6] = [
@@ -72,7 +73,7 @@ pub fn count_of(text: &[u8]) -> Option<usize> {
 pub fn script_answers(alloc: Global, text: &[u8]) -> Option<Vec<u8>> {
     let mut source = SliceSource::new(text, 4096);
     let mut sink = VecSink::new(alloc, 4096);
-    match play(alloc, &mut source, &mut sink, Servers::new(3)) {
+    match play(alloc, &mut source, &mut sink, server(3)) {
         Ok(()) => match sink.bytes().to_vec(alloc) {
             Ok(bytes) => Some(bytes),
             Err(_) => None,

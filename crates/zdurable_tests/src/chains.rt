@@ -8,7 +8,7 @@ use crate::opened::{count_in, text_of_first};
 use std::alloc::Global;
 use zdurable::Durable;
 use zjournal::{Device, MemoryFile};
-use zscript::Servers;
+use zliterals::server;
 
 // What a script tells of a batch that stands behind the ones before it.
 fn told_of(alloc: Global, at: usize) -> Option<Vec<u8>> {
@@ -74,7 +74,7 @@ fn live(
     let Ok(file) = MemoryFile::new(alloc, bytes, chance, calls) else {
         return None;
     };
-    match Durable::open(alloc, file, Servers::new(3)) {
+    match Durable::open(alloc, file, server(3)) {
         Ok(mut service) => {
             let told = commit_from(&mut service, found, expected);
             let left = left_if(alloc, service.device(), told);

@@ -5,7 +5,7 @@ use crate::opened::{count_in, goes_on, probe_behind, text_of_first};
 use std::alloc::Global;
 use zdurable::Durable;
 use zjournal::MemoryFile;
-use zscript::Servers;
+use zliterals::server;
 
 // Whether a power cut that left these bytes leaves what was told, and at most one batch more; the
 // service goes on from there. How many batches it left.
@@ -49,7 +49,7 @@ fn is_kept(alloc: Global, chance: u64, expected: &[u8], probes: &[Vec<u8>]) -> b
     let Ok(file) = MemoryFile::new(alloc, &[], chance, u64::MAX) else {
         return false;
     };
-    let mut service = match Durable::open(alloc, file, Servers::new(3)) {
+    let mut service = match Durable::open(alloc, file, server(3)) {
         Ok(service) => service,
         Err(e) => {
             drop(e);

@@ -7,7 +7,7 @@ use crate::opened::count_in;
 use std::alloc::Global;
 use zdurable::{CommitFault, Durable, OpenFault};
 use zjournal::{Device, MemoryFile, OpenError};
-use zscript::Servers;
+use zliterals::server;
 
 // Whether the file has the batches that were told, or these and one more.
 fn has(alloc: Global, file: &MemoryFile, told: usize) -> bool {
@@ -33,7 +33,7 @@ fn is_told(alloc: Global, chance: u64, calls: u64) -> bool {
     let Ok(file) = MemoryFile::new(alloc, &[], chance, calls) else {
         return false;
     };
-    let mut service = match Durable::open(alloc, file, Servers::new(3)) {
+    let mut service = match Durable::open(alloc, file, server(3)) {
         Ok(service) => service,
         Err((e, file)) => {
             let has = has(alloc, &file, 0);

@@ -3,7 +3,7 @@
 use std::alloc::Global;
 use zdurable::Durable;
 use zjournal::{MemoryFile, read_text};
-use zscript::Servers;
+use zliterals::server;
 
 // The lines, what is told of them, and what is kept of them, over two servers.
 const CASES: [(&str, &str, &str); 4] = [
@@ -34,7 +34,7 @@ fn is_so(alloc: Global, asked: &str, told: &str, kept: &str) -> bool {
     let Ok(file) = MemoryFile::new(alloc, &[], 0, u64::MAX) else {
         return false;
     };
-    let mut service = match Durable::open(alloc, file, Servers::new(2)) {
+    let mut service = match Durable::open(alloc, file, server(2)) {
         Ok(service) => service,
         Err(e) => {
             drop(e);
@@ -68,7 +68,7 @@ fn is_opened(alloc: Global, bytes: &[u8]) -> bool {
     let Ok(file) = MemoryFile::new(alloc, bytes, 0, u64::MAX) else {
         return false;
     };
-    let opened = Durable::open(alloc, file, Servers::new(2));
+    let opened = Durable::open(alloc, file, server(2));
     let is_ok = opened.is_ok();
     drop(opened);
     is_ok

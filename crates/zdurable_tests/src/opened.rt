@@ -6,7 +6,7 @@ use crate::batches::{BATCHES, PROBE, count_of, script_answers};
 use std::alloc::Global;
 use zdurable::Durable;
 use zjournal::{Device, MemoryFile, read_text};
-use zscript::Servers;
+use zliterals::server;
 
 /// How many batches a file with these bytes stands for.
 pub fn count_in(alloc: Global, bytes: &[u8]) -> Option<usize> {
@@ -85,7 +85,7 @@ pub fn goes_on(alloc: Global, bytes: &[u8], chance: u64, count: usize, probed: &
     let Ok(file) = MemoryFile::new(alloc, bytes, chance, u64::MAX) else {
         return false;
     };
-    let mut service = match Durable::open(alloc, file, Servers::new(3)) {
+    let mut service = match Durable::open(alloc, file, server(3)) {
         Ok(service) => service,
         Err(e) => {
             drop(e);

@@ -18,39 +18,34 @@ pub fn events_of(alloc: Global, update: &Update, reply: &Reply) -> Result<Events
     ensures { IfOk result (λ events. events ≡ table.events_of update.now reply.now) }
 {
     let mut events = Vec::new(alloc);
-    add_all(alloc, update, reply, &mut events)?;
+    add_all(update, reply, &mut events)?;
     Ok(Events::new(events))
 }
 
 // Adds the events of an update.
-fn add_all(
-    alloc: Global,
-    update: &Update,
-    reply: &Reply,
-    events: &mut Vec<Event>,
-) -> Result<(), Memory>
+fn add_all(update: &Update, reply: &Reply, events: &mut Vec<Event>) -> Result<(), Memory>
     ensures { OnOk result
         (events.new.items ≡ events.old.items ++ table.events_of update.now reply.now) }
 {
     match (update, reply) {
         (Update::Create(_), Reply::Created(path)) => {
-            add_with_parent(alloc, EventKind::NodeCreated, path, events)
+            add_with_parent(EventKind::NodeCreated, path, events)
         }
         (Update::Delete(delete), Reply::Deleted) => {
-            add_with_parent(alloc, EventKind::NodeDeleted, &delete.path, events)
+            add_with_parent(EventKind::NodeDeleted, &delete.path, events)
         }
         (Update::SetData(set), Reply::Set(_)) => {
-            add(alloc, EventKind::NodeDataChanged, &set.path, events)
+            add(EventKind::NodeDataChanged, &set.path, events)
         }
         (Update::Multi(parts), Reply::Multi(replies)) => {
-            add_parts(alloc, parts.as_slice(), replies.as_slice(), events)
+            add_parts(parts.as_slice(), replies.as_slice(), events)
         }
         _ => Ok(()),
     }
 }
 
 // Adds an event.
-fn add(alloc: Global, kind: EventKind, path: &Path, events: &mut Vec<Event>) -> Result<(), Memory>
+fn add(kind: EventKind, path: &Path, events: &mut Vec<Event>) -> Result<(), Memory>
     ensures { OnOk result (events.new.items ≡ events.old.items ++ event kind path.now ∷ []) }
 {
     let path = path.clone()?;
@@ -59,63 +54,48 @@ fn add(alloc: Global, kind: EventKind, path: &Path, events: &mut Vec<Event>) -> 
 }
 
 // Adds the events of a node that came or went.
-fn add_with_parent(
-    alloc: Global,
-    kind: EventKind,
-    path: &Path,
-    events: &mut Vec<Event>,
-) -> Result<(), Memory>
+fn add_with_parent(kind: EventKind, path: &Path, events: &mut Vec<Event>) -> Result<(), Memory>
     ensures { OnOk result (events.new.items ≡ events.old.items ++ with_parent kind path.now) }
 {
-    add(alloc, kind, path, events)?;
-    let parent = parent_path(alloc, path)?;
-    add(alloc, EventKind::NodeChildrenChanged, &parent, events)
+    add(kind, path, events)?;
+    let parent = parent_path(path)?;
+    add(EventKind::NodeChildrenChanged, &parent, events)
 }
 
 // Returns the path of the parent; the root is its own.
-fn parent_path(alloc: Global, path: &Path) -> Result<Path, Memory>
+fn parent_path(path: &Path) -> Result<Path, Memory>
     ensures { IfOk result (λ parent. parent ≡ parent_of path.now) }
 {
-    match path.parent(alloc)? {
+    match path.parent()? {
         Some(parent) => Ok(parent),
-        None => Ok(Path::root(alloc)),
+        None => Ok(Path::root()),
     }
 }
 
 // Adds the events of the parts of a multi.
-fn add_parts(
-    alloc: Global,
-    parts: &[Part],
-    replies: &[PartReply],
-    events: &mut Vec<Event>,
-) -> Result<(), Memory>
+fn add_parts(parts: &[Part], replies: &[PartReply], events: &mut Vec<Event>) -> Result<(), Memory>
     ensures { OnOk result
         (events.new.items ≡ events.old.items ++ parts_events parts.now replies.now) }
 {
     for place in 0..parts.len().min(replies.len()) {
-        add_part(alloc, &parts[place], &replies[place], events)?;
+        add_part(&parts[place], &replies[place], events)?;
     }
     Ok(())
 }
 
 // Adds the events of a part.
-fn add_part(
-    alloc: Global,
-    part: &Part,
-    reply: &PartReply,
-    events: &mut Vec<Event>,
-) -> Result<(), Memory>
+fn add_part(part: &Part, reply: &PartReply, events: &mut Vec<Event>) -> Result<(), Memory>
     ensures { OnOk result (events.new.items ≡ events.old.items ++ part_events part.now reply.now) }
 {
     match (part, reply) {
         (Part::Create(_), PartReply::Created(path)) => {
-            add_with_parent(alloc, EventKind::NodeCreated, path, events)
+            add_with_parent(EventKind::NodeCreated, path, events)
         }
         (Part::Delete(delete), PartReply::Deleted) => {
-            add_with_parent(alloc, EventKind::NodeDeleted, &delete.path, events)
+            add_with_parent(EventKind::NodeDeleted, &delete.path, events)
         }
         (Part::SetData(set), PartReply::Set(_)) => {
-            add(alloc, EventKind::NodeDataChanged, &set.path, events)
+            add(EventKind::NodeDataChanged, &set.path, events)
         }
         _ => Ok(()),
     }

@@ -5,7 +5,7 @@ use Rattle.std.specs.Cmp.{nat_cmp_total}
 use Rattle.std.specs.FinMap.{get, insert, nat_cmp-IsAntisymmetric}
 use Rattle.std.specs.Option.{option_map, option_map_or}
 use Rattle.ztree.proofs.Maps.{get-insert-here, get-insert-elsewhere, get-removed}
-use Rattle.zcalls.specs.declared.call.Kind.{Kind}
+use Rattle.zcalls.specs.declared.call.Lifetime.{Lifetime}
 use Rattle.zcalls.specs.declared.call.Part.{Part}
 use Rattle.zcalls.specs.declared.call.Part.TheVariants as part
 use Rattle.zcalls.specs.declared.call.Update.{Update}
@@ -146,8 +146,8 @@ touched_kept session t = alike_kept t (with_changed touched t.sittings session) 
 both_alike : (a b c : SittingsView) → Alike a b → Alike b c → Alike a c
 both_alike a b c one two = (λ id. two.0 id ∙ one.0 id, λ id has. one.1 id (two.1 id has))
 
-made_alike : (k : Kind) (m : SittingsView) → Alike m (made_by k m)
-made_alike k m = elim (owner_in k) as (λ o. Alike m (option_map_or (λ session. with_changed with_ephemeral m session) o m)) [
+made_alike : (l : Lifetime) (m : SittingsView) → Alike m (made_by l m)
+made_alike l m = elim (owner_in l) as (λ o. Alike m (option_map_or (λ session. with_changed with_ephemeral m session) o m)) [
   | None ↦ (λ id. refl, λ id has. has)
   | Some session ↦ changed_alike with_ephemeral (λ s. refl) m session
 ]
@@ -155,11 +155,11 @@ made_alike k m = elim (owner_in k) as (λ o. Alike m (option_map_or (λ session.
 parts_alike : (parts : List Part) (m : SittingsView) → Alike m (made_by_parts parts m)
 parts_alike [] m = (λ id. refl, λ id has. has)
 parts_alike (part.Create create ∷ parts) m =
-    both_alike m (made_by create.kind m) (made_by_parts parts (made_by create.kind m)) (made_alike create.kind m) (parts_alike parts (made_by create.kind m))
+    both_alike m (made_by create.kind.lifetime m) (made_by_parts parts (made_by create.kind.lifetime m)) (made_alike create.kind.lifetime m) (parts_alike parts (made_by create.kind.lifetime m))
 parts_alike (other ∷ parts) m = parts_alike parts m
 
 pub noted_alike : (update : Update) (told : Reply) (m : SittingsView) → Alike m (noted update told m)
-noted_alike (act.Create create) (reply.Created path) m = made_alike create.kind m
+noted_alike (act.Create create) (reply.Created path) m = made_alike create.kind.lifetime m
 noted_alike (act.Multi parts) (reply.Multi replies) m = parts_alike parts m
 noted_alike update told m = (λ id. refl, λ id has. has)
 

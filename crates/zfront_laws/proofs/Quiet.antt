@@ -6,7 +6,7 @@ use Rattle.std.specs.Cmp.{nat_cmp_total}
 use Rattle.std.specs.FinMap.{get, insert, nat_cmp-IsAntisymmetric}
 use Rattle.std.specs.Option.{option_map, option_map_or}
 use Rattle.ztree.proofs.Maps.{same_some, none_some, get-insert-here, get-insert-elsewhere, get-inserted, get-removed}
-use Rattle.zcalls.specs.declared.call.Kind.{Kind}
+use Rattle.zcalls.specs.declared.call.Lifetime.{Lifetime}
 use Rattle.zcalls.specs.declared.call.Part.{Part}
 use Rattle.zcalls.specs.declared.call.Part.TheVariants as part
 use Rattle.zcalls.specs.declared.call.Update.{Update}
@@ -105,8 +105,8 @@ pub seat_keys : (session : Option ℕ) (t : TablesView) → Keys t.sittings (wit
 seat_keys None t = same_keys t.sittings
 seat_keys (Some mine) t = changed_keys left (λ s. refl) t.sittings mine
 
-made_keys : (k : Kind) (m : SittingsView) → Keys m (made_by k m)
-made_keys k m = elim (owner_in k) as (λ o. Keys m (option_map_or (λ session. with_changed with_ephemeral m session) o m)) [
+made_keys : (l : Lifetime) (m : SittingsView) → Keys m (made_by l m)
+made_keys l m = elim (owner_in l) as (λ o. Keys m (option_map_or (λ session. with_changed with_ephemeral m session) o m)) [
   | None ↦ same_keys m
   | Some session ↦ changed_keys with_ephemeral (λ s. refl) m session
 ]
@@ -114,11 +114,11 @@ made_keys k m = elim (owner_in k) as (λ o. Keys m (option_map_or (λ session. w
 parts_keys : (parts : List Part) (m : SittingsView) → Keys m (made_by_parts parts m)
 parts_keys [] m = same_keys m
 parts_keys (part.Create create ∷ parts) m =
-    keys_both m (made_by create.kind m) (made_by_parts parts (made_by create.kind m)) (made_keys create.kind m) (parts_keys parts (made_by create.kind m))
+    keys_both m (made_by create.kind.lifetime m) (made_by_parts parts (made_by create.kind.lifetime m)) (made_keys create.kind.lifetime m) (parts_keys parts (made_by create.kind.lifetime m))
 parts_keys (other ∷ parts) m = parts_keys parts m
 
 noted_keys : (update : Update) (told : Reply) (m : SittingsView) → Keys m (noted update told m)
-noted_keys (act.Create create) (reply.Created path) m = made_keys create.kind m
+noted_keys (act.Create create) (reply.Created path) m = made_keys create.kind.lifetime m
 noted_keys (act.Multi parts) (reply.Multi replies) m = parts_keys parts m
 noted_keys update told m = same_keys m
 

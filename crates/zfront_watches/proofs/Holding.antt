@@ -18,7 +18,7 @@ use Rattle.zcalls.specs.declared.refusal.Refusal.{Refusal}
 use Rattle.zcalls.specs.declared.refusal.Refusal.TheVariants.{Exhausted}
 use Rattle.zcalls.specs.declared.reply.Reply.{Reply}
 use Rattle.zcalls.specs.declared.reply.Reply.TheVariants as reply
-use Rattle.zcalls.specs.Part.{create_step, delete_step, set_step, create_refusals, unless_refused, made_path, is_sequential, owner_of, ttl_of}
+use Rattle.zcalls.specs.Part.{create_step, delete_step, set_step, create_refusals, unless_refused, made_path, owner_of, ttl_of}
 use Rattle.zcalls.specs.Multi.{Run, run}
 use Rattle.zcalls.specs.Step.{step, is_exhausted, update_result, change_result, multi_result}
 use Rattle.zcalls.proofs.Leaving.{Leaves}
@@ -116,7 +116,7 @@ module _ (t : Tree) (u : Update) (stays : takes_away u ≡ false) (before : Node
 
 -- the owners that an update names
 abbrev pub UpdateNames : (ℕ → Type 0) → Update → Type 0
-UpdateNames Q (Create create) = Q (owner_of create.kind)
+UpdateNames Q (Create create) = Q (owner_of create.kind.lifetime)
 UpdateNames Q (Multi parts) = AllByRecursion (PartNames Q) parts
 UpdateNames Q other = Unit {0}
 
@@ -126,7 +126,7 @@ owners_kept m n nodes kept all path node found = marked m n kept node.owner (all
 abbrev Own : SittingsView → Update → Tree × Reply → Type 0
 Own m u did = OwnersAre (Marked (noted u did.1 m)) did.0.nodes
 
-create_owned : (m : SittingsView) (t : Tree) (create : ToCreate) → OwnersAre (Marked m) t.nodes → Known m (owner_of create.kind)
+create_owned : (m : SittingsView) (t : Tree) (create : ToCreate) → OwnersAre (Marked m) t.nodes → Known m (owner_of create.kind.lifetime)
     → Own m (Create create) (change_result t (create_step t 0 create))
 unfolding create_step
 create_owned m t create all names = by (first_that_holds (create_refusals t 0 create))
@@ -135,13 +135,13 @@ create_owned m t create all names = by (first_that_holds (create_refusals t 0 cr
     at = made_path t.nodes create.kind create.path
 
     by : (refused : Option Refusal) → Own m (Create create) (change_result t (unless_refused refused (
-      with_node t at create.bytes (owner_of create.kind) (ttl_of create.kind) (is_sequential create.kind),
+      with_node t at create.bytes (owner_of create.kind.lifetime) (ttl_of create.kind.lifetime) create.kind.is_sequential,
       Created at,
     )))
     by (Some refusal) = all
     by None =
-        made (Marked (made_by create.kind m)) t at create.bytes (owner_of create.kind) (ttl_of create.kind) (is_sequential create.kind)
-        (owners_kept m (made_by create.kind m) t.nodes (made_keeps create.kind m) all) (made_marked create.kind m names)
+        made (Marked (made_by create.kind.lifetime m)) t at create.bytes (owner_of create.kind.lifetime) (ttl_of create.kind.lifetime) create.kind.is_sequential
+        (owners_kept m (made_by create.kind.lifetime m) t.nodes (made_keeps create.kind.lifetime m) all) (made_marked create.kind.lifetime m names)
 
 -- where nothing is noted
 abbrev Still : (ℕ → Type 0) → Tree × Reply → Type 0

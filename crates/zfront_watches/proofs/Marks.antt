@@ -9,8 +9,8 @@ use Rattle.std.specs.FinMap as finite
 use Rattle.std.specs.FinMap.{nat_cmp-IsAntisymmetric}
 use Rattle.ztree.specs.Tree.{Sessions}
 use Rattle.ztree.proofs.Maps.{get-remove-elsewhere, tied_same}
-use Rattle.zcalls.specs.declared.call.Kind.{Kind}
-use Rattle.zcalls.specs.declared.call.Kind.TheVariants.{Persistent, PersistentSequential, PersistentWithTtl, PersistentSequentialWithTtl, Ephemeral, EphemeralSequential}
+use Rattle.zcalls.specs.declared.call.Lifetime.{Lifetime}
+use Rattle.zcalls.specs.declared.call.Lifetime.TheVariants.{Persistent, WithTtl, Ephemeral}
 use Rattle.zcalls.specs.declared.call.Part.{Part}
 use Rattle.zcalls.specs.declared.call.Part.TheVariants as part
 use Rattle.zcalls.specs.Part.{owner_of}
@@ -112,9 +112,9 @@ rested_keeps m = record {
       marked_in (all_rested m) id (rested there.0) (each_rests m id ∙ ap (option_map rested) there.1) ∙ sym (marked_in m id there.0 there.1) ∙ is;
 }
 
--- a node of a kind is made
-pub made_keeps : (kind : Kind) (m : SittingsView) → Keeps m (made_by kind m)
-made_keeps kind m = elim (owner_in kind) as (λ o. Keeps m (option_map_or (λ session. with_changed with_ephemeral m session) o m)) [
+-- a node of a lifetime is made
+pub made_keeps : (lifetime : Lifetime) (m : SittingsView) → Keeps m (made_by lifetime m)
+made_keeps lifetime m = elim (owner_in lifetime) as (λ o. Keeps m (option_map_or (λ session. with_changed with_ephemeral m session) o m)) [
   | None ↦ unchanged m
   | Some session ↦ changed with_ephemeral (λ s is. refl) m session
 ]
@@ -124,24 +124,21 @@ here_marked m session (inl nobody) = inl nobody
 here_marked m session (inr has) =
     inr (marked_in (with_changed with_ephemeral m session) session (with_ephemeral has.0) (seat_here with_ephemeral m session has.0 has.1))
 
-pub made_marked : (kind : Kind) (m : SittingsView) → Known m (owner_of kind) → Marked (made_by kind m) (owner_of kind)
+pub made_marked : (lifetime : Lifetime) (m : SittingsView) → Known m (owner_of lifetime) → Marked (made_by lifetime m) (owner_of lifetime)
 made_marked Persistent m mine = inl refl
-made_marked PersistentSequential m mine = inl refl
-made_marked (PersistentWithTtl ttl) m mine = inl refl
-made_marked (PersistentSequentialWithTtl ttl) m mine = inl refl
+made_marked (WithTtl ttl) m mine = inl refl
 made_marked (Ephemeral session) m mine = here_marked m session mine
-made_marked (EphemeralSequential session) m mine = here_marked m session mine
 
 pub parts_keep : (parts : List Part) (m : SittingsView) → Keeps m (made_by_parts parts m)
 parts_keep [] m = unchanged m
 parts_keep (part.Create create ∷ parts) m =
-    keeps m (made_by create.kind m) (made_by_parts parts (made_by create.kind m)) (made_keeps create.kind m) (parts_keep parts (made_by create.kind m))
+    keeps m (made_by create.kind.lifetime m) (made_by_parts parts (made_by create.kind.lifetime m)) (made_keeps create.kind.lifetime m) (parts_keep parts (made_by create.kind.lifetime m))
 parts_keep (part.Delete delete ∷ parts) m = parts_keep parts m
 parts_keep (part.SetData set ∷ parts) m = parts_keep parts m
 parts_keep (part.Check check ∷ parts) m = parts_keep parts m
 
 part_known : (m n : SittingsView) → Keeps m n → (p : Part) → PartNames (Known m) p → PartNames (Known n) p
-part_known m n kept (part.Create create) names = known m n kept (owner_of create.kind) names
+part_known m n kept (part.Create create) names = known m n kept (owner_of create.kind.lifetime) names
 part_known m n kept (part.Delete delete) names = tt
 part_known m n kept (part.SetData set) names = tt
 part_known m n kept (part.Check check) names = tt
@@ -154,9 +151,9 @@ pub parts_marked : (parts : List Part) (m : SittingsView) → AllByRecursion (Pa
     → AllByRecursion (PartNames (Marked (made_by_parts parts m))) parts
 parts_marked [] m names = tt
 parts_marked (part.Create create ∷ parts) m names =
-    let next = made_by create.kind m in (
-      marked next (made_by_parts parts next) (parts_keep parts next) (owner_of create.kind) (made_marked create.kind m names.0),
-      parts_marked parts next (parts_known m next (made_keeps create.kind m) parts names.1),
+    let next = made_by create.kind.lifetime m in (
+      marked next (made_by_parts parts next) (parts_keep parts next) (owner_of create.kind.lifetime) (made_marked create.kind.lifetime m names.0),
+      parts_marked parts next (parts_known m next (made_keeps create.kind.lifetime m) parts names.1),
     )
 parts_marked (part.Delete delete ∷ parts) m names = (tt, parts_marked parts m names.1)
 parts_marked (part.SetData set ∷ parts) m names = (tt, parts_marked parts m names.1)

@@ -10,7 +10,7 @@ use Rattle.zcalls.specs.declared.call.Delete.{Delete}
 use Rattle.zcalls.specs.declared.call.SetData.{SetData}
 use Rattle.zcalls.specs.declared.call.Part.{Part}
 use Rattle.zcalls.specs.declared.call.Part.TheVariants as part
-use Rattle.zcalls.specs.Part.{create_step, delete_step, set_step, part_step, made_path, is_sequential, owner_of, ttl_of}
+use Rattle.zcalls.specs.Part.{create_step, delete_step, set_step, part_step, made_path, owner_of, ttl_of}
 use Rattle.zcalls.specs.Multi.{run}
 use Rattle.zcalls.proofs.Bounds.{all_insert, all_remove, all_changed}
 use Rattle.zcalls.proofs.Leaving.{Leaves, create_step-leaves, delete_step-leaves, set_step-leaves, check_step-leaves, told_as_part-leaves, and_then-leaves}
@@ -29,10 +29,10 @@ module _ (Q : ℕ → Type 0) where
       let more = all_insert P t.nodes at new all mine in
       all_changed P P (finite.insert t.nodes at new) (parent_of at) (with_child (t.zxid + 1) sequential) more (λ n has. has) (λ n is. more (parent_of at) n is)
 
-  pub created : (t : Tree) (client : ℕ) (create : Create) → OwnersAre Q t.nodes → Q (owner_of create.kind) → Leaves (λ u. OwnersAre Q u.nodes) (create_step t client create)
+  pub created : (t : Tree) (client : ℕ) (create : Create) → OwnersAre Q t.nodes → Q (owner_of create.kind.lifetime) → Leaves (λ u. OwnersAre Q u.nodes) (create_step t client create)
   created t client create all mine =
       create_step-leaves (λ u. OwnersAre Q u.nodes) t client create
-      (λ none. made t (made_path t.nodes create.kind create.path) create.bytes (owner_of create.kind) (ttl_of create.kind) (is_sequential create.kind) all mine)
+      (λ none. made t (made_path t.nodes create.kind create.path) create.bytes (owner_of create.kind.lifetime) (ttl_of create.kind.lifetime) create.kind.is_sequential all mine)
 
   pub deleted : (t : Tree) (delete : Delete) → OwnersAre Q t.nodes → Leaves (λ u. OwnersAre Q u.nodes) (delete_step t delete)
   deleted t delete all =
@@ -49,7 +49,7 @@ module _ (Q : ℕ → Type 0) where
 
   -- the owners that a part names
   abbrev pub PartNames : Part → Type 0
-  PartNames (part.Create create) = Q (owner_of create.kind)
+  PartNames (part.Create create) = Q (owner_of create.kind.lifetime)
   PartNames other = Unit {0}
 
   part_done : (t : Tree) (client : ℕ) (p : Part) → PartNames p → OwnersAre Q t.nodes → Leaves (λ u. OwnersAre Q u.nodes) (part_step t client p)

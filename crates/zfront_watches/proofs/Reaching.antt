@@ -89,7 +89,7 @@ call_known m n kept (Update update) names = update_known update names
     use_known id = known m n kept id
 
     update_known : (u : Act) → UpdateNames (Known m) u → UpdateNames (Known n) u
-    update_known (act.Create create) names = use_known (owner_of create.kind) names
+    update_known (act.Create create) names = use_known (owner_of create.kind.lifetime) names
     update_known (act.Multi parts) names = parts_known m n kept parts names
     update_known (act.Delete delete) names = tt
     update_known (act.SetData set) names = tt

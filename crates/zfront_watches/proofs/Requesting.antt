@@ -7,8 +7,8 @@ use Rattle.zforms.specs.declared.fault.Fault.{Fault}
 use Rattle.ztree.specs.Tree.{Tree}
 use Rattle.zcalls.specs.declared.call.Call.{Call}
 use Rattle.zcalls.specs.declared.call.Call.TheVariants.{Update, Query}
-use Rattle.zcalls.specs.declared.call.Kind.{Kind}
-use Rattle.zcalls.specs.declared.call.Kind.TheVariants.{Persistent, PersistentSequential, PersistentWithTtl, PersistentSequentialWithTtl, Ephemeral, EphemeralSequential}
+use Rattle.zcalls.specs.declared.call.Lifetime.{Lifetime}
+use Rattle.zcalls.specs.declared.call.Lifetime.TheVariants.{Persistent, WithTtl, Ephemeral}
 use Rattle.zcalls.specs.declared.call.Part.{Part}
 use Rattle.zcalls.specs.declared.call.Part.TheVariants as part
 use Rattle.zcalls.specs.declared.call.Update.{Update as Act}
@@ -212,23 +212,20 @@ module _ (law : RepliesAreTheTrees) (c : ℕ) (asks : Request) where
 
 -- ---- what a request names
 
-kind_names : (m : SittingsView) (session : ℕ) → Has m session → (kind : Kind) → IsForSession session kind → Known m (owner_of kind)
-kind_names m session has Persistent for = inl refl
-kind_names m session has PersistentSequential for = inl refl
-kind_names m session has (PersistentWithTtl ttl) for = inl refl
-kind_names m session has (PersistentSequentialWithTtl ttl) for = inl refl
-kind_names m session has (Ephemeral owner) for = inr (subst (Has m) (sym for) has)
-kind_names m session has (EphemeralSequential owner) for = inr (subst (Has m) (sym for) has)
+lifetime_names : (m : SittingsView) (session : ℕ) → Has m session → (lifetime : Lifetime) → IsForSession session lifetime → Known m (owner_of lifetime)
+lifetime_names m session has Persistent for = inl refl
+lifetime_names m session has (WithTtl ttl) for = inl refl
+lifetime_names m session has (Ephemeral owner) for = inr (subst (Has m) (sym for) has)
 
 parts_names : (m : SittingsView) (session : ℕ) → Has m session → (parts : List Part) → AllByRecursion (PartIsFor session) parts → AllByRecursion (PartNames (Known m)) parts
 parts_names m session has [] for = tt
-parts_names m session has (part.Create create ∷ parts) for = (kind_names m session has create.kind for.0, parts_names m session has parts for.1)
+parts_names m session has (part.Create create ∷ parts) for = (lifetime_names m session has create.kind.lifetime for.0, parts_names m session has parts for.1)
 parts_names m session has (part.Delete delete ∷ parts) for = (tt, parts_names m session has parts for.1)
 parts_names m session has (part.SetData set ∷ parts) for = (tt, parts_names m session has parts for.1)
 parts_names m session has (part.Check check ∷ parts) for = (tt, parts_names m session has parts for.1)
 
 update_names : (m : SittingsView) (session : ℕ) → Has m session → (u : Act) → UpdateIsFor session u → UpdateNames (Known m) u
-update_names m session has (act.Create create) for = kind_names m session has create.kind for
+update_names m session has (act.Create create) for = lifetime_names m session has create.kind.lifetime for
 update_names m session has (act.Multi parts) for = parts_names m session has parts for
 update_names m session has (act.Delete delete) for = tt
 update_names m session has (act.SetData set) for = tt

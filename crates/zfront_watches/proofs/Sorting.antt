@@ -1,7 +1,6 @@
 -- What a request asks of the service: queries, or one update that sets no watch.
-use Rattle.std.proofs.Common.{◌≡◌, ℕ, Bool, true, false, if◌then◌else◌, List, [], ◌∷◌, Option, Ok, Err, refl, subst, inl, inr}
+use Rattle.std.proofs.Common.{◌≡◌, ℕ, List, [], ◌∷◌, Option, Ok, Err, refl, inl, inr}
 use Rattle.std.specs.Prelude.{◌⊎◌, nat_lt, length, Some, None}
-use Rattle.std.specs.List.{AllByRecursion}
 use Rattle.ztree.specs.Tree.{Path}
 use Rattle.zcalls.specs.declared.limits.TheConstants.{MAX_PARTS}
 use Rattle.zcalls.specs.declared.call.Part.TheVariants as part
@@ -23,41 +22,9 @@ use Rattle.zasking.specs.declared.fault.Unasked.TheVariants.{Refused}
 use Rattle.zasking.specs.declared.limits.TheConstants.{MAX_PATHS}
 use Rattle.zasking.specs.Asking.{Meaning, then_means, each_in, path_in}
 use Rattle.zasking.specs.Requests.{create_in, timed_create_in, delete_in, check_in, set_in, part_in, one, one_of_parts, multi_in, query_in, look_in, looks_in, watch_in, watched_in, look_alone, calls_in}
+use Rattle.zasking.proofs.Meanings.{meant, unmeant, behind, choice, done, each_for, never, through}
 use Rattle.zserving.specs.Wishes.{wishes}
 use Rattle.zfront_watches.proofs.Wishing.{AreQueries, IsQuery}
-
--- the steps of a meaning: what is done, what is refused, a choice, and what goes on
-abbrev meant : {A : Type 0} → A → Meaning A
-meant x = Ok x
-
-abbrev unmeant : {A : Type 0} → Unasked → Meaning A
-unmeant fault = Err fault
-
-done : {A : Type 0} (P : A → Type 0) (y : A) → P y → (x : A) → meant y ≡ meant x → P x
-done P y p x e = let same : y ≡ x = cc in subst P same p
-
-never : {A : Type 0} (P : A → Type 0) (fault : Unasked) (x : A) → unmeant fault ≡ meant x → P x
-never P fault x e = cc
-
-choice : {A : Type 0} (P : A → Type 0) (test : Bool) (m n : Meaning A) → ((x : A) → m ≡ Ok x → P x) → ((x : A) → n ≡ Ok x → P x) → (x : A) → (if test then m else n) ≡ Ok x → P x
-choice P true m n first second = first
-choice P false m n first second = second
-
-through : {A B : Type 0} (P : A → Type 0) (Q : B → Type 0) (m : Meaning A) (next : A → Meaning B)
-    → ((x : A) → m ≡ Ok x → P x) → ((x : A) → P x → (y : B) → next x ≡ Ok y → Q y) → (y : B) → then_means m next ≡ Ok y → Q y
-through P Q (Err fault) next first second y e = cc
-through P Q (Ok x) next first second y e = second x (first x refl) y e
-
-behind : {A B : Type 0} (Q : B → Type 0) (m : Meaning A) (next : A → Meaning B) → ((x : A) (y : B) → next x ≡ Ok y → Q y) → (y : B) → then_means m next ≡ Ok y → Q y
-behind Q m next on = through (λ x. Unit {0}) Q m next (λ x e. tt) (λ x p. on x)
-
-each_for : {A B : Type 0} (P : B → Type 0) (means : A → Meaning B) → ((x : A) (y : B) → means x ≡ Ok y → P y)
-    → (xs : List A) (ys : List B) → each_in means xs ≡ Ok ys → AllByRecursion P ys
-each_for P means each [] = done (AllByRecursion P) [] tt
-each_for P means each (x ∷ xs) =
-    through P (AllByRecursion P) (means x) (λ y. then_means (each_in means xs) (λ ys. Ok (y ∷ ys))) (each x)
-    (λ y is. through (AllByRecursion P) (AllByRecursion P) (each_in means xs) (λ ys. Ok (y ∷ ys)) (each_for P means each xs)
-    (λ ys are. done (AllByRecursion P) (y ∷ ys) (is, are)))
 
 -- one update, and no watch
 abbrev pub IsUpdate : Asked → List Call → Type 0

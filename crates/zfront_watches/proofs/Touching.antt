@@ -28,7 +28,7 @@ use Rattle.zcalls.specs.declared.change.ChangeReply.{ChangeReply}
 use Rattle.zcalls.specs.declared.change.ChangeReply.TheVariants.{Created, Deleted, Set}
 use Rattle.zcalls.specs.declared.reply.PartReply.{PartReply}
 use Rattle.zcalls.specs.declared.reply.PartReply.TheVariants as part_reply
-use Rattle.zcalls.specs.Part.{create_step, delete_step, set_step, check_step, part_step, told_as_part, create_refusals, delete_refusals, unless_refused, made_path, is_sequential, owner_of, ttl_of, on_version, has_other_version, with_node_set}
+use Rattle.zcalls.specs.Part.{create_step, delete_step, set_step, check_step, part_step, told_as_part, create_refusals, delete_refusals, unless_refused, made_path, owner_of, ttl_of, on_version, has_other_version, with_node_set}
 use Rattle.zcalls.specs.Multi.{Run, run, behind, and_then}
 use Rattle.zcalls.proofs.Leaving.{Leaves, create_step-leaves, delete_step-leaves, set_step-leaves, part_step-leaves, run-leaves}
 use Rattle.zjute.specs.declared.event.EventKind.{EventKind}
@@ -123,9 +123,9 @@ module _ (zxid : ℕ) (path : Path) where
       create_step-leaves (IsDated written_at zxid path) t client create
       (λ none.
       let at = made_path t.nodes create.kind create.path in
-      let new = new_node create.bytes (owner_of create.kind) (ttl_of create.kind) (t.zxid + 1) t.time in (
+      let new = new_node create.bytes (owner_of create.kind.lifetime) (ttl_of create.kind.lifetime) (t.zxid + 1) t.time in (
         dated.0,
-        changed written_at zxid path (finite.insert t.nodes at new) (parent_of at) (with_child (t.zxid + 1) (is_sequential create.kind)) (λ n is. is)
+        changed written_at zxid path (finite.insert t.nodes at new) (parent_of at) (with_child (t.zxid + 1) create.kind.is_sequential) (λ n is. is)
             (inserted written_at zxid path t.nodes at new dated.0 dated.1),
       )))
       (λ delete.
@@ -147,9 +147,9 @@ module _ (zxid : ℕ) (path : Path) where
       create_step-leaves (IsDated children_changed_at zxid path) t client create
       (λ none.
       let at = made_path t.nodes create.kind create.path in
-      let new = new_node create.bytes (owner_of create.kind) (ttl_of create.kind) (t.zxid + 1) t.time in (
+      let new = new_node create.bytes (owner_of create.kind.lifetime) (ttl_of create.kind.lifetime) (t.zxid + 1) t.time in (
         dated.0,
-        changed children_changed_at zxid path (finite.insert t.nodes at new) (parent_of at) (with_child (t.zxid + 1) (is_sequential create.kind)) (λ n is. dated.0)
+        changed children_changed_at zxid path (finite.insert t.nodes at new) (parent_of at) (with_child (t.zxid + 1) create.kind.is_sequential) (λ n is. dated.0)
             (inserted children_changed_at zxid path t.nodes at new dated.0 dated.1),
       )))
       (λ delete.
@@ -220,16 +220,16 @@ create_did t client create path = by (first_that_holds (create_refusals t client
     at = made_path t.nodes create.kind create.path
 
     new : Node
-    new = new_node create.bytes (owner_of create.kind) (ttl_of create.kind) (t.zxid + 1) t.time
+    new = new_node create.bytes (owner_of create.kind.lifetime) (ttl_of create.kind.lifetime) (t.zxid + 1) t.time
 
     more : Nodes
     more = finite.insert t.nodes at new
 
     f : Node → Node
-    f = with_child (t.zxid + 1) (is_sequential create.kind)
+    f = with_child (t.zxid + 1) create.kind.is_sequential
 
     by : (refused : Option Refusal) → ChangeDid (t.zxid + 1) path of_create (unless_refused refused (
-      with_node t at create.bytes (owner_of create.kind) (ttl_of create.kind) (is_sequential create.kind),
+      with_node t at create.bytes (owner_of create.kind.lifetime) (ttl_of create.kind.lifetime) create.kind.is_sequential,
       Created at,
     ))
     by (Some refusal) = tt
@@ -460,15 +460,15 @@ create_made t create path = by (first_that_holds (create_refusals t 0 create))
     at = made_path t.nodes create.kind create.path
 
     new : Node
-    new = new_node create.bytes (owner_of create.kind) (ttl_of create.kind) (t.zxid + 1) t.time
+    new = new_node create.bytes (owner_of create.kind.lifetime) (ttl_of create.kind.lifetime) (t.zxid + 1) t.time
 
     by : (refused : Option Refusal) → Makes path (unless_refused refused (
-      with_node t at create.bytes (owner_of create.kind) (ttl_of create.kind) (is_sequential create.kind),
+      with_node t at create.bytes (owner_of create.kind.lifetime) (ttl_of create.kind.lifetime) create.kind.is_sequential,
       Created at,
     ))
     by (Some refusal) = tt
     by None = λ same.
-        has_node-changed (finite.insert t.nodes at new) (parent_of at) (with_child (t.zxid + 1) (is_sequential create.kind)) path
+        has_node-changed (finite.insert t.nodes at new) (parent_of at) (with_child (t.zxid + 1) create.kind.is_sequential) path
         ∙ ap (λ p. has_node (finite.insert t.nodes at new) p) (sym same)
         ∙ ap is_some (get-insert-here paths_total same_path t.nodes at new)
 

@@ -29,7 +29,7 @@ use Rattle.zcalls.specs.declared.reply.PartReply.{PartReply}
 use Rattle.zcalls.specs.declared.reply.PartReply.TheVariants as part_reply
 use Rattle.zcalls.specs.declared.reply.Reply.{Reply}
 use Rattle.zcalls.specs.declared.reply.Reply.TheVariants as reply
-use Rattle.zcalls.specs.Part.{create_step, delete_step, set_step, check_step, part_step, told_as_part, create_refusals, delete_refusals, unless_refused, made_path, is_sequential, owner_of, ttl_of, on_version, has_other_version, with_node_set}
+use Rattle.zcalls.specs.Part.{create_step, delete_step, set_step, check_step, part_step, told_as_part, create_refusals, delete_refusals, unless_refused, made_path, owner_of, ttl_of, on_version, has_other_version, with_node_set}
 use Rattle.zcalls.specs.Multi.{Run, run, behind, and_then}
 use Rattle.zcalls.specs.Step.{step, is_exhausted, update_result, change_result, multi_result}
 use Rattle.zjute.specs.declared.event.EventKind.{EventKind}
@@ -170,13 +170,13 @@ create_did t client create path = by (first_that_holds (create_refusals t client
     at = made_path t.nodes create.kind create.path
 
     by : (refused : Option Refusal) → first_that_holds (create_refusals t client create) ≡ refused → ChangeDid t path of_create (unless_refused refused (
-      with_node t at create.bytes (owner_of create.kind) (ttl_of create.kind) (is_sequential create.kind),
+      with_node t at create.bytes (owner_of create.kind.lifetime) (ttl_of create.kind.lifetime) create.kind.is_sequential,
       Created at,
     ))
     by (Some refusal) is = tt
     by None is =
         let tests = no_test_holds (create_refusals t client create) is in
-        made t at (new_node create.bytes (owner_of create.kind) (ttl_of create.kind) (t.zxid + 1) t.time) (with_child (t.zxid + 1) (is_sequential create.kind)) path tests.1.1.1.1.1.1.0
+        made t at (new_node create.bytes (owner_of create.kind.lifetime) (ttl_of create.kind.lifetime) (t.zxid + 1) t.time) (with_child (t.zxid + 1) create.kind.is_sequential) path tests.1.1.1.1.1.1.0
 
 delete_did : (t : Tree) (delete : Delete) (path : Path) → ChangeDid t path (of_delete delete) (delete_step t delete)
 unfolding delete_step

@@ -5,7 +5,7 @@ use Rattle.zprotocol.specs.declared.limits.TheConstants.{MAX_SERVERS}
 use Rattle.zprotocol.specs.declared.process.Process.{Process}
 use Rattle.zprotocol.specs.declared.process.Process.TheVariants.{Master, Server, Client}
 use Rattle.zworld_model.specs.Links.{is_same}
-use Rattle.ztraces.proofs.Processes.{same_itself, same_process}
+use Rattle.zworld_model.proofs.Processes.{same_itself, same_process}
 use Rattle.zprotocol.specs.Places.{process_at}
 use Rattle.zdesks.specs.Desks.{IsOutside}
 use Rattle.zdesks.proofs.Wires.{apart}

@@ -10,7 +10,7 @@ use Rattle.zkept.specs.declared.fault.OpenFault.TheVariants as opening
 use Rattle.zpipe.specs.declared.fault.ServeFault.{ServeFault}
 use Rattle.zpipe.specs.declared.fault.ServeFault.TheVariants as serving
 use Rattle.zhosted.specs.declared.fault.HostedFault.{HostedFault}
-use Rattle.zhosted.specs.declared.fault.HostedFault.TheVariants.{Words, Folder, Service, Serve}
+use Rattle.zhosted.specs.declared.fault.HostedFault.TheVariants.{Words, Folder, Service, Serve, Missing, Script, Ttl}
 
 -- a folder that isn't opened is 3; a disk that failed is 4
 abbrev pub folder_status : FileFault → ℕ
@@ -39,3 +39,6 @@ hosted_fault_status (Words fault) = words_fault_status fault
 hosted_fault_status (Folder fault) = folder_status fault
 hosted_fault_status (Service fault) = service_status fault
 hosted_fault_status (Serve fault) = serve_status fault
+hosted_fault_status Missing = 3
+hosted_fault_status Script = 3
+hosted_fault_status Ttl = 3

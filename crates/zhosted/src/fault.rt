@@ -21,14 +21,20 @@ pub enum HostedFault {
     Service(OpenFault),
     /// It ended while it served.
     Serve(ServeFault),
+    /// There is no journal in the folder, where none is to be made.
+    Missing,
+    /// The folder is a script's: its file is its script.
+    Script,
+    /// A node has a TTL that no line says.
+    Ttl,
 }
 
 impl HostedFault {
     ghost use Rattle.zhosted.specs.Faults.{hosted_fault_status};
 
     /// Returns the exit status that a program ends with: 1 where memory ran out, or the input or
-    /// the output failed; 2 for its words; 3 for a folder that isn't opened; 4 for a disk that failed
-    /// or a journal that is full.
+    /// the output failed; 2 for its words; 3 for a folder that isn't opened, has no
+    /// journal, is a script's or can't be exported; 4 for a disk that failed or a journal that is full.
     pub fn status(self) -> u8
         ensures { result ≡ hosted_fault_status self }
     {
@@ -43,6 +49,7 @@ impl HostedFault {
             HostedFault::Service(_) => 3,
             HostedFault::Serve(ServeFault::Disk | ServeFault::Full | ServeFault::Ended) => 4,
             HostedFault::Serve(_) => 1,
+            HostedFault::Missing | HostedFault::Script | HostedFault::Ttl => 3,
         }
     }
 
@@ -66,6 +73,11 @@ impl fmt::Display for HostedFault {
             HostedFault::Folder(fault) => write!(f, "zk: data: {fault}"),
             HostedFault::Service(fault) => write!(f, "zk: data: {fault}"),
             HostedFault::Serve(fault) => write!(f, "zk: {fault}"),
+            HostedFault::Missing => f.write_str("zk: data: there is no journal"),
+            HostedFault::Ttl => f.write_str("zk: data: a node has a TTL that no line says"),
+            HostedFault::Script => {
+                f.write_str("zk: data: a script's folder, and no server's: its file is its script")
+            }
         }
     }
 }

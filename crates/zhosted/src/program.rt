@@ -5,16 +5,19 @@ ghost use Rattle.zfile.specs.File.{seen_of, MayLeaveOf};
 ghost use Rattle.zhosted.specs.Hosted.{IsGood};
 ghost use Rattle.zjournal.specs.Device.{Only};
 
-use crate::compacting::{compact, compacted};
+use crate::at_rest::{compact, export, stat};
 use crate::fault::HostedFault;
 use crate::hosted::Hosted;
+use crate::tasks::{Task, task_of};
 use crate::words::{HostedSettings, hosted_settings};
 use std::alloc::Global;
+use std::fs;
 use std::fs::{File, Files};
+use std::io::ErrorKind;
 use zcli::{WordsFault, tell};
 use zdevices::{Sink, Source};
-use zfile::{FileDevice, SyncMode};
-use zkept::{Kept, ServerId, TickLength};
+use zfile::{FileDevice, FileFault, SyncMode};
+use zkept::{Kept, ServerId};
 use zpipe::serve_all;
 
 // From so many bytes on it is told that a file is opened: that may take a second.
@@ -24,7 +27,9 @@ const LONG: usize = 1_048_576;
 /// the source has ended, or that of the fault (`HostedFault::status`).
 ///
 /// The words are those of `hosted_settings`. With `NAME FOLDER compact SERVERS` it shortens the
-/// journal of the folder, which is for so many servers, and tells on the sink how long it is.
+/// journal of the folder, which is for so many servers, and tells on the sink how long it is. With
+/// `export` in that place it writes the lines that make the tree, and with `stat` how large the
+/// folder is.
 pub fn hosted_command<R: Files<File = File> + Copy, S: Source, K: Sink, F: Sink>(
     alloc: Global,
     files: &R,
@@ -56,8 +61,9 @@ fn run<R: Files<File = File> + Copy, S: Source, K: Sink, F: Sink>(
     let [_, folder, ..] = words else {
         return Err(HostedFault::Words(WordsFault::BadWords));
     };
-    if let Some(last) = compacted(words) {
-        return shorten(alloc, files, folder, last, sink);
+    if let Some((task, last)) = task_of(words) {
+        let device = found(alloc, files, folder)?;
+        return do_task(alloc, device, task, last, sink, faults);
     }
     let asked = hosted_settings(words)?;
     let device = FileDevice::open(alloc, files, folder, asked.mode)?;
@@ -66,21 +72,42 @@ fn run<R: Files<File = File> + Copy, S: Source, K: Sink, F: Sink>(
     serve(alloc, service, source, sink)
 }
 
-// Shortens the journal of a folder.
-fn shorten<R: Files<File = File> + Copy, K: Sink>(
+// Opens the file of a folder, which is not made where it is missing.
+fn found<R: Files<File = File> + Copy>(
     alloc: Global,
     files: &R,
     folder: &str,
+) -> Result<FileDevice<R>, HostedFault>
+    ensures durable { IfOk result (λ device. Only (seen_of device) (MayLeaveOf device)) }
+{
+    let mut path = String::new(alloc);
+    if write!(path, "{folder}/journal").is_err() {
+        return Err(HostedFault::Folder(FileFault::Memory));
+    }
+    if let Err(error) = fs::symlink_metadata(files, path.as_str()) {
+        if error.kind() == ErrorKind::NotFound {
+            return Err(HostedFault::Missing);
+        }
+    }
+    Ok(FileDevice::open(alloc, files, folder, SyncMode::Batch)?)
+}
+
+// Does what is to be done with a folder that no server has open.
+fn do_task<R: Files<File = File> + Copy, K: Sink, F: Sink>(
+    alloc: Global,
+    device: FileDevice<R>,
+    task: Task,
     last: ServerId,
     sink: &mut K,
-) -> Result<(), HostedFault> {
-    let Some(tick) = TickLength::new(1000) else {
-        return Err(HostedFault::Words(WordsFault::BadWords));
-    };
-    let device = FileDevice::open(alloc, files, folder, SyncMode::Batch)?;
-    match Kept::open(alloc, device, last, tick, 0) {
-        Ok(kept) => compact(alloc, kept, sink),
-        Err((fault, _)) => Err(HostedFault::Service(fault)),
+    faults: &mut F,
+) -> Result<(), HostedFault>
+    requires durable { Only (seen_of device) (MayLeaveOf device) }
+{
+    let mut device = device;
+    match task {
+        Task::Compact => compact(alloc, device, last, sink),
+        Task::Export => export(alloc, &mut device, last, sink, faults),
+        Task::Stat => stat(alloc, &mut device, last, sink),
     }
 }
 

@@ -1,9 +1,9 @@
 -- What the steps of a renewal leave.
-use Rattle.std.proofs.Common.{◌≡◌, ◌-◌, ◌<◌, inl, inr, ⊎_elim, ℕ, ◌+◌, List, [], ◌∷◌, ◌++◌, length, take, refl, sym, ◌∙◌, ap, subst, arith, append_assoc, length-append}
+use Rattle.std.proofs.Common.{◌≡◌, ◌-◌, inl, inr, ⊎_elim, ℕ, ◌+◌, List, [], ◌∷◌, ◌++◌, length, take, refl, sym, ◌∙◌, ap, subst, arith, append_assoc, length-append}
 use Rattle.std.proofs.lemmas.List.{take_at}
 use Rattle.zjournal.specs.declared.journal.Journal.{Journal}
 use Rattle.zjournal.specs.Device.{Only, Elapses, LeavesOnly, IsEither}
-use Rattle.zjournal.specs.Blocks.{AreTexts, IsText, blocks, at_rest}
+use Rattle.zjournal.specs.Blocks.{IsText, blocks}
 use Rattle.zjournal.specs.Checksum.{stamped}
 use Rattle.zjournal.specs.Journal.{head, holdings, Keeps, IsAtRest}
 use Rattle.zjournal.specs.Renewal.{IsRenewing, IsOldOrNew}

@@ -10,7 +10,8 @@ use crate::OpenError;
 use crate::checksum::checked;
 use std::alloc::Global;
 
-/// The texts of the batches from there on, one behind the other, and where the last one ends.
+/// Reads the batches that begin at `start`. Returns their texts, one behind the other, and where
+/// the last one ends.
 pub fn batches(alloc: Global, bytes: &[u8], start: usize) -> Result<(Vec<u8>, usize), OpenError>
     requires { start ≤ length bytes.now }
     ensures ok { IfOk result (λ read. (batches : List (List ℕ))
@@ -27,7 +28,7 @@ pub fn batches(alloc: Global, bytes: &[u8], start: usize) -> Result<(Vec<u8>, us
     Ok((text, end))
 }
 
-// One batch, behind the open gate there: its text is added, and where it ends is told.
+// Reads the batch behind this open gate, and appends its text. Returns where its block ends.
 fn batch(bytes: &[u8], gate: usize, text: &mut Vec<u8>) -> Result<usize, OpenError>
     requires within { gate + 1 < length bytes.now }
     requires open { get_or bytes.now gate 0 ≡ 1 }
@@ -46,7 +47,7 @@ fn batch(bytes: &[u8], gate: usize, text: &mut Vec<u8>) -> Result<usize, OpenErr
     Ok(end + 1)
 }
 
-// Where the first 0 stands, from there on.
+// Returns where the first byte 0 from `start` on stands, if there is one.
 fn text_end(bytes: &[u8], start: usize) -> Option<usize>
     requires { start ≤ length bytes.now }
     ensures some { IfSome result (EndsAt bytes.now start) }

@@ -10,7 +10,7 @@ ghost use Rattle.zjournal.specs.Untouched.{IsTaking, IsUntouched};
 use crate::reading::head_block;
 use crate::{Device, DeviceError};
 
-// Begins an empty file.
+// Begins a new file, which is empty.
 fn begin<D: Device>(device: &mut D) -> Result<(), DeviceError>
     requires durable { Only (D.seen device.old) (D.may_leave device.old) }
     ensures begun { OnOk result (D.beside device.new ≡ []) }
@@ -23,7 +23,7 @@ fn begin<D: Device>(device: &mut D) -> Result<(), DeviceError>
     device.begin_beside()
 }
 
-// Adds bytes to the new file.
+// Appends bytes to the new file.
 fn add<D: Device>(device: &mut D, bytes: &[u8]) -> Result<(), DeviceError>
     requires durable { Only (D.seen device.old) (D.may_leave device.old) }
     ensures added { OnOk result (D.beside device.new ≡ D.beside device.old ++ bytes.now) }
@@ -36,7 +36,7 @@ fn add<D: Device>(device: &mut D, bytes: &[u8]) -> Result<(), DeviceError>
     device.add_beside(bytes)
 }
 
-/// Adds a block behind an open gate to the new file, without the closed gate at its end.
+/// Appends an open gate and a block to the new file, but not the closed gate at the block's end.
 pub fn add_open_block<D: Device>(device: &mut D, block: &[u8]) -> Result<(), DeviceError>
     requires some { 0 < length block.now }
     requires durable { Only (D.seen device.old) (D.may_leave device.old) }
@@ -53,7 +53,7 @@ pub fn add_open_block<D: Device>(device: &mut D, block: &[u8]) -> Result<(), Dev
     Ok(())
 }
 
-/// Begins a new file that has a head.
+/// Begins a new file, and writes its head.
 pub fn begin_file<D: Device>(device: &mut D, servers: u8) -> Result<(), DeviceError>
     requires durable { Only (D.seen device.old) (D.may_leave device.old) }
     ensures begun { OnOk result (D.beside device.new ≡ blocks (head servers ∷ [])) }
@@ -68,7 +68,7 @@ pub fn begin_file<D: Device>(device: &mut D, servers: u8) -> Result<(), DeviceEr
     Ok(())
 }
 
-/// Sets a closed gate behind the new file, and puts it in the place of the old one.
+/// Appends a closed gate to the new file, and puts it in the place of the old one.
 pub fn close_and_take<D: Device>(device: &mut D) -> Result<(), DeviceError>
     requires durable { Only (D.seen device.old) (D.may_leave device.old) }
     ensures taken { OnOk result (D.seen device.new ≡ D.beside device.old ++ 0 ∷ []) }

@@ -6,7 +6,7 @@ ghost use Rattle.zjournal.specs.Checksum.{adler, digit, digits, stamped};
 
 use std::alloc::{AllocError, Global};
 
-// Adler-32.
+// Returns the Adler-32 of a text.
 fn sum_of(text: &[u8]) -> u32
     ensures { result ≡ adler text.now }
 {
@@ -19,6 +19,7 @@ fn sum_of(text: &[u8]) -> u32
     b * 65536 + a
 }
 
+// Returns the hexadecimal digit of a number below 16.
 fn digit_of(n: u32) -> u8
     requires { n < 16 }
     ensures { result ≡ digit n }
@@ -26,7 +27,7 @@ fn digit_of(n: u32) -> u8
     if n < 10 { 48 + n as u8 } else { 87 + n as u8 }
 }
 
-/// The checksum of a text, in eight hexadecimal digits.
+/// Returns the checksum of a text as eight hexadecimal digits.
 pub fn checksum(text: &[u8]) -> [u8; 8]
     ensures { result ≡ digits (adler text.now) }
 {
@@ -43,7 +44,7 @@ pub fn checksum(text: &[u8]) -> [u8; 8]
     ]
 }
 
-/// What stands behind its own checksum, if it does.
+/// Returns the text behind the checksum in front of it, if that is its own.
 pub fn checked(held: &[u8]) -> Option<&[u8]>
     ensures some { IfSome result (λ text. held.now ≡ stamped text.now) }
     ensures none { IfNone result ((text : List ℕ) → held.now ≡ stamped text → ⊥) }
@@ -59,7 +60,7 @@ pub fn checked(held: &[u8]) -> Option<&[u8]>
     }
 }
 
-/// A text behind its checksum, with its end and the closed gate that stands behind it.
+/// Returns the block of a text: its checksum, the text, a byte 0, and the closed gate behind it.
 pub fn block_of(alloc: Global, text: &[u8]) -> Result<Vec<u8>, AllocError>
     ensures { IfOk result (λ block. block.items ≡ stamped text.now ++ 0 ∷ 0 ∷ []) }
 {

@@ -55,7 +55,7 @@ pub trait Device {
     /// What the new file beside this one has so far; nothing where none was begun.
     ghost beside: { Self → List ℕ };
 
-    /// All bytes of the file.
+    /// Reads all bytes of the file.
     fn read(&mut self, alloc: Global) -> Result<Vec<u8>, DeviceError>
         ensures bytes { IfOk result (λ bytes. bytes.items ≡ seen self.old) }
         ensures seen { seen self.new ≡ seen self.old }
@@ -64,7 +64,7 @@ pub trait Device {
             (left_since self.old) (left_since self.new) (may_leave self.new) }
         ensures cause { HasCause (faults self.old) (faults self.new) result };
 
-    /// Writes over what is there, and on past the end.
+    /// Writes bytes at this offset, over what is there and on past the end.
     fn write_at(&mut self, at: usize, bytes: &[u8]) -> Result<(), DeviceError>
         requires { at ≤ length (seen self.old) }
         ensures written { OnOk result (Holds (seen self.old) at bytes.now (seen self.new)) }
@@ -92,7 +92,7 @@ pub trait Device {
             (left_since self.old) (left_since self.new) (may_leave self.new) }
         ensures cause { HasCause (faults self.old) (faults self.new) result };
 
-    /// Begins a new file beside this one. An unfinished one of before counts for nothing.
+    /// Begins a new, empty file beside this one. It takes the place of an unfinished one.
     fn begin_beside(&mut self) -> Result<(), DeviceError>
         ensures begun { OnOk result (beside self.new ≡ []) }
         ensures seen { seen self.new ≡ seen self.old }
@@ -101,7 +101,7 @@ pub trait Device {
             (left_since self.old) (left_since self.new) (may_leave self.new) }
         ensures cause { HasCause (faults self.old) (faults self.new) result };
 
-    /// Adds bytes at the end of the new file.
+    /// Appends bytes to the new file.
     fn add_beside(&mut self, bytes: &[u8]) -> Result<(), DeviceError>
         ensures added { OnOk result (beside self.new ≡ beside self.old ++ bytes.now) }
         ensures seen { seen self.new ≡ seen self.old }
@@ -110,8 +110,8 @@ pub trait Device {
             (left_since self.old) (left_since self.new) (may_leave self.new) }
         ensures cause { HasCause (faults self.old) (faults self.new) result };
 
-    /// Puts the new file in the place of this one. First it is brought to the disk, then it takes
-    /// the name, and then the name is brought to the disk.
+    /// Puts the new file in the place of this one, in three steps. The new file is brought to the
+    /// disk; it takes the name; the name is brought to the disk.
     fn take_place(&mut self) -> Result<(), DeviceError>
         ensures taken { OnOk result (seen self.new ≡ beside self.old) }
         ensures durable { OnOk result (Only (beside self.old) (may_leave self.new)) }

@@ -27,14 +27,14 @@ pub struct Journal<D: Device> {
 }
 
 impl<D: Device> Journal<D> {
-    /// The device that holds the file.
+    /// Returns the device that holds the file.
     pub fn device(&self) -> &D
         ensures { result.now ≡ device_of self.now }
     {
         &self.device
     }
 
-    /// How many bytes the blocks of the file have, without the gate behind them.
+    /// Returns how many bytes the blocks of the file have, without the gate behind them.
     pub fn size(&self) -> usize
         ensures { result ≡ size_of self.now }
     {
@@ -42,8 +42,8 @@ impl<D: Device> Journal<D> {
     }
 
     /// Puts a batch behind the others. At `Ok` it is on the disk: from then on every crash leaves a
-    /// file that keeps it. At `Memory` and `Failed` the journal may take nothing more; a file that
-    /// is opened again then has the batch, or hasn't.
+    /// file that keeps it. After `Failed`, and at times after `Memory`, the journal takes nothing
+    /// more. Once the file is opened again, it has the batch or hasn't.
     pub fn put(&mut self, batch: &[u8]) -> Result<(), PutError>
         requires { IsSound D.seen D.may_leave self.old }
         ensures kept { (servers : ℕ) (batches : List (List ℕ))

@@ -1,14 +1,14 @@
-//! A file of batches. A batch is kept once `put` has returned, and then every crash leaves it. A
-//! crash at any moment leaves the batches before it, and the one under way as a whole or not at
-//! all.
+//! A journal keeps batches of text in one file. Once `put` has returned `Ok`, its batch is on the
+//! disk, and no crash loses it. A crash in the middle of a `put` leaves all batches before it, and
+//! the new one as a whole or not at all.
 //!
 //! ```text
 //! let (mut journal, text) = open(alloc, device, servers)?;    // text: all batches so far
 //! journal.put(batch)?;                                        // now the batch is on the disk
 //! ```
 //!
-//! The file can be renewed: a new one with other batches takes its place, and a crash leaves one of
-//! the two.
+//! A journal can be renewed: a new file with other batches takes the place of the old one. A crash
+//! leaves one of the two, whole.
 //!
 //! ```text
 //! journal.begin_renewal()?;
@@ -16,9 +16,9 @@
 //! journal.end_renewal()?;                                     // now the new file is on the disk
 //! ```
 //!
-//! What a disk promises, and what a crash is, stands in `specs/Device.antt`. What a file stands for
-//! is in `specs/Journal.antt`. The journal is over any `Device`; `MemoryFile` is one, whose writes
-//! tear.
+//! `specs/Device.antt` says what a disk promises, and what a crash is. `specs/Journal.antt` says
+//! which batches a file stands for. A journal works over any `Device`. `MemoryFile` is one for
+//! tests: its writes tear.
 #![tactic(auto)]
 
 mod batches;

@@ -26,9 +26,10 @@ pub struct MemoryFile {
 impl MemoryFile {
     ghost use Rattle.zjournal.specs.Memory.{current_of, past_of};
 
-    /// A file with these bytes, all of them on the disk. The chance chooses what power cuts leave,
-    /// and so many steps succeed: a write, a cut or a sync is one, and so is what begins the new
-    /// file or adds to it. It takes the place of this one in three.
+    /// Makes a file with these bytes, all of them on the disk. `chance` chooses what power cuts
+    /// leave. So many steps succeed as `calls` says, and no later one does. A write, a cut and a
+    /// sync are a step each, and so is each call that begins the new file or appends to it. To put
+    /// it in the place of this one takes three.
     pub fn new(alloc: Global, bytes: &[u8], chance: u64, calls: u64) -> Result<Self, AllocError>
         ensures seen { IfOk result (λ file. (current_of file).seen.items ≡ bytes.now) }
         ensures disk { IfOk result (λ file. (current_of file).disk.items ≡ bytes.now) }
@@ -51,21 +52,21 @@ impl MemoryFile {
         })
     }
 
-    /// The file now.
+    /// Returns the file as it is now.
     pub fn current(&self) -> &Moment
         ensures { result.now ≡ current_of self.now }
     {
         &self.current
     }
 
-    /// The file before each step so far.
+    /// Returns the file as it was before each step so far.
     pub fn past(&self) -> &[Moment]
         ensures { result.now ≡ past_of self.now }
     {
         &self.past
     }
 
-    // One step more, which leaves both files as they are.
+    // Does a step that leaves both files as they are.
     fn pass(&mut self) -> Result<(), DeviceError>
         ensures copy { IsCopy self.new.current self.old.current }
         ensures beside { self.new.beside ≡ self.old.beside }
@@ -105,7 +106,8 @@ impl MemoryFile {
         Ok(())
     }
 
-    // The new file takes the name: a power cut leaves the old one or what is on the disk of it.
+    // Gives the name to the new file. A power cut leaves the old file, or what the disk has of the
+    // new one.
     fn take_name(&mut self) -> Result<(), DeviceError>
         ensures seen { OnOk result (self.new.current.seen.items ≡ self.old.beside.seen.items) }
         ensures seen_err { OnErr result (self.new.current.seen.items
@@ -139,7 +141,7 @@ impl MemoryFile {
         Ok(())
     }
 
-    // What a power cut leaves of the file whose name a new one has taken.
+    // Returns what a power cut leaves once the new file has taken the name.
     fn left_of_name(&self) -> Result<Vec<u8>, AllocError>
         ensures { IfOk result (λ disk. (disk.items ≡ self.now.current.disk.items)
             ⊎ (disk.items ≡ self.now.beside.disk.items)) }
@@ -151,7 +153,7 @@ impl MemoryFile {
     }
 }
 
-// Goes on to the next moment, and keeps the one before it.
+// Goes on to the next moment, and keeps a copy of the one before it.
 fn replace(
     alloc: Global,
     current: &mut Moment,

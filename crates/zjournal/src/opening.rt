@@ -32,7 +32,8 @@ fn make<D: Device>(device: &mut D, servers: u8) -> Result<(), DeviceError>
     add_block(device, 0, &head_block(servers))
 }
 
-/// Reads the batches of a file that a crash may have left, and repairs its end. It may crash, too.
+/// Reads the batches of a file that a crash may have left, and repairs its end. A crash meanwhile
+/// leaves a file that stands for the same batches.
 pub fn open_file<D: Device>(
     alloc: Global,
     device: &mut D,
@@ -95,10 +96,10 @@ pub fn read_text<D: Device>(
     }
 }
 
-/// Opens the journal of a file that a crash may have left, or makes one of a file that is new, and
-/// hands out the text of all batches. Opening may crash, too, and then the file stands for the same
-/// batches. The number of servers stands in the file's head, and is at least 1. An `Err` hands the
-/// device back.
+/// Opens the journal of a file that a crash may have left, or makes one of a new file. Returns it
+/// with the text of all batches. A crash meanwhile leaves a file that stands for the same batches.
+/// The number of servers stands in the file's head, and is at least 1. An `Err` hands the device
+/// back.
 pub fn open<D: Device>(
     alloc: Global,
     device: D,

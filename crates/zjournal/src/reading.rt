@@ -13,18 +13,18 @@ use std::alloc::Global;
 /// Where the head's block ends.
 pub const HEAD_END: usize = 34;
 
-/// What a file is found to be.
+/// What a file was found to be.
 #[derive(Drop)]
 pub enum Found {
-    /// Nothing of it is made but a part of its head.
+    /// It has nothing yet but a part of its head.
     Unmade,
-    /// All of its head is made, but the gate isn't open.
+    /// It has its head, but the gate in front isn't open.
     Unopened,
     /// It keeps batches: their text, and where the last block ends.
     Kept(Vec<u8>, usize),
 }
 
-/// The head's block behind its gate, with the closed gate behind it.
+/// Returns the head's block without its gate, and with the closed gate behind it.
 pub fn head_block(servers: u8) -> [u8; 34]
     ensures { result ≡ head servers ++ 0 ∷ 0 ∷ [] }
 {
@@ -35,13 +35,14 @@ pub fn head_block(servers: u8) -> [u8; 34]
     ]
 }
 
+// Returns whether nothing of the file is made but a part of its head.
 fn is_unmade(bytes: &[u8], servers: u8) -> bool
     ensures { IsTrue result ↔ IsUnmade servers bytes.now }
 {
     bytes.len() <= 1 || (bytes[0] == 0 && bytes.len() <= HEAD_END + 1)
 }
 
-// The first byte, and the rest.
+// Returns the first byte, and the rest.
 fn first(bytes: &[u8]) -> Option<(u8, &[u8])>
     ensures some { IfSome result (λ found. bytes.now ≡ found.0 ∷ found.1.now) }
     ensures none { IfNone result (bytes.now ≡ []) }
@@ -52,7 +53,7 @@ fn first(bytes: &[u8]) -> Option<(u8, &[u8])>
     }
 }
 
-// What stands behind this front.
+// Returns what stands behind this front, if the bytes begin with it.
 fn behind<'a>(bytes: &'a [u8], front: &[u8]) -> Option<&'a [u8]>
     ensures some { IfSome result (λ rest. bytes.now ≡ front.now ++ rest.now) }
     ensures none { IfNone result ((rest : List ℕ) → bytes.now ≡ front.now ++ rest → ⊥) }
@@ -64,6 +65,7 @@ fn behind<'a>(bytes: &'a [u8], front: &[u8]) -> Option<&'a [u8]>
     if start == front { Some(rest) } else { None }
 }
 
+// Returns whether all of its head is made, but the gate isn't open.
 fn is_unopened(bytes: &[u8], servers: u8) -> bool
     ensures { IsTrue result ↔ IsUnopened servers bytes.now }
 {
@@ -73,7 +75,7 @@ fn is_unopened(bytes: &[u8], servers: u8) -> bool
     }
 }
 
-// The head is that of a journal of this version and these servers.
+// Tests that the head is that of a journal of this version and these servers.
 fn check_head(bytes: &[u8], servers: u8) -> Result<(), OpenError>
     requires made { IsUnmade servers bytes.now → ⊥ }
     requires opened { IsUnopened servers bytes.now → ⊥ }
@@ -102,7 +104,7 @@ fn check_head(bytes: &[u8], servers: u8) -> Result<(), OpenError>
     }
 }
 
-/// What the bytes are found to be, or the fault that they have.
+/// Returns what the bytes are found to be, or the fault that they have.
 pub fn look(alloc: Global, bytes: &[u8], servers: u8) -> Result<Found, OpenError>
     requires { 0 < servers }
     ensures ok { IfOk result (IsFound servers bytes.now) }

@@ -15,8 +15,8 @@ use crate::reading::HEAD_END;
 use crate::{Device, Journal, PutError};
 
 impl<D: Device> Journal<D> {
-    /// Begins a new file beside this one, for as many servers. It has no batch yet. An unfinished
-    /// one of before counts for nothing. The file of the journal is untouched, also by a crash.
+    /// Begins a new file beside this one, for as many servers and with no batch yet. It takes the
+    /// place of an unfinished one. The journal's own file stays as it is, whatever crash comes.
     pub fn begin_renewal(&mut self) -> Result<(), PutError>
         requires { IsSound D.seen D.may_leave self.old }
         ensures begun { (servers : ℕ) (batches : List (List ℕ))
@@ -34,6 +34,7 @@ impl<D: Device> Journal<D> {
         ensures open { OnOk result (IsOpen self.old × IsOpen self.new) }
         ensures failed { IsErrOf result PutError.Failed
             → D.faults (device_of self.old) < D.faults (device_of self.new) }
+        ensures faults { D.faults (device_of self.old) ≤ D.faults (device_of self.new) }
         ensures left { IfErr result (λ e. IsLeftBy e self.old self.new) }
         ensures closed { (IsOpen self.old → ⊥) → IsErrOf result PutError.Closed }
         ensures not_text { IsErrOf result PutError.NotText → ⊥ }
@@ -42,15 +43,15 @@ impl<D: Device> Journal<D> {
         if !self.is_open {
             return Err(PutError::Closed);
         }
-        self.is_open = false;
+        self.is_open = false; // until it has its head
         begin_file(&mut self.device, self.servers)?;
         self.renewed_end = HEAD_END;
         self.is_open = true;
         Ok(())
     }
 
-    /// Puts a batch into the new file, behind its others. The file of the journal is untouched, also
-    /// by a crash. So a renewal takes its batches one at a time, and the whole is never in memory.
+    /// Puts a batch into the new file, behind its others. The journal's own file stays as it is,
+    /// whatever crash comes. Batches come one at a time, so they are never all in memory.
     pub fn put_renewed(&mut self, batch: &[u8]) -> Result<(), PutError>
         requires { IsInRenewal D.seen D.may_leave D.beside self.old }
         ensures added { (servers : ℕ) (batches next : List (List ℕ)) → IsOpen self.old
@@ -69,6 +70,7 @@ impl<D: Device> Journal<D> {
         ensures open { OnOk result (IsOpen self.old × IsOpen self.new) }
         ensures failed { IsErrOf result PutError.Failed
             → D.faults (device_of self.old) < D.faults (device_of self.new) }
+        ensures faults { D.faults (device_of self.old) ≤ D.faults (device_of self.new) }
         ensures left { IfErr result (λ e. IsLeftBy e self.old self.new) }
         ensures closed { (IsOpen self.old → ⊥) → IsErrOf result PutError.Closed }
         ensures not_text { IsErrOf result PutError.NotText → IsText batch.now → ⊥ }
@@ -85,7 +87,7 @@ impl<D: Device> Journal<D> {
         }
         let block = block_of(self.alloc, batch)?;
         let block = block.as_slice();
-        self.is_open = false;
+        self.is_open = false; // until the block is written
         add_open_block(&mut self.device, block)?;
         self.renewed_end += block.len();
         self.is_open = true;
@@ -94,8 +96,8 @@ impl<D: Device> Journal<D> {
 
     /// Closes the new file, and puts it in the place of the old one. At `Ok` it is on the disk with
     /// its name: from then on every crash leaves its batches, and no others. A crash meanwhile
-    /// leaves the old file or the new one, whole. At a fault the journal takes nothing more; a file
-    /// that is opened again is one of the two.
+    /// leaves the old file or the new one, whole. After a fault the journal takes nothing more, and
+    /// the file that is opened again is one of the two.
     pub fn end_renewal(&mut self) -> Result<(), PutError>
         requires { IsInRenewal D.seen D.may_leave D.beside self.old }
         ensures renewed { (servers : ℕ) (batches next : List (List ℕ)) → IsOpen self.old
@@ -109,6 +111,7 @@ impl<D: Device> Journal<D> {
         ensures open { OnOk result (IsOpen self.old × IsOpen self.new) }
         ensures failed { IsErrOf result PutError.Failed
             → D.faults (device_of self.old) < D.faults (device_of self.new) }
+        ensures faults { D.faults (device_of self.old) ≤ D.faults (device_of self.new) }
         ensures left { IfErr result (λ e. IsLeftBy e self.old self.new) }
         ensures closed { (IsOpen self.old → ⊥) → IsErrOf result PutError.Closed }
         ensures not_text { IsErrOf result PutError.NotText → ⊥ }
@@ -117,7 +120,7 @@ impl<D: Device> Journal<D> {
         if !self.is_open {
             return Err(PutError::Closed);
         }
-        self.is_open = false;
+        self.is_open = false; // until the place is taken
         close_and_take(&mut self.device)?;
         self.end = self.renewed_end;
         self.is_open = true;

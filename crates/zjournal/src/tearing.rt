@@ -5,15 +5,15 @@ ghost use Rattle.zjournal.specs.Device.{Cut, Holds, Torn};
 
 use std::alloc::{AllocError, Global};
 
-/// The next chance (a linear congruential generator).
+/// Returns the next chance (a linear congruential generator).
 pub(crate) fn next_chance(chance: u64) -> u64 {
     chance
         .wrapping_mul(6364136223846793005)
         .wrapping_add(1442695040888963407)
 }
 
-/// Of a write in this range what a power cut leaves: of each byte the old one, the new one or
-/// another, and a length between.
+/// Returns what a power cut leaves of a write: each byte of its range is the old one, the new one
+/// or another, and the length is the old one, the new one or between.
 pub(crate) fn torn(
     alloc: Global,
     disk: &[u8],
@@ -34,7 +34,8 @@ pub(crate) fn torn(
     Ok(next)
 }
 
-// The torn range: as long as the write, or where the file ended in it, no shorter than it was.
+// Appends the torn range. It is as long as the write; or, where the file ended in it, no shorter
+// than what was there.
 fn add_torn(next: &mut Vec<u8>, old: &[u8], bytes: &[u8], chance: u64) -> Result<(), AllocError>
     ensures { OnOk result ((range : List ℕ) × (next.new.items ≡ next.old.items ++ range)
         × (length range ≤ length bytes.now)
@@ -56,7 +57,7 @@ fn add_torn(next: &mut Vec<u8>, old: &[u8], bytes: &[u8], chance: u64) -> Result
     Ok(())
 }
 
-/// What a power cut leaves of a cut: some length between.
+/// Returns what a power cut leaves of a cut: the length is the old one, the new one or between.
 pub(crate) fn torn_cut(
     alloc: Global,
     disk: &[u8],
@@ -72,7 +73,7 @@ pub(crate) fn torn_cut(
     disk[..len + more as usize].to_vec(alloc)
 }
 
-/// The content after a write.
+/// Returns the content after a write.
 pub(crate) fn written(
     alloc: Global,
     seen: &[u8],
@@ -91,7 +92,7 @@ pub(crate) fn written(
     Ok(next)
 }
 
-/// The content after a cut.
+/// Returns the content after a cut.
 pub(crate) fn shortened(alloc: Global, seen: &[u8], len: usize) -> Result<Vec<u8>, AllocError>
     requires { len ≤ length seen.now }
     ensures front { IfOk result (λ next. next.items ≡ take len seen.now) }

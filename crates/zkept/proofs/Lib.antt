@@ -5,3 +5,4 @@ pub mod Serving
 pub mod Opening
 pub mod Lasting
 pub mod Renewing
+pub mod Storing

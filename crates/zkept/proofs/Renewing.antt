@@ -1,9 +1,9 @@
 -- A journal that is shortened, piece by piece.
-use Rattle.std.proofs.Common.{◌≡◌, inl, inr, ⊎_elim, ◌∙◌, ℕ, ◌+◌, ◌<◌, ◌-◌, List, [], ◌∷◌, ◌++◌, length, take, drop, sym, ap, subst, arith, append_assoc, append-nil}
+use Rattle.std.proofs.Common.{◌≡◌, inl, inr, ⊎_elim, ◌∙◌, ℕ, ◌+◌, ◌<◌, ◌≤◌, ◌^◌, ◌-◌, List, [], ◌∷◌, ◌++◌, length, take, drop, refl, sym, ap, subst, arith, append_assoc, append-nil}
 use Rattle.std.proofs.lemmas.List.{take-append-drop, drop-drop, drop_all}
 use Rattle.zjournal.specs.Device.{LeavesOnly}
 use Rattle.zjournal.specs.Journal.{IsAtRest, Keeps, IsOpen, device_of}
-use Rattle.zjournal.specs.Renewal.{IsRenewing, IsInRenewal, IsOldOrNew}
+use Rattle.zjournal.specs.Renewal.{IsRenewing, IsInRenewal, IsOldOrNew, renewed_size_of}
 use Rattle.zjournal.specs.Scan.{joined}
 use Rattle.zjournal.specs.declared.journal.Journal.{Journal}
 use Rattle.zjournal.proofs.Moments.{joined_runs, started, weaker}
@@ -14,8 +14,12 @@ use Rattle.zstates.specs.Shortening.{ShorteningView, IsPiece, IsAllWritten, text
 use Rattle.zstates.specs.States.{State}
 use Rattle.zstates.specs.Texts.{snapshot_records, snapshot_text, IsKeepable, IsTextOf}
 use Rattle.zstates.proofs.Apart.{snapshots_keep}
+use Rattle.zjournal.specs.declared.fault.PutError.{PutError}
+use Rattle.zjournal.specs.declared.fault.PutError.TheVariants as put
+use Rattle.zkept.specs.declared.fault.CommitFault.TheVariants as commit
+use Rattle.zkept.specs.Faults.{commit_fault}
 use Rattle.zkept.specs.Kept.{KeepsState}
-use Rattle.zkept.specs.Shortening.{IsOldOrState}
+use Rattle.zkept.specs.Shortening.{IsOldOrState, IsTooLong}
 use Rattle.zkept.proofs.Serving.{joined-more}
 
 -- ---- pieces
@@ -45,6 +49,16 @@ piece_shorter s old new piece same is =
 pub keeps_state : (servers : ℕ) (batches : List (List ℕ)) (s : State) → IsTextOf s (joined batches) → (file : List ℕ) → IsOldOrState servers batches s file → KeepsState servers s file
 keeps_state servers batches s text file (inl keeps) = (batches, keeps, text)
 keeps_state servers batches s text file (inr is) = is
+
+-- ---- faults
+
+-- what is told as a full journal was a full file
+pub put_full : (e : PutError) → commit_fault e ≡ commit.Full → e ≡ put.Full
+put_full put.Memory is = absurd (cc is)
+put_full put.Failed is = absurd (cc is)
+put_full put.NotText is = absurd (cc is)
+put_full put.Full is = refl
+put_full put.Closed is = absurd (cc is)
 
 -- ---- the old file
 
@@ -88,6 +102,12 @@ module _ {D : Type 0} (seen : D → List ℕ) (may_leave : D → List ℕ → Ty
     leaves_more new run =
         weaker moment left_since (device_of old) (device_of new) (Keeps servers batches) (IsOldOrState servers batches s)
         (joined_runs moment left_since (device_of old) (device_of now) (device_of new) (Keeps servers batches) (going.leaves servers batches rest) run) (λ file keeps. inl keeps)
+
+    -- the new file is full before its end
+    pub too_long : 2 ^ 60 ≤ renewed_size_of now → IsTooLong servers s
+    too_long full =
+        let so_far = going.so_far servers batches rest in
+        (so_far.0, text_left text, sym so_far.2, subst (λ (n : ℕ). 2 ^ 60 ≤ n) so_far.1.size full)
 
     -- and the end
     module _ (all : IsAllWritten text) where

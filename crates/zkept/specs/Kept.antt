@@ -55,9 +55,13 @@ more_if (m ∷ made) batch batches = batches ++ batch ∷ []
 abbrev pub with_made : FrontView → List (List ℕ) → List (List ℕ)
 with_made v batches = more_if (made_by v) (batch_of v) batches
 
+-- how many bytes the journal had behind its last shortening since the service was opened, or 0
+abbrev pub shortened_size : {D : Type 0} → Kept D → ℕ
+shortened_size kept = kept.shortened
+
 -- the journal is to be shortened: it has so many bytes, and four times those behind its last shortening
 abbrev pub is_long : {D : Type 0} → ℕ → Kept D → Bool
-is_long least kept = nat_le least (size_of kept.journal) && nat_le kept.shortened (size_of kept.journal / 4)
+is_long least kept = nat_le least (size_of kept.journal) && nat_le (shortened_size kept) (size_of kept.journal / 4)
 
 -- the file keeps batches whose text is this state's
 abbrev pub KeepsState : ℕ → State → List ℕ → Type 0

@@ -5,3 +5,5 @@ pub mod Restored
 pub mod Kept
 pub mod Shortening
 pub mod Faults
+pub mod Looking
+pub mod Stored

@@ -11,7 +11,7 @@ ghost use Rattle.zjournal.specs.Scan.{joined};
 ghost use Rattle.zfront.specs.Restoring.{all_taken};
 ghost use Rattle.zkept.specs.Faults.{disk_failed, IsFull, IsLeftBy, IsOfReading, IsSuchFile};
 ghost use Rattle.zkept.specs.Kept.{batch_of, disk_of, front_in, IsOpen, IsServing, IsSound};
-ghost use Rattle.zkept.specs.Kept.{state_in, with_made};
+ghost use Rattle.zkept.specs.Kept.{shortened_size, state_in, with_made};
 ghost use Rattle.zkept.specs.Making.{entries_made, made_by};
 ghost use Rattle.zkept.specs.Restored.{IsRestoredFrom};
 ghost use Rattle.zstates.specs.States.{after};
@@ -60,6 +60,7 @@ impl<D: Device> Kept<D> {
             × IsRestoredFrom servers tick now_ms (state_in kept) kept.front) }
         ensures open { IfOk result IsOpen }
         ensures sound { IfOk result (IsSound D.seen D.may_leave) }
+        ensures measured { IfOk result (λ kept. shortened_size kept ≡ 0) }
         ensures any_moment { (batches : List (List ℕ)) → StandsFor servers batches (D.seen device)
             → IfOk result (λ kept. LeavesOnly D.moment D.left_since device (disk_of kept)
             (StandsFor servers batches)) }
@@ -126,6 +127,7 @@ impl<D: Device> Kept<D> {
         ensures taken { OnOk result (front_in self.new ≡ all_taken (front_in self.old)) }
         ensures state { OnOk result
             (state_in self.new ≡ after (state_in self.old) (entries_made (front_in self.old))) }
+        ensures measured { shortened_size self.new ≡ shortened_size self.old }
         ensures nothing { made_by (front_in self.old) ≡ [] → IsOpen self.old
             → IsOk result × (self.new ≡ self.old) }
         ensures any_moment { (servers : ℕ) (batches : List (List ℕ))

@@ -19,12 +19,17 @@ mod fault;
 mod inputs;
 mod kept;
 pub mod laws;
+mod looking;
 mod making;
 mod pieces;
 mod restored;
 mod rows;
 mod shortening;
+mod stored;
 
 pub use fault::{CommitFault, InputFault, OpenFault};
 pub use kept::Kept;
+pub use looking::{folder_stat, look};
+pub use stored::Stored;
+pub use zexport::FolderStat;
 pub use zfront::{Password, Piece, ServerId, TickLength};

@@ -54,14 +54,13 @@ fn apply_all(
 {
     let mut records = Vec::new(alloc);
     for one in made {
-        apply(alloc, front, state, &mut records, one)?;
+        apply(front, state, &mut records, one)?;
     }
     Ok(records)
 }
 
 // Makes one of them in the state, and appends its records.
 fn apply(
-    alloc: Global,
     front: &Front,
     state: &mut State,
     records: &mut Vec<Record>,
@@ -76,24 +75,20 @@ fn apply(
     let Made { update, reply } = made;
     let password = password_for(front, is_open(&update), &reply);
     drop(reply);
-    make_again(alloc, state, &update, password)?;
+    let update = make_again(state, update, password)?;
     add_entry(records, update, password)
 }
 
-// Makes an update in the state, whose session has this password.
-fn make_again(
-    alloc: Global,
-    state: &mut State,
-    update: &Update,
-    password: Password,
-) -> Result<(), Memory>
+// Makes an update in the state, whose session has this password, and hands it back.
+fn make_again(state: &mut State, update: Update, password: Password) -> Result<Update, Memory>
     ensures state { OnOk result
-        (state.new.state ≡ after_entry state.old.state (update.now, password)) }
+        (state.new.state ≡ after_entry state.old.state (update, password)) }
     ensures whole { OnOk result (state.new.is_broken ≡ false) }
+    ensures same { IfOk result (λ it. it ≡ update) }
 {
-    let reply = state.apply(update.copied(alloc)?, password)?;
+    let (reply, update) = state.apply(update, password)?;
     drop(reply);
-    Ok(())
+    Ok(update)
 }
 
 // Returns the password of the session that a reply to an open names. It has none where it has ended

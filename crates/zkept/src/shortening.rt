@@ -1,20 +1,23 @@
 //! A journal is shortened: a new file with the state alone takes the place of the old one.
 
-ghost use Rattle.std.specs.Prelude.{◌≡◌, List, ℕ};
-ghost use Rattle.std.specs.Prelude.{OnOk, OnErr, IsErrOf};
+ghost use Rattle.std.specs.Prelude.{◌≡◌, ◌<◌, ◌≤◌, ◌^◌, ◌++◌, [], ◌∷◌, List, ℕ};
+ghost use Rattle.std.specs.Prelude.{IfErr, OnOk, OnErr, IsErrOf};
+ghost use Rattle.zjournal.specs.Blocks.{IsText};
 ghost use Rattle.zjournal.specs.Device.{LeavesOnly};
-ghost use Rattle.zjournal.specs.Journal.{IsAtRest, device_of, size_of};
+ghost use Rattle.zjournal.specs.Journal.{IsAtRest, Keeps, device_of, size_of};
 ghost use Rattle.zjournal.specs.Journal as file;
+ghost use Rattle.zjournal.specs.Puts as puts;
+ghost use Rattle.zjournal.specs.Renewal.{IsInRenewal, IsRenewing, renewed_size_of};
 ghost use Rattle.zjournal.specs.Scan.{joined};
 ghost use Rattle.zkept.specs.Kept.{disk_of, front_in, IsOpen, IsServing, IsSound};
-ghost use Rattle.zkept.specs.Kept.{is_long, state_in, KeepsState};
-ghost use Rattle.zkept.specs.Shortening.{IsOldOrState};
+ghost use Rattle.zkept.specs.Kept.{is_long, shortened_size, state_in, KeepsState};
+ghost use Rattle.zkept.specs.Shortening.{IsOldOrState, IsTooLong};
 ghost use Rattle.zstates.specs.Texts.{IsTextOf, snapshot_text};
 
 use crate::Kept;
 use crate::fault::CommitFault;
 use std::alloc::Global;
-use zjournal::{Device, Journal};
+use zjournal::{Device, Journal, PutError};
 use zstates::{Shortening, State};
 
 impl<D: Device> Kept<D> {
@@ -47,6 +50,7 @@ impl<D: Device> Kept<D> {
             × (joined next ≡ snapshot_text (state_in self.old))) }
         ensures same { OnOk result ((front_in self.new ≡ front_in self.old)
             × (state_in self.new ≡ state_in self.old)) }
+        ensures measured { OnOk result (shortened_size self.new ≡ size_of self.new.journal) }
         ensures any_moment { (servers : ℕ) (batches : List (List ℕ))
             → IsServing D.seen D.may_leave servers batches self.old
             → LeavesOnly D.moment D.left_since (disk_of self.old) (disk_of self.new)
@@ -56,6 +60,12 @@ impl<D: Device> Kept<D> {
         ensures left { OnErr result (IsOpen self.new → ⊥) }
         ensures ended { (IsOpen self.old → ⊥)
             → IsErrOf result CommitFault.Ended × (self.new ≡ self.old) }
+        ensures only { IsErrOf result CommitFault.Ended → IsOpen self.old → ⊥ }
+        ensures full { (servers : ℕ) (batches : List (List ℕ))
+            → IsServing D.seen D.may_leave servers batches self.old
+            → IsErrOf result CommitFault.Full → IsTooLong servers (state_in self.old) }
+        ensures failed { IsErrOf result CommitFault.Failed
+            → D.faults (disk_of self.old) < D.faults (disk_of self.new) }
     {
         if !self.is_open {
             return Err(CommitFault::Ended);
@@ -68,8 +78,8 @@ impl<D: Device> Kept<D> {
     }
 }
 
-// Writes the text of the state beside the journal's file, and puts it in its place.
-fn shorten<D: Device>(
+/// Writes the text of the state beside the journal's file, and puts it in its place.
+pub(crate) fn shorten<D: Device>(
     alloc: Global,
     journal: &mut Journal<D>,
     state: &State,
@@ -86,12 +96,41 @@ fn shorten<D: Device>(
         → LeavesOnly D.moment D.left_since (device_of journal.old) (device_of journal.new)
         (IsOldOrState servers batches state.now.state) }
     ensures open { OnOk result (file.IsOpen journal.old × file.IsOpen journal.new) }
+    ensures only { IsErrOf result CommitFault.Ended → file.IsOpen journal.old → ⊥ }
+    ensures full { (servers : ℕ) (batches : List (List ℕ))
+        → IsAtRest D.seen D.may_leave servers batches journal.old
+        → IsErrOf result CommitFault.Full → IsTooLong servers state.now.state }
+    ensures failed { IsErrOf result CommitFault.Failed
+        → D.faults (device_of journal.old) < D.faults (device_of journal.new) }
 {
     let mut text = Shortening::new(state)?;
     journal.begin_renewal()?;
     while let Some(piece) = text.next_piece()? {
-        journal.put_renewed(&piece)?;
+        put_piece(journal, &piece)?;
     }
     journal.end_renewal()?;
     Ok(())
+}
+
+// Puts a piece into the new file, once.
+fn put_piece<D: Device>(journal: &mut Journal<D>, piece: &[u8]) -> Result<(), PutError>
+    requires { IsInRenewal D.seen D.may_leave D.beside journal.old }
+    ensures added { (servers : ℕ) (batches next : List (List ℕ)) → file.IsOpen journal.old
+        → IsRenewing D.seen D.may_leave D.beside servers batches next journal.old
+        → OnOk result (IsRenewing D.seen D.may_leave D.beside servers batches
+        (next ++ piece.now ∷ []) journal.new) }
+    ensures any_moment { (servers : ℕ) (batches : List (List ℕ))
+        → IsAtRest D.seen D.may_leave servers batches journal.old
+        → LeavesOnly D.moment D.left_since (device_of journal.old) (device_of journal.new)
+        (Keeps servers batches) }
+    ensures renewing { OnOk result (IsInRenewal D.seen D.may_leave D.beside journal.new) }
+    ensures open { OnOk result (file.IsOpen journal.old × file.IsOpen journal.new) }
+    ensures failed { IsErrOf result PutError.Failed
+        → D.faults (device_of journal.old) < D.faults (device_of journal.new) }
+    ensures faults { D.faults (device_of journal.old) ≤ D.faults (device_of journal.new) }
+    ensures left { IfErr result (λ e. puts.IsLeftBy e journal.old journal.new) }
+    ensures not_text { IsErrOf result PutError.NotText → IsText piece.now → ⊥ }
+    ensures full { IsErrOf result PutError.Full → 2 ^ 60 ≤ renewed_size_of journal.old }
+{
+    journal.put_renewed(piece)
 }

@@ -6,7 +6,8 @@ use Rattle.std.specs.List.{starts_with}
 use Rattle.std.specs.Str.{bytes_eq}
 use Rattle.ztree.specs.declared.limits.TheConstants.{MAX_TTL}
 use Rattle.zcalls.specs.declared.call.Kind.{Kind}
-use Rattle.zcalls.specs.declared.call.Kind.TheVariants.{Persistent, PersistentSequential, PersistentWithTtl, PersistentSequentialWithTtl, Ephemeral, EphemeralSequential}
+use Rattle.zcalls.specs.declared.call.Lifetime.TheVariants.{Persistent, WithTtl, Ephemeral}
+use Rattle.zcalls.specs.Part.{named, sequential}
 use Rattle.zcalls.specs.declared.call.Expected.{Expected}
 use Rattle.zcalls.specs.declared.call.Expected.TheVariants.{Any, Exactly}
 use Rattle.zlines.specs.declared.part_words.PartWords.{PartWords}
@@ -26,22 +27,22 @@ ttl_of word = option_and_then in_ttl_range (number_of word)
 -- a kind with a TTL: `t:` or `ts:`, then the ticks
 abbrev pub timed_kind_of : Word → Option Kind
 timed_kind_of word =
-    if starts_with nat_eq word (codes "t:") then option_map PersistentWithTtl (ttl_of (drop 2 word)) else
-    if starts_with nat_eq word (codes "ts:") then option_map PersistentSequentialWithTtl (ttl_of (drop 3 word)) else
+    if starts_with nat_eq word (codes "t:") then option_map (λ ttl. named (WithTtl ttl)) (ttl_of (drop 2 word)) else
+    if starts_with nat_eq word (codes "ts:") then option_map (λ ttl. sequential (WithTtl ttl)) (ttl_of (drop 3 word)) else
     None
 
 -- an ephemeral kind: `e:` or `es:`, then the session's id; else a kind with a TTL
 abbrev pub owned_kind_of : Word → Option Kind
 owned_kind_of word =
-    if starts_with nat_eq word (codes "e:") then option_map Ephemeral (number_of (drop 2 word)) else
-    if starts_with nat_eq word (codes "es:") then option_map EphemeralSequential (number_of (drop 3 word)) else
+    if starts_with nat_eq word (codes "e:") then option_map (λ session. named (Ephemeral session)) (number_of (drop 2 word)) else
+    if starts_with nat_eq word (codes "es:") then option_map (λ session. sequential (Ephemeral session)) (number_of (drop 3 word)) else
     timed_kind_of word
 
 -- the kind of node that a word names
 unfoldable pub kind_of : Word → Option Kind
 kind_of word =
-    if bytes_eq word (codes "p") then Some Persistent else
-    if bytes_eq word (codes "ps") then Some PersistentSequential else
+    if bytes_eq word (codes "p") then Some (named Persistent) else
+    if bytes_eq word (codes "ps") then Some (sequential Persistent) else
     owned_kind_of word
 
 -- the expected version that a word names

@@ -93,7 +93,7 @@ fn read_data(alloc: Global, word: &str) -> Result<Data, LineFault>
     ensures fault { IfErr result (IsUnread (data_in word.now)) }
 {
     if word == "-" {
-        return Ok(Data::empty(alloc));
+        return Ok(Data::empty());
     }
     let bytes = match STANDARD.decode(alloc, word.as_bytes()) {
         Ok(bytes) => bytes,

@@ -2,8 +2,8 @@
 
 ghost use Rattle.std.specs.Prelude.{◌≡◌, [], ◌∷◌, Some, None, Ok, Err, codes};
 ghost use Rattle.zpath.specs.declared.fault.PathFault.TheVariants.{NotAbsolute};
-ghost use Rattle.zcalls.specs.declared.call.Kind.TheVariants.{Persistent, Ephemeral, EphemeralSequential};
-ghost use Rattle.zcalls.specs.declared.call.Kind.TheVariants.{PersistentWithTtl, PersistentSequentialWithTtl};
+ghost use Rattle.zcalls.specs.Part.{named, sequential};
+ghost use Rattle.zcalls.specs.declared.call.Lifetime.TheVariants.{Persistent, WithTtl, Ephemeral};
 ghost use Rattle.zcalls.specs.declared.call.Update.TheVariants.{Create, Open, Ping, Close, Tick};
 ghost use Rattle.zcalls.specs.declared.call.Query.TheVariants.{GetData};
 ghost use Rattle.zcalls.specs.declared.call.Call.TheVariants.{Update, Query};
@@ -38,17 +38,17 @@ pub fn words()
     ensures last_client { client_of (codes "31") ≡ Some 31 }
     ensures no_client { client_of (codes "32") ≡ None }
     ensures clock { client_of (codes "0") ≡ Some 0 }
-    ensures owned { kind_of (codes "e:0") ≡ Some (Ephemeral 0) }
-    ensures owned_sequential { kind_of (codes "es:12") ≡ Some (EphemeralSequential 12) }
+    ensures owned { kind_of (codes "e:0") ≡ Some (named (Ephemeral 0)) }
+    ensures owned_sequential { kind_of (codes "es:12") ≡ Some (sequential (Ephemeral 12)) }
     ensures no_session { kind_of (codes "e:") ≡ None }
     ensures loose_session { kind_of (codes "e:01") ≡ None }
     ensures other_kind { kind_of (codes "e") ≡ None }
-    ensures least_ttl { kind_of (codes "t:1") ≡ Some (PersistentWithTtl 1) }
+    ensures least_ttl { kind_of (codes "t:1") ≡ Some (named (WithTtl 1)) }
     ensures no_ttl { kind_of (codes "t:0") ≡ None }
-    ensures most_ttl { kind_of (codes "t:1048576") ≡ Some (PersistentWithTtl 1048576) }
+    ensures most_ttl { kind_of (codes "t:1048576") ≡ Some (named (WithTtl 1048576)) }
     ensures more_ttl { kind_of (codes "t:1048577") ≡ None }
     ensures loose_ttl { kind_of (codes "t:01") ≡ None }
-    ensures sequential_ttl { kind_of (codes "ts:5") ≡ Some (PersistentSequentialWithTtl 5) }
+    ensures sequential_ttl { kind_of (codes "ts:5") ≡ Some (sequential (WithTtl 5)) }
     ensures no_sequential_ttl { kind_of (codes "ts:0") ≡ None }
     ensures no_bytes { data_of (codes "-") ≡ Some [] }
     ensures two_bytes { data_of (codes "aGk=") ≡ Some (104 ∷ 105 ∷ []) }

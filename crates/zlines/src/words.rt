@@ -9,7 +9,7 @@ ghost use Rattle.zlines.specs.Shape.{kind_of, owned_kind_of, timed_kind_of, ttl_
 ghost use Rattle.zlines.specs.support.Left.{IsBehind};
 
 use crate::limits::NUMBER_BOUND;
-use zcalls::{ClientId, Expected, Kind, SessionId, Ttl};
+use zcalls::{ClientId, Expected, Kind, Lifetime, SessionId, Ttl};
 use zprotocol::{MAX_SERVERS, Process, ServerId};
 use ztree::limits::MAX_CLIENTS;
 
@@ -65,8 +65,8 @@ pub(crate) fn kind_in(word: &str) -> Option<Kind>
     ensures { result ≡ kind_of word.now }
 {
     match word {
-        "p" => Some(Kind::Persistent),
-        "ps" => Some(Kind::PersistentSequential),
+        "p" => Some(Kind::named(Lifetime::Persistent)),
+        "ps" => Some(Kind::sequential(Lifetime::Persistent)),
         _ => owned_kind_in(word),
     }
 }
@@ -76,10 +76,10 @@ fn owned_kind_in(word: &str) -> Option<Kind>
     ensures { result ≡ owned_kind_of word.now }
 {
     if let Some(session) = behind("e:", word) {
-        return Some(Kind::Ephemeral(SessionId::new(number(session)?)));
+        return Some(Kind::named(Lifetime::Ephemeral(SessionId::new(number(session)?))));
     }
     if let Some(session) = behind("es:", word) {
-        return Some(Kind::EphemeralSequential(SessionId::new(number(session)?)));
+        return Some(Kind::sequential(Lifetime::Ephemeral(SessionId::new(number(session)?))));
     }
     timed_kind_in(word)
 }
@@ -89,10 +89,10 @@ fn timed_kind_in(word: &str) -> Option<Kind>
     ensures { result ≡ timed_kind_of word.now }
 {
     if let Some(ticks) = behind("t:", word) {
-        return Some(Kind::PersistentWithTtl(ttl_in(ticks)?));
+        return Some(Kind::named(Lifetime::WithTtl(ttl_in(ticks)?)));
     }
     let ticks = behind("ts:", word)?;
-    Some(Kind::PersistentSequentialWithTtl(ttl_in(ticks)?))
+    Some(Kind::sequential(Lifetime::WithTtl(ttl_in(ticks)?)))
 }
 
 // Returns the TTL that a word spells.

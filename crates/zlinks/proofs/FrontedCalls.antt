@@ -13,7 +13,8 @@ use Rattle.zlinks.specs.declared.lone.Lone.{Lone}
 use Rattle.zlinks.specs.Places.{Queues, links_of, with_link, with_last, without_first, without_receiver, IsEmpty, Keeps}
 use Rattle.zlinks.specs.support.Lone.{with_lone, is_on, onto, fronted, without_to, IsPlaced}
 use Rattle.zlinks.proofs.Fronted.{apart, differs, lone_links, seen_link, onto_on, onto_off}
-use Rattle.zlinks.proofs.Places.{same_process, by_place, row_at, row_written}
+use Rattle.zworld_model.proofs.Processes.{same_process}
+use Rattle.zlinks.proofs.Places.{by_place, row_at, row_written}
 
 module _ {T : Type 0} where
   onto_more : (slot : Option (Lone T)) (i j : ℕ) (queue more : List (Message T)) → onto slot i j (queue ++ more) ≡ onto slot i j queue ++ more

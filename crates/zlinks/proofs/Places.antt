@@ -6,6 +6,7 @@ use Rattle.std.proofs.lemmas.Bool.Decides.{nat_tests}
 use Rattle.std.specs.Prelude.{not, nat_lt, ◌==◌}
 use Rattle.std.specs.List.{list_any}
 use Rattle.std.proofs.Math.Nat.{eq-or-lt_of_le}
+use Rattle.zworld_model.proofs.Processes.{same_process}
 use Rattle.zworld_model.proofs.Visited.{at_least_one, at_most}
 use Rattle.zcalls.proofs.Among.{test}
 use Rattle.ztree.specs.declared.limits.TheConstants.{MAX_CLIENTS}
@@ -18,18 +19,6 @@ use Rattle.zworld_model.specs.Links.{is_same}
 use Rattle.zlinks.specs.Places.{links_of, with_link, without_receiver, is_silent, holds, IsEmpty}
 use Rattle.zlinks.specs.support.Rows.{ClearedTo, passing}
 use Rattle.zlinks.proofs.Rows.{fails_at, silent_at, not_true}
-
--- processes that are the same, by their kinds and numbers
-pub same_process : (p q : Process) → is_same p q ≡ true → p ≡ q
-same_process Master Master same = refl
-same_process (Server s) (Server t) same = ap (λ n. Server n) (eqb-true s t same)
-same_process (Client c) (Client d) same = ap (λ n. Client n) (eqb-true c d same)
-same_process Master (Server t) same = absurd (true≢false (sym same))
-same_process Master (Client t) same = absurd (true≢false (sym same))
-same_process (Server s) Master same = absurd (true≢false (sym same))
-same_process (Server s) (Client t) same = absurd (true≢false (sym same))
-same_process (Client s) Master same = absurd (true≢false (sym same))
-same_process (Client s) (Server t) same = absurd (true≢false (sym same))
 
 -- so they have one place
 same_place : (p q : Process) → is_same p q ≡ true → place_of p ≡ place_of q

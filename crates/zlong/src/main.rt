@@ -121,11 +121,11 @@ fn ask(client: &mut Client, call: Result<Call, Fault>) -> Result<(), Fault>
 }
 
 fn create(alloc: Global) -> Result<Call, Fault> {
-    Ok(Call::create(Path::parse(alloc, "/a")?, Data::empty(alloc)))
+    Ok(Call::create(Path::parse(alloc, "/a")?, Data::empty()))
 }
 
 fn set(alloc: Global) -> Result<Call, Fault> {
-    Ok(Call::set(Path::parse(alloc, "/a")?, Data::empty(alloc), Expected::Any))
+    Ok(Call::set(Path::parse(alloc, "/a")?, Data::empty(), Expected::Any))
 }
 
 fn get(alloc: Global) -> Result<Call, Fault> {

@@ -16,7 +16,7 @@ use crate::chain::{
 };
 use crate::limits::{MAX_POSTS, SERVERS};
 use crate::member::Member;
-use crate::used::{is_used, mark_used, width};
+use crate::used::{is_used, keeps_few, mark_used};
 use std::marker::Model;
 use zprotocol::{
     ClientId, Epoch, JoinFault, LogNumber, Message, Out, Process, RetireFault, ServerId,
@@ -87,14 +87,21 @@ impl Knowledge {
         self.clients
     }
 
+    /// An invariant of what is known: at most `MAX_SERVERS` numbers are used. The function does
+    /// nothing.
+    pub(crate) fn keeps_few_used(&self)
+        ensures { length self.now.used ≤ MAX_SERVERS }
+    {
+        keeps_few(&self.used);
+    }
+
     /// Returns the length of the chain. Its clauses also say that at most `MAX_SERVERS` numbers are
     /// used.
     pub(crate) fn count(&self) -> usize
         ensures chain { result ≡ length self.now.chain }
         ensures used { length self.now.used ≤ MAX_SERVERS }
     {
-        // No more numbers are used than there are marks, by the clause of `width`.
-        let _ = width(&self.used);
+        self.keeps_few_used();
         self.chain.len()
     }
 

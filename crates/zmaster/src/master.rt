@@ -41,8 +41,7 @@ impl Master {
         ensures { result ≡ opening_master last clients }
     {
         let known = Knowledge::new(last, clients);
-        // The invariant bounds the used numbers by what the clause of `count` says of them.
-        let _ = known.count();
+        known.keeps_few_used();
         Master { known }
     }
 
@@ -63,8 +62,7 @@ impl Master {
     {
         self.known.take(from, &message, out);
         drop(message);
-        // As in `new`.
-        let _ = self.known.count();
+        self.known.keeps_few_used();
     }
 
     /// Returns why the server can't join now.

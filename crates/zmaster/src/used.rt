@@ -22,9 +22,9 @@ pub(crate) fn mark_used(used: &mut [bool; SERVERS], server: ServerId)
     used[server.number() as usize - 1] = true;
 }
 
-/// Returns how many numbers can be marked.
-pub(crate) fn width(used: &[bool; SERVERS]) -> usize
+/// An invariant of the flags: at most `MAX_SERVERS` numbers are used. The function does nothing.
+pub(crate) fn keeps_few(used: &[bool; SERVERS])
     ensures { length (numbers_from 1 used.now) ≤ MAX_SERVERS }
 {
-    used.len()
+    let _ = used.len();
 }

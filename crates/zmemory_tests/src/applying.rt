@@ -28,12 +28,12 @@ pub(crate) fn open_is_applied(alloc: Global) -> Ended {
 
 /// Sends client 1's cached reply again, which makes a copy of its list.
 pub(crate) fn retry_is_applied(alloc: Global) -> Ended {
-    is_applied_at(alloc, machine_of_multi(alloc), first_entry(Update::Tick))
+    is_applied_at(machine_of_multi(alloc), first_entry(Update::Tick))
 }
 
 /// Applies a tick that removes a node whose time to live is over.
 pub(crate) fn removal_is_applied(alloc: Global) -> Ended {
-    is_applied_at(alloc, timed_machine(alloc), second_entry(Update::Tick))
+    is_applied_at(timed_machine(alloc), second_entry(Update::Tick))
 }
 
 fn is_second(alloc: Global, update: Result<Update, Memory>) -> Ended {
@@ -44,13 +44,13 @@ fn is_second(alloc: Global, update: Result<Update, Memory>) -> Ended {
 }
 
 fn is_applied(alloc: Global, entry: Entry) -> Ended {
-    is_applied_at(alloc, machine(alloc), entry)
+    is_applied_at(machine(alloc), entry)
 }
 
-fn is_applied_at(alloc: Global, machine: Result<Machine, Memory>, entry: Entry) -> Ended {
+fn is_applied_at(machine: Result<Machine, Memory>, entry: Entry) -> Ended {
     match machine {
         Ok(mut machine) => {
-            let ended = applies(alloc, &mut machine, entry);
+            let ended = applies(&mut machine, entry);
             drop(machine);
             ended
         }
@@ -61,20 +61,20 @@ fn is_applied_at(alloc: Global, machine: Result<Machine, Memory>, entry: Entry) 
     }
 }
 
-fn applies(alloc: Global, machine: &mut Machine, entry: Entry) -> Ended {
+fn applies(machine: &mut Machine, entry: Entry) -> Ended {
     match acts(machine, entry) {
         Ok(has_acted) => Ended::done(has_acted),
-        Err(Memory) => Ended::refused(is_broken(alloc, machine)),
+        Err(Memory) => Ended::refused(is_broken(machine)),
     }
 }
 
 // Returns whether the machine answers `Memory` to everything, now that there is memory again.
-fn is_broken(alloc: Global, machine: &mut Machine) -> bool {
-    !answers(alloc, machine) && !can_be_copied(machine) && !applies_a_tick(machine)
+fn is_broken(machine: &mut Machine) -> bool {
+    !answers(machine) && !can_be_copied(machine) && !applies_a_tick(machine)
 }
 
-fn answers(alloc: Global, machine: &Machine) -> bool {
-    let root = Query::Exists(Path::root(alloc));
+fn answers(machine: &Machine) -> bool {
+    let root = Query::Exists(Path::root());
     let answer = machine.ask(&root);
     drop(root);
     match answer {

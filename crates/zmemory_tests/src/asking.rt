@@ -12,7 +12,7 @@ use zstories::Ended;
 pub(crate) fn children_are_told(alloc: Global) -> Ended {
     match machine(alloc) {
         Ok(machine) => {
-            let query = Query::GetChildren(Path::root(alloc));
+            let query = Query::GetChildren(Path::root());
             let ended = tells(&machine, &query);
             drop(machine);
             drop(query);

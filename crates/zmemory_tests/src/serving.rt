@@ -18,7 +18,7 @@ pub(crate) fn query_is_taken(alloc: Global) -> Ended {
     match Server::first(alloc, None, None) {
         Ok(mut tail) => {
             let mut out = Out::new(alloc);
-            let ended = answers(alloc, &mut tail, &mut out);
+            let ended = answers(&mut tail, &mut out);
             drop(tail);
             drop(out);
             ended
@@ -28,21 +28,21 @@ pub(crate) fn query_is_taken(alloc: Global) -> Ended {
 }
 
 // A query for which memory runs out is as if it had been lost: the next one is answered.
-fn answers(alloc: Global, tail: &mut Server, out: &mut Out<Snapshot>) -> Ended {
-    match tail.take(Process::Client(client(1)), query(alloc, 1), out) {
+fn answers(tail: &mut Server, out: &mut Out<Snapshot>) -> Ended {
+    match tail.take(Process::Client(client(1)), query(1), out) {
         Ok(Taken::Acted) => Ended::done(has_put(out)),
-        Ok(Taken::Unheard) => Ended::refused(!has_put(out) && answers_the_next(alloc, tail, out)),
+        Ok(Taken::Unheard) => Ended::refused(!has_put(out) && answers_the_next(tail, out)),
         Err(Stopped::Memory | Stopped::Retired) => Ended::Wrong,
     }
 }
 
-fn answers_the_next(alloc: Global, tail: &mut Server, out: &mut Out<Snapshot>) -> bool {
-    acts(tail, Process::Client(client(1)), query(alloc, 2), out) && has_put(out)
+fn answers_the_next(tail: &mut Server, out: &mut Out<Snapshot>) -> bool {
+    acts(tail, Process::Client(client(1)), query(2), out) && has_put(out)
 }
 
 // Client 1 asks for the names beneath the root.
-fn query(alloc: Global, number: u64) -> Message<Snapshot>
+fn query(number: u64) -> Message<Snapshot>
     requires { number ≤ MAX_CALL_NUMBER }
 {
-    Message::Query(call_number(number), Query::GetChildren(Path::root(alloc)))
+    Message::Query(call_number(number), Query::GetChildren(Path::root()))
 }

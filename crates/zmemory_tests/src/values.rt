@@ -2,7 +2,7 @@
 
 use std::alloc::Global;
 use zalloc::Memory;
-use zcalls::{Create, Data, DataFault, Kind, Multi, Part, Ttl, Update};
+use zcalls::{Create, Data, DataFault, Kind, Lifetime, Multi, Part, Ttl, Update};
 use zpath::Path;
 
 /// Returns the path of this text, or that memory ran out.
@@ -15,18 +15,18 @@ pub(crate) fn path(alloc: Global, text: &str) -> Result<Path, Memory> {
 
 /// Returns an update that makes a node with two bytes.
 pub(crate) fn create(alloc: Global, text: &str) -> Result<Update, Memory> {
-    create_of(alloc, text, Kind::Persistent)
+    create_of(alloc, text, Kind::named(Lifetime::Persistent))
 }
 
 /// Returns an update that makes a node with two bytes, whose name ends in its parent's counter.
 pub(crate) fn create_sequential(alloc: Global, text: &str) -> Result<Update, Memory> {
-    create_of(alloc, text, Kind::PersistentSequential)
+    create_of(alloc, text, Kind::sequential(Lifetime::Persistent))
 }
 
 /// Returns an update that makes a node with two bytes, which lives for one tick.
 pub(crate) fn create_timed(alloc: Global, text: &str) -> Result<Update, Memory> {
     match Ttl::new(1) {
-        Some(ttl) => create_of(alloc, text, Kind::PersistentWithTtl(ttl)),
+        Some(ttl) => create_of(alloc, text, Kind::named(Lifetime::WithTtl(ttl))),
         None => Err(Memory),
     }
 }
@@ -62,7 +62,7 @@ pub(crate) fn two_bytes(alloc: Global) -> Result<Data, Memory> {
 
 /// Returns a multi that makes a node.
 pub(crate) fn multi(alloc: Global, text: &str) -> Result<Update, Memory> {
-    let Ok(create) = creation(alloc, text, Kind::Persistent) else {
+    let Ok(create) = creation(alloc, text, Kind::named(Lifetime::Persistent)) else {
         return Err(Memory);
     };
     let Ok(parts) = one_part(alloc, Part::Create(create)) else {

@@ -4,7 +4,8 @@
 ghost use Rattle.std.specs.Prelude.{◌≡◌};
 
 use std::alloc::Global;
-use zscript::{PlayFault, Servers, SliceSource, WriterSink, play};
+use zliterals::server;
+use zscript::{PlayFault, ServerId, SliceSource, WriterSink, play};
 use zstories::Ended;
 
 const SCRIPT: &str =
@@ -25,7 +26,7 @@ const ROOM: usize = 512;
 /// The only server: all answers; or a beginning of them, with the want of memory; or a beginning, and then nobody answers.
 pub(crate) fn plays_over_one(alloc: Global) -> Ended {
     let mut room = [0u8; ROOM];
-    let played = plays(alloc, Servers::new(1), &mut room);
+    let played = plays(alloc, ServerId::first(), &mut room);
     let (whole, rest) = told(&room);
     match played {
         Ok(()) if whole < ANSWERS.len() => Ended::refused(is_silent(rest, whole)),
@@ -36,15 +37,15 @@ pub(crate) fn plays_over_one(alloc: Global) -> Ended {
 /// Three servers: all answers, or a beginning of them, with the want of memory.
 pub(crate) fn plays_over_three(alloc: Global) -> Ended {
     let mut room = [0u8; ROOM];
-    let played = plays(alloc, Servers::new(3), &mut room);
+    let played = plays(alloc, server(3), &mut room);
     let (whole, rest) = told(&room);
     ended(played, whole, rest)
 }
 
-fn plays(alloc: Global, servers: Servers, room: &mut [u8]) -> Result<(), PlayFault> {
+fn plays(alloc: Global, last: ServerId, room: &mut [u8]) -> Result<(), PlayFault> {
     let mut source = SliceSource::new(SCRIPT.as_bytes(), 65536);
     let mut sink = WriterSink::new(room);
-    play(alloc, &mut source, &mut sink, servers)
+    play(alloc, &mut source, &mut sink, last)
 }
 
 // How many whole lines of the answers were written, and nothing but these.

@@ -2,7 +2,7 @@
 
 use std::alloc::Global;
 use zalloc::Memory;
-use zcalls::{Call, Create, Data, Kind, Query, Reply, Update};
+use zcalls::{Call, Create, Data, Kind, Lifetime, Query, Reply, Update};
 use zliterals::{client, server};
 use zpath::Path;
 use zprotocol::Process;
@@ -88,7 +88,7 @@ fn events(alloc: Global) -> Result<Vec<Event>, Memory> {
 
 fn add_events(events: &mut Vec<Event>, alloc: Global) -> Result<(), Memory> {
     add_call(events, creates(alloc)?)?;
-    add_call(events, Call::Query(Query::GetChildren(Path::root(alloc))))
+    add_call(events, Call::Query(Query::GetChildren(Path::root())))
 }
 
 // The call begins, is taken by the server, and its answer by the client.
@@ -111,8 +111,8 @@ fn creates(alloc: Global) -> Result<Call, Memory> {
     match Path::parse(alloc, "/a") {
         Ok(path) => Ok(Call::Update(Update::Create(Create {
             path,
-            kind: Kind::Persistent,
-            bytes: Data::empty(alloc),
+            kind: Kind::named(Lifetime::Persistent),
+            bytes: Data::empty(),
         }))),
         Err(_) => Err(Memory),
     }

@@ -96,8 +96,8 @@ impl Nodes {
         };
         let owner = row.node.owner;
         let ttl = row.node.ttl;
-        // This bounds the number of rows, so the lists have room: no list has all rows.
-        let _ = self.slots.len();
+        // No list has all rows, so each can grow.
+        self.slots.keeps_countable();
         put_child(&mut self.slots, Some(parent), id);
         put_owned(&mut self.slots, &mut self.owners, owner, id);
         match take_key(&mut self.slots, id) {

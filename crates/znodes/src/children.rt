@@ -38,14 +38,14 @@ fn last_names(alloc: Global, slots: &Slots<Row>, list: List<0>) -> Result<Vec<Na
     let mut names = Vec::with_capacity(alloc, list.len())?;
     let mut at = list.first();
     while let Some(id) = at {
-        push_name(alloc, slots, id, &mut names)?;
+        push_name(slots, id, &mut names)?;
         at = list.next(slots, id);
     }
     Ok(names)
 }
 
 // Appends the last name of a row's path.
-fn push_name(alloc: Global, slots: &Slots<Row>, id: Id, names: &mut Vec<Name>) -> Result<(), Memory>
+fn push_name(slots: &Slots<Row>, id: Id, names: &mut Vec<Name>) -> Result<(), Memory>
     ensures { OnOk result
         (names.new.items ≡ names.old.items ++ names_at slots.now.items (id ∷ [])) }
 {

@@ -50,7 +50,7 @@ impl Nodes {
         let mut index = Index::new(alloc);
         index.reserve(1)?;
         let mut slots = Slots::new(alloc);
-        let row = Row::alone(alloc, Path::root(alloc), root, None);
+        let row = Row::alone(alloc, Path::root(), root, None);
         let id = match slots.insert(row) {
             Ok(id) => id,
             Err(row) => {
@@ -60,7 +60,7 @@ impl Nodes {
                 return Err(Memory);
             }
         };
-        index.insert(Path::root(alloc), id);
+        index.insert(Path::root(), id);
         Ok(Nodes {
             slots,
             index,

@@ -76,11 +76,11 @@ impl Row {
 impl Copied for Row {
     fn copied(&self) -> Result<Row, Memory> {
         let path = self.path.clone()?;
-        let Ok(node) = self.node.copied(self.alloc) else {
+        let Ok(node) = self.node.copied() else {
             drop(path);
             return Err(Memory);
         };
-        let Ok(key) = copied_key(self.alloc, &self.key) else {
+        let Ok(key) = copied_key(&self.key) else {
             drop(path);
             drop(node);
             return Err(Memory);
@@ -99,7 +99,7 @@ impl Copied for Row {
     }
 }
 
-fn copied_key(alloc: Global, key: &Option<Path>) -> Result<Option<Path>, Memory>
+fn copied_key(key: &Option<Path>) -> Result<Option<Path>, Memory>
     ensures { IfOk result (λ copy. copy ≡ key.now) }
 {
     match key {

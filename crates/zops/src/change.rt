@@ -15,24 +15,19 @@ use crate::session_calls::is_gone;
 use crate::stop::Stop;
 use std::alloc::Global;
 use zcalls::limits::MAX_COUNTER;
-use zcalls::{ChangeReply, Create, Delete, Expected, Kind, Refusal, SetData};
+use zcalls::{ChangeReply, Create, Delete, Expected, Kind, Lifetime, Refusal, SetData};
 use zpath::{Path, PathFault};
 use zstore::{Id, Store};
 use ztree::ClientId;
 use ztree::limits::MAX_NODES;
 
-// Returns whether a node of this kind would belong to a session that is gone for this client.
-fn has_no_owner(store: &Store, client: ClientId, kind: Kind) -> bool
-    ensures { result ≡ has_no_owner store.now.tree.sessions client kind }
+// Returns whether a node would belong to a session that is gone for this client.
+fn has_no_owner(store: &Store, client: ClientId, lifetime: Lifetime) -> bool
+    ensures { result ≡ has_no_owner store.now.tree.sessions client lifetime }
 {
-    match kind {
-        Kind::Persistent
-        | Kind::PersistentSequential
-        | Kind::PersistentWithTtl(_)
-        | Kind::PersistentSequentialWithTtl(_) => false,
-        Kind::Ephemeral(session) | Kind::EphemeralSequential(session) => {
-            is_gone(store, client, session)
-        }
+    match lifetime {
+        Lifetime::Persistent | Lifetime::WithTtl(_) => false,
+        Lifetime::Ephemeral(session) => { is_gone(store, client, session) }
     }
 }
 
@@ -71,7 +66,7 @@ fn made_path(
     ensures allowed { OnOk result (name_refusal store.now.tree kind path.now ≡ None) }
     ensures stopped { IfErr result (IsFirst (name_refusal store.now.tree kind path.now)) }
 {
-    if !kind.is_sequential() {
+    if !kind.is_sequential {
         return Ok(path.clone()?);
     }
     let Some(counter) = store.seq(parent) else {
@@ -100,10 +95,10 @@ pub(crate) fn create(
     ensures stopped { IfErr result (IsStop (create_step store.old.tree client create.now)) }
     ensures same { OnErr result (store.new ≡ store.old) }
 {
-    if has_no_owner(store, client, create.kind) {
+    if has_no_owner(store, client, create.kind.lifetime) {
         return Err(Stop::Refused(Refusal::SessionGone));
     }
-    let Some(above) = create.path.parent(alloc)? else {
+    let Some(above) = create.path.parent()? else {
         return Err(Stop::Refused(Refusal::NodeExists));
     };
     let Some(parent) = store.find(&above) else {
@@ -132,10 +127,9 @@ pub(crate) fn create(
         drop(path);
         return Err(Stop::Memory);
     };
-    let owner = create.kind.owner();
-    let ttl = create.kind.ttl();
-    let is_sequential = create.kind.is_sequential();
-    store.add(parent, made, bytes, owner, ttl, is_sequential)?;
+    let owner = create.kind.lifetime.owner();
+    let ttl = create.kind.lifetime.ttl();
+    store.add(parent, made, bytes, owner, ttl, create.kind.is_sequential)?;
     Ok(ChangeReply::Created(path))
 }
 
@@ -164,7 +158,7 @@ pub(crate) fn delete(store: &mut Store, delete: &Delete) -> Result<ChangeReply, 
 }
 
 /// Writes a node's data. On an error the store is unchanged.
-pub(crate) fn set(alloc: Global, store: &mut Store, set: &SetData) -> Result<ChangeReply, Stop>
+pub(crate) fn set(store: &mut Store, set: &SetData) -> Result<ChangeReply, Stop>
     requires ready { IsReadyForPart store.old }
     ensures done { IfOk result (IsDone (set_step store.old.tree set.now) store.old store.new) }
     ensures stopped { IfErr result (IsStop (set_step store.old.tree set.now)) }

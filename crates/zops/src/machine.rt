@@ -142,7 +142,7 @@ impl Machine {
         } else {
             self.store.keeps_lawful();
             self.store.keeps_paths();
-            answer(self.alloc, &self.store, query)
+            answer(&self.store, query)
         }
     }
 

@@ -28,7 +28,7 @@ pub(crate) fn part(
     match part {
         Part::Create(wanted) => Ok(PartReply::from(create(alloc, store, client, wanted)?)),
         Part::Delete(wanted) => Ok(PartReply::from(delete(store, wanted)?)),
-        Part::SetData(wanted) => Ok(PartReply::from(set(alloc, store, wanted)?)),
+        Part::SetData(wanted) => Ok(PartReply::from(set(store, wanted)?)),
         Part::Check(wanted) => check(store, wanted),
     }
 }

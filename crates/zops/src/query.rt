@@ -4,18 +4,17 @@ ghost use Rattle.std.specs.Prelude.{◌≡◌, IfOk};
 ghost use Rattle.zcalls.specs.Step.{query_reply};
 ghost use Rattle.zcalls.specs.declared.call.Query.TheVariants.{GetData, Exists, GetChildren};
 
-use std::alloc::Global;
 use zalloc::Memory;
 use zcalls::{Names, Query, Refusal, Reply};
 use zpath::Path;
 use zstore::Store;
 
 /// Answers a query.
-pub(crate) fn answer(alloc: Global, store: &Store, query: &Query) -> Result<Reply, Memory>
+pub(crate) fn answer(store: &Store, query: &Query) -> Result<Reply, Memory>
     ensures { IfOk result (λ reply. reply ≡ query_reply store.now.tree query.now) }
 {
     match query {
-        Query::GetData(path) => get_data(alloc, store, path),
+        Query::GetData(path) => get_data(store, path),
         Query::Exists(path) => Ok(exists(store, path)),
         Query::GetChildren(path) => get_children(store, path),
     }
@@ -23,7 +22,7 @@ pub(crate) fn answer(alloc: Global, store: &Store, query: &Query) -> Result<Repl
 
 // Returns the data and the stat of the node at a path.
 #[tactic(auto, unfolding(zcalls::specs::Step::query_reply))]
-fn get_data(alloc: Global, store: &Store, path: &Path) -> Result<Reply, Memory>
+fn get_data(store: &Store, path: &Path) -> Result<Reply, Memory>
     ensures { IfOk result (λ reply. reply ≡ query_reply store.now.tree (GetData path.now)) }
 {
     let Some(id) = store.find(path) else {

@@ -37,7 +37,7 @@ pub(crate) fn update(
     let did = match update {
         Update::Create(wanted) => create(alloc, store, client, wanted),
         Update::Delete(wanted) => delete(store, wanted),
-        Update::SetData(wanted) => set(alloc, store, wanted),
+        Update::SetData(wanted) => set(store, wanted),
         Update::Multi(parts) => return multi(alloc, store, client, parts),
         Update::Open(ticks) => return open(store, client, *ticks),
         Update::Ping(session) => return Ok(ping(store, client, *session)),

@@ -49,7 +49,7 @@ impl Path {
     ghost use Rattle.zpath.specs.support.Lists.{items_of};
 
     /// Returns the root, which has no names. Allocates nothing.
-    pub fn root(_alloc: Global) -> Path
+    pub fn root() -> Path
         ensures { result ≡ [] }
     {
         Path {
@@ -72,7 +72,7 @@ impl Path {
         }
         let rest = scan::faultless_rest(text)?;
         if rest.is_empty() {
-            return Ok(Path::root(alloc));
+            return Ok(Path::root());
         }
         let names = scan::names_after(alloc, rest)?;
         Ok(Path::of(alloc, names)?)
@@ -89,6 +89,13 @@ impl Path {
         }
     }
 
+    /// An invariant of every path: its names are a path's. The function does nothing.
+    pub fn keeps_its_form(&self)
+        ensures { IsPath self.now }
+    {
+        let _ = self.names();
+    }
+
     /// Returns the last name, or `None` at the root.
     pub fn name(&self) -> Option<&Name>
         ensures root { IfNone result (self.now ≡ []) }
@@ -98,7 +105,7 @@ impl Path {
     }
 
     /// Returns the path without its last name, or `None` at the root.
-    pub fn parent(&self, _alloc: Global) -> Result<Option<Path>, Memory>
+    pub fn parent(&self) -> Result<Option<Path>, Memory>
         ensures root { IfOk result (λ parent. IfNone parent (self.now ≡ [])) }
         ensures path { IsPath self.now }
         ensures front { IfOk result (λ parent. IfSome parent (IsFrontOf self.now)) }

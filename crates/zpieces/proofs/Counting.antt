@@ -10,7 +10,7 @@ use Rattle.std.proofs.lemmas.Map.Entries.{sum_by-remove_entry, sum_by-set_value,
 use Rattle.std.specs.FinMap.{from_entries}
 use Rattle.zpieces.specs.Streams.{StreamView, held_of}
 use Rattle.zpieces.specs.support.Entries.{IsCounted, size_of, size_of_all}
-use Rattle.zpieces.proofs.Entries.{entries-rising}
+use Rattle.ztree.proofs.Entries.{entries-rising}
 
 -- a wrapped count without some
 less_wrapped : (held all left x : ℕ) → held ≡ all % 2 ^ 64 → left + x ≡ all → x < 2 ^ 64 → (held + (2 ^ 64 - x)) % 2 ^ 64 ≡ left % 2 ^ 64

@@ -1,4 +1,3 @@
 pub mod Changing
 pub mod Counting
-pub mod Entries
 pub mod Samples

@@ -5,7 +5,7 @@ use Rattle.zpieces.specs.declared.phase.Phase.TheVariants.{Speaking}
 use Rattle.zpieces.specs.Streams.{StreamView, changed}
 use Rattle.zpieces.specs.support.Samples.{silent, entries_with, streams}
 use Rattle.zpieces.proofs.Changing.{changed-there, changed-absent, insert-insert}
-use Rattle.zpieces.proofs.Entries.{get-entries}
+use Rattle.ztree.proofs.Entries.{get-entries}
 
 -- the stream of connection 3
 abbrev three : StreamView

@@ -52,4 +52,12 @@ impl ServerId {
     {
         self.number
     }
+
+    /// An invariant of every id: it is 1 to `MAX_SERVERS`. The function does nothing.
+    pub fn keeps_in_range(self)
+        ensures some { 0 < self }
+        ensures few { self ≤ MAX_SERVERS }
+    {
+        let _ = self.number;
+    }
 }

@@ -10,7 +10,7 @@ use crate::keeping::keep;
 use std::alloc::Global;
 use std::snapshot::Snapshot;
 use std::thread::Promise;
-use zcalls::{Call, Create, Data, Expected, Kind, Query, Reply, SetData, Update};
+use zcalls::{Call, Create, Data, Expected, Kind, Lifetime, Query, Reply, SetData, Update};
 use zpath::Path;
 use zprotocol::ServerId;
 use zrun::{Client, Patience};
@@ -109,17 +109,17 @@ fn version_of(client: &mut Client, path: Path) -> Option<u64>
 
 fn create(alloc: Global, path: &Path) -> Option<Call> {
     let path = path.clone().ok()?;
-    let bytes = Data::empty(alloc);
+    let bytes = Data::empty();
     Some(Call::Update(Update::Create(Create {
         path,
-        kind: Kind::Persistent,
+        kind: Kind::named(Lifetime::Persistent),
         bytes,
     })))
 }
 
 fn set(alloc: Global, path: &Path) -> Option<Call> {
     let path = path.clone().ok()?;
-    let bytes = Data::empty(alloc);
+    let bytes = Data::empty();
     Some(Call::Update(Update::SetData(SetData {
         path,
         bytes,

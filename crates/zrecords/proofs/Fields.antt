@@ -29,8 +29,10 @@ use Rattle.ztree.specs.Tree.{Path}
 use Rattle.zcalls.specs.declared.call.Expected.{Expected}
 use Rattle.zcalls.specs.declared.call.Expected.TheVariants.{Any, Exactly}
 use Rattle.zcalls.specs.declared.call.Kind.{Kind}
-use Rattle.zcalls.specs.declared.call.Kind.TheVariants.{Persistent, PersistentSequential, PersistentWithTtl, PersistentSequentialWithTtl, Ephemeral, EphemeralSequential}
-use Rattle.zrecords.specs.Fields.{up_to_from, up_to, ttl, long, content, path_from, path, version_at, version_spelled, version, kind_at, kind_spelled, node_kind}
+use Rattle.zcalls.specs.declared.call.Lifetime.{Lifetime}
+use Rattle.zcalls.specs.declared.call.Lifetime.TheVariants.{Persistent, WithTtl, Ephemeral}
+use Rattle.zcalls.specs.Part.{named, sequential}
+use Rattle.zrecords.specs.Fields.{up_to_from, up_to, ttl, long, content, path_from, path, version_at, version_spelled, version, kind_at, spelled_as, kind_spelled, node_kind}
 use Rattle.zrecords.proofs.Sums.{none_take, one_takes}
 
 -- ---- numbers
@@ -138,21 +140,24 @@ is_version = is_form version (is_by_tag Anything (number w8) version_at version_
 
 kind_again : (k : Kind) (rest : List ℕ) → Anything rest → (kind_spelled k).fits → kind_at (kind_spelled k).tag ((kind_spelled k).text ++ rest) ≡ Ok (k, rest)
 unfolding kind_at
-kind_again Persistent rest any fits = refl
-kind_again PersistentSequential rest any fits = refl
-kind_again (PersistentWithTtl ticks) rest any fits = again_as Anything ttl (λ ticks. PersistentWithTtl ticks) (before Anything ttl is_ttl) ticks rest any fits
-kind_again (PersistentSequentialWithTtl ticks) rest any fits = again_as Anything ttl (λ ticks. PersistentSequentialWithTtl ticks) (before Anything ttl is_ttl) ticks rest any fits
-kind_again (Ephemeral session) rest any fits = again_as Anything long (λ session. Ephemeral session) (before Anything long is_number) session rest any fits
-kind_again (EphemeralSequential session) rest any fits = again_as Anything long (λ session. EphemeralSequential session) (before Anything long is_number) session rest any fits
+kind_again kind rest any = by kind.lifetime kind.is_sequential
+  where
+    by : (l : Lifetime) (b : Bool) → (spelled_as l b).fits → kind_at (spelled_as l b).tag ((spelled_as l b).text ++ rest) ≡ Ok (record { lifetime = l; is_sequential = b }, rest)
+    by Persistent false fits = refl
+    by Persistent true fits = refl
+    by (WithTtl ticks) false fits = again_as Anything ttl (λ ticks. named (WithTtl ticks)) (before Anything ttl is_ttl) ticks rest any fits
+    by (WithTtl ticks) true fits = again_as Anything ttl (λ ticks. sequential (WithTtl ticks)) (before Anything ttl is_ttl) ticks rest any fits
+    by (Ephemeral session) false fits = again_as Anything long (λ session. named (Ephemeral session)) (before Anything long is_number) session rest any fits
+    by (Ephemeral session) true fits = again_as Anything long (λ session. sequential (Ephemeral session)) (before Anything long is_number) session rest any fits
 
 pub is_node_kind : IsForm node_kind
 unfolding node_kind kind_at
 is_node_kind = is_form node_kind (is_by_tag Anything (number w8) kind_at kind_spelled is_u8
-    (one_takes kind_spelled 0 empty (λ _. Persistent) _ is_empty (λ x. refl) (λ x. refl) (λ x fits. fits)
-    (one_takes kind_spelled 1 empty (λ _. PersistentSequential) _ is_empty (λ x. refl) (λ x. refl) (λ x fits. fits)
-    (one_takes kind_spelled 2 ttl (λ ticks. PersistentWithTtl ticks) _ is_ttl (λ x. refl) (λ x. refl) (λ x fits. fits)
-    (one_takes kind_spelled 3 ttl (λ ticks. PersistentSequentialWithTtl ticks) _ is_ttl (λ x. refl) (λ x. refl) (λ x fits. fits)
-    (one_takes kind_spelled 4 long (λ session. Ephemeral session) _ is_number (λ x. refl) (λ x. refl) (λ x fits. fits)
-    (one_takes kind_spelled 5 long (λ session. EphemeralSequential session) _ is_number (λ x. refl) (λ x. refl) (λ x fits. fits)
+    (one_takes kind_spelled 0 empty (λ _. named Persistent) _ is_empty (λ x. refl) (λ x. refl) (λ x fits. fits)
+    (one_takes kind_spelled 1 empty (λ _. sequential Persistent) _ is_empty (λ x. refl) (λ x. refl) (λ x fits. fits)
+    (one_takes kind_spelled 2 ttl (λ ticks. named (WithTtl ticks)) _ is_ttl (λ x. refl) (λ x. refl) (λ x fits. fits)
+    (one_takes kind_spelled 3 ttl (λ ticks. sequential (WithTtl ticks)) _ is_ttl (λ x. refl) (λ x. refl) (λ x fits. fits)
+    (one_takes kind_spelled 4 long (λ session. named (Ephemeral session)) _ is_number (λ x. refl) (λ x. refl) (λ x fits. fits)
+    (one_takes kind_spelled 5 long (λ session. sequential (Ephemeral session)) _ is_number (λ x. refl) (λ x. refl) (λ x fits. fits)
     (none_take kind_spelled)))))))
     kind_again)

@@ -1,6 +1,6 @@
 -- Forms of what calls are made of: paths, data, versions and kinds of nodes. Numbers have the
 -- highest byte first. A tag keeps its meaning in every later version.
-use Rattle.std.specs.Prelude.{ℕ, ◌<◌, ◌≤◌, ◌&&◌, List, Result, Ok, Err, is_some, nat_lt, nat_le, if◌then◌else◌}
+use Rattle.std.specs.Prelude.{ℕ, Bool, true, false, ◌<◌, ◌≤◌, ◌&&◌, List, Result, Ok, Err, is_some, nat_lt, nat_le, if◌then◌else◌}
 use Rattle.std.specs.Int.{Width, w8, w64}
 use Rattle.zforms.specs.declared.fault.Fault.{Fault}
 use Rattle.zforms.specs.declared.fault.Fault.TheVariants.{Invalid}
@@ -15,7 +15,9 @@ use Rattle.ztree.specs.Tree.{Path}
 use Rattle.zcalls.specs.declared.call.Expected.{Expected}
 use Rattle.zcalls.specs.declared.call.Expected.TheVariants.{Any, Exactly}
 use Rattle.zcalls.specs.declared.call.Kind.{Kind}
-use Rattle.zcalls.specs.declared.call.Kind.TheVariants.{Persistent, PersistentSequential, PersistentWithTtl, PersistentSequentialWithTtl, Ephemeral, EphemeralSequential}
+use Rattle.zcalls.specs.declared.call.Lifetime.{Lifetime}
+use Rattle.zcalls.specs.declared.call.Lifetime.TheVariants.{Persistent, WithTtl, Ephemeral}
+use Rattle.zcalls.specs.Part.{named, sequential}
 use Rattle.zrecords.specs.Sums.{at_tag, no_tag}
 
 -- ---- numbers
@@ -67,20 +69,23 @@ version = by_tag (number w8) version_at version_spelled
 -- the kind of a node
 unfoldable pub kind_at : ℕ → List ℕ → Result (Kind × List ℕ) Fault
 kind_at =
-    at_tag 0 (read_as empty (λ _. Persistent))
-    (at_tag 1 (read_as empty (λ _. PersistentSequential))
-    (at_tag 2 (read_as ttl (λ ticks. PersistentWithTtl ticks))
-    (at_tag 3 (read_as ttl (λ ticks. PersistentSequentialWithTtl ticks))
-    (at_tag 4 (read_as long (λ session. Ephemeral session))
-    (at_tag 5 (read_as long (λ session. EphemeralSequential session)) no_tag)))))
+    at_tag 0 (read_as empty (λ _. named Persistent))
+    (at_tag 1 (read_as empty (λ _. sequential Persistent))
+    (at_tag 2 (read_as ttl (λ ticks. named (WithTtl ticks)))
+    (at_tag 3 (read_as ttl (λ ticks. sequential (WithTtl ticks)))
+    (at_tag 4 (read_as long (λ session. named (Ephemeral session)))
+    (at_tag 5 (read_as long (λ session. sequential (Ephemeral session))) no_tag)))))
+
+abbrev pub spelled_as : Lifetime → Bool → Spelled ℕ
+spelled_as Persistent false = behind 0 empty tt
+spelled_as Persistent true = behind 1 empty tt
+spelled_as (WithTtl ticks) false = behind 2 ttl ticks
+spelled_as (WithTtl ticks) true = behind 3 ttl ticks
+spelled_as (Ephemeral session) false = behind 4 long session
+spelled_as (Ephemeral session) true = behind 5 long session
 
 abbrev pub kind_spelled : Kind → Spelled ℕ
-kind_spelled Persistent = behind 0 empty tt
-kind_spelled PersistentSequential = behind 1 empty tt
-kind_spelled (PersistentWithTtl ticks) = behind 2 ttl ticks
-kind_spelled (PersistentSequentialWithTtl ticks) = behind 3 ttl ticks
-kind_spelled (Ephemeral session) = behind 4 long session
-kind_spelled (EphemeralSequential session) = behind 5 long session
+kind_spelled kind = spelled_as kind.lifetime kind.is_sequential
 
 unfoldable pub node_kind : Form Kind
 node_kind = by_tag (number w8) kind_at kind_spelled

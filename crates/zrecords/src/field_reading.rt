@@ -9,7 +9,7 @@ ghost use Rattle.zrecords.specs.Fields.{kind_at, node_kind};
 
 use std::alloc::Global;
 use std::str;
-use zcalls::{Data, Expected, Kind, SessionId, Ttl};
+use zcalls::{Data, Expected, Kind, Lifetime, SessionId, Ttl};
 use zforms::{Fault, ReadError, sized_at, u8_at, u64_at};
 use zpath::{MAX_TEXT_LEN, Path, PathFault};
 use ztree::DataFault;
@@ -114,23 +114,25 @@ fn kind_behind(tag: u8, bytes: &[u8]) -> Result<(Kind, &[u8]), Fault>
     ensures { Reads (λ x. (x.0, x.1.now)) result (kind_at tag bytes.now) }
 {
     match tag {
-        0 => Ok((Kind::Persistent, bytes)),
-        1 => Ok((Kind::PersistentSequential, bytes)),
+        0 => Ok((Kind::named(Lifetime::Persistent), bytes)),
+        1 => Ok((Kind::sequential(Lifetime::Persistent), bytes)),
         2 => match ttl_at(bytes) {
-            Ok((ttl, rest)) => Ok((Kind::PersistentWithTtl(ttl), rest)),
+            Ok((ttl, rest)) => Ok((Kind::named(Lifetime::WithTtl(ttl)), rest)),
             Err(fault) => Err(fault),
         }
         3 => match ttl_at(bytes) {
-            Ok((ttl, rest)) => Ok((Kind::PersistentSequentialWithTtl(ttl), rest)),
+            Ok((ttl, rest)) => Ok((Kind::sequential(Lifetime::WithTtl(ttl)), rest)),
             Err(fault) => Err(fault),
         }
         4 => {
             let (session, rest) = u64_at(bytes)?;
-            Ok((Kind::Ephemeral(SessionId::new(session)), rest))
+            let lifetime = Lifetime::Ephemeral(SessionId::new(session));
+            Ok((Kind::named(lifetime), rest))
         }
         5 => {
             let (session, rest) = u64_at(bytes)?;
-            Ok((Kind::EphemeralSequential(SessionId::new(session)), rest))
+            let lifetime = Lifetime::Ephemeral(SessionId::new(session));
+            Ok((Kind::sequential(lifetime), rest))
         }
         _ => Err(Fault::Invalid),
     }

@@ -5,7 +5,7 @@ ghost use Rattle.zrecords.specs.Fields.{content as content_form, path as path_fo
 ghost use Rattle.zrecords.specs.Fields.{version as version_form, node_kind};
 
 use std::alloc::{AllocError, Global};
-use zcalls::{Data, Expected, Kind};
+use zcalls::{Data, Expected, Kind, Lifetime};
 use zforms::{put_sized, put_u8, put_u64};
 use zpath::Path;
 
@@ -24,8 +24,8 @@ pub fn put_path(alloc: Global, out: &mut Vec<u8>, path: &Path) -> Result<(), All
     ensures text { OnOk result (out.new.items ≡ out.old.items ++ path_form.spell path.now) }
     ensures fits { OnOk result (path_form.Fits path.now) }
 {
-    // A path's text is short, and the clause of `names` says so.
-    let _ = path.names();
+    // So its text is short.
+    path.keeps_its_form();
     let text = path.to_string(alloc)?;
     put_sized(out, text.as_bytes())
 }
@@ -46,28 +46,33 @@ pub(crate) fn put_version(out: &mut Vec<u8>, version: Expected) -> Result<(), Al
 }
 
 /// Writes the kind of a node.
-#[tactic(auto, unfolding(crate::specs::Fields::node_kind, crate::specs::Fields::ttl))]
 pub(crate) fn put_kind(out: &mut Vec<u8>, kind: Kind) -> Result<(), AllocError>
     ensures text { OnOk result (out.new.items ≡ out.old.items ++ node_kind.spell kind) }
     ensures fits { OnOk result (node_kind.Fits kind) }
 {
-    match kind {
-        Kind::Persistent => put_u8(out, 0),
-        Kind::PersistentSequential => put_u8(out, 1),
-        Kind::PersistentWithTtl(ttl) => {
-            put_u8(out, 2)?;
+    put_lifetime(out, kind.lifetime, kind.is_sequential)
+}
+
+// Writes the kind that a lifetime and a flag make.
+#[tactic(auto, unfolding(crate::specs::Fields::node_kind, crate::specs::Fields::ttl))]
+fn put_lifetime(
+    out: &mut Vec<u8>,
+    lifetime: Lifetime,
+    is_sequential: bool,
+) -> Result<(), AllocError>
+    ensures text { OnOk result (out.new.items ≡ out.old.items
+        ++ node_kind.spell (record { lifetime = lifetime; is_sequential = is_sequential })) }
+    ensures fits { OnOk result
+        (node_kind.Fits (record { lifetime = lifetime; is_sequential = is_sequential })) }
+{
+    match lifetime {
+        Lifetime::Persistent => put_u8(out, if is_sequential { 1 } else { 0 }),
+        Lifetime::WithTtl(ttl) => {
+            put_u8(out, if is_sequential { 3 } else { 2 })?;
             put_u64(out, ttl.ticks())
         }
-        Kind::PersistentSequentialWithTtl(ttl) => {
-            put_u8(out, 3)?;
-            put_u64(out, ttl.ticks())
-        }
-        Kind::Ephemeral(session) => {
-            put_u8(out, 4)?;
-            put_u64(out, session.number())
-        }
-        Kind::EphemeralSequential(session) => {
-            put_u8(out, 5)?;
+        Lifetime::Ephemeral(session) => {
+            put_u8(out, if is_sequential { 5 } else { 4 })?;
             put_u64(out, session.number())
         }
     }

@@ -5,7 +5,8 @@ ghost use Rattle.std.specs.Prelude.{◌≡◌};
 use std::alloc::Global;
 use std::test::Fail;
 use zcalls::{
-    Check, Create, Data, Delete, Expected, Kind, Multi, Part, SessionId, SetData, Ttl, Update,
+    Check, Create, Data, Delete, Expected, Kind, Lifetime, Multi, Part, SessionId, SetData, Ttl,
+    Update,
 };
 use zpath::Path;
 use zprotocol::ServerId;
@@ -23,7 +24,7 @@ fn create(alloc: Global, path: &str, kind: Kind, len: usize) -> Option<Create> {
 // A multi of a part of each kind.
 fn multi(alloc: Global) -> Option<Multi> {
     let mut parts = Vec::new(alloc);
-    let made = create(alloc, "/a", Kind::Persistent, 0)?;
+    let made = create(alloc, "/a", Kind::named(Lifetime::Persistent), 0)?;
     parts.push(Part::Create(made)).ok()?;
     let path = Path::parse(alloc, "/a").ok()?;
     let version = Expected::Any;
@@ -32,7 +33,7 @@ fn multi(alloc: Global) -> Option<Multi> {
     let version = Expected::Exactly(0);
     parts.push(Part::Delete(Delete { path, version })).ok()?;
     let path = Path::parse(alloc, "/b").ok()?;
-    let bytes = Data::empty(alloc);
+    let bytes = Data::empty();
     let version = Expected::Exactly(u64::MAX);
     parts
         .push(Part::SetData(SetData {
@@ -49,12 +50,12 @@ fn kinds(alloc: Global, records: &mut Vec<Record>) -> Option<()> {
     let ttl = Ttl::new(1 << 20)?;
     let session = SessionId::new(u64::MAX);
     let kinds = [
-        Kind::Persistent,
-        Kind::PersistentSequential,
-        Kind::PersistentWithTtl(ttl),
-        Kind::PersistentSequentialWithTtl(ttl),
-        Kind::Ephemeral(session),
-        Kind::EphemeralSequential(session),
+        Kind::named(Lifetime::Persistent),
+        Kind::sequential(Lifetime::Persistent),
+        Kind::named(Lifetime::WithTtl(ttl)),
+        Kind::sequential(Lifetime::WithTtl(ttl)),
+        Kind::named(Lifetime::Ephemeral(session)),
+        Kind::sequential(Lifetime::Ephemeral(session)),
     ];
     for kind in kinds {
         let made = create(alloc, "/a", kind, 2)?;
@@ -65,7 +66,7 @@ fn kinds(alloc: Global, records: &mut Vec<Record>) -> Option<()> {
 
 // Records of the other kinds, the greatest data among them.
 fn others(alloc: Global, records: &mut Vec<Record>) -> Option<()> {
-    let largest = create(alloc, "/", Kind::Persistent, 65_536)?;
+    let largest = create(alloc, "/", Kind::named(Lifetime::Persistent), 65_536)?;
     records.push(Record::Update(Update::Create(largest))).ok()?;
     let updates = [
         Update::Multi(multi(alloc)?),

@@ -100,13 +100,13 @@ fn call_all<R: Wait + Clock>(
 // A create of the node.
 fn create(alloc: Global) -> Option<Call> {
     let path = Path::parse(alloc, "/a").ok()?;
-    Some(Call::create(path, Data::empty(alloc)))
+    Some(Call::create(path, Data::empty()))
 }
 
 // A set of the node, to empty data.
 fn set(alloc: Global) -> Option<Call> {
     let path = Path::parse(alloc, "/a").ok()?;
-    Some(Call::set(path, Data::empty(alloc), Expected::Any))
+    Some(Call::set(path, Data::empty(), Expected::Any))
 }
 
 // How long a set takes, which goes through all servers of the chain.

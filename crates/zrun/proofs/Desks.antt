@@ -4,7 +4,7 @@ use Rattle.std.proofs.lemmas.List.{length-map, length-reverse, map-append, nil_f
 use Rattle.zprotocol.specs.declared.limits.TheConstants.{MAX_SERVERS}
 use mathlib.Core.Option.{some-injective, some-ne-none}
 use Rattle.zprotocol.specs.declared.process.Process.TheVariants.{Server, Client}
-use Rattle.ztraces.proofs.Processes.{same_process}
+use Rattle.zworld_model.proofs.Processes.{same_process}
 use Rattle.zprotocol.specs.Places.{process_at}
 use Rattle.zgather.proofs.Elements.{element_right}
 use Rattle.zgather.proofs.Stands.{client_here, server_here}

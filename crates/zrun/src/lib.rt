@@ -39,13 +39,13 @@ pub use ticks::Ticks;
 pub use untraced::Untraced;
 pub use zalloc::Memory;
 pub use zcalls::{
-    Call, Check, ClientId, Create, Data, DataFault, Delete, Expected, Kind, Multi, Part, PartReply,
-    Query, Refusal, Reply, SessionId, SetData, Stat, Ttl, Update,
+    Call, Check, ClientId, Create, Data, DataFault, Delete, Expected, Kind, Lifetime, Multi, Part,
+    PartReply, Query, Refusal, Reply, SessionId, SetData, Stat, Ttl, Update,
 };
 pub use zclient::BeginFault;
 pub use zconsole::ends::{Closed, Console};
 pub use zconsole::outcome::OrderOutcome;
-use zpath::{Path, PathFault};
+pub use zpath::{Path, PathFault};
 pub use zprotocol::{JoinFault, RetireFault, ServerId};
 pub use zthreads::{Gate, Open};
 pub use ztraces::Stamp;

@@ -1,9 +1,7 @@
 //! Each process in its initial state.
 
-ghost use Rattle.std.specs.Prelude.{◌≡◌, ◌<◌, ◌≤◌, None, IfOk};
+ghost use Rattle.std.specs.Prelude.{◌≡◌, ◌<◌, ◌≤◌, IfOk};
 ghost use Rattle.ztree.specs.declared.limits.TheConstants.{MAX_CLIENTS};
-ghost use Rattle.zprotocol.specs.server.Machine.{kept_tree};
-ghost use Rattle.zprotocol.specs.server.View.{opening_server};
 ghost use Rattle.zprotocol.specs.declared.process.Process.TheVariants as process;
 ghost use Rattle.zdesks.specs.Desks.{is_traced_of};
 ghost use Rattle.zthreads.specs.Owned.{master_desk, server_desk};
@@ -80,9 +78,8 @@ impl Opening {
         ensures traced { IfOk result (λ server.
             is_traced_of (server_desk server) ≡ self.now.is_traced) }
     {
-        // This call hands its clause to the prover: the number is one of a chain.
-        let _ = id.number();
-        let server = server_at(alloc, id, self.last)?;
+        id.keeps_in_range();
+        let server = Server::opening(alloc, id, self.last)?;
         let Ends { ins, outs, bells } = ends;
         let desk = Desk::new(
             alloc,
@@ -118,22 +115,4 @@ impl Opening {
         );
         Caller::new(alloc, id, desk, ClientCore::new(alloc, self.last))
     }
-}
-
-// Returns the server of this number, where the chain ends with `last`.
-fn server_at(alloc: Global, id: ServerId, last: ServerId) -> Result<Server, Memory>
-    ensures view { IfOk result (λ server. server.view ≡ opening_server kept_tree last id) }
-    ensures runs { IfOk result (λ server. server.stopped ≡ None) }
-{
-    let (number, end) = (id.number(), last.number());
-    if number > end {
-        return Ok(Server::spare(alloc));
-    }
-    let pred = ServerId::new(number - 1);
-    let succ = if number == end {
-        None
-    } else {
-        ServerId::new(number + 1)
-    };
-    Server::first(alloc, pred, succ)
 }

@@ -3,7 +3,7 @@
 ghost use Rattle.zrun.specs.Clients.{SameClient};
 
 use std::alloc::Global;
-use zcalls::{Call, Create, Data, Expected, Kind, Query, Reply, SetData, Update};
+use zcalls::{Call, Create, Data, Expected, Kind, Lifetime, Query, Reply, SetData, Update};
 use zpath::Path;
 use zrun::{Client, Patience};
 
@@ -17,8 +17,8 @@ const PATIENCE: Patience = Patience {
 pub fn create(alloc: Global, path: &str) -> Option<Call> {
     Some(Call::Update(Update::Create(Create {
         path: Path::parse(alloc, path).ok()?,
-        kind: Kind::Persistent,
-        bytes: Data::empty(alloc),
+        kind: Kind::named(Lifetime::Persistent),
+        bytes: Data::empty(),
     })))
 }
 
@@ -26,7 +26,7 @@ pub fn create(alloc: Global, path: &str) -> Option<Call> {
 pub fn set(alloc: Global, path: &str) -> Option<Call> {
     Some(Call::Update(Update::SetData(SetData {
         path: Path::parse(alloc, path).ok()?,
-        bytes: Data::empty(alloc),
+        bytes: Data::empty(),
         version: Expected::Any,
     })))
 }

@@ -13,7 +13,9 @@ use std::thread::{Parker, Threads};
 use std::time::Duration;
 use zaudit::audit;
 use zliterals::{client, server};
-use zrun::{Call, Client, Clients, Data, Kind, Path, Reply, SessionId, Ticker, Ticks, Unanswered};
+use zrun::{
+    Call, Client, Clients, Data, Kind, Lifetime, Path, Reply, SessionId, Ticker, Ticks, Unanswered,
+};
 
 // Opens a session that lives for two ticks, unless it is renewed.
 fn open(client: &mut Client) -> Option<SessionId>
@@ -34,7 +36,11 @@ fn create_of(client: &mut Client, alloc: Global, session: SessionId) -> Option<b
     ensures { SameClient client.old client.new }
 {
     let path = Path::parse(alloc, "/held").ok()?;
-    let call = Call::create_as(path, Kind::Ephemeral(session), Data::empty(alloc));
+    let call = Call::create_as(
+        path,
+        Kind::named(Lifetime::Ephemeral(session)),
+        Data::empty(),
+    );
     Some(ask(client, call).is_some())
 }
 

@@ -7,7 +7,7 @@
 //! ```text
 //! let mut source = SliceSource::new(b"1 create /a p aGk=\n1 get /a\n", 4096);
 //! let mut sink = WriterSink::new(rt.stdout());
-//! play(rt.alloc(), &mut source, &mut sink, Servers::new(1))?;
+//! play(rt.alloc(), &mut source, &mut sink, ServerId::first())?;
 //! ```
 //!
 //! `answer_line` plays one line on a `World` of the caller's, which `script_world` makes. What a
@@ -21,13 +21,12 @@ mod line;
 mod player;
 mod rows;
 mod script;
-mod servers;
 mod texts;
 
 pub use fault::PlayFault;
 pub use line::{answer_line, answer_line_strictly, script_world};
 pub use script::play;
-pub use servers::Servers;
 pub use zdevices::{
     DeviceFault, ReaderSource, Sink, SliceSource, Source, VecSink, WriterSink, write_all,
 };
+pub use zprotocol::ServerId;

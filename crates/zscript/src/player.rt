@@ -11,12 +11,12 @@ ghost use Rattle.zscript.specs.support.Stops.{StopsInBlock, StopsAtEnd, StopsInL
 use crate::fault::PlayFault;
 use crate::limits::{BLOCK, KEPT};
 use crate::line::{answer_line, script_world};
-use crate::servers::Servers;
 use memchr::memchr;
 use std::alloc::Global;
 use std::marker::Model;
 use zalloc::Memory;
 use zdevices::{Sink, write_all};
+use zprotocol::ServerId;
 use zworld::World;
 
 /// Plays a script, line by line, on a world with every possible client.
@@ -43,13 +43,13 @@ impl Model for Player {
 }
 
 impl Player {
-    /// Returns a player that has read nothing.
-    pub(crate) fn new(alloc: Global, servers: Servers) -> Result<Player, Memory>
-        ensures world { IfOk result (λ player. world_now player ≡ opening_of servers) }
+    /// Returns a player that has read nothing, over a chain up to this server.
+    pub(crate) fn new(alloc: Global, last: ServerId) -> Result<Player, Memory>
+        ensures world { IfOk result (λ player. world_now player ≡ opening_of last) }
         ensures fresh { IfOk result (λ player. IsFresh player) }
     {
         Ok(Player {
-            world: script_world(alloc, servers.last())?,
+            world: script_world(alloc, last)?,
             line: Vec::new(alloc),
             replies: String::new(alloc),
         })

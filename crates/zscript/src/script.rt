@@ -9,12 +9,12 @@ ghost use Rattle.zscript.specs.support.Ends.{PlaysBlocks};
 use crate::fault::PlayFault;
 use crate::limits::BLOCK;
 use crate::player::Player;
-use crate::servers::Servers;
 use std::alloc::Global;
 use zdevices::{Sink, Source};
+use zprotocol::ServerId;
 
 /// Plays a script to the end that its source reports: each line as soon as its LF is read, and at
-/// the end a last line without LF.
+/// the end a last line without LF. The chain begins with the servers up to `last`.
 ///
 /// All replies to the lines that were read are written before more is read. After any fault the
 /// sink has taken a prefix of the answers to the lines that were played. The text is the one under
@@ -23,17 +23,17 @@ pub fn play<S: Source, K: Sink>(
     alloc: Global,
     source: &mut S,
     sink: &mut K,
-    servers: Servers,
+    last: ServerId,
 ) -> Result<(), PlayFault>
-    ensures played { OnOk result (IsPlayed servers
+    ensures played { OnOk result (IsPlayed last
         (source_did S.Source source.old source.new) (sink_did K.Sink sink.old sink.new)) }
-    ensures cut { OnErr result (IsCut servers
+    ensures cut { OnErr result (IsCut last
         (source_did S.Source source.old source.new) (sink_did K.Sink sink.old sink.new)) }
-    ensures fault { IfErr result (IsCutBy servers
+    ensures fault { IfErr result (IsCutBy last
         (source_did S.Source source.old source.new) (sink_did K.Sink sink.old sink.new)) }
 {
     let mut block = vec![in alloc; 0; BLOCK]?;
-    let mut player = Player::new(alloc, servers)?;
+    let mut player = Player::new(alloc, last)?;
     let played = play_blocks(&mut player, source, sink, &mut block);
     drop(player);
     played

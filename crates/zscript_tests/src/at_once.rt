@@ -4,7 +4,7 @@
 ghost use Rattle.std.specs.Prelude.{◌≡◌, IsTrue, [], length};
 
 use std::cell::Cell;
-use zscript::{DeviceFault, Servers, Sink, SliceSource, Source, play};
+use zscript::{DeviceFault, ServerId, Sink, SliceSource, Source, play};
 
 const SCRIPT: &str = "1 ls /\n1 ls /\n1 ls /\n";
 
@@ -84,6 +84,6 @@ fn answers_before_it_reads_more(rt: HostRuntime) {
         is_late: false,
     };
     let mut sink = Counting { taken: &taken };
-    let result = play(rt.alloc(), &mut source, &mut sink, Servers::new(1));
+    let result = play(rt.alloc(), &mut source, &mut sink, ServerId::first());
     assert!(rt; result == Ok(()) && !source.is_late && taken.get() == 3 * ANSWER);
 }

@@ -3,7 +3,8 @@
 //! the program plays.
 
 use crate::playing::{Row, plays_rows};
-use zscript::Servers;
+use zliterals::server;
+use zscript::ServerId;
 
 const OVER_ONE: &[Row] = &[
     // A request is lost, and sent again where the world settles.
@@ -55,15 +56,15 @@ const OVER_THREE: &[Row] = &[
 
 #[test]
 fn plays_over_one_server(rt: HostRuntime) {
-    plays_rows(&rt, rt.alloc(), Servers::new(1), OVER_ONE);
+    plays_rows(&rt, rt.alloc(), ServerId::first(), OVER_ONE);
 }
 
 #[test]
 fn plays_over_two_servers(rt: HostRuntime) {
-    plays_rows(&rt, rt.alloc(), Servers::new(2), OVER_TWO);
+    plays_rows(&rt, rt.alloc(), server(2), OVER_TWO);
 }
 
 #[test]
 fn plays_over_three_servers(rt: HostRuntime) {
-    plays_rows(&rt, rt.alloc(), Servers::new(3), OVER_THREE);
+    plays_rows(&rt, rt.alloc(), server(3), OVER_THREE);
 }

@@ -3,7 +3,7 @@
 use std::alloc::Global;
 use std::process::Abort;
 use zscript::{
-    PlayFault, ReaderSource, Servers, Sink, SliceSource, Source, VecSink, WriterSink, play,
+    PlayFault, ReaderSource, ServerId, Sink, SliceSource, Source, VecSink, WriterSink, play,
     write_all,
 };
 
@@ -22,7 +22,7 @@ fn each_read_fails_in_turn(rt: HostRuntime) {
     for reads in 0..=SESSION.len() {
         let mut source = SliceSource::new(SESSION.as_bytes(), 1).failing_after(reads as u64);
         let mut sink = VecSink::new(rt.alloc(), 65536);
-        let result = play(rt.alloc(), &mut source, &mut sink, Servers::new(1));
+        let result = play(rt.alloc(), &mut source, &mut sink, ServerId::first());
         let is_beginning = ITS_ANSWERS.as_bytes().starts_with(sink.bytes());
         drop(sink);
         assert!(rt; result == Err(PlayFault::Read) && is_beginning, "{reads}");
@@ -35,7 +35,7 @@ fn each_write_fails_in_turn(rt: HostRuntime) {
     for writes in 0..ITS_ANSWERS.len() {
         let mut source = SliceSource::new(SESSION.as_bytes(), 65536);
         let mut sink = VecSink::new(rt.alloc(), 1).failing_after(writes as u64);
-        let result = play(rt.alloc(), &mut source, &mut sink, Servers::new(1));
+        let result = play(rt.alloc(), &mut source, &mut sink, ServerId::first());
         let is_beginning = sink.bytes() == &ITS_ANSWERS.as_bytes()[..writes];
         drop(sink);
         assert!(rt; result == Err(PlayFault::Write) && is_beginning, "{writes}");
@@ -48,7 +48,7 @@ fn a_writer_takes_none(rt: HostRuntime) {
     let mut room: [u8; 0] = [];
     let mut source = SliceSource::new(SESSION.as_bytes(), 65536);
     let mut sink = WriterSink::new(room.as_mut_slice());
-    let result = play(rt.alloc(), &mut source, &mut sink, Servers::new(1));
+    let result = play(rt.alloc(), &mut source, &mut sink, ServerId::first());
     assert!(rt; result == Err(PlayFault::Write));
 }
 
@@ -75,7 +75,7 @@ fn ends_by(
     fault: PlayFault,
     text: &str,
 ) {
-    let result = play(alloc, &mut source, &mut sink, Servers::new(1));
+    let result = play(alloc, &mut source, &mut sink, ServerId::first());
     let is_answer = sink.bytes() == text.as_bytes();
     drop(sink);
     assert!(rt; result == Err(fault) && is_answer);

@@ -4,18 +4,18 @@ ghost use Rattle.std.specs.Prelude.{◌<◌};
 
 use std::alloc::Global;
 use std::process::Abort;
-use zscript::{Servers, SliceSource, VecSink, play};
+use zscript::{ServerId, SliceSource, VecSink, play};
 
 /// Lines, each with its answer.
 pub(crate) type Row = &'static [(&'static str, &'static str)];
 
-/// Plays the lines of each row as a script of its own, over this many servers, in large blocks and
-/// byte by byte.
-pub(crate) fn plays_rows(rt: &impl Abort, alloc: Global, servers: Servers, rows: &[Row]) {
+/// Plays the lines of each row as a script of its own, over the servers up to `last`: in large
+/// blocks, and byte by byte.
+pub(crate) fn plays_rows(rt: &impl Abort, alloc: Global, last: ServerId, rows: &[Row]) {
     for row in rows {
         let (script, text) = joined(rt, alloc, row);
-        plays_over(rt, alloc, servers, &script, &text, 65536);
-        plays_over(rt, alloc, servers, &script, &text, 1);
+        plays_over(rt, alloc, last, &script, &text, 65536);
+        plays_over(rt, alloc, last, &script, &text, 1);
         drop(script);
         drop(text);
     }
@@ -25,15 +25,15 @@ pub(crate) fn plays_rows(rt: &impl Abort, alloc: Global, servers: Servers, rows:
 pub(crate) fn plays(rt: &impl Abort, alloc: Global, script: &str, text: &str, at_most: usize)
     requires { 0 < at_most }
 {
-    plays_over(rt, alloc, Servers::new(1), script, text, at_most);
+    plays_over(rt, alloc, ServerId::first(), script, text, at_most);
 }
 
-// Plays a script over this many servers, by at most `at_most` bytes a read and a write, and asserts
-// that this is its answer.
+// Plays a script over the servers up to `last`, by at most `at_most` bytes a read and a write, and
+// asserts that this is its answer.
 fn plays_over(
     rt: &impl Abort,
     alloc: Global,
-    servers: Servers,
+    last: ServerId,
     script: &str,
     text: &str,
     at_most: usize,
@@ -42,7 +42,7 @@ fn plays_over(
 {
     let mut source = SliceSource::new(script.as_bytes(), at_most);
     let mut sink = VecSink::new(alloc, at_most);
-    let result = play(alloc, &mut source, &mut sink, servers);
+    let result = play(alloc, &mut source, &mut sink, last);
     let is_answer = sink.bytes() == text.as_bytes();
     drop(sink);
     assert!(rt; result == Ok(()) && is_answer, "{script:?}");

@@ -2,7 +2,8 @@
 //! which the program plays.
 
 use crate::playing::{Row, plays_rows};
-use zscript::Servers;
+use zliterals::server;
+use zscript::ServerId;
 
 // No server fails and none joins: the answer of each row is the same over one server and over
 // three.
@@ -126,6 +127,6 @@ const ROWS: &[Row] = &[
 
 #[test]
 fn plays_the_rows(rt: HostRuntime) {
-    plays_rows(&rt, rt.alloc(), Servers::new(1), ROWS);
-    plays_rows(&rt, rt.alloc(), Servers::new(3), ROWS);
+    plays_rows(&rt, rt.alloc(), ServerId::first(), ROWS);
+    plays_rows(&rt, rt.alloc(), server(3), ROWS);
 }

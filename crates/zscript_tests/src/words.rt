@@ -3,7 +3,7 @@
 use std::alloc::Global;
 use std::process::Abort;
 use zcli::WordsFault;
-use zcommand::{Settings, command, settings};
+use zcommand::{command, settings};
 use zscript::{SliceSource, VecSink};
 
 // Words, each with the number of servers that they ask for.
@@ -68,14 +68,9 @@ fn servers_of(rt: &impl Abort, alloc: Global, text: &'static str) -> Result<u8, 
     let read = settings(alloc, &words);
     drop(words);
     match read {
-        Ok(settings) => Ok(count_of(settings)),
+        Ok(last) => Ok(last.number()),
         Err(fault) => Err(fault),
     }
-}
-
-fn count_of(settings: Settings) -> u8 {
-    let Settings::Script(servers) = settings;
-    servers.count()
 }
 
 fn words_of(rt: &impl Abort, alloc: Global, text: &'static str) -> Vec<&'static str> {

@@ -1,10 +1,12 @@
 //! The server.
 
-ghost use Rattle.std.specs.Prelude.{◌≡◌, false, None, Some, Err, IfOk, IfErr, OnErr, OnOk};
+ghost use Rattle.std.specs.Prelude.{◌≡◌, ◌≤◌, ◌+◌, ◌-◌, ◌==◌, false, None, Some, Err};
+ghost use Rattle.std.specs.Prelude.{IfOk, IfErr, OnErr, OnOk, if◌then◌else◌};
+ghost use Rattle.zprotocol.specs.server.Machine.{kept_tree, kept_tree_from};
 ghost use Rattle.zprotocol.specs.server.Table.{is_retirement};
-ghost use Rattle.zprotocol.specs.server.View.{spare};
+ghost use Rattle.zprotocol.specs.server.View.{opening_server, spare};
 ghost use Rattle.zserver.specs.declared.stopped.Stopped.{Stopped};
-ghost use Rattle.zserver.specs.Server.{first_view, first_view_from, running, IsFresh};
+ghost use Rattle.zserver.specs.Server.{first_neighbour, first_view, running, IsFresh};
 ghost use Rattle.zserver.specs.Server.{BecomesAt, PutsAt};
 ghost use Rattle.zserver.specs.Server.{IsHeardOr, MayBeUnheard, IsStoppedAt};
 
@@ -52,18 +54,34 @@ impl Server {
         })
     }
 
-    /// Returns a member of an initial chain that begins with the snapshot's tree, between these
-    /// neighbours. It holds a copy of that tree.
+    /// Returns the server with this id in its initial state, where the chain is the servers up to
+    /// `last`: a member with an empty machine, or a spare one.
+    pub fn opening(alloc: Global, id: ServerId, last: ServerId) -> Result<Server, Memory>
+        ensures { IfOk result (λ server. server ≡ running (opening_server kept_tree last id)) }
+    {
+        if id.number() > last.number() {
+            return Ok(Server::spare(alloc));
+        }
+        let (pred, succ) = neighbours(id, last);
+        Server::first(alloc, pred, succ)
+    }
+
+    /// Returns the server with this id in its initial state, where the chain is the servers up to
+    /// `last` and begins with the snapshot's tree. A member holds a copy of that tree.
     pub fn restored(
         alloc: Global,
         snapshot: &Snapshot,
-        pred: Option<ServerId>,
-        succ: Option<ServerId>,
+        id: ServerId,
+        last: ServerId,
     ) -> Result<Server, Memory>
         requires { IsFresh snapshot.now }
         ensures { IfOk result (λ server. server
-            ≡ running (first_view_from snapshot.now.machine.plain pred succ)) }
+            ≡ running (opening_server (kept_tree_from snapshot.now.machine.plain) last id)) }
     {
+        if id.number() > last.number() {
+            return Ok(Server::spare(alloc));
+        }
+        let (pred, succ) = neighbours(id, last);
         let replica = Replica::restored(alloc, snapshot, pred, succ)?;
         Ok(Server {
             replica: Ok(replica),
@@ -129,4 +147,20 @@ impl Server {
         drop(replace(&mut self.replica, Err(why)));
         why
     }
+}
+
+// Returns the neighbours of a member of the initial chain.
+fn neighbours(id: ServerId, last: ServerId) -> (Option<ServerId>, Option<ServerId>)
+    requires { id ≤ last }
+    ensures pred { first_neighbour result.0 ≡ (if id == 1 then None else Some (id - 1, 0)) }
+    ensures succ { first_neighbour result.1 ≡ (if id == last then None else Some (id + 1, 0)) }
+{
+    let (number, end) = (id.number(), last.number());
+    let pred = ServerId::new(number - 1);
+    let succ = if number == end {
+        None
+    } else {
+        ServerId::new(number + 1)
+    };
+    (pred, succ)
 }

@@ -57,7 +57,7 @@ pub(crate) fn message(rt: &impl Abort, alloc: Global, given: &Given) -> Message<
         Given::Snapshot(_, at) => handed_over(rt, alloc, epoch(rt, *at)),
         Given::Joined(_, at) => Message::Joined(epoch(rt, *at)),
         Given::Submit(n) => Message::Submit(call_number(rt, *n), Update::Tick),
-        Given::Query(n) => { Message::Query(call_number(rt, *n), Query::Exists(Path::root(alloc))) }
+        Given::Query(n) => { Message::Query(call_number(rt, *n), Query::Exists(Path::root())) }
     }
 }
 

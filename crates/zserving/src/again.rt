@@ -7,7 +7,6 @@ ghost use Rattle.zserving.specs.Wishes.{all_again, call_again};
 use crate::numbers::long_of;
 use crate::wish::Wish;
 use crate::wishes::{tells, waits};
-use std::alloc::Global;
 use zalloc::Memory;
 use zcalls::{Call, Query, Refusal, Reply};
 use zevents::EventKind;
@@ -18,7 +17,6 @@ use zwatches::Kind;
 /// Adds the watches that are set again: those of data, those that wait for a node, and those of
 /// children.
 pub(crate) fn add_all_again(
-    alloc: Global,
     set: &SetWatches,
     calls: &[Call],
     replies: &[Reply],
@@ -34,9 +32,9 @@ pub(crate) fn add_all_again(
     let (to_data, replies) = split(replies, data_count);
     let (of_missing, of_children) = split(calls, missing_count);
     let (to_missing, to_children) = split(replies, missing_count);
-    wishes_again(alloc, Kind::Data, seen, of_data, to_data, list)?;
-    wishes_again(alloc, Kind::Missing, seen, of_missing, to_missing, list)?;
-    wishes_again(alloc, Kind::Children, seen, of_children, to_children, list)
+    wishes_again(Kind::Data, seen, of_data, to_data, list)?;
+    wishes_again(Kind::Missing, seen, of_missing, to_missing, list)?;
+    wishes_again(Kind::Children, seen, of_children, to_children, list)
 }
 
 // Returns the first so many, or all, and the others.
@@ -50,7 +48,6 @@ fn split<T>(items: &[T], count: usize) -> (&[T], &[T])
 
 // Adds the watches of one kind, by their calls and the replies to them.
 fn wishes_again(
-    alloc: Global,
     kind: Kind,
     seen: &i64,
     calls: &[Call],
@@ -61,14 +58,13 @@ fn wishes_again(
         ≡ list.old.items ++ table.wishes_again kind seen.now calls.now replies.now) }
 {
     for place in 0..calls.len().min(replies.len()) {
-        add_again(alloc, kind, seen, &calls[place], &replies[place], list)?;
+        add_again(kind, seen, &calls[place], &replies[place], list)?;
     }
     Ok(())
 }
 
 // Adds a watch, by its call and the reply to it.
 fn add_again(
-    alloc: Global,
     kind: Kind,
     seen: &i64,
     call: &Call,
@@ -79,14 +75,13 @@ fn add_again(
         (list.new.items ≡ list.old.items ++ call_again kind seen.now call.now reply.now) }
 {
     match call {
-        Call::Query(Query::Exists(path)) => wish_again(alloc, kind, seen, path, reply, list),
+        Call::Query(Query::Exists(path)) => wish_again(kind, seen, path, reply, list),
         _ => Ok(()),
     }
 }
 
 // Adds a watch of a node, by the node as it is.
 fn wish_again(
-    alloc: Global,
     kind: Kind,
     seen: &i64,
     path: &Path,
@@ -99,21 +94,21 @@ fn wish_again(
     match (kind, reply) {
         (Kind::Data, Reply::Exists(stat)) => {
             if *seen < long_of(stat.mzxid.number()) {
-                tells(alloc, EventKind::NodeDataChanged, path, list)
+                tells(EventKind::NodeDataChanged, path, list)
             } else {
-                waits(alloc, kind, path, list)
+                waits(kind, path, list)
             }
         }
         (Kind::Children, Reply::Exists(stat)) => {
             if *seen < long_of(stat.pzxid.number()) {
-                tells(alloc, EventKind::NodeChildrenChanged, path, list)
+                tells(EventKind::NodeChildrenChanged, path, list)
             } else {
-                waits(alloc, kind, path, list)
+                waits(kind, path, list)
             }
         }
-        (Kind::Missing, Reply::Exists(_)) => tells(alloc, EventKind::NodeCreated, path, list),
-        (Kind::Missing, Reply::Refused(Refusal::NoNode)) => waits(alloc, kind, path, list),
-        (_, Reply::Refused(Refusal::NoNode)) => tells(alloc, EventKind::NodeDeleted, path, list),
+        (Kind::Missing, Reply::Exists(_)) => tells(EventKind::NodeCreated, path, list),
+        (Kind::Missing, Reply::Refused(Refusal::NoNode)) => waits(kind, path, list),
+        (_, Reply::Refused(Refusal::NoNode)) => tells(EventKind::NodeDeleted, path, list),
         _ => Ok(()),
     }
 }

@@ -19,13 +19,13 @@ pub fn looks_at(alloc: Global, places: &[Place]) -> Result<Vec<Call>, Memory>
 {
     let mut calls = Vec::new(alloc);
     for place in places {
-        add_look(alloc, place, &mut calls)?;
+        add_look(place, &mut calls)?;
     }
     Ok(calls)
 }
 
 // Adds the call by which a place is looked at.
-fn add_look(alloc: Global, place: &Place, calls: &mut Vec<Call>) -> Result<(), Memory>
+fn add_look(place: &Place, calls: &mut Vec<Call>) -> Result<(), Memory>
     ensures { OnOk result (calls.new.items ≡ calls.old.items ++ look_at place.now ∷ []) }
 {
     let path = place.path.clone()?;

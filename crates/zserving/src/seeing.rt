@@ -25,50 +25,38 @@ pub(crate) fn seen(
 {
     let mut events = Vec::new(alloc);
     for index in 0..places.len().min(replies.len()) {
-        see(alloc, zxid, &places[index], &replies[index], &mut events)?;
+        see(zxid, &places[index], &replies[index], &mut events)?;
     }
     Ok(events)
 }
 
 // Adds what is seen at a place.
-fn see(
-    alloc: Global,
-    zxid: Zxid,
-    place: &Place,
-    reply: &Reply,
-    events: &mut Vec<Event>,
-) -> Result<(), Memory>
+fn see(zxid: Zxid, place: &Place, reply: &Reply, events: &mut Vec<Event>) -> Result<(), Memory>
     ensures { OnOk result
         (events.new.items ≡ events.old.items ++ seen_at zxid place.now reply.now) }
 {
     match reply {
-        Reply::Refused(Refusal::NoNode) => add(alloc, EventKind::NodeDeleted, &place.path, events),
-        Reply::Exists(stat) => see_node(alloc, zxid, place, stat, events),
+        Reply::Refused(Refusal::NoNode) => add(EventKind::NodeDeleted, &place.path, events),
+        Reply::Exists(stat) => see_node(zxid, place, stat, events),
         _ => Ok(()),
     }
 }
 
 // Adds what is seen of a node that is there.
-fn see_node(
-    alloc: Global,
-    zxid: Zxid,
-    place: &Place,
-    stat: &Stat,
-    events: &mut Vec<Event>,
-) -> Result<(), Memory>
+fn see_node(zxid: Zxid, place: &Place, stat: &Stat, events: &mut Vec<Event>) -> Result<(), Memory>
     ensures { OnOk result (events.new.items
         ≡ events.old.items ++ table.node_seen zxid place.now.kind place.now stat.now) }
 {
     match place.kind {
         Kind::Children if stat.pzxid == zxid => {
-            add(alloc, EventKind::NodeChildrenChanged, &place.path, events)
+            add(EventKind::NodeChildrenChanged, &place.path, events)
         }
         _ => Ok(()),
     }
 }
 
 // Adds an event.
-fn add(alloc: Global, kind: EventKind, path: &Path, events: &mut Vec<Event>) -> Result<(), Memory>
+fn add(kind: EventKind, path: &Path, events: &mut Vec<Event>) -> Result<(), Memory>
     ensures { OnOk result (events.new.items ≡ events.old.items ++ event kind path.now ∷ []) }
 {
     let path = path.clone()?;

@@ -25,13 +25,12 @@ pub(crate) fn wishes(
     ensures { IfOk result (λ list. list.items ≡ table.wishes asked.now calls.now replies.now) }
 {
     let mut list = Vec::new(alloc);
-    add_all(alloc, asked, calls, replies, &mut list)?;
+    add_all(asked, calls, replies, &mut list)?;
     Ok(list)
 }
 
 // Adds the watches that a request asks for.
 fn add_all(
-    alloc: Global,
     asked: &Asked,
     calls: &[Call],
     replies: &[Reply],
@@ -44,15 +43,14 @@ fn add_all(
         Asked::Exists(look)
         | Asked::GetData(look)
         | Asked::GetChildren(look)
-        | Asked::GetChildren2(look) => add_look(alloc, look, calls, replies, list),
-        Asked::SetWatches(set) => add_all_again(alloc, set, calls, replies, list),
+        | Asked::GetChildren2(look) => add_look(look, calls, replies, list),
+        Asked::SetWatches(set) => add_all_again(set, calls, replies, list),
         _ => Ok(()),
     }
 }
 
 // Adds the watch of a request for one node, if it asks for one.
 fn add_look(
-    alloc: Global,
     look: &Look,
     calls: &[Call],
     replies: &[Reply],
@@ -62,19 +60,14 @@ fn add_look(
         (list.new.items ≡ list.old.items ++ table.look_wish look.now calls.now replies.now) }
 {
     if look.watch {
-        add_first(alloc, calls, replies, list)
+        add_first(calls, replies, list)
     } else {
         Ok(())
     }
 }
 
 // Adds the watch of the first call.
-fn add_first(
-    alloc: Global,
-    calls: &[Call],
-    replies: &[Reply],
-    list: &mut Vec<Wish>,
-) -> Result<(), Memory>
+fn add_first(calls: &[Call], replies: &[Reply], list: &mut Vec<Wish>) -> Result<(), Memory>
     ensures { OnOk result
         (list.new.items ≡ list.old.items ++ table.first_wish calls.now replies.now) }
 {
@@ -82,40 +75,30 @@ fn add_first(
         return Ok(());
     };
     match replies {
-        [reply, ..] => add_query(alloc, query, reply, list),
+        [reply, ..] => add_query(query, reply, list),
         [] => Ok(()),
     }
 }
 
 // Adds the watch of a query, by the reply to it.
-fn add_query(
-    alloc: Global,
-    query: &Query,
-    reply: &Reply,
-    list: &mut Vec<Wish>,
-) -> Result<(), Memory>
+fn add_query(query: &Query, reply: &Reply, list: &mut Vec<Wish>) -> Result<(), Memory>
     ensures { OnOk result
         (list.new.items ≡ list.old.items ++ table.query_wish query.now reply.now) }
 {
     match (query, reply) {
         (Query::Exists(path), Reply::Exists(_)) | (Query::GetData(path), Reply::Data(_, _)) => {
-            waits(alloc, Kind::Data, path, list)
+            waits(Kind::Data, path, list)
         }
         (Query::Exists(path), Reply::Refused(Refusal::NoNode)) => {
-            waits(alloc, Kind::Missing, path, list)
+            waits(Kind::Missing, path, list)
         }
-        (Query::GetChildren(path), Reply::Children(_)) => waits(alloc, Kind::Children, path, list),
+        (Query::GetChildren(path), Reply::Children(_)) => waits(Kind::Children, path, list),
         _ => Ok(()),
     }
 }
 
 /// Adds that a watch waits.
-pub(crate) fn waits(
-    alloc: Global,
-    kind: Kind,
-    path: &Path,
-    list: &mut Vec<Wish>,
-) -> Result<(), Memory>
+pub(crate) fn waits(kind: Kind, path: &Path, list: &mut Vec<Wish>) -> Result<(), Memory>
     ensures { OnOk result (list.new.items ≡ list.old.items ++ wish.Waits kind path.now ∷ []) }
 {
     let path = path.clone()?;
@@ -124,12 +107,7 @@ pub(crate) fn waits(
 }
 
 /// Adds that the event of a watch is told.
-pub(crate) fn tells(
-    alloc: Global,
-    kind: EventKind,
-    path: &Path,
-    list: &mut Vec<Wish>,
-) -> Result<(), Memory>
+pub(crate) fn tells(kind: EventKind, path: &Path, list: &mut Vec<Wish>) -> Result<(), Memory>
     ensures { OnOk result
         (list.new.items ≡ list.old.items ++ wish.Tells (event kind path.now) ∷ []) }
 {

@@ -1,6 +1,8 @@
 //! Copying a table's rows under new Ids.
 
-ghost use Rattle.std.specs.Prelude.{◌≡◌, ◌<◌, IfOk};
+ghost use Rattle.std.specs.Prelude.{◌≡◌, ◌<◌, IfOk, length, nat_eq};
+ghost use Rattle.std.specs.List.{IsDistinct};
+ghost use Rattle.std.specs.Map.{keys_of};
 ghost use Rattle.zslots.specs.declared.limits.TheConstants.{GIVEN_BOUND};
 ghost use Rattle.zsessions.specs.support.Rows.{sessions_of};
 
@@ -24,8 +26,7 @@ pub(crate) fn opened_anew(
     ensures given { IfOk result (λ t. t.given < GIVEN_BOUND) }
 {
     let mut copy = Table::new(alloc);
-    // There are far fewer sessions than Ids to give out.
-    let _ = ids.len();
+    keeps_unique(ids);
     for (number, at) in ids {
         let Some(session) = session_of(rows, *at) else {
             continue;
@@ -33,4 +34,13 @@ pub(crate) fn opened_anew(
         copy.open(SessionId::new(*number), session)?;
     }
     Ok(copy)
+}
+
+// An invariant of every map of Ids: no number stands twice in it, and it is far shorter than the Ids
+// to give out. The function does nothing.
+fn keeps_unique(ids: &HashMap<u64, Id>)
+    ensures unique { IsDistinct nat_eq (keys_of ids.now.entries) }
+    ensures few { length ids.now.entries < GIVEN_BOUND }
+{
+    let _ = ids.len();
 }

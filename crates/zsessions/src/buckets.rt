@@ -18,8 +18,8 @@ pub(crate) fn file(rows: &mut Slots<SessionRow>, buckets: &mut [List<0>; BUCKETS
         (filed_items rows.old.items buckets.old due id) }
     ensures buckets { buckets.new ≡ filed_buckets buckets.old due id }
 {
-    // The bucket has fewer rows than the table, so its length can grow.
-    let _ = rows.len();
+    // The bucket has fewer rows than the table, so it can grow.
+    rows.keeps_countable();
     let at = place(due);
     let mut list = buckets[at];
     list.push_front(rows, id);

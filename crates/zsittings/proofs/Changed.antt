@@ -10,7 +10,7 @@ use Rattle.std.specs.FinMap.{get-entries as map-entries, insert, len, len-entrie
 use Rattle.zsittings.specs.declared.sitting.Sitting.{Sitting}
 use Rattle.zsittings.specs.Laws.{EachRests}
 use Rattle.zsittings.specs.Sittings.{all_rested, rested, with_changed}
-use Rattle.zsittings.proofs.Entries.{find-lookup, get-entries, insert-entries, entries-rising}
+use Rattle.ztree.proofs.Entries.{find-lookup, get-entries, insert-entries, entries-rising}
 
 -- a write of a value that the table has at the id
 pub changed-entries : (change : Sitting → Sitting) (es fs : List (ℕ × Sitting)) (k : ℕ) (v : Sitting)

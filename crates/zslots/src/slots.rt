@@ -4,7 +4,7 @@ ghost use Rattle.std.specs.Prelude.{◌≡◌, ◌+◌, ◌<◌, ◌≤◌, Some
 ghost use Rattle.std.specs.Option.{option_copied_mut};
 ghost use Rattle.std.specs.Borrow.{sem};
 ghost use Rattle.std.specs.FinMap as finite;
-ghost use Rattle.zslots.specs.declared.limits.TheConstants.{GIVEN_BOUND};
+ghost use Rattle.zslots.specs.declared.limits.TheConstants.{GIVEN_BOUND, MAX_LENGTH};
 
 use crate::generation::Generation;
 use crate::id::Id;
@@ -72,6 +72,14 @@ impl<T> Slots<T> {
         ensures { result ≡ finite.len self.now.items }
     {
         self.slab.len()
+    }
+
+    /// An invariant of every `Slots`: it has at most `MAX_LENGTH` items. So a list that lacks one of
+    /// them can grow. The function does nothing.
+    pub fn keeps_countable(&self)
+        ensures { finite.len self.now.items ≤ MAX_LENGTH }
+    {
+        let _ = self.len();
     }
 
     /// Reserves room, so that the next `more` inserts don't allocate.

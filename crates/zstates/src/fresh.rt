@@ -1,4 +1,4 @@
-//! A machine with the tree of another, that cached no reply and applied no entry.
+//! A machine with the tree of another one. It has cached no reply, and applied no entry.
 
 ghost use Rattle.std.specs.Prelude.{◌≡◌, [], false, Some, IfOk, OnOk};
 ghost use Rattle.std.specs.FinMap.{entries, get, keys};
@@ -27,7 +27,7 @@ pub(crate) fn fresh(alloc: Global, machine: &Machine) -> Result<Machine, Memory>
     let _ = paths.remove(0);
     let mut restoring = rooted(alloc, machine)?;
     put_sessions(machine, ids, &mut restoring)?;
-    put_nodes(alloc, machine, paths, &mut restoring)?;
+    put_nodes(machine, paths, &mut restoring)?;
     Ok(restoring.finish())
 }
 
@@ -38,10 +38,10 @@ fn rooted(alloc: Global, machine: &Machine) -> Result<Restoring, Memory>
     ensures { IfOk result (λ r. (root : Node) × (get (tree_in machine.now).nodes [] ≡ Some root)
         × (r ≡ rooted_machine root (tree_in machine.now).time (tree_in machine.now).zxid 0)) }
 {
-    let Some(root) = machine.node(&Path::root(alloc)) else {
+    let Some(root) = machine.node(&Path::root()) else {
         unreachable!()
     };
-    let root = root.copied(alloc)?;
+    let root = root.copied()?;
     match Restoring::new(alloc, root, machine.time(), machine.zxid(), 0) {
         Ok(restoring) => Ok(restoring),
         Err(fault) => Err(memory(fault)),
@@ -74,12 +74,7 @@ fn put_sessions(
 }
 
 // Puts the nodes of a machine below the root, one after the other.
-fn put_nodes(
-    alloc: Global,
-    machine: &Machine,
-    paths: Vec<Path>,
-    restoring: &mut Restoring,
-) -> Result<(), Memory>
+fn put_nodes(machine: &Machine, paths: Vec<Path>, restoring: &mut Restoring) -> Result<(), Memory>
     requires whole { machine.now.is_broken ≡ false }
     requires left { NodesAreLeft (tree_in machine.now) restoring.old paths.items }
     ensures { OnOk result (NodesAreLeft (tree_in machine.now) restoring.new []) }
@@ -88,7 +83,7 @@ fn put_nodes(
         let Some(node) = machine.node(&path) else {
             unreachable!()
         };
-        let node = node.copied(alloc)?;
+        let node = node.copied()?;
         if let Err(fault) = restoring.put_node(path, node) {
             return Err(memory(fault));
         }

@@ -6,7 +6,7 @@ ghost use Rattle.zstates.specs.Laws.{PiecesAreAll, PiecesJoin};
 ghost use Rattle.zstates.specs.Laws.{SnapshotsKeepTheirs, TextsGoOn, TextsTellApart};
 ghost use Rattle.zstates.specs.Laws.{TreesAreTheirCalls};
 
-/// Entries are written as records, and come back from them. No records are written so by others,
+/// Entries are written as records, and come back from them. No other entries have the same records,
 /// and no text is that of two lists of entries.
 pub fn entries_come_back()
     ensures entries { EntriesComeBack }

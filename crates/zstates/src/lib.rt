@@ -1,12 +1,13 @@
 //! What a data folder keeps: a tree, and the password of each of its sessions.
 //!
-//! A `State` applies entries: an update, with the password of the session that it opens. As text it
-//! is lines of records: an optional snapshot, and entries behind it. `State::read` reads the state
-//! that a text keeps, and `Shortening` writes a snapshot, piece by piece.
+//! A `State` changes by entries. An entry is an update, with the password of the session that it
+//! opens, if it opens one. A state is kept as text: lines of records, with a snapshot in front or
+//! none, and entries behind it. `State::read` reads the state that a text keeps. `Shortening` writes
+//! a snapshot, piece by piece.
 //!
 //! ```text
 //! let mut state = State::read(alloc, text)?;
-//! let reply = state.apply(update, password)?;
+//! let (reply, update) = state.apply(update, password)?;
 //! let mut shortening = Shortening::new(&state)?;
 //! while let Some(piece) = shortening.next_piece()? { .. }
 //! ```
@@ -22,6 +23,7 @@ mod fault;
 mod fresh;
 pub mod laws;
 mod lines;
+mod measuring;
 mod reading;
 mod rows;
 mod seats;

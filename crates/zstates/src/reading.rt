@@ -28,8 +28,8 @@ impl State {
     }
 }
 
-// Reads the state with which a text begins, and what follows.
-fn begun(alloc: Global, text: &[u8]) -> Result<(State, &[u8]), ReadFault>
+/// Reads the state with which a text begins, and what follows.
+pub(crate) fn begun(alloc: Global, text: &[u8]) -> Result<(State, &[u8]), ReadFault>
     ensures begins { IfOk result (λ x. Begins x.0.state text.now x.1.now) }
     ensures whole { IfOk result (λ x. x.0.is_broken ≡ false) }
     ensures fault { IfErr result (IsReadFault text.now) }
@@ -43,8 +43,8 @@ fn begun(alloc: Global, text: &[u8]) -> Result<(State, &[u8]), ReadFault>
     }
 }
 
-// Applies the entries of a text, one after the other.
-fn apply_all(alloc: Global, state: &mut State, text: &[u8]) -> Result<(), ReadFault>
+/// Applies the entries of a text, one after the other.
+pub(crate) fn apply_all(alloc: Global, state: &mut State, text: &[u8]) -> Result<(), ReadFault>
     requires whole { state.old.is_broken ≡ false }
     ensures applied { OnOk result (AreApplied text.now state.old state.new) }
     ensures fault { IfErr result (IsEntriesFault text.now) }

@@ -12,8 +12,8 @@ use zsittings::{Password, Sittings};
 use ztree::SessionId;
 use ztree::limits::MAX_SESSIONS;
 
-/// Keeps the password of the session that a reply says was opened. Those of sessions that have
-/// ended are forgotten once there are many.
+/// Keeps the password for the session that the reply opened, if it opened one. Once there are many
+/// passwords, those of sessions that have ended are forgotten.
 pub(crate) fn seat(
     machine: &Machine,
     sittings: &mut Sittings,

@@ -52,7 +52,7 @@ impl<'a> Model for Shortening<'a> {
 }
 
 impl<'a> Shortening<'a> {
-    /// Begins with nothing written. Returns `Memory` if the state has run out of memory, too.
+    /// Begins with nothing written. Returns `Memory`, too, if the state ran out of memory before.
     pub fn new(state: &'a State) -> Result<Shortening<'a>, Memory>
         ensures begun { IfOk result (λ s. s
             ≡ record { state = state.now.state; written = 0 }) }
@@ -71,8 +71,9 @@ impl<'a> Shortening<'a> {
         })
     }
 
-    /// Returns the next piece: whole records, and enough of them for 64 KiB while there are. Returns
-    /// `None` once all were handed out. After `Memory` records may be missing: begin anew.
+    /// Returns the next piece. It has whole records: enough of them for 64 KiB, or all that are
+    /// left. Returns `None` once all were handed out. After `Memory` some may be missing: begin
+    /// anew.
     pub fn next_piece(&mut self) -> Result<Option<Vec<u8>>, Memory>
         ensures piece { IfOk result (λ next. IfSome next (λ piece.
             IsPiece self.old self.new piece.items)) }

@@ -67,13 +67,14 @@ impl State {
     }
 
     /// Applies an entry: the update, as one of client 0. The session that it opens has this
-    /// password. Returns the reply to it.
+    /// password. Returns the reply to it, and hands the update back.
     ///
     /// After `Memory` the state returns `Memory` for good.
-    pub fn apply(&mut self, update: Update, password: Password) -> Result<Reply, Memory>
+    pub fn apply(&mut self, update: Update, password: Password) -> Result<(Reply, Update), Memory>
         ensures state { OnOk result (self.new.state
             ≡ after_entry self.old.state (update, password)) }
-        ensures reply { IfOk result (λ reply. reply ≡ reply_to self.old.state (update, password)) }
+        ensures reply { IfOk result (λ did. did.0 ≡ reply_to self.old.state (update, password)) }
+        ensures update { IfOk result (λ did. did.1 ≡ update) }
         ensures sound { OnOk result ((self.old.is_broken ≡ false) × (self.new.is_broken ≡ false)) }
         ensures broken { OnErr result (self.new.is_broken ≡ true) }
         ensures stays { self.old.is_broken ≡ true → IsErr result }
@@ -82,15 +83,15 @@ impl State {
             return Err(Memory);
         }
         self.is_broken = true;
-        let reply = step(self.alloc, &mut self.machine, update)?;
+        let (reply, update) = step(self.alloc, &mut self.machine, update)?;
         seat(&self.machine, &mut self.sittings, &reply, password)?;
         self.is_broken = false;
-        Ok(reply)
+        Ok((reply, update))
     }
 
-    // Returns its machine, if it has memory.
-    pub(crate) fn machine(&self) -> Result<&Machine, Memory>
-        ensures tree { IfOk result (λ m. tree_in m.now ≡ self.now.state.tree) }
+    /// Returns a machine that has its tree; or `Memory`.
+    pub fn machine(&self) -> Result<&Machine, Memory>
+        ensures tree { IfOk result (λ m. m.now.state.service.plain ≡ self.now.state.tree) }
         ensures whole { IfOk result (λ m. m.now.is_broken ≡ false) }
         ensures sound { OnOk result (self.now.is_broken ≡ false) }
     {
@@ -100,8 +101,8 @@ impl State {
         Ok(&self.machine)
     }
 
-    /// An invariant of every state: each session of the tree has its seat, and a
-    /// chain can begin with the tree. The function does nothing.
+    /// Tells a caller's proof what holds of every state: each session of the tree has its seat, and
+    /// a chain can begin with the tree. The function does nothing.
     pub fn keeps_held(&self)
         ensures { IsHeld self.now.state }
     {

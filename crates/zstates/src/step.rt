@@ -13,11 +13,17 @@ use zcalls::{CallNumber, Entry, Reply, Update};
 use zops::{MAX_APPLIED, Machine};
 use ztree::ClientId;
 
-/// Applies an update. A machine that counted as many entries as it can is made anew before that.
-pub(crate) fn step(alloc: Global, machine: &mut Machine, update: Update) -> Result<Reply, Memory>
+/// Applies an update, and hands it back behind the reply. A machine that counted as many entries as
+/// it can is made anew before that.
+pub(crate) fn step(
+    alloc: Global,
+    machine: &mut Machine,
+    update: Update,
+) -> Result<(Reply, Update), Memory>
     requires { IsReady machine.old }
-    ensures ok { IfOk result (λ reply.
-        (tree_in machine.new, reply) ≡ serve (tree_in machine.old) 0 (Called update)) }
+    ensures ok { IfOk result (λ did.
+        (tree_in machine.new, did.0) ≡ serve (tree_in machine.old) 0 (Called update)) }
+    ensures same { IfOk result (λ did. did.1 ≡ update) }
     ensures ready { OnOk result (IsReady machine.new) }
 {
     make_room(alloc, machine)?;
@@ -39,11 +45,12 @@ fn make_room(alloc: Global, machine: &mut Machine) -> Result<(), Memory>
 }
 
 // Applies an update, where the machine can count one more.
-fn enter(machine: &mut Machine, update: Update) -> Result<Reply, Memory>
+fn enter(machine: &mut Machine, update: Update) -> Result<(Reply, Update), Memory>
     requires ready { IsReady machine.old }
     requires room { machine.old.state.applied < MAX_APPLIED }
-    ensures ok { IfOk result (λ reply.
-        (tree_in machine.new, reply) ≡ serve (tree_in machine.old) 0 (Called update)) }
+    ensures ok { IfOk result (λ did.
+        (tree_in machine.new, did.0) ≡ serve (tree_in machine.old) 0 (Called update)) }
+    ensures same { IfOk result (λ did. did.1 ≡ update) }
     ensures ready { OnOk result (IsReady machine.new) }
 {
     let entry = Entry {
@@ -52,7 +59,10 @@ fn enter(machine: &mut Machine, update: Update) -> Result<Reply, Memory>
         update,
     };
     match machine.apply(&entry)? {
-        Some(reply) => Ok(reply),
+        Some(reply) => {
+            let Entry { update, .. } = entry;
+            Ok((reply, update))
+        }
         None => unreachable!(),
     }
 }

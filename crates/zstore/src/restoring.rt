@@ -99,8 +99,7 @@ impl Store {
         ensures unmarked { OnOk result (self.new.marked ≡ None) }
         ensures err { OnErr result (self.new ≡ self.old) }
     {
-        // The names of a `Path` are a valid path: reading them brings that into the proof.
-        let _ = path.names();
+        path.keeps_its_form();
         self.nodes.add(parent, path, node)?;
         self.log.stop(&mut self.nodes);
         Ok(())
@@ -146,7 +145,7 @@ impl Store {
             → IsPersistent (get self.now.tree.nodes (parent_of path.now)) → ⊥)) }
     {
         self.keeps_lawful();
-        let Some(above) = path.parent(self.alloc)? else {
+        let Some(above) = path.parent()? else {
             return Ok(None);
         };
         let found = self.find(&above);

@@ -49,7 +49,7 @@ impl Store {
         ensures unmarked { IfOk result (λ s. s.marked ≡ None) }
     {
         let zxid = Zxid::new(0);
-        let root = Node::new(Data::empty(alloc), 0, 0, zxid, 0);
+        let root = Node::new(Data::empty(), 0, 0, zxid, 0);
         Store::rooted(alloc, root, 0, zxid)
     }
 

@@ -59,8 +59,7 @@ impl Store {
         ensures marked { OnOk result (self.new.marked ≡ mark_left 2 self.old.marked) }
         ensures err { OnErr result (self.new ≡ self.old) }
     {
-        // The names of a `Path` are a valid path: reading them brings that into the proof.
-        let _ = path.names();
+        path.keeps_its_form();
         let node = Node::new(bytes, owner, ttl, self.zxid.next(), self.time);
         let id = self.nodes.add(parent, path, node)?;
         self.log.note(&mut self.nodes, Undo::Added(id));

@@ -26,7 +26,7 @@ pub(crate) fn add(
     ensures low { IsLow store.old.tree → IsLow store.new.tree }
 {
     let path = path(rt, alloc, text);
-    let parent = id_above(rt, alloc, store, &path);
+    let parent = id_above(rt, store, &path);
     may_gain_a_child(rt, store, parent, owner);
     is_free(rt, store, &path);
     let bytes = data(rt, alloc, bytes);
@@ -42,7 +42,7 @@ pub(crate) fn add_timed(rt: &impl Abort, alloc: Global, store: &mut Store, text:
     ensures low { IsLow store.old.tree → IsLow store.new.tree }
 {
     let path = path(rt, alloc, text);
-    let parent = id_above(rt, alloc, store, &path);
+    let parent = id_above(rt, store, &path);
     may_gain_a_child(rt, store, parent, 0);
     is_free(rt, store, &path);
     let bytes = data(rt, alloc, "");
@@ -129,12 +129,12 @@ pub(crate) fn is_small(store: &Store) -> bool
 }
 
 // Returns the parent of a path.
-fn id_above(rt: &impl Abort, alloc: Global, store: &Store, path: &Path) -> Id
+fn id_above(rt: &impl Abort, store: &Store, path: &Path) -> Id
     ensures below_root { path.now ≢ [] }
     ensures above { path_of store.now result ≡ Some (parent_of path.now) }
 {
     let above = path
-        .parent(alloc)
+        .parent()
         .expect(rt, "there is memory")
         .expect(rt, "the path is below the root");
     store.find(&above).expect(rt, "there is a parent")
@@ -149,7 +149,7 @@ fn leaf_at(rt: &impl Abort, alloc: Global, store: &Store, text: &str) -> Id
     ensures counters { AtParentOf store.now result (HasRoomForLosses 1) }
 {
     let path = path(rt, alloc, text);
-    let parent = id_above(rt, alloc, store, &path);
+    let parent = id_above(rt, store, &path);
     has_few_changes(rt, store, parent);
     let id = store.find(&path).expect(rt, "there is a node");
     is_leaf(rt, store, id);

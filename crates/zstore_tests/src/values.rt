@@ -44,5 +44,5 @@ fn is_copied(rt: &impl Abort, alloc: Global, text: &str) -> bool {
 
 #[test]
 fn has_empty_data(rt: HostRuntime) {
-    assert!(rt; Data::empty(rt.alloc()).as_slice().is_empty());
+    assert!(rt; Data::empty().as_slice().is_empty());
 }

@@ -6,7 +6,7 @@ use Rattle.std.specs.List.{list_any}
 use Rattle.std.specs.List.Sorted.{IsStrictlySortedBy}
 use Rattle.std.specs.FinMap.{FinMap, entries, from_entries, find, get, get-from_entries, keys, same_map, nat_cmp-IsAntisymmetric}
 use Rattle.std.specs.FinSet.{FinSet, contains, contains-items, contains-from_list, items}
-use Rattle.zsittings.proofs.Entries.{entries-rising}
+use Rattle.ztree.proofs.Entries.{entries-rising}
 use Rattle.zwatches.specs.Events.{Lists}
 use Rattle.ztables.specs.Telling.{in_order}
 

@@ -7,7 +7,7 @@ use Rattle.std.specs.FinMap.{empty, entries-insert, keys}
 use Rattle.std.specs.FinMap.Entries.{put}
 use Rattle.std.specs.FinSet.{from_list, contains-from_list}
 use Rattle.zsittings.specs.support.Samples.{some_sitting, some_sittings}
-use Rattle.zsittings.proofs.Entries.{no_entries}
+use Rattle.ztree.proofs.Entries.{no_entries}
 use Rattle.ztables.specs.Telling.{in_order}
 use Rattle.ztables.proofs.Rising.{in_order-members}
 

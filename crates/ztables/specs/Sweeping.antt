@@ -5,8 +5,8 @@ use Rattle.std.specs.List.{list_any, filter}
 use Rattle.std.specs.Option.{option_map_or}
 use Rattle.std.specs.FinMap as finite
 use Rattle.ztree.specs.Tree.{Sessions}
-use Rattle.zcalls.specs.declared.call.Kind.{Kind}
-use Rattle.zcalls.specs.declared.call.Kind.TheVariants as kind
+use Rattle.zcalls.specs.declared.call.Lifetime.{Lifetime}
+use Rattle.zcalls.specs.declared.call.Lifetime.TheVariants.{Ephemeral}
 use Rattle.zcalls.specs.declared.call.Part.{Part}
 use Rattle.zcalls.specs.declared.call.Part.TheVariants as part
 use Rattle.zcalls.specs.declared.call.Update.{Update}
@@ -16,25 +16,24 @@ use Rattle.zcalls.specs.declared.reply.Reply.TheVariants as reply
 use Rattle.zsittings.specs.Sittings.{SittingsView, with_changed, with_ephemeral}
 use Rattle.ztables.specs.Tables.{TablesView, moved}
 
--- the session that owns a node of this kind
-abbrev pub owner_in : Kind → Option ℕ
-owner_in (kind.Ephemeral session) = Some session
-owner_in (kind.EphemeralSequential session) = Some session
+-- the session that owns a node of this lifetime
+abbrev pub owner_in : Lifetime → Option ℕ
+owner_in (Ephemeral session) = Some session
 owner_in other = None
 
--- a node of this kind was made
-abbrev pub made_by : Kind → SittingsView → SittingsView
-made_by k sittings = option_map_or (λ session. with_changed with_ephemeral sittings session) (owner_in k) sittings
+-- a node of this lifetime was made
+abbrev pub made_by : Lifetime → SittingsView → SittingsView
+made_by lifetime sittings = option_map_or (λ session. with_changed with_ephemeral sittings session) (owner_in lifetime) sittings
 
 -- the nodes of the parts of a multi were made
 abbrev pub made_by_parts : List Part → SittingsView → SittingsView
 made_by_parts [] sittings = sittings
-made_by_parts (part.Create create ∷ parts) sittings = made_by_parts parts (made_by create.kind sittings)
+made_by_parts (part.Create create ∷ parts) sittings = made_by_parts parts (made_by create.kind.lifetime sittings)
 made_by_parts (other ∷ parts) sittings = made_by_parts parts sittings
 
 -- which sessions made an ephemeral node, after an update and its reply
 abbrev pub noted : Update → Reply → SittingsView → SittingsView
-noted (act.Create create) (reply.Created path) sittings = made_by create.kind sittings
+noted (act.Create create) (reply.Created path) sittings = made_by create.kind.lifetime sittings
 noted (act.Multi parts) (reply.Multi replies) sittings = made_by_parts parts sittings
 noted update told sittings = sittings
 

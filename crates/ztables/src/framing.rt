@@ -41,8 +41,8 @@ fn path_told(alloc: Global, path: &Path) -> Result<Bytes, Memory>
     ensures told { IfOk result (λ told. told ≡ text_of path.now) }
     ensures short { IfOk result (λ told. length told ≤ MAX_TEXT_LEN) }
 {
-    // A path's text is short, and the clause of `names` says so.
-    let _ = path.names();
+    // So its text is short.
+    path.keeps_its_form();
     let text = path.to_string(alloc)?;
     let told = Bytes::copied(alloc, text.as_bytes())?;
     Ok(told)

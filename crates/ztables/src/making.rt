@@ -4,7 +4,7 @@ ghost use Rattle.std.specs.Prelude.{◌≡◌};
 ghost use Rattle.ztables.specs.Sweeping.{made_by, made_by_parts, noted};
 
 use crate::tables::Tables;
-use zcalls::{Kind, Part, Reply, Update};
+use zcalls::{Lifetime, Part, Reply, Update};
 
 impl Tables {
     /// Notes which sessions made an ephemeral node, by an update and its reply.
@@ -13,7 +13,7 @@ impl Tables {
             ≡ record self.old { sittings = noted update.now reply.now self.old.sittings } }
     {
         match (update, reply) {
-            (Update::Create(create), Reply::Created(_)) => self.note_kind(create.kind),
+            (Update::Create(create), Reply::Created(_)) => self.note_lifetime(create.kind.lifetime),
             (Update::Multi(parts), Reply::Multi(_)) => self.note_parts(parts.as_slice()),
             _ => {}
         }
@@ -26,24 +26,19 @@ impl Tables {
     {
         for part in parts {
             if let Part::Create(create) = part {
-                self.note_kind(create.kind);
+                self.note_lifetime(create.kind.lifetime);
             }
         }
     }
 
-    // Notes the owner of a node of this kind that was made.
-    fn note_kind(&mut self, kind: Kind)
+    // Notes the owner of a node of this lifetime that was made.
+    fn note_lifetime(&mut self, lifetime: Lifetime)
         ensures { self.new
-            ≡ record self.old { sittings = made_by kind self.old.sittings } }
+            ≡ record self.old { sittings = made_by lifetime self.old.sittings } }
     {
-        match kind {
-            Kind::Ephemeral(session) | Kind::EphemeralSequential(session) => {
-                self.sittings.note_ephemeral(session);
-            }
-            Kind::Persistent
-            | Kind::PersistentSequential
-            | Kind::PersistentWithTtl(_)
-            | Kind::PersistentSequentialWithTtl(_) => {}
+        match lifetime {
+            Lifetime::Ephemeral(session) => self.sittings.note_ephemeral(session),
+            Lifetime::Persistent | Lifetime::WithTtl(_) => {}
         }
     }
 }

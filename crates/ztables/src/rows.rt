@@ -8,7 +8,7 @@ ghost use Rattle.ztree.specs.Tree.{Path, Sessions};
 ghost use Rattle.ztree.specs.declared.session.Session.{Session};
 ghost use Rattle.zcalls.specs.declared.call.Create.{Create};
 ghost use Rattle.zcalls.specs.declared.call.Delete.{Delete};
-ghost use Rattle.zcalls.specs.declared.call.Kind.TheVariants as kind;
+ghost use Rattle.zcalls.specs.declared.call.Lifetime.TheVariants as lifetime;
 ghost use Rattle.zcalls.specs.declared.call.Part.TheVariants as part;
 ghost use Rattle.zcalls.specs.declared.call.Update.TheVariants as act;
 ghost use Rattle.zcalls.specs.declared.refusal.Refusal.{Refusal};
@@ -67,17 +67,16 @@ pub fn sessions_move()
 /// Which updates note that session 7 made an ephemeral node.
 pub fn ephemerals()
     ensures ephemeral { (m : SittingsView)
-        → made_by (kind.Ephemeral 7) m ≡ with_changed with_ephemeral m 7 }
-    ensures sequential { (m : SittingsView)
-        → made_by (kind.EphemeralSequential 7) m ≡ with_changed with_ephemeral m 7 }
-    ensures persistent { (m : SittingsView) → made_by kind.Persistent m ≡ m }
+        → made_by (lifetime.Ephemeral 7) m ≡ with_changed with_ephemeral m 7 }
+    ensures with_ttl { (m : SittingsView) → made_by (lifetime.WithTtl 7) m ≡ m }
+    ensures persistent { (m : SittingsView) → made_by lifetime.Persistent m ≡ m }
     ensures created { (c : Create) (path : Path) (m : SittingsView)
-        → noted (act.Create c) (reply.Created path) m ≡ made_by c.kind m }
+        → noted (act.Create c) (reply.Created path) m ≡ made_by c.kind.lifetime m }
     ensures refused { (c : Create) (why : Refusal) (m : SittingsView)
         → noted (act.Create c) (reply.Refused why) m ≡ m }
     ensures parts { (c : Create) (d : Delete) (rs : List PartReply) (m : SittingsView)
         → noted (act.Multi (part.Create c ∷ part.Delete d ∷ [])) (reply.Multi rs) m
-        ≡ made_by c.kind m }
+        ≡ made_by c.kind.lifetime m }
     ensures parts_refused { (c : Create) (why : Refusal) (m : SittingsView)
         → noted (act.Multi (part.Create c ∷ [])) (reply.MultiRefused 1 why) m ≡ m }
 {}

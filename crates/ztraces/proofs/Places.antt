@@ -25,7 +25,7 @@ use Rattle.ztraces.specs.declared.trace.Traces.{Traces}
 use Rattle.ztraces.specs.Traces.{trace_of, record_of, event_of, Step, comes_before, at_process, Merges, BeginsMerge, is_step_in_place, step_happens, are_in_place}
 use Rattle.ztraces.specs.Audit.{opening_of}
 use Rattle.ztraces.specs.support.Places.{place_count, process_at, index_of, rest_of, stamp_at_front, head_at, chosen, IsLeast, unread, HasReplayed, IsAllRead, IsReplayFault}
-use Rattle.ztraces.proofs.Processes.{same_process, same_itself}
+use Rattle.zworld_model.proofs.Processes.{same_process, same_itself}
 use Rattle.ztraces.proofs.Merging.{merges_more, replayed_place, replayed_alike}
 
 split_last : (j n : ℕ) → j < n + 1 → (j ≡ n) ⊎ (j < n)

@@ -30,7 +30,7 @@ use Rattle.ztraces.specs.Traces.{event_of, Step, comes_before, at_process, Merge
 use Rattle.ztraces.specs.Lawful.{AccountFor}
 use Rattle.ztraces.proofs.Deeds.{rises, out_ends}
 use Rattle.ztraces.proofs.Flows.{Flows, flows_out, flows_put, flows_take, puts_from_front}
-use Rattle.ztraces.proofs.Processes.{same_process, same_itself}
+use Rattle.zworld_model.proofs.Processes.{same_process, same_itself}
 use Rattle.ztraces.proofs.row_lemmas.Happens.{fronts, Arrives, HappensIn}
 use Rattle.ztraces.proofs.Rows.{row_happens}
 

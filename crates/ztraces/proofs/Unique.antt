@@ -10,7 +10,7 @@ use Rattle.ztraces.specs.declared.trace.Traces.{Traces}
 use Rattle.zprotocol.specs.Places.{place_of}
 use Rattle.ztraces.specs.Traces.{Step, trace_of, at_process, Merges, IsMerge}
 use Rattle.ztraces.specs.support.Places.{place_count, process_at}
-use Rattle.ztraces.proofs.Processes.{same_process}
+use Rattle.zworld_model.proofs.Processes.{same_process}
 use Rattle.ztraces.proofs.Places.{placed, where_at}
 
 first_false : (a b : Bool) → (a || b) ≡ false → a ≡ false

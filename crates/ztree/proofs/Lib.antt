@@ -1,5 +1,6 @@
 pub mod Sorted
 pub mod Maps
+pub mod Entries
 pub mod Among
 pub mod Nodes
 pub mod Children

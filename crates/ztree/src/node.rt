@@ -2,7 +2,6 @@
 
 use crate::node_data::Data;
 use crate::zxid::Zxid;
-use std::alloc::Global;
 use zalloc::Memory;
 
 /// A znode: the fields of the stat structure (ZooKeeper Programmer's Guide, "ZooKeeper Stat
@@ -111,7 +110,7 @@ impl Node {
     }
 
     /// Returns a copy of the node, or `Memory`.
-    pub fn copied(&self, alloc: Global) -> Result<Node, Memory>
+    pub fn copied(&self) -> Result<Node, Memory>
         ensures { IfOk result (λ copy. copy ≡ self.now) }
     {
         Ok(Node {

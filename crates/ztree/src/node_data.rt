@@ -67,7 +67,7 @@ impl Data {
     }
 
     /// Returns empty data. Allocates nothing.
-    pub fn empty(_alloc: Global) -> Data
+    pub fn empty() -> Data
         ensures { result ≡ [] }
     {
         Data { bytes: None }

@@ -34,7 +34,7 @@ fn is_last(places: &[Place], row: &Watch) -> bool
 }
 
 // Adds the place of a row, unless it is there or isn't a node's.
-fn add_place(alloc: Global, places: &mut Vec<Place>, row: &Watch) -> Result<(), Memory>
+fn add_place(places: &mut Vec<Place>, row: &Watch) -> Result<(), Memory>
     ensures { OnOk result (places.new.items ≡ with_row places.old.items row.now) }
 {
     if !is_of_node(row.kind) || is_last(places, row) {
@@ -52,7 +52,7 @@ fn list_places(alloc: Global, rows: &[Watch]) -> Result<Vec<Place>, Memory>
 {
     let mut places = Vec::new(alloc);
     for row in rows {
-        add_place(alloc, &mut places, row)?;
+        add_place(&mut places, row)?;
     }
     Ok(places)
 }

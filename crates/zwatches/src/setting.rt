@@ -10,12 +10,10 @@ use crate::kind::Kind;
 use crate::limits::MAX_WATCHES;
 use crate::search::find;
 use crate::watch::Watch;
-use std::alloc::Global;
 use zpath::Path;
 
 // Sets a watch, unless it is there or the rows are full.
 pub(crate) fn set_in(
-    alloc: Global,
     rows: &mut Vec<Watch>,
     path: &Path,
     kind: Kind,

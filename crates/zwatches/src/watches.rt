@@ -71,7 +71,7 @@ impl Watches {
             (IsSetFault (is_full self.old (watch path.now kind connection))) }
         ensures again { contains self.old (watch path.now kind connection) ≡ true → IsOk result }
     {
-        set_in(self.alloc, &mut self.rows, path, kind, connection)
+        set_in(&mut self.rows, path, kind, connection)
     }
 
     /// Removes the watches that an event at a path fires, and returns the connections to tell: each

@@ -56,27 +56,27 @@ fn message_behind(alloc: Global, tag: u8, bytes: &[u8]) -> Result<(Message<()>, 
         1 => query_call_of(alloc, bytes),
         2 => answer_of(alloc, bytes),
         3 => forwarded_of(alloc, bytes),
-        4 => ack_of(alloc, bytes),
-        5 => snapshot_of(alloc, bytes),
-        _ => order_behind(alloc, tag, bytes),
+        4 => ack_of(bytes),
+        5 => snapshot_of(bytes),
+        _ => order_behind(tag, bytes),
     }
 }
 
 // Reads what stands behind the tag of a message to or from the master.
 #[tactic(auto, unfolding(crate::specs::Messages::order_at))]
-fn order_behind(alloc: Global, tag: u8, bytes: &[u8]) -> Result<(Message<()>, &[u8]), ReadError>
+fn order_behind(tag: u8, bytes: &[u8]) -> Result<(Message<()>, &[u8]), ReadError>
     ensures { Gives (λ x. (x.0, x.1.now)) result (order_at tag bytes.now) }
 {
     match tag {
-        6 => new_pred_of(alloc, bytes),
-        7 => have_of(alloc, bytes),
-        8 => new_succ_of(alloc, bytes),
+        6 => new_pred_of(bytes),
+        7 => have_of(bytes),
+        8 => new_succ_of(bytes),
         9 => a!(Message::BecomeHead, epoch_at(bytes)),
         10 => a!(Message::BecomeTail, epoch_at(bytes)),
         11 => Ok((Message::Retire, bytes)),
         12 => a!(Message::Joined, epoch_at(bytes)),
         13 => Ok((Message::Gone, bytes)),
-        14 => config_of(alloc, bytes),
+        14 => config_of(bytes),
         _ => Err(ReadError::Fault(Fault::Invalid)),
     }
 }
@@ -144,7 +144,7 @@ fn entry_of(alloc: Global, bytes: &[u8]) -> Result<(Entry, &[u8]), ReadError>
 }
 
 // Reads an acknowledgement.
-fn ack_of(_alloc: Global, bytes: &[u8]) -> Result<(Message<()>, &[u8]), ReadError>
+fn ack_of(bytes: &[u8]) -> Result<(Message<()>, &[u8]), ReadError>
     ensures { Gives (λ x. (x.0, x.1.now)) result
         (read_as acknowledged (λ m. message.Ack m.0 m.1) bytes.now) }
 {
@@ -154,7 +154,7 @@ fn ack_of(_alloc: Global, bytes: &[u8]) -> Result<(Message<()>, &[u8]), ReadErro
 }
 
 // Reads a snapshot without its state.
-fn snapshot_of(_alloc: Global, bytes: &[u8]) -> Result<(Message<()>, &[u8]), ReadError>
+fn snapshot_of(bytes: &[u8]) -> Result<(Message<()>, &[u8]), ReadError>
     ensures { Gives (λ x. (x.0, x.1.now)) result
         (read_as epoch (λ n. message.Snapshot n tt) bytes.now) }
 {
@@ -163,7 +163,7 @@ fn snapshot_of(_alloc: Global, bytes: &[u8]) -> Result<(Message<()>, &[u8]), Rea
 }
 
 // Reads a new predecessor.
-fn new_pred_of(_alloc: Global, bytes: &[u8]) -> Result<(Message<()>, &[u8]), ReadError>
+fn new_pred_of(bytes: &[u8]) -> Result<(Message<()>, &[u8]), ReadError>
     ensures { Gives (λ x. (x.0, x.1.now)) result
         (read_as predecessor (λ m. message.NewPred m.0 m.1) bytes.now) }
 {
@@ -173,7 +173,7 @@ fn new_pred_of(_alloc: Global, bytes: &[u8]) -> Result<(Message<()>, &[u8]), Rea
 }
 
 // Reads the last number of a log.
-fn have_of(_alloc: Global, bytes: &[u8]) -> Result<(Message<()>, &[u8]), ReadError>
+fn have_of(bytes: &[u8]) -> Result<(Message<()>, &[u8]), ReadError>
     ensures { Gives (λ x. (x.0, x.1.now)) result
         (read_as held (λ m. message.Have m.0 m.1) bytes.now) }
 {
@@ -183,7 +183,7 @@ fn have_of(_alloc: Global, bytes: &[u8]) -> Result<(Message<()>, &[u8]), ReadErr
 }
 
 // Reads a new successor.
-fn new_succ_of(_alloc: Global, bytes: &[u8]) -> Result<(Message<()>, &[u8]), ReadError>
+fn new_succ_of(bytes: &[u8]) -> Result<(Message<()>, &[u8]), ReadError>
     ensures { Gives (λ x. (x.0, x.1.now)) result
         (read_as successor (λ m. message.NewSucc m.0 m.1.0 m.1.1) bytes.now) }
 {
@@ -194,7 +194,7 @@ fn new_succ_of(_alloc: Global, bytes: &[u8]) -> Result<(Message<()>, &[u8]), Rea
 }
 
 // Reads the ends of the chain.
-fn config_of(_alloc: Global, bytes: &[u8]) -> Result<(Message<()>, &[u8]), ReadError>
+fn config_of(bytes: &[u8]) -> Result<(Message<()>, &[u8]), ReadError>
     ensures { Gives (λ x. (x.0, x.1.now)) result
         (read_as ends (λ m. message.Config m.0 m.1.0 m.1.1) bytes.now) }
 {

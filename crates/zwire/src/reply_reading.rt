@@ -74,10 +74,10 @@ fn reply_behind(alloc: Global, tag: u8, bytes: &[u8]) -> Result<(Reply, &[u8]), 
         1 => Ok((Reply::Deleted, bytes)),
         2 => plain!(Reply::Set, stat_at(bytes)),
         3 => a!(Reply::Multi, replies_of(alloc, bytes)),
-        4 => opened_of(alloc, bytes),
+        4 => opened_of(bytes),
         5 => Ok((Reply::Pinged, bytes)),
         6 => Ok((Reply::Closed, bytes)),
-        7 => ticked_of(alloc, bytes),
+        7 => ticked_of(bytes),
         _ => other_reply_behind(alloc, tag, bytes),
     }
 }
@@ -92,13 +92,13 @@ fn other_reply_behind(alloc: Global, tag: u8, bytes: &[u8]) -> Result<(Reply, &[
         9 => plain!(Reply::Exists, stat_at(bytes)),
         10 => a!(Reply::Children, names_of(alloc, bytes)),
         11 => plain!(Reply::Refused, refusal_in(bytes)),
-        12 => refused_part_of(alloc, bytes),
+        12 => refused_part_of(bytes),
         _ => Err(ReadError::Fault(Fault::Invalid)),
     }
 }
 
 // Reads a session's id and its timeout.
-fn opened_of(_alloc: Global, bytes: &[u8]) -> Result<(Reply, &[u8]), ReadError>
+fn opened_of(bytes: &[u8]) -> Result<(Reply, &[u8]), ReadError>
     ensures { Gives (λ x. (x.0, x.1.now)) result
         (read_as opened (λ o. told.Opened o.0 o.1) bytes.now) }
 {
@@ -108,7 +108,7 @@ fn opened_of(_alloc: Global, bytes: &[u8]) -> Result<(Reply, &[u8]), ReadError>
 }
 
 // Reads a tick, the number of sessions that it ended, and that of the nodes that it removed.
-fn ticked_of(_alloc: Global, bytes: &[u8]) -> Result<(Reply, &[u8]), ReadError>
+fn ticked_of(bytes: &[u8]) -> Result<(Reply, &[u8]), ReadError>
     ensures { Gives (λ x. (x.0, x.1.now)) result
         (read_as ticked (λ t. told.Ticked t.0 t.1.0 t.1.1) bytes.now) }
 {
@@ -131,7 +131,7 @@ fn data_of(alloc: Global, bytes: &[u8]) -> Result<(Reply, &[u8]), ReadError>
 }
 
 // Reads the number of a part, and why it was refused.
-fn refused_part_of(_alloc: Global, bytes: &[u8]) -> Result<(Reply, &[u8]), ReadError>
+fn refused_part_of(bytes: &[u8]) -> Result<(Reply, &[u8]), ReadError>
     ensures { Gives (λ x. (x.0, x.1.now)) result
         (read_as refused_part (λ r. told.MultiRefused r.0 r.1) bytes.now) }
 {

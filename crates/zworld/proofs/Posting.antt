@@ -10,7 +10,7 @@ use Rattle.zprotocol.specs.declared.process.Process.{Process}
 use Rattle.zprotocol.specs.declared.process.Process.TheVariants.{Master, Server, Client}
 use Rattle.zprotocol.specs.server.View.{MessageOf, Post}
 use Rattle.zlinks.specs.Places.{links_of, with_link}
-use Rattle.zlinks.proofs.Places.{same_process}
+use Rattle.zworld_model.proofs.Processes.{same_process}
 use Rattle.zworld_model.specs.Links.{Links, is_same, messages_to, put, without_front}
 use Rattle.zworld_model.specs.Events.{has_failed}
 use Rattle.zworld_model.specs.History.{History}

@@ -1,11 +1,12 @@
 //! One of the servers.
 
 ghost use Rattle.std.specs.Prelude.{◌≡◌, true, false, None, IfOk};
-ghost use Rattle.zworld.specs.Held.{bystander, gone_member, owes, is_gone};
+ghost use Rattle.zprotocol.specs.server.Machine.{kept_tree_from};
+ghost use Rattle.zworld.specs.Held.{gone_member, owes, is_gone};
 ghost use Rattle.zworld.specs.declared.life.Life.TheVariants.{Owing};
 ghost use Rattle.zworld.specs.support.Members.{Takes};
 ghost use Rattle.zserver.specs.Server.{IsFresh};
-ghost use Rattle.zworld.specs.support.Opening.{first_member, first_member_from};
+ghost use Rattle.zworld.specs.support.Opening.{member_with, opening_member};
 
 use crate::life::Life;
 use std::alloc::Global;
@@ -37,44 +38,32 @@ impl Model for Member {
 }
 
 impl Member {
-    /// Returns a member of the initial chain, with these neighbours.
-    pub(crate) fn first(
-        alloc: Global,
-        pred: Option<ServerId>,
-        succ: Option<ServerId>,
-    ) -> Result<Member, Memory>
-        ensures { IfOk result (λ m. m ≡ first_member pred succ) }
+    /// Returns the server with this id in its initial state, where the chain goes up to `last`.
+    pub(crate) fn opening(alloc: Global, id: ServerId, last: ServerId) -> Result<Member, Memory>
+        ensures { IfOk result (λ m. m ≡ opening_member last id) }
     {
-        let server = Server::first(alloc, pred, succ)?;
+        let server = Server::opening(alloc, id, last)?;
         Ok(Member {
             life: Life::Running(server),
         })
     }
 
-    /// Returns a member of an initial chain that begins with the snapshot's tree.
+    /// Returns the server with this id in its initial state, where the chain goes up to `last` and
+    /// begins with the snapshot's tree.
     pub(crate) fn restored(
         alloc: Global,
         snapshot: &Snapshot,
-        pred: Option<ServerId>,
-        succ: Option<ServerId>,
+        id: ServerId,
+        last: ServerId,
     ) -> Result<Member, Memory>
         requires { IsFresh snapshot.now }
         ensures { IfOk result (λ m. m
-            ≡ first_member_from snapshot.now.machine.plain pred succ) }
+            ≡ member_with (kept_tree_from snapshot.now.machine.plain) last id) }
     {
-        let server = Server::restored(alloc, snapshot, pred, succ)?;
+        let server = Server::restored(alloc, snapshot, id, last)?;
         Ok(Member {
             life: Life::Running(server),
         })
-    }
-
-    /// Returns a server outside the chain.
-    pub(crate) fn spare(alloc: Global) -> Member
-        ensures { result ≡ bystander }
-    {
-        Member {
-            life: Life::Running(Server::spare(alloc)),
-        }
     }
 
     /// Returns whether it has failed.

@@ -72,9 +72,7 @@ impl World {
         ensures initial { IfOk result (λ w. w.is_restored ≡ false) }
         ensures sound { IfOk result IsSound }
     {
-        // The invariant asks that the number of a server is one of a chain, and the clause of
-        // `number` says so.
-        let _ = last.number();
+        last.keeps_in_range();
         Ok(World {
             processes: Processes::new(alloc, last, clients)?,
             history: Vec::new(alloc),
@@ -102,8 +100,7 @@ impl World {
         ensures sound { IfOk result IsSound }
     {
         snapshot.keeps_lawful();
-        // As in `new`.
-        let _ = last.number();
+        last.keeps_in_range();
         Ok(World {
             processes: Processes::restored(alloc, last, clients, snapshot)?,
             history: Vec::new(alloc),

@@ -28,20 +28,9 @@ use Rattle.zworld_model.specs.World.{World, at}
 use Rattle.zprotocol.specs.Places.{is_server}
 use Rattle.zworld_model.specs.Events.{is_enabled, process_step, front_step, acts, happens, run, with_answer, server_does, server_stops, client_does}
 use Rattle.zworld_model.specs.support.Within.{is_process, SpeaksWithin, GoesWithin, IsViewWithin, IsClientWithin, AreLinksWithin, IsWithin}
+use Rattle.zworld_model.proofs.Processes.{same_process}
 use Rattle.zworld_model.proofs.Tests.{both}
 use Rattle.zworld_model.proofs.WithinTables.{row_within, outstanding_within, IsMasterWithin, master_within, join_within, retire_within}
-
--- two that are the same
-same_process : (p q : Process) → is_same p q ≡ true → p ≡ q
-same_process Master Master is = refl
-same_process (Server s) (Server t) is = ap Server (eqb-true s t is)
-same_process (Client c) (Client d) is = ap Client (eqb-true c d is)
-same_process Master (Server t) is = absurd (true≢false (sym is))
-same_process Master (Client d) is = absurd (true≢false (sym is))
-same_process (Server s) Master is = absurd (true≢false (sym is))
-same_process (Server s) (Client d) is = absurd (true≢false (sym is))
-same_process (Client c) Master is = absurd (true≢false (sym is))
-same_process (Client c) (Server t) is = absurd (true≢false (sym is))
 
 -- one value of a family is replaced
 each_at : {V : Type 0} (P : ℕ → V → Type 0) (i : ℕ) (v : V) (family : ℕ → V) → P i v → ((m : ℕ) → P m (family m)) → (m : ℕ) → P m (at i v family m)

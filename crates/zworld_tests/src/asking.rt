@@ -15,7 +15,7 @@ const LIMIT: usize = 1000;
 pub fn creates(alloc: Global, path: &str, kind: Kind) -> Result<Event, Trouble> {
     let client = client()?;
     let path = Path::parse(alloc, path)?;
-    let bytes = Data::empty(alloc);
+    let bytes = Data::empty();
     let call = Call::Update(Update::Create(Create { path, kind, bytes }));
     Ok(Event::Begin(client, call))
 }

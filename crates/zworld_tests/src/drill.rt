@@ -4,7 +4,7 @@ use crate::asking::{creates, has_made, has_one_child, is_answered, lists, settle
 use crate::base::{Base, Move, client, process, server};
 use crate::trouble::Trouble;
 use std::alloc::Global;
-use zcalls::Kind;
+use zcalls::{Kind, Lifetime};
 use zworld::World;
 use zworld_model::Event;
 
@@ -84,10 +84,10 @@ fn drill_in(
 // Makes ten nodes beforehand, and the parent.
 fn prepares(alloc: Global, world: &mut World) -> Result<(), Trouble> {
     for _ in 0..10 {
-        world.step(creates(alloc, "/n-", Kind::PersistentSequential)?)?;
+        world.step(creates(alloc, "/n-", Kind::sequential(Lifetime::Persistent))?)?;
         settles(world)?;
     }
-    world.step(creates(alloc, "/q", Kind::Persistent)?)?;
+    world.step(creates(alloc, "/q", Kind::named(Lifetime::Persistent))?)?;
     settles(world)
 }
 
@@ -101,7 +101,7 @@ fn is_well(alloc: Global, world: &mut World) -> Result<(), Trouble> {
     if !has_one_child(world.history()) {
         return Err(Trouble::NotOneChild);
     }
-    world.step(creates(alloc, "/q/n-", Kind::PersistentSequential)?)?;
+    world.step(creates(alloc, "/q/n-", Kind::sequential(Lifetime::Persistent))?)?;
     settles(world)?;
     if has_made(world.history()) {
         Ok(())
@@ -153,7 +153,7 @@ fn lose_at(
 
 fn event(alloc: Global, each: Move) -> Result<Event, Trouble> {
     match each {
-        Move::Begin => creates(alloc, "/q/n-", Kind::PersistentSequential),
+        Move::Begin => creates(alloc, "/q/n-", Kind::sequential(Lifetime::Persistent)),
         Move::Retry => Ok(Event::Retry(client()?)),
         Move::Take(from, to) => Ok(Event::Take(process(from)?, process(to)?)),
         Move::Fail(number) => Ok(Event::Fail(server(number)?)),

@@ -4,7 +4,7 @@ use crate::asking::{creates, is_answered, settles};
 use crate::base::{CLIENT, process, server};
 use crate::trouble::Trouble;
 use std::alloc::Global;
-use zcalls::Kind;
+use zcalls::{Kind, Lifetime};
 use zprotocol::Process;
 use zworld::World;
 use zworld_model::Event;
@@ -23,7 +23,7 @@ pub fn long(alloc: Global) -> Result<usize, Trouble> {
 // The run in this world.
 fn run_in(world: &mut World, alloc: Global) -> Result<usize, Trouble> {
     world.run(events(alloc)?)?;
-    world.step(creates(alloc, "/n-", Kind::PersistentSequential)?)?;
+    world.step(creates(alloc, "/n-", Kind::sequential(Lifetime::Persistent))?)?;
     settles(world)?;
     if is_answered(world.history()) {
         Ok(world.history().len())
@@ -48,7 +48,7 @@ fn add_calls(events: &mut Vec<Event>, alloc: Global) -> Result<(), Trouble> {
     let (one, two) = (process(1)?, process(2)?);
     let caller = process(CLIENT)?;
     for _ in 0..CALLS {
-        events.push(creates(alloc, "/n-", Kind::PersistentSequential)?)?;
+        events.push(creates(alloc, "/n-", Kind::sequential(Lifetime::Persistent))?)?;
         add_takes(
             events,
             &[(caller, one), (one, two), (two, caller), (two, one)],

@@ -2,7 +2,8 @@
 use Rattle.std.specs.Prelude.{List, ℕ, [], ◌∷◌, pos, codes, Some, false}
 use Rattle.ztree.specs.support.Samples.{at_a_b}
 use Rattle.zcalls.specs.declared.call.Create.{Create}
-use Rattle.zcalls.specs.declared.call.Kind.TheVariants.{EphemeralSequential, PersistentWithTtl}
+use Rattle.zcalls.specs.declared.call.Lifetime.TheVariants.{Ephemeral, WithTtl}
+use Rattle.zcalls.specs.Part.{named, sequential}
 use Rattle.zjute.specs.declared.stat.Stat.{Stat as ToldStat}
 use Rattle.zjute.specs.declared.request.Create.{Create as AskedCreate}
 use Rattle.zjute.specs.declared.request.Look.{Look}
@@ -35,10 +36,10 @@ told_stat = record {
 
 -- creates beneath /a: of an ephemeral of session 9, and with a TTL
 abbrev pub create_b : Create
-create_b = record { path = at_a_b; kind = EphemeralSequential 9; bytes = 7 ∷ 8 ∷ 9 ∷ [] }
+create_b = record { path = at_a_b; kind = sequential (Ephemeral 9); bytes = 7 ∷ 8 ∷ 9 ∷ [] }
 
 abbrev pub timed_b : Create
-timed_b = record { path = at_a_b; kind = PersistentWithTtl 5; bytes = [] }
+timed_b = record { path = at_a_b; kind = named (WithTtl 5); bytes = [] }
 
 -- what is told of the nodes that they made
 abbrev pub told_of_b : ToldStat

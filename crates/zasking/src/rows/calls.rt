@@ -2,7 +2,8 @@
 
 ghost use Rattle.std.specs.Prelude.{◌≡◌, [], ◌∷◌, pos, codes, None, Some, Ok, replicate};
 ghost use Rattle.ztree.specs.support.Samples.{at_a};
-ghost use Rattle.zcalls.specs.declared.call.Kind.TheVariants.{Ephemeral, PersistentWithTtl};
+ghost use Rattle.zcalls.specs.Part.{named};
+ghost use Rattle.zcalls.specs.declared.call.Lifetime.TheVariants.{Ephemeral, WithTtl};
 ghost use Rattle.zcalls.specs.declared.call.Expected.TheVariants.{Any, Exactly};
 ghost use Rattle.zcalls.specs.declared.call.Part.TheVariants as part;
 ghost use Rattle.zcalls.specs.declared.call.Update.TheVariants as act;
@@ -20,11 +21,11 @@ ghost use Rattle.zasking.specs.support.Samples.{create_a, timed_a, at_version, s
 #[tactic(auto, unfolding(zpath::specs::Faults::fault_of))]
 pub fn calls_of_creates()
     ensures create { calls_in 2000 9 (asked.Create create_a) ≡ Ok (Update (act.Create
-        (record { path = at_a; kind = Ephemeral 9; bytes = [] })) ∷ []) }
+        (record { path = at_a; kind = named (Ephemeral 9); bytes = [] })) ∷ []) }
     ensures create2 { calls_in 2000 9 (asked.Create2 create_a) ≡ Ok (Update (act.Create
-        (record { path = at_a; kind = Ephemeral 9; bytes = [] })) ∷ []) }
+        (record { path = at_a; kind = named (Ephemeral 9); bytes = [] })) ∷ []) }
     ensures timed { calls_in 2000 9 (asked.CreateTtl timed_a) ≡ Ok (Update (act.Create
-        (record { path = at_a; kind = PersistentWithTtl 2; bytes = [] })) ∷ []) }
+        (record { path = at_a; kind = named (WithTtl 2); bytes = [] })) ∷ []) }
     ensures closed { calls_in 2000 9 (asked.Create (record create_a { acls = [] })) ≡ invalid_acl }
     ensures no_path { calls_in 2000 9 (asked.Create (record create_a { path = None })) ≡ bad }
     ensures container { calls_in 2000 9 (asked.Create (record create_a { flags = pos 4 }))

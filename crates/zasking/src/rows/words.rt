@@ -1,8 +1,8 @@
 //! Paths, data, versions, ACLs, kinds of nodes, and times.
 
 ghost use Rattle.std.specs.Prelude.{◌≡◌, [], ◌∷◌, pos, negsuc, codes, None, Some, Ok, Err, true, false};
-ghost use Rattle.zcalls.specs.declared.call.Kind.TheVariants.{Persistent, PersistentSequential, Ephemeral, EphemeralSequential};
-ghost use Rattle.zcalls.specs.declared.call.Kind.TheVariants.{PersistentWithTtl, PersistentSequentialWithTtl};
+ghost use Rattle.zcalls.specs.Part.{named, sequential};
+ghost use Rattle.zcalls.specs.declared.call.Lifetime.TheVariants.{Persistent, WithTtl, Ephemeral};
 ghost use Rattle.zcalls.specs.declared.call.Expected.TheVariants.{Any, Exactly};
 ghost use Rattle.zasking.specs.declared.limits.TheConstants.{NO_VERSION, ALL_PERMISSIONS, MAX_PATHS};
 ghost use Rattle.zasking.specs.Asking.{path_in, data_in, version_in, has_open_acl, kind_in, ttl_in, timed_kind_in};
@@ -49,15 +49,15 @@ pub fn acls_of_requests()
 
 /// Kinds of nodes that session 9 creates, by their numbers.
 pub fn kinds_of_requests()
-    ensures persistent { kind_in 9 (pos 0) ≡ Ok Persistent }
-    ensures ephemeral { kind_in 9 (pos 1) ≡ Ok (Ephemeral 9) }
-    ensures sequential { kind_in 9 (pos 2) ≡ Ok PersistentSequential }
-    ensures both { kind_in 9 (pos 3) ≡ Ok (EphemeralSequential 9) }
+    ensures persistent { kind_in 9 (pos 0) ≡ Ok (named Persistent) }
+    ensures ephemeral { kind_in 9 (pos 1) ≡ Ok (named (Ephemeral 9)) }
+    ensures sequential { kind_in 9 (pos 2) ≡ Ok (sequential Persistent) }
+    ensures both { kind_in 9 (pos 3) ≡ Ok (sequential (Ephemeral 9)) }
     ensures container { kind_in 9 (pos 4) ≡ unimplemented }
     ensures without_a_ttl { kind_in 9 (pos 5) ≡ bad }
     ensures negative { kind_in 9 (negsuc 0) ≡ bad }
-    ensures timed { timed_kind_in 8 (pos 5) ≡ Ok (PersistentWithTtl 8) }
-    ensures timed_sequential { timed_kind_in 8 (pos 6) ≡ Ok (PersistentSequentialWithTtl 8) }
+    ensures timed { timed_kind_in 8 (pos 5) ≡ Ok (named (WithTtl 8)) }
+    ensures timed_sequential { timed_kind_in 8 (pos 6) ≡ Ok (sequential (WithTtl 8)) }
     ensures timed_ephemeral { timed_kind_in 8 (pos 1) ≡ bad }
 {}
 

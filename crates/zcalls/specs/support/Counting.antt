@@ -3,7 +3,8 @@ use Rattle.std.specs.Prelude.{ℕ, ◌+◌, Option, Some, []}
 use Rattle.std.specs.FinMap.{insert}
 use Rattle.zcalls.specs.declared.call.Entry.{Entry}
 use Rattle.zcalls.specs.declared.call.Expected.TheVariants.{Any}
-use Rattle.zcalls.specs.declared.call.Kind.TheVariants.{PersistentSequential}
+use Rattle.zcalls.specs.declared.call.Lifetime.TheVariants.{Persistent}
+use Rattle.zcalls.specs.Part.{sequential}
 use Rattle.zcalls.specs.declared.call.Update.TheVariants.{Create, Delete}
 use Rattle.zcalls.specs.declared.refusal.Refusal.TheVariants.{NoNode}
 use Rattle.zcalls.specs.declared.reply.Reply.{Reply}
@@ -28,7 +29,7 @@ told_no = Some (reply.Refused NoNode)
 
 -- a client's create of this number
 abbrev pub creates : ℕ → ℕ → Entry
-creates client number = record { client = client; number = number; update = Create (record { path = []; kind = PersistentSequential; bytes = [] }) }
+creates client number = record { client = client; number = number; update = Create (record { path = []; kind = sequential Persistent; bytes = [] }) }
 
 -- a client's delete of this number
 abbrev pub deletes : ℕ → ℕ → Entry

@@ -1,10 +1,9 @@
 -- Worked words.
 use Rattle.std.specs.Prelude.{ℕ, ◌==◌, List, Result}
 use Rattle.std.specs.List.{slice_split}
-use Rattle.zcommand.specs.declared.order.Settings.{Settings}
 use Rattle.zcli.specs.declared.fault.WordsFault.{WordsFault}
 use Rattle.zcommand.specs.Asked.{settings_asked}
 
 -- What a text's words, between spaces, ask for.
-abbrev pub text_asked : List ℕ → Result Settings WordsFault
+abbrev pub text_asked : List ℕ → Result ℕ WordsFault
 text_asked text = settings_asked (slice_split (λ byte. byte == 0x20) text)

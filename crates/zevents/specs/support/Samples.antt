@@ -5,7 +5,8 @@ use Rattle.zcalls.specs.declared.call.Create.{Create}
 use Rattle.zcalls.specs.declared.call.Delete.{Delete}
 use Rattle.zcalls.specs.declared.call.SetData.{SetData}
 use Rattle.zcalls.specs.declared.call.Check.{Check}
-use Rattle.zcalls.specs.declared.call.Kind.TheVariants.{Persistent}
+use Rattle.zcalls.specs.declared.call.Lifetime.TheVariants.{Persistent}
+use Rattle.zcalls.specs.Part.{named}
 use Rattle.zcalls.specs.declared.call.Expected.TheVariants.{Any}
 use Rattle.zjute.specs.declared.event.EventKind.TheVariants.{NodeCreated, NodeDeleted, NodeDataChanged, NodeChildrenChanged}
 use Rattle.zevents.specs.declared.event.Event.{Event}
@@ -13,7 +14,7 @@ use Rattle.zevents.specs.Events.{event}
 
 -- calls of /a/b
 abbrev pub create_a_b : Create
-create_a_b = record { path = at_a_b; kind = Persistent; bytes = [] }
+create_a_b = record { path = at_a_b; kind = named Persistent; bytes = [] }
 
 abbrev pub delete_a_b : Delete
 delete_a_b = record { path = at_a_b; version = Any }

@@ -2,7 +2,8 @@
 use Rattle.std.specs.Prelude.{ℕ, [], ◌∷◌, Result, Ok}
 use Rattle.zcalls.specs.declared.call.Call.{Call}
 use Rattle.zcalls.specs.declared.call.Call.TheVariants.{Update, Query}
-use Rattle.zcalls.specs.declared.call.Kind.TheVariants.{Persistent}
+use Rattle.zcalls.specs.Part.{named}
+use Rattle.zcalls.specs.declared.call.Lifetime.TheVariants.{Persistent}
 use Rattle.zcalls.specs.declared.call.Query.TheVariants.{GetData}
 use Rattle.zcalls.specs.declared.call.Update.TheVariants.{Create}
 use Rattle.zcalls.specs.declared.refusal.Refusal.TheVariants.{NoChildrenForEphemerals}
@@ -27,7 +28,7 @@ abbrev pub get_a : Call
 get_a = Query (GetData ((97 ∷ []) ∷ []))
 
 abbrev pub create_root : Call
-create_root = Update (Create (record { path = []; kind = Persistent; bytes = [] }))
+create_root = Update (Create (record { path = []; kind = named Persistent; bytes = [] }))
 
 -- what is told of a node with two bytes that the first change made
 abbrev pub first_stat : Stat

@@ -1,6 +1,7 @@
 -- The records of the worked examples.
 use Rattle.std.specs.Prelude.{ℕ, List, [], ◌∷◌}
-use Rattle.zcalls.specs.declared.call.Kind.TheVariants.{Persistent, PersistentWithTtl, Ephemeral}
+use Rattle.zcalls.specs.declared.call.Lifetime.TheVariants.{Persistent, WithTtl, Ephemeral}
+use Rattle.zcalls.specs.Part.{named}
 use Rattle.zcalls.specs.declared.call.Expected.TheVariants.{Any, Exactly}
 use Rattle.zcalls.specs.declared.call.Part.TheVariants as part_is
 use Rattle.zcalls.specs.declared.call.Update.TheVariants as act
@@ -19,11 +20,11 @@ password = Password (1 ∷ 2 ∷ 3 ∷ 4 ∷ 5 ∷ 6 ∷ 7 ∷ 8 ∷ 9 ∷ 10 �
 
 -- create /a p aGk=
 abbrev pub create : Record
-create = Update (act.Create (record { path = a; kind = Persistent; bytes = 104 ∷ 105 ∷ [] }))
+create = Update (act.Create (record { path = a; kind = named Persistent; bytes = 104 ∷ 105 ∷ [] }))
 
 -- create /a t:7 -
 abbrev pub create_for_7 : Record
-create_for_7 = Update (act.Create (record { path = a; kind = PersistentWithTtl 7; bytes = [] }))
+create_for_7 = Update (act.Create (record { path = a; kind = named (WithTtl 7); bytes = [] }))
 
 -- delete /a 3
 abbrev pub delete : Record
@@ -38,7 +39,7 @@ abbrev pub multi : Record
 multi =
     Update (act.Multi (
     part_is.Check (record { path = a; version = Any })
-    ∷ part_is.Create (record { path = b; kind = Ephemeral 5; bytes = [] })
+    ∷ part_is.Create (record { path = b; kind = named (Ephemeral 5); bytes = [] })
     ∷ []
     ))
 

@@ -68,7 +68,7 @@ fn checks(rt: &impl Abort, alloc: Global, count: usize) -> Vec<Part> {
     let mut parts = Vec::new(alloc);
     for _ in 0..count {
         let check = Check {
-            path: Path::root(alloc),
+            path: Path::root(),
             version: Expected::Any,
         };
         parts.push(Part::Check(check)).expect(rt, "there is memory");

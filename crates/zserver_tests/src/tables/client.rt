@@ -50,7 +50,7 @@ fn begins_tick(rt: &impl Abort, client: &mut ClientCore, out: &mut Outbox) {
 
 // Invokes a query.
 fn begins_query(rt: &impl Abort, alloc: Global, client: &mut ClientCore, out: &mut Outbox) {
-    let query = Call::Query(Query::Exists(Path::root(alloc)));
+    let query = Call::Query(Query::Exists(Path::root()));
     assert!(rt; client.begin(query, out).is_ok());
 }
 

@@ -3,8 +3,8 @@
 use std::alloc::Global;
 use std::process::Abort;
 use zcalls::{
-    Check, Create, Data, Delete, Entry, Expected, Kind, Multi, Names, Part, PartReply, Query,
-    Replies, Reply, SetData, SharedEntry, Update,
+    Check, Create, Data, Delete, Entry, Expected, Kind, Lifetime, Multi, Names, Part, PartReply,
+    Query, Replies, Reply, SetData, SharedEntry, Update,
 };
 use zliterals::{call_number, client};
 use zpath::{Name, Path};
@@ -32,13 +32,13 @@ fn path(rt: &impl Abort, alloc: Global, text: &str) -> Path {
 fn copies_an_update(rt: &impl Abort, alloc: Global) -> bool {
     let update = Update::Create(Create {
         path: path(rt, alloc, "/a/b"),
-        kind: Kind::PersistentSequential,
-        bytes: Data::empty(alloc),
+        kind: Kind::sequential(Lifetime::Persistent),
+        bytes: Data::empty(),
     });
     let copy = update.copied(alloc).expect(rt, "there is memory");
     drop(update);
     let is_so = matches!(&copy, Update::Create(wanted)
-        if wanted.path.names().len() == 2 && wanted.kind == Kind::PersistentSequential);
+        if wanted.path.names().len() == 2 && wanted.kind == Kind::sequential(Lifetime::Persistent));
     drop(copy);
     is_so
 }
@@ -51,7 +51,7 @@ fn shares_an_entry(rt: &impl Abort, alloc: Global) -> bool {
         update: Update::Open(9),
     };
     let first = SharedEntry::new(alloc, entry).expect(rt, "there is memory");
-    let second = first.copied(alloc).expect(rt, "there is memory");
+    let second = first.clone().expect(rt, "there is memory");
     drop(first);
     let shown = second.entry();
     shown.client == client(3)
@@ -61,7 +61,7 @@ fn shares_an_entry(rt: &impl Abort, alloc: Global) -> bool {
 
 fn copies_a_query(rt: &impl Abort, alloc: Global) -> bool {
     let query = Query::GetChildren(path(rt, alloc, "/a"));
-    let copy = query.copied(alloc).expect(rt, "there is memory");
+    let copy = query.copied().expect(rt, "there is memory");
     drop(query);
     let is_so = matches!(&copy, Query::GetChildren(path) if path.names().len() == 1);
     drop(copy);
@@ -92,7 +92,7 @@ fn checks(rt: &impl Abort, alloc: Global, texts: &[&str]) -> Vec<Part> {
 
 fn copies_a_delete(rt: &impl Abort, alloc: Global) -> bool {
     let delete = Part::Delete(Delete {
-        path: Path::root(alloc),
+        path: Path::root(),
         version: Expected::Exactly(7),
     });
     let copy = delete.copied(alloc).expect(rt, "there is memory");
@@ -104,8 +104,8 @@ fn copies_a_delete(rt: &impl Abort, alloc: Global) -> bool {
 
 fn copies_a_set(rt: &impl Abort, alloc: Global) -> bool {
     let set = Part::SetData(SetData {
-        path: Path::root(alloc),
-        bytes: Data::empty(alloc),
+        path: Path::root(),
+        bytes: Data::empty(),
         version: Expected::Any,
     });
     let copy = set.copied(alloc).expect(rt, "there is memory");

@@ -16,7 +16,7 @@ use ztree::{Data, Node, Zxid};
 pub(crate) fn opened(rt: &impl Abort, alloc: Global) -> Nodes
     ensures { IsSome (get result.owners 7) }
 {
-    let mut nodes = Nodes::new(alloc, node(alloc, 0, 0)).expect(rt, "there is memory");
+    let mut nodes = Nodes::new(alloc, node(0, 0)).expect(rt, "there is memory");
     nodes.open_owner(7).expect(rt, "there is memory");
     nodes
 }
@@ -27,29 +27,29 @@ pub(crate) fn opened_with(rt: &impl Abort, alloc: Global, rows: &[(&str, u64)]) 
 {
     let mut nodes = opened(rt, alloc);
     for (text, owner) in rows {
-        add(rt, alloc, &mut nodes, path(rt, alloc, text), *owner);
+        add(rt, &mut nodes, path(rt, alloc, text), *owner);
     }
     nodes
 }
 
 // Returns a node of an owner, with a time to live or none.
-fn node(alloc: Global, owner: u64, ttl: u64) -> Node
+fn node(owner: u64, ttl: u64) -> Node
     ensures owner { result.owner ≡ owner }
     ensures ttl { result.ttl ≡ ttl }
 {
-    Node::new(Data::empty(alloc), owner, ttl, Zxid::new(0), 0)
+    Node::new(Data::empty(), owner, ttl, Zxid::new(0), 0)
 }
 
 // Adds a node of an owner at a free path.
-fn add(rt: &impl Abort, alloc: Global, nodes: &mut Nodes, path: Path, owner: u64)
+fn add(rt: &impl Abort, nodes: &mut Nodes, path: Path, owner: u64)
     requires { IsSome (get nodes.old.owners 7) }
     ensures { IsSome (get nodes.new.owners 7) }
 {
     assert!(rt; nodes.given() < 9 && (owner == 0 || owner == 7));
-    let parent = parent_of(rt, alloc, nodes, &path);
+    let parent = parent_of(rt, nodes, &path);
     is_free(rt, nodes, &path);
     nodes
-        .add(parent, path, node(alloc, owner, 0))
+        .add(parent, path, node(owner, 0))
         .expect(rt, "there is memory");
 }
 
@@ -68,11 +68,11 @@ pub(crate) fn take(rt: &impl Abort, nodes: &mut Nodes, path: &Path) -> Id
 }
 
 /// Puts back what was removed.
-pub(crate) fn put_back(rt: &impl Abort, alloc: Global, nodes: &mut Nodes, path: &Path, id: Id)
+pub(crate) fn put_back(rt: &impl Abort, nodes: &mut Nodes, path: &Path, id: Id)
     requires { IsTakenFrom nodes.old id path.now }
 {
     is_free(rt, nodes, path);
-    let parent = parent_of(rt, alloc, nodes, path);
+    let parent = parent_of(rt, nodes, path);
     nodes.reserve(1).expect(rt, "there is memory");
     nodes.put_back(id, parent);
 }
@@ -117,13 +117,13 @@ fn names(rt: &impl Abort, alloc: Global, nodes: &Nodes, id: Id) -> String
 }
 
 // Returns the parent of a path.
-fn parent_of(rt: &impl Abort, alloc: Global, nodes: &Nodes, path: &Path) -> Id
+fn parent_of(rt: &impl Abort, nodes: &Nodes, path: &Path) -> Id
     ensures below_root { path.now ≢ [] }
     ensures above { path_of nodes.now result ≡ Some (parent_of path.now) }
     ensures there { has_node nodes.now.nodes (parent_of path.now) ≡ true }
 {
     let above = path
-        .parent(alloc)
+        .parent()
         .expect(rt, "there is memory")
         .expect(rt, "the path is below the root");
     nodes.find(&above).expect(rt, "there is a parent")

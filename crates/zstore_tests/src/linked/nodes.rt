@@ -44,7 +44,7 @@ fn goes_and_comes(rt: &impl Abort, alloc: Global, nodes: &mut Nodes, path: &Path
 {
     let id = take(rt, nodes, path);
     is_away(rt, nodes, path, id);
-    put_back(rt, alloc, nodes, path, id);
+    put_back(rt, nodes, path, id);
     assert!(rt; nodes.find(path) == Some(id) && nodes.first_owned(7) == Some(id));
     assert!(rt; nodes.above(id) == Some(id_at(rt, alloc, nodes, "/a")));
 }

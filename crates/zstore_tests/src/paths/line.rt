@@ -45,7 +45,7 @@ fn copy(alloc: Global, text: &str) -> Result<String, PathFault> {
 }
 
 fn parent(alloc: Global, text: &str) -> Result<String, PathFault> {
-    match Path::parse(alloc, text)?.parent(alloc)? {
+    match Path::parse(alloc, text)?.parent()? {
         Some(parent) => shown(alloc, &parent),
         None => text_of(alloc, "none"),
     }

@@ -18,7 +18,7 @@ use Rattle.ztraces.specs.declared.trace.Act.{Act}
 use Rattle.ztraces.specs.declared.trace.Act.TheVariants.{Took, Left}
 use Rattle.ztraces.specs.Deeds.{Stamped, Standing, Out, standing_in}
 use Rattle.ztraces.specs.Traces.{event_of, at_process, is_in_place, is_step_in_place, step_happens}
-use Rattle.ztraces.proofs.Processes.{same_process}
+use Rattle.zworld_model.proofs.Processes.{same_process}
 
 -- the links after an act took its message, if it took one
 abbrev pub fronts : {M : Type 0} → Links M → Act → Process → Links M

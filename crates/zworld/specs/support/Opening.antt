@@ -1,5 +1,5 @@
 -- The members and the clients of an initial state.
-use Rattle.std.specs.Prelude.{ℕ, Option, List, map}
+use Rattle.std.specs.Prelude.{ℕ, List, map}
 use Rattle.std.specs.List.{range_with_len}
 use Rattle.ztree.specs.Tree.{Tree}
 use Rattle.zcalls.specs.Kept.{KeptState}
@@ -7,21 +7,12 @@ use Rattle.ztree.specs.declared.limits.TheConstants.{MAX_CLIENTS}
 use Rattle.zprotocol.specs.client.View.{ClientView, opening_client}
 use Rattle.zprotocol.specs.declared.limits.TheConstants.{MAX_SERVERS}
 use Rattle.zprotocol.specs.server.Machine.{Does, kept_tree, kept_tree_from}
-use Rattle.zprotocol.specs.server.View.{member, opening_server}
-use Rattle.zserver.specs.Server.{first_neighbour}
+use Rattle.zprotocol.specs.server.View.{opening_server}
 use Rattle.zworld.specs.Held.{MemberView, running}
-
--- a server of the initial chain, with these neighbours
-abbrev pub first_member : Option ℕ → Option ℕ → MemberView
-first_member pred succ = running (member kept_tree (first_neighbour pred) (first_neighbour succ))
 
 -- the server of the second number, where the chain goes up to the first
 abbrev pub opening_member : ℕ → ℕ → MemberView
 opening_member last s = running (opening_server kept_tree last s)
-
--- a member of an initial chain that begins with a tree, with these neighbours
-abbrev pub first_member_from : Tree → Option ℕ → Option ℕ → MemberView
-first_member_from t pred succ = running (member (kept_tree_from t) (first_neighbour pred) (first_neighbour succ))
 
 -- the server of the second number, where the chain goes up to the first and these are its machines
 abbrev pub member_with : Does (KeptState Tree) → ℕ → ℕ → MemberView

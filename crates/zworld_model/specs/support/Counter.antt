@@ -2,7 +2,8 @@
 -- the plain tree and its machine, and compute. An update is answered with the name that it made,
 -- which is the number of updates before it. A query is answered with the number of updates so far.
 use Rattle.std.specs.Prelude.{ℕ, ◌+◌, ◌==◌, nat_lt, if◌then◌else◌, List, [], ◌∷◌, Option, None, Some}
-use Rattle.zcalls.specs.declared.call.Kind.TheVariants.{PersistentSequential}
+use Rattle.zcalls.specs.declared.call.Lifetime.TheVariants.{Persistent}
+use Rattle.zcalls.specs.Part.{sequential}
 use Rattle.zcalls.specs.declared.call.Entry.{Entry}
 use Rattle.zcalls.specs.declared.call.Update as update
 use Rattle.zcalls.specs.declared.call.Query.TheVariants as query
@@ -33,7 +34,7 @@ counter = record { opening = 0; step = count_step }
 
 -- an update and a query for the rows
 abbrev pub create_update : update.Update
-create_update = update.TheVariants.Create (record { path = (110 ∷ []) ∷ []; kind = PersistentSequential; bytes = [] })
+create_update = update.TheVariants.Create (record { path = (110 ∷ []) ∷ []; kind = sequential Persistent; bytes = [] })
 
 abbrev pub create : Call
 create = Update create_update

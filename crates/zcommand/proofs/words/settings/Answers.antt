@@ -1,7 +1,6 @@
 use Rattle.std.proofs.Common.{rules, ◌≡◌, ◌∙◌, ℕ, List, [], ◌∷◌, Option, Some, Result, Vec, Global, codes, inr, map, option_map, sym, ap}
 use Rattle.zcli.specs.Asked.{asked_of, spelling_of, texts_of}
 use Rattle.zcommand.specs.Asked.{settings_asked, settings_of}
-use Rattle.zcommand.specs.declared.order.Settings.{Settings}
 use Rattle.zcli.specs.declared.fault.WordsFault.{WordsFault}
 use Rattle.zcommand.proofs.Asked.{asked-err, asked-ok}
 use Rattle.zcommand.proofs.words.settings.Goals as goal
@@ -11,7 +10,7 @@ abbrev script_options : List (List ℕ × List ℕ)
 script_options = (codes "servers", codes "1") ∷ []
 
 -- what a vector of numbers asks for
-abbrev given : Option (Vec ℕ Global) → Result Settings WordsFault
+abbrev given : Option (Vec ℕ Global) → Result ℕ WordsFault
 given numbers = settings_of (option_map (λ v. v.items) numbers)
 
 -- what was asked for is answered

@@ -1,31 +1,13 @@
 -- What is under way after messages are put or a front is taken, and a family after one value is replaced.
 use Rattle.std.specs.Prelude.{◌&&◌}
-use Rattle.std.proofs.Common.{◌≡◌, ◌⊎◌, ℕ, true, false, cond, ◌==◌, List, [], ◌∷◌, ◌++◌, drop, map, refl, sym, ap, subst, inl, inr, eqb-true, eq-eqb}
+use Rattle.std.proofs.Common.{◌≡◌, ◌⊎◌, ℕ, false, cond, ◌==◌, List, [], ◌∷◌, ◌++◌, drop, map, refl, sym, ap, subst, inl, inr, eqb-true, eq-eqb}
 use Rattle.zcalls.specs.Lists.{Among}
 use Rattle.zcalls.proofs.Among.{test, among_cases}
 use Rattle.zprotocol.specs.declared.process.Process.{Process}
-use Rattle.zprotocol.specs.declared.process.Process.TheVariants.{Master, Server, Client}
 use Rattle.zprotocol.specs.server.View.{MessageOf, Post}
 use Rattle.zworld_model.specs.Links.{Links, is_same, messages_to, put, without_front}
 use Rattle.zworld_model.specs.World.{at}
-
--- one process
-pub same_process : (p q : Process) → is_same p q ≡ true → p ≡ q
-same_process Master Master h = refl
-same_process Master (Server t) h = cc
-same_process Master (Client d) h = cc
-same_process (Server s) Master h = cc
-same_process (Server s) (Server t) h = ap Server (eqb-true s t h)
-same_process (Server s) (Client d) h = cc
-same_process (Client c) Master h = cc
-same_process (Client c) (Server t) h = cc
-same_process (Client c) (Client d) h = ap Client (eqb-true c d h)
-
--- each process is itself
-pub same_itself : (p : Process) → is_same p p ≡ true
-same_itself Master = refl
-same_itself (Server s) = eq-eqb s s refl
-same_itself (Client c) = eq-eqb c c refl
+use Rattle.zworld_model.proofs.Processes.{same_process}
 
 -- one value of a family
 pub at_cases : {V : Type 0} (P : V → Type 0) (n : ℕ) (v : V) (f : ℕ → V) (m : ℕ) → (m ≡ n → P v) → ((m == n) ≡ false → P (f m)) → P (at n v f m)

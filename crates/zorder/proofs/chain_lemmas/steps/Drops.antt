@@ -17,7 +17,8 @@ use Rattle.zorder.specs.chain.Chain.{IsAhead, IsOpened, Place, IsPast, LeadsTo, 
 use Rattle.zorder.specs.chain.Account.{Account}
 use Rattle.zorder.specs.chain.Sound.{IsSound}
 use Rattle.zorder.specs.chain.Events.{KeepsSoundOver}
-use Rattle.zorder.proofs.chain_lemmas.links.Links.{front_among, same_process}
+use Rattle.zworld_model.proofs.Processes.{same_process}
+use Rattle.zorder.proofs.chain_lemmas.links.Links.{front_among}
 use Rattle.zorder.proofs.chain_lemmas.links.LaterWorlds.{justified_later}
 use Rattle.zorder.proofs.chain_lemmas.steps.Takes.{front_not_to}
 use Rattle.zorder.proofs.chain_lemmas.Events.{where_enabled, quiet_event}

@@ -15,7 +15,8 @@ use Rattle.zorder.specs.chain.Messages.{IsJustified}
 use Rattle.zorder.specs.chain.Account.{Account}
 use Rattle.zorder.specs.chain.Sound.{IsSound, ChainIsOrdered, AllAreJustified}
 use Rattle.zorder.proofs.chain_lemmas.flow.Flow.{flow_more, first_more, IsForeign}
-use Rattle.zorder.proofs.chain_lemmas.links.Links.{same_process, put_among}
+use Rattle.zworld_model.proofs.Processes.{same_process}
+use Rattle.zorder.proofs.chain_lemmas.links.Links.{put_among}
 
 -- a link after one message is put: as it was, or with that message at its end
 pub put_one : {M : Type 0} (links : Links M) (sender receiver : Process) (m : MessageOf M) (from to : Process)

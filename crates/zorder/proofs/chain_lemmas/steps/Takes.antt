@@ -24,7 +24,8 @@ use Rattle.zorder.specs.chain.Flow.{log_machine, LogWorld, LogMessage, Log, log_
 use Rattle.zorder.specs.chain.Last.{HasExactLast}
 use Rattle.zorder.specs.chain.Chain.{queue, IsAhead, IsMember, HasNoTailOrder}
 use Rattle.zorder.specs.chain.Sound.{ChainIsOrdered, AllShowCommitted}
-use Rattle.zorder.proofs.chain_lemmas.links.Links.{same_itself, at_same, at_other}
+use Rattle.zworld_model.proofs.Processes.{same_itself}
+use Rattle.zorder.proofs.chain_lemmas.links.Links.{at_same, at_other}
 
 module _ {P : Type 0} (plain : Plain P) where
   -- an entry is accepted

@@ -5,7 +5,7 @@ use Rattle.zpieces.specs.declared.phase.Phase.TheVariants.{Speaking}
 use Rattle.zpieces.specs.Streams.{StreamView}
 use Rattle.zpieces.specs.support.Samples.{entries_with}
 use Rattle.zpieces.proofs.Counting.{held-rising}
-use Rattle.zpieces.proofs.Entries.{get-entries}
+use Rattle.ztree.proofs.Entries.{get-entries}
 use Rattle.zpieces.proofs.rows.streams_are_read.Goals as goal
 
 pub returns : goal.returns

@@ -14,7 +14,7 @@ loop-number-init c =
     let longer = ap (λ (es : IdEntries). length es) all in
     let given = c.new-copy.ensures.given in
     record {
-      left = subst (Left ids c.args.rows.now.items c.new-copy.result.sessions) (sym all) (left-all ids c.args.rows.now.items c.len.ensures.unique c.new-copy.result.sessions c.new-copy.ensures.sessions);
+      left = subst (Left ids c.args.rows.now.items c.new-copy.result.sessions) (sym all) (left-all ids c.args.rows.now.items c.keeps_unique.ensures.unique c.new-copy.result.sessions c.new-copy.ensures.sessions);
       few = omega (arith, longer, given);
     }
 
@@ -28,11 +28,10 @@ open-requires c =
     let is = rest_more deref_pair c.loop-number.number-iterator rest c.next.result (c.in-Some.number, c.in-Some.at) c.in-Some.is c.next.ensures.steps in
     let before = subst (Left ids rows c.loop-number.copy.sessions) is c.loop-number.invariant.left in
     let few = c.loop-number.invariant.few in
-    let small = c.len.ensures.small in
-    let all = c.len.ensures.len in
+    let fewer = c.keeps_unique.ensures.few in
     record {
       free = ap (get c.loop-number.copy.sessions) c.new.ensures ∙ not_open ids rows c.loop-number.copy.sessions n id rest before;
-      given = omega (arith, few, small, all);
+      given = omega (arith, few, fewer);
     }
 
 pub loop-number-preserved : goal.loop-number-preserved

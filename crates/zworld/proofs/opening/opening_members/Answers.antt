@@ -12,7 +12,7 @@ pub loop-number-preserved : goal.loop-number-preserved
 loop-number-preserved c =
     let n = c.loop-number.number in
     let same : (n + 1) - 1 ≡ (n - 1) + 1 = omega arith in
-    rw (c.in_ok-push.ensures.items, c.in_ok-opening_server.ensures, c.loop-number.invariant, same)
+    rw (c.in_ok-push.ensures.items, c.in_ok-opening.ensures, c.in-Some.ensures.server.0, c.loop-number.invariant, same)
     (sym (map-range_with_len_more (opening_member c.args.last) 1 (n - 1) n (omega arith)))
 
 pub returns : goal.returns

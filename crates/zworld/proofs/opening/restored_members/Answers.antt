@@ -13,7 +13,7 @@ pub loop-server-preserved : goal.loop-server-preserved
 loop-server-preserved c =
     let n = c.loop-server.server in
     let same : (n + 1) - 1 ≡ (n - 1) + 1 = omega arith in
-    rw (c.in_ok-push.ensures.items, c.in_ok-restored_server.ensures, c.loop-server.invariant, same)
+    rw (c.in_ok-push.ensures.items, c.in_ok-restored.ensures, c.in-Some.ensures.server.0, c.loop-server.invariant, same)
     (sym (map-range_with_len_more (member_with (kept_tree_from c.args.snapshot.now.machine.plain) c.args.last) 1 (n - 1) n (omega arith)))
 
 pub returns : goal.returns

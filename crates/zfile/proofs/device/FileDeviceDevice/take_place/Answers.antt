@@ -46,4 +46,4 @@ returns-clause-time g c =
 pub returns-clause-durable : goal.returns-clause-durable
 returns-clause-durable g c =
     let sound : (replay c.args.self.now.log.events).has_failed ≡ false = search rules in
-    taken_only c.args.self.now.log.events sound c.sync_folder.new.self.log.events (c.in_ok-sync_folder.ensures.done ∙ ap (λ (l : List Event). folder_synced true ∷ l) (c.in_ok-take_name.ensures.done ∙ ap (λ (l : List Event). named true ∷ l) c.in_ok-settle.ensures.done))
+    taken_only c.args.self.now.log.events sound c.sync_folder.new.self.log.events (search rules)

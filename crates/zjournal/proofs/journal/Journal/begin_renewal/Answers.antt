@@ -20,7 +20,7 @@ returns-in_err-begin_file-clause-sound g c =
 
 pub returns-clause-begun : goal.returns-clause-begun
 returns-clause-begun g c servers batches is_open rest =
-    renewal_begun g.D.Device.seen g.D.Device.may_leave g.D.Device.moment g.D.Device.left_since c.args.self.now servers batches rest g.D.Device.beside _ refl refl c.begin_file.ensures.untouched c.in_ok-begin_file.ensures.begun refl
+    renewal_begun g.D.Device.seen g.D.Device.may_leave g.D.Device.moment g.D.Device.left_since c.args.self.now servers batches rest g.D.Device.beside _ refl refl c.begin_file.ensures.untouched (search rules) (search rules)
 
 pub returns-clause-rest : goal.returns-clause-rest
 returns-clause-rest g c servers batches rest =

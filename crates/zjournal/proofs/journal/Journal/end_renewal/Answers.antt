@@ -16,7 +16,7 @@ returns-in_err-close_and_take-clause-sound g c =
 
 pub returns-clause-renewed : goal.returns-clause-renewed
 returns-clause-renewed g c servers batches next is_open renewing =
-    renewed g.D.Device.seen g.D.Device.may_leave g.D.Device.moment g.D.Device.left_since g.D.Device.beside c.args.self.now servers batches next renewing _ refl refl c.in_ok-close_and_take.ensures.taken c.in_ok-close_and_take.ensures.durable
+    renewed g.D.Device.seen g.D.Device.may_leave g.D.Device.moment g.D.Device.left_since g.D.Device.beside c.args.self.now servers batches next renewing _ refl (search rules) (search rules) c.in_ok-close_and_take.ensures.durable
 
 pub returns-clause-any_moment : goal.returns-clause-any_moment
 returns-clause-any_moment g c servers batches next renewing =

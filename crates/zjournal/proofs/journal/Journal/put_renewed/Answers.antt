@@ -39,7 +39,9 @@ returns-in_err-add_open_block-clause-sound g c =
 
 pub returns-clause-added : goal.returns-clause-added
 returns-clause-added g c servers batches next is_open renewing =
-    renewal_added g.D.Device.seen g.D.Device.may_leave g.D.Device.moment g.D.Device.left_since g.D.Device.beside c.args.self.now servers batches next renewing c.args.batch.now _ (stamped_text c.args.batch.now (tested_text c.args.batch.now (sym c.contains.ensures.value ∙ c.if-contains.false))) refl refl c.add_open_block.ensures.untouched (c.in_ok-add_open_block.ensures.added (stamped c.args.batch.now) (c.as_slice-block.ensures.value ∙ c.in_ok-block.ensures)) c.as_slice-block.result.now (c.as_slice-block.ensures.value ∙ c.in_ok-block.ensures) (search rules)
+    renewal_added g.D.Device.seen g.D.Device.may_leave g.D.Device.moment g.D.Device.left_since g.D.Device.beside c.args.self.now servers batches next renewing c.args.batch.now _
+    (stamped_text c.args.batch.now (tested_text c.args.batch.now (search rules))) refl (search rules) c.add_open_block.ensures.untouched
+    (c.in_ok-add_open_block.ensures.added (stamped c.args.batch.now) (search rules)) c.as_slice-block.result.now (search rules) (search rules)
 
 pub returns-clause-rest : goal.returns-clause-rest
 returns-clause-rest g c servers batches rest =

@@ -1,4 +1,7 @@
-use Rattle.std.proofs.Common.{true, refl}
+use Rattle.std.proofs.Common.{◌≡◌, true, refl, sym, ap, subst, ◌∙◌, Err, rules}
+use Rattle.std.specs.Prelude.{IsErrOf}
+use Rattle.zkept.specs.declared.fault.CommitFault.TheVariants as commit
+use Rattle.std.proofs.lemmas.Result.{err_from_is_err_and}
 use Rattle.zjournal.specs.Journal.{device_of}
 use Rattle.zjournal.proofs.Moments.{weaker}
 use Rattle.zkept.specs.declared.kept.Kept.{Kept}
@@ -41,7 +44,7 @@ returns-clause-kept g c servers batches is_open serving =
     let next = c.in_ok-shorten.ensures.kept servers batches serving.takes serving.rest in (
       next.0,
       shortened_serves g.D.Device.seen g.D.Device.may_leave servers batches old new serving next.0 refl refl next.1 c.in_ok-shorten.ensures.open.1 next.3,
-      next.2,
+      search (rules, next.2),
     )
 
 pub returns-clause-sound : goal.returns-clause-sound
@@ -61,3 +64,10 @@ returns-clause-sound g c is_open =
       next.0,
       shortened_serves g.D.Device.seen g.D.Device.may_leave was.0 was.1 old new was.2 next.0 refl refl next.1 c.in_ok-shorten.ensures.open.1 next.3,
     )
+
+pub returns-in_err-shorten-clause-full : goal.returns-in_err-shorten-clause-full
+returns-in_err-shorten-clause-full g c servers batches serving is =
+    let p = err_from_is_err_and c.from_residual.result c.from_residual.ensures.1 in
+    let told : Err p.0 ≡ Err commit.Full = subst (λ r. IsErrOf r commit.Full) p.1 is in
+    let full : p.0 ≡ commit.Full = cc told in
+    c.in_err-shorten.ensures.full servers batches serving.rest (ap Err (sym p.2 ∙ full))

@@ -1,6 +1,6 @@
 use Rattle.std.proofs.Common.{◌∙◌}
 use Rattle.std.specs.FinMap.{remove}
-use Rattle.zknown.proofs.Entries.{remove-entries}
+use Rattle.ztree.proofs.Entries.{remove-entries}
 use Rattle.zknown.proofs.sessions.SessionTable.close.Goals as goal
 
 pub returns : goal.returns

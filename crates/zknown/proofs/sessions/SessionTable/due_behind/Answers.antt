@@ -2,7 +2,7 @@ use Rattle.std.proofs.Common.{◌+◌, sym, ap, ◌∙◌}
 use Rattle.std.proofs.lemmas.Result.{IfOk-weaker}
 use Rattle.ztree.specs.Sessions.{due_sessions}
 use Rattle.zknown.specs.support.Entries.{due_among}
-use Rattle.zknown.proofs.Entries.{entries-rising}
+use Rattle.ztree.proofs.Entries.{entries-rising}
 use Rattle.zknown.proofs.sessions.SessionTable.due_behind.Goals as goal
 
 pub returns : goal.returns

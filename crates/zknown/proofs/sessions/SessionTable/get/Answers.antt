@@ -1,6 +1,6 @@
 use Rattle.std.proofs.Common.{sym, ◌∙◌}
 use Rattle.std.specs.FinMap.{get}
-use Rattle.zknown.proofs.Entries.{get-entries}
+use Rattle.ztree.proofs.Entries.{get-entries}
 use Rattle.zknown.proofs.sessions.SessionTable.get.Goals as goal
 
 pub returns : goal.returns

@@ -1,6 +1,6 @@
 use Rattle.std.proofs.Common.{◌∙◌}
 use Rattle.std.specs.FinMap.{insert}
-use Rattle.zknown.proofs.Entries.{insert-entries}
+use Rattle.ztree.proofs.Entries.{insert-entries}
 use Rattle.zknown.proofs.sessions.SessionTable.open.Goals as goal
 
 pub returns-clause-ok : goal.returns-clause-ok

@@ -2,7 +2,7 @@ use Rattle.std.proofs.Common.{◌≡◌, None, Some, sym, ap, ◌∙◌}
 use Rattle.std.specs.Option.{option_map_or}
 use Rattle.std.specs.FinMap.{get, insert}
 use Rattle.ztree.specs.Sessions.{renewed_session}
-use Rattle.zknown.proofs.Entries.{get-entries, insert-entries}
+use Rattle.ztree.proofs.Entries.{get-entries, insert-entries}
 use Rattle.zknown.proofs.sessions.SessionTable.renew.Goals as goal
 
 pub unreachable-requires : goal.unreachable-requires

@@ -7,5 +7,5 @@ use Rattle.zmaster.proofs.master.Master.new.Goals as goal
 pub invariant_of-result : goal.invariant_of-result
 invariant_of-result c = (
   subst (λ (v : MasterView). IsBounded v) (sym c.new-known.ensures) (opening_is_bounded c.args.last c.args.clients),
-  c.count.ensures.used,
+  c.keeps_few_used.ensures,
 )

@@ -8,5 +8,5 @@ pub invariant_of-self : goal.invariant_of-self
 invariant_of-self g c = (
   subst (λ (v : MasterView). IsBounded v) (sym c.take.ensures.next)
       (messages_keep c.self.inside.known c.args.from c.args.message c.self.invariant.0),
-  c.count.ensures.used,
+  c.keeps_few_used.ensures,
 )

@@ -3,7 +3,6 @@ use Rattle.std.specs.Prelude.{◌==◌, if◌then◌else◌}
 use Rattle.std.proofs.lemmas.Bool.Decides.{nat_tests}
 use mathlib.Core.Path.{subst}
 use Rattle.std.specs.Option.{option_copied, option_copied_mut, option_map_or}
-use Rattle.std.specs.FinMap as finite
 use Rattle.std.specs.FinMap.{get, insert, remove}
 use Rattle.zslots.specs.declared.id.Id.{Id}
 use Rattle.zslots.specs.declared.limits.TheConstants.{MAX_LENGTH}
@@ -43,8 +42,7 @@ put_child-requires c =
     let r = c.in-Some.row.now in
     let there = sym c.in-Some.ensures in
     let shown = shown-taken s c.args.self.now c.self.view_is c.args.id r c.requires.held there in
-    let few : finite.len s.slots.items ≤ MAX_LENGTH = omega (arith, c.len.ensures, c.len.type_inv) in
-    child-room s.slots.items s.index.ids s.owners c.args.id r shown.0 c.self.invariant.linked there shown.1 MAX_LENGTH few
+    child-room s.slots.items s.index.ids s.owners c.args.id r shown.0 c.self.invariant.linked there shown.1 MAX_LENGTH c.keeps_countable.ensures
     (Some c.args.parent) (sym (parent-named s c.args.self.now c.self.view_is c.self.invariant.linked c.args.parent (parent_of r.path) (c.requires.under (r.path, r.node) shown.2)))
 
 pub put_owned-requires : goal.put_owned-requires
@@ -53,8 +51,7 @@ put_owned-requires c =
     let r = c.in-Some.row.now in
     let there = sym c.in-Some.ensures in
     let shown = shown-taken s c.args.self.now c.self.view_is c.args.id r c.requires.held there in
-    let few : finite.len s.slots.items ≤ MAX_LENGTH = omega (arith, c.len.ensures, c.len.type_inv) in
-    owned-room s.slots.items s.index.ids s.owners c.args.id r shown.0 c.self.invariant.linked there shown.1 MAX_LENGTH few
+    owned-room s.slots.items s.index.ids s.owners c.args.id r shown.0 c.self.invariant.linked there shown.1 MAX_LENGTH c.keeps_countable.ensures
     (list_of s.owners r.node.owner) (λ list e. listed s.owners r.node.owner list e)
 
 pub push_front-requires : goal.push_front-requires
@@ -63,8 +60,7 @@ push_front-requires c =
     let r = c.in-Some.row.now in
     let there = sym c.in-Some.ensures in
     let shown = shown-taken s c.args.self.now c.self.view_is c.args.id r c.requires.held there in
-    let few : finite.len s.slots.items ≤ MAX_LENGTH = omega (arith, c.len.ensures, c.len.type_inv) in
-    (omega arith, timed-room s.slots.items s.index.ids s.owners s.timed c.args.id r shown.0 c.self.invariant.mortal there shown.1 MAX_LENGTH few)
+    (omega arith, timed-room s.slots.items s.index.ids s.owners s.timed c.args.id r shown.0 c.self.invariant.mortal there shown.1 MAX_LENGTH c.keeps_countable.ensures)
 
 -- it has a key
 pub unreachable-requires-in-None : goal.unreachable-requires-in-None

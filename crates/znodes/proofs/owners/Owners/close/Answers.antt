@@ -1,9 +1,9 @@
 use Rattle.std.proofs.Common.{ap, ◌∙◌}
 use Rattle.std.specs.FinMap.{remove}
-use Rattle.znodes.proofs.OwnerMaps.{remove-lists}
+use Rattle.ztree.proofs.Entries.{remove-entries}
 use Rattle.znodes.proofs.owners.Owners.close.Goals as goal
 
 pub returns : goal.returns
 returns c =
-    remove-lists c.self.inside.lists.entries c.remove.new.self.entries c.args.owner c.remove.ensures.updates.0
+    remove-entries c.self.inside.lists.entries c.remove.new.self.entries c.args.owner c.remove.ensures.updates.0
     ∙ ap (λ lists. remove lists c.args.owner) c.self.view_is

@@ -4,7 +4,7 @@ use Rattle.std.specs.Option.{option_map}
 use Rattle.zpieces.specs.Streams.{StreamView}
 use Rattle.zpieces.specs.support.Entries.{size_of}
 use Rattle.zpieces.proofs.Counting.{less-inserted, same-inserted}
-use Rattle.zpieces.proofs.Entries.{insert-entries}
+use Rattle.ztree.proofs.Entries.{insert-entries}
 use Rattle.zpieces.proofs.table.StreamTable.insert.Goals as goal
 
 pub invariant_of-self-in-Some : goal.invariant_of-self-in-Some

@@ -1,6 +1,6 @@
 use Rattle.std.proofs.Common.{length, sym, ap, ◌∙◌}
 use Rattle.std.specs.FinMap.{from_entries, len, len-entries}
-use Rattle.zpieces.proofs.Entries.{entries-rising}
+use Rattle.ztree.proofs.Entries.{entries-rising}
 use Rattle.zpieces.proofs.table.StreamTable.len.Goals as goal
 
 pub returns : goal.returns

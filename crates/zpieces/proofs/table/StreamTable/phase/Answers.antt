@@ -2,7 +2,7 @@ use Rattle.std.proofs.Common.{◌≡◌, None, Some, sym, ap, ◌∙◌}
 use Rattle.std.specs.FinMap.{get}
 use Rattle.std.specs.Option.{option_map, option_copied}
 use Rattle.zpieces.specs.Streams.{StreamView}
-use Rattle.zpieces.proofs.Entries.{get-entries}
+use Rattle.ztree.proofs.Entries.{get-entries}
 use Rattle.zpieces.proofs.table.StreamTable.phase.Goals as goal
 
 pub returns-in_err-stream : goal.returns-in_err-stream

@@ -3,7 +3,7 @@ use Rattle.std.specs.FinMap.{remove}
 use Rattle.std.specs.Option.{option_map}
 use Rattle.zpieces.specs.support.Entries.{size_of}
 use Rattle.zpieces.proofs.Counting.{less-removed}
-use Rattle.zpieces.proofs.Entries.{remove-entries}
+use Rattle.ztree.proofs.Entries.{remove-entries}
 use Rattle.zpieces.proofs.table.StreamTable.remove.Goals as goal
 
 pub invariant_of-self : goal.invariant_of-self

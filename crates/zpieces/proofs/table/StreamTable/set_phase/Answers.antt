@@ -5,7 +5,7 @@ use Rattle.zpieces.specs.Streams.{StreamView}
 use Rattle.zpieces.specs.support.Entries.{size_of}
 use Rattle.zpieces.proofs.Changing.{changed-absent, changed-there}
 use Rattle.zpieces.proofs.Counting.{same-changed}
-use Rattle.zpieces.proofs.Entries.{get-entries, insert-entries}
+use Rattle.ztree.proofs.Entries.{get-entries, insert-entries}
 use Rattle.zpieces.proofs.table.StreamTable.set_phase.Goals as goal
 
 pub returns-in_default : goal.returns-in_default

@@ -1,5 +1,5 @@
-use Rattle.std.proofs.Common.{◌<◌, ◌≤◌, sym, ap, ◌∙◌, subst}
-use Rattle.zprotocol.specs.declared.limits.TheConstants.{MAX_SERVERS}
+use Rattle.std.proofs.Common.{sym, ap, ◌∙◌, subst}
+use Rattle.zserver.specs.Server.{ServerState}
 use Rattle.ztraces.specs.Deeds.{AtServer}
 use Rattle.zdesks.specs.Desks.{IsAt, TreeStanding}
 use Rattle.zthreads.proofs.Rows.{server_is}
@@ -10,6 +10,5 @@ pub new-requires-clause-at : goal.new-requires-clause-at
 new-requires-clause-at c =
     let o = c.args.self.now in
     let s = c.args.id in
-    let number = c.number.ensures in
-    let is = server_is s (subst (λ x. 0 < x) number.same number.some) (subst (λ x. x ≤ MAX_SERVERS) number.same number.small) in
-    subst (λ (s : TreeStanding). IsAt c.new-desk.result s) (server_opening o.last o.clients s is ∙ ap (λ v. AtServer v) (sym c.in_ok-server.ensures.view)) c.new-desk.ensures.at
+    let is = server_is s c.keeps_in_range.ensures.some c.keeps_in_range.ensures.few in
+    subst (λ (s : TreeStanding). IsAt c.new-desk.result s) (server_opening o.last o.clients s is ∙ ap (λ v. AtServer v) (sym (ap (λ (s : ServerState). s.view) c.in_ok-server.ensures))) c.new-desk.ensures.at

@@ -1,6 +1,6 @@
 use Rattle.std.proofs.Common.{sym, ◌∙◌}
 use Rattle.std.specs.FinMap.{get}
-use Rattle.zsittings.proofs.Entries.{get-entries}
+use Rattle.ztree.proofs.Entries.{get-entries}
 use Rattle.zsittings.proofs.table.SittingTable.get.Goals as goal
 
 pub returns : goal.returns

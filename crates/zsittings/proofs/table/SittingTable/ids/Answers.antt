@@ -2,7 +2,7 @@ use Rattle.std.proofs.Common.{sym, ap, ◌∙◌}
 use Rattle.std.proofs.lemmas.Result.{IfOk-weaker}
 use Rattle.std.specs.Map.{keys_of}
 use Rattle.std.specs.FinMap.{keys}
-use Rattle.zsittings.proofs.Entries.{entries-rising}
+use Rattle.ztree.proofs.Entries.{entries-rising}
 use Rattle.zsittings.proofs.table.SittingTable.ids.Goals as goal
 
 pub returns : goal.returns

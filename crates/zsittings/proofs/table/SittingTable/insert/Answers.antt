@@ -1,6 +1,6 @@
 use Rattle.std.proofs.Common.{◌∙◌}
 use Rattle.std.specs.FinMap.{insert}
-use Rattle.zsittings.proofs.Entries.{insert-entries}
+use Rattle.ztree.proofs.Entries.{insert-entries}
 use Rattle.zsittings.proofs.table.SittingTable.insert.Goals as goal
 
 pub returns-clause-ok : goal.returns-clause-ok

@@ -1,6 +1,6 @@
 use Rattle.std.proofs.Common.{◌∙◌}
 use Rattle.std.specs.FinMap.{remove}
-use Rattle.zsittings.proofs.Entries.{remove-entries}
+use Rattle.ztree.proofs.Entries.{remove-entries}
 use Rattle.zsittings.proofs.table.SittingTable.remove.Goals as goal
 
 pub returns : goal.returns

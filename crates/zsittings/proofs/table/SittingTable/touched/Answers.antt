@@ -2,7 +2,7 @@ use Rattle.std.proofs.Common.{sym, ap, ◌∙◌}
 use Rattle.std.proofs.lemmas.Result.{IfOk-weaker}
 use Rattle.zsittings.specs.Sittings.{touched_ids}
 use Rattle.zsittings.specs.support.Entries.{touched_among}
-use Rattle.zsittings.proofs.Entries.{entries-rising}
+use Rattle.ztree.proofs.Entries.{entries-rising}
 use Rattle.zsittings.proofs.table.SittingTable.touched.Goals as goal
 
 pub returns : goal.returns

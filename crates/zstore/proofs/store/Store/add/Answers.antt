@@ -127,7 +127,7 @@ note-requires-2 c =
     c.requires.live
     c.self.invariant c.requires.free c.requires.persistent
     (subst (λ (n : Node). IsOwner c.args.self.now.tree.sessions n.owner) (sym made) c.requires.owner)
-    (subst HasOneEnd (sym made) c.requires.one_end) c.requires.few c.names.ensures.path in
+    (subst HasOneEnd (sym made) c.requires.one_end) c.requires.few c.keeps_its_form.ensures in
     marks_held c.note.new.nodes put.new.self s.sessions s.time s.zxid (notes_of c.note.new.self) stored
     c.args.parent (ap is_some at) _ put.result put.ensures.written put.ensures.before
 
@@ -148,7 +148,7 @@ invariant_of-self-2 c =
     c.requires.live
     c.self.invariant c.requires.free c.requires.persistent
     (subst (λ (n : Node). IsOwner c.args.self.now.tree.sessions n.owner) (sym made) c.requires.owner)
-    (subst HasOneEnd (sym made) c.requires.one_end) c.requires.few c.names.ensures.path in
+    (subst HasOneEnd (sym made) c.requires.one_end) c.requires.few c.keeps_its_form.ensures in
     rw (c.note-2.ensures.notes, c.note-2.ensures.nodes)
     (marks_stored c.note.new.nodes put.new.self s.sessions s.time s.zxid (notes_of c.note.new.self) stored
     c.args.parent (ap is_some at) _ put.result put.ensures.written put.ensures.before)
@@ -213,7 +213,7 @@ returns-clause-marked c =
     c.requires.live
     c.self.invariant c.requires.free c.requires.persistent
     (subst (λ (n : Node). IsOwner c.args.self.now.tree.sessions n.owner) (sym made) c.requires.owner)
-    (subst HasOneEnd (sym made) c.requires.one_end) c.requires.few c.names.ensures.path in
+    (subst HasOneEnd (sym made) c.requires.one_end) c.requires.few c.keeps_its_form.ensures in
     let free = ap (λ (h : StoreView). has_node h.tree.nodes c.args.path) c.self.view_is
     ∙ c.requires.free in
     let first : option_map (mark_of c.note.new.nodes s.sessions s.time s.zxid)

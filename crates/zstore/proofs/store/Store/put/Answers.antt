@@ -19,4 +19,4 @@ invariant_of-self-2 c =
     c.requires.can in
     rw (c.stop.ensures.off, c.stop.ensures.nodes)
     (put_stored s.nodes c.add.new.self s.sessions s.time s.zxid (notes_of s.log) c.self.invariant
-    c.in_ok-add.field-0 c.args.path c.args.node c.in_ok-add.ensures.added can c.names.ensures.path)
+    c.in_ok-add.field-0 c.args.path c.args.node c.in_ok-add.ensures.added can c.keeps_its_form.ensures)

@@ -1,21 +1,18 @@
-use Rattle.std.proofs.Common.{◌≤◌, ◌++◌, ℕ, List, [], ap, get_or, map, subst, ◌∙◌}
-use Rattle.std.specs.List.{range_with_len}
+use Rattle.std.proofs.Common.{◌++◌, List, [], ap, get_or, ◌∙◌}
 use mathlib.Core.Path.{fun_ext}
-use Rattle.zprotocol.specs.declared.limits.TheConstants.{MAX_SERVERS}
 use Rattle.zprotocol.specs.server.Machine.{kept_tree}
 use Rattle.ztree.specs.Tree.{Tree}
 use Rattle.zcalls.specs.Kept.{KeptState}
 use Rattle.zprotocol.specs.server.View.{MessageOf}
 use Rattle.zprotocol.specs.client.View.{ClientView}
 use Rattle.zworld.specs.Held.{MemberView, is_gone, last_words, member_at, nobody, view_of}
-use Rattle.zworld.specs.support.Opening.{opening_member}
 use Rattle.zworld.proofs.OpeningViews.{opening_member_at, opening_client_at, no_words}
 use Rattle.zworld.proofs.processes.Processes.new.Goals as goal
 
 pub returns : goal.returns
 returns c =
-    let few : c.args.last ≤ MAX_SERVERS = subst (λ (n : ℕ). n ≤ MAX_SERVERS) c.number.ensures.same c.number.ensures.small in
-    let members = c.in_ok-members.ensures ∙ ap (λ (n : ℕ). map (opening_member n) (range_with_len 1 MAX_SERVERS)) c.number.ensures.same in
+    let few = c.keeps_in_range.ensures.few in
+    let members = c.in_ok-members.ensures in
     let clients = c.in_ok-cores.ensures in
     λ i. record {
       servers = fun_ext (λ s. ap (λ (ms : List MemberView). view_of (member_at ms s)) members ∙ ap view_of (opening_member_at kept_tree c.args.last s few)) i;

@@ -1,6 +1,5 @@
-use Rattle.std.proofs.Common.{subst, sym, ◌≡◌, ◌<◌, ◌≤◌, true, arith}
+use Rattle.std.proofs.Common.{subst, sym, ◌≡◌, true, arith}
 use Rattle.std.proofs.lemmas.Bool.Decides.{nat_tests}
-use Rattle.zprotocol.specs.declared.limits.TheConstants.{MAX_SERVERS}
 use Rattle.zprotocol.specs.server.Machine.{kept_tree}
 use Rattle.zworld_model.specs.World.{opening_world}
 use Rattle.zprotocol.specs.Places.{is_server}
@@ -10,9 +9,8 @@ use Rattle.zworld.proofs.world.World.new.Goals as goal
 
 pub invariant_of-result : goal.invariant_of-result
 invariant_of-result c =
-    let same = c.number.ensures.same in
-    let some = subst (λ n. 0 < n) same c.number.ensures.some in
-    let few = subst (λ n. n ≤ MAX_SERVERS) same c.number.ensures.small in
+    let some = c.keeps_in_range.ensures.some in
+    let few = c.keeps_in_range.ensures.few in
     let opens : is_server c.args.last ≡ true = grind (arith, nat_tests, some, few) in
     past_begins c.in_ok-new.field-0 c.new-2.result.items c.args.last c.args.clients opens c.new-2.ensures.items c.in_ok-new.ensures
 

@@ -1,6 +1,5 @@
-use Rattle.std.proofs.Common.{subst, sym, ◌≡◌, ◌<◌, ◌≤◌, true, arith, true≢false}
+use Rattle.std.proofs.Common.{subst, sym, ◌≡◌, true, arith, true≢false}
 use Rattle.std.proofs.lemmas.Bool.Decides.{nat_tests}
-use Rattle.zprotocol.specs.declared.limits.TheConstants.{MAX_SERVERS}
 use Rattle.zprotocol.specs.Places.{is_server}
 use Rattle.zworld_model.specs.FromTree.{CanStart, opening_world_from}
 use Rattle.zworld.specs.Held.{world_of}
@@ -9,9 +8,8 @@ use Rattle.zworld.proofs.world.World.restored.Goals as goal
 
 pub invariant_of-result : goal.invariant_of-result
 invariant_of-result c =
-    let same = c.number.ensures.same in
-    let some = subst (λ n. 0 < n) same c.number.ensures.some in
-    let few = subst (λ n. n ≤ MAX_SERVERS) same c.number.ensures.small in
+    let some = c.keeps_in_range.ensures.some in
+    let few = c.keeps_in_range.ensures.few in
     let opens : is_server c.args.last ≡ true = grind (arith, nat_tests, some, few) in
     let can : CanStart c.args.snapshot.now.machine.plain = record { lawful = c.keeps_lawful.ensures.lawful; granted = c.keeps_lawful.ensures.bounded.sessions } in
     past_begins_with c.args.snapshot.now.machine.plain can true true c.in_ok-restored.field-0 c.new.result.items c.args.last c.args.clients

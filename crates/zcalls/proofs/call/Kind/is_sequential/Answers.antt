@@ -1,5 +1,0 @@
-use Rattle.std.proofs.Common.{rules}
-use Rattle.zcalls.proofs.call.Kind.is_sequential.Goals as goal
-
-pub returns-in-Persistent : goal.returns-in-Persistent
-returns-in-Persistent c = search rules

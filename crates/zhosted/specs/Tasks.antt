@@ -1,0 +1,17 @@
+-- What the words ask for that are about a folder which no server has open: this project's profile.
+use Rattle.std.specs.Prelude.{◌≡◌, ℕ, if◌then◌else◌, List, [], ◌∷◌, codes, Option, Some, None}
+use Rattle.std.specs.Str.{bytes_eq}
+use Rattle.zhosted.specs.Asked.{Spells}
+use Rattle.zhosted.specs.declared.tasks.Task.{Task}
+use Rattle.zhosted.specs.declared.tasks.Task.TheVariants.{Compact, Export, Stat}
+
+abbrev pub task_named : List ℕ → Option Task
+task_named word =
+    if bytes_eq word (codes "compact") then Some Compact else
+    if bytes_eq word (codes "export") then Some Export else
+    if bytes_eq word (codes "stat") then Some Stat else None
+
+-- behind the program's name a folder and a task; how many servers its journal is for, 1 to 16
+abbrev pub IsTask : List (List ℕ) → Task × ℕ → Type 0
+IsTask (name ∷ folder ∷ task ∷ servers ∷ []) asked = (task_named task ≡ Some asked.0) × Spells 8 servers asked.1
+IsTask words asked = ⊥

@@ -1,0 +1,45 @@
+//! What is done with a folder that no server has open: its words.
+
+ghost use Rattle.std.specs.Prelude.{◌≡◌, IfNone, IfSome};
+ghost use Rattle.zcli.specs.Asked.{texts_of};
+ghost use Rattle.zhosted.specs.Tasks.{IsTask, task_named};
+
+use crate::words::last_of;
+use zkept::ServerId;
+
+/// What is to be done with a folder that no server has open.
+#[derive(Clone, Copy, Debug, PartialEq, Eq)]
+pub enum Task {
+    /// Its journal is shortened.
+    Compact,
+    /// Its tree is written as lines.
+    Export,
+    /// It is told how large it is.
+    Stat,
+}
+
+/// Reads `NAME FOLDER compact|export|stat SERVERS`: what is to be done with a folder, whose journal
+/// is for so many servers. `None` for all other words.
+pub(crate) fn task_of(words: &[&str]) -> Option<(Task, ServerId)>
+    ensures { IfSome result (IsTask (texts_of words.now)) }
+{
+    let [_, _, task, servers] = words else {
+        return None;
+    };
+    match (task_named(task), last_of(servers)) {
+        (Some(task), Some(last)) => Some((task, last)),
+        _ => None,
+    }
+}
+
+// The task that a word names.
+fn task_named(word: &str) -> Option<Task>
+    ensures { result ≡ task_named word.now }
+{
+    match word {
+        "compact" => Some(Task::Compact),
+        "export" => Some(Task::Export),
+        "stat" => Some(Task::Stat),
+        _ => None,
+    }
+}

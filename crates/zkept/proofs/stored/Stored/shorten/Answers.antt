@@ -1,0 +1,31 @@
+use Rattle.std.proofs.Common.{◌≡◌, refl}
+use Rattle.zjournal.specs.Journal.{device_of}
+use Rattle.zjournal.proofs.Moments.{weaker}
+use Rattle.zkept.specs.Kept.{KeepsState}
+use Rattle.zkept.specs.Shortening.{IsOldOrState}
+use Rattle.zkept.specs.Stored.{state_of}
+use Rattle.zkept.proofs.Renewing.{keeps_state}
+use Rattle.zkept.proofs.stored.Stored.shorten.Goals as goal
+
+pub returns-in_err-shorten-clause-any_moment : goal.returns-in_err-shorten-clause-any_moment
+returns-in_err-shorten-clause-any_moment g c servers batches stored =
+    let old = c.args.self.now in
+    weaker g.D.Device.moment g.D.Device.left_since (device_of old.journal) (device_of c.shorten.new.journal) (IsOldOrState servers batches (state_of old)) (KeepsState servers (state_of old))
+    (c.shorten.ensures.any_moment servers batches stored.rest) (keeps_state servers batches (state_of old) stored.text)
+
+pub returns-clause-any_moment : goal.returns-clause-any_moment
+returns-clause-any_moment g c servers batches stored =
+    let old = c.args.self.now in
+    weaker g.D.Device.moment g.D.Device.left_since (device_of old.journal) (device_of c.shorten.new.journal) (IsOldOrState servers batches (state_of old)) (KeepsState servers (state_of old))
+    (c.shorten.ensures.any_moment servers batches stored.rest) (keeps_state servers batches (state_of old) stored.text)
+
+pub returns-clause-kept : goal.returns-clause-kept
+returns-clause-kept g c servers batches stored =
+    let next = c.in_ok-shorten.ensures.kept servers batches stored.takes stored.rest in
+    (next.0, record { rest = next.1; takes = c.in_ok-shorten.ensures.open.1; whole = stored.whole; text = next.3 }, next.2)
+
+pub returns-clause-good : goal.returns-clause-good
+returns-clause-good g c =
+    let was = c.requires in
+    let next = c.in_ok-shorten.ensures.kept was.0 was.1 was.2.takes was.2.rest in
+    (was.0, next.0, record { rest = next.1; takes = c.in_ok-shorten.ensures.open.1; whole = was.2.whole; text = next.3 })

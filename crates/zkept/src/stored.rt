@@ -1,0 +1,95 @@
+//! A file that no service has open, and the state that it keeps: so its journal is shortened.
+
+ghost use Rattle.std.specs.Prelude.{◌≡◌, List, ℕ, IfErr, IfOk, OnOk};
+ghost use Rattle.zjournal.specs.Device.{LeavesOnly, Only};
+ghost use Rattle.zjournal.specs.Journal.{StandsFor};
+ghost use Rattle.zjournal.specs.Scan.{joined};
+ghost use Rattle.zkept.specs.Faults.{IsOfReading, IsSuchFile};
+ghost use Rattle.zkept.specs.Kept.{KeepsState};
+ghost use Rattle.zkept.specs.Stored.{bytes_of, file_of, state_of, IsGood, IsStored};
+ghost use Rattle.zstates.specs.Texts.{snapshot_text};
+
+use crate::fault::{CommitFault, OpenFault};
+use crate::looking::look;
+use crate::shortening::shorten;
+use std::alloc::Global;
+use zfront::ServerId;
+use zjournal::{Device, Journal};
+use zstates::State;
+
+/// A journal, and the state that it keeps. No front stands over it.
+#[derive(Drop)]
+pub struct Stored<D: Device> {
+    alloc: Global,
+    state: State,
+    journal: Journal<D>,
+}
+
+impl<D: Device> Stored<D> {
+    /// Opens a file that a crash may have left. Where reading fails, the file stays untouched.
+    /// Opening may crash, too, and then the file keeps the same. An `Err` hands the device back.
+    pub fn open(alloc: Global, device: D, servers: ServerId) -> Result<Stored<D>, (OpenFault, D)>
+        // After a restart, what is read is what is on the disk.
+        requires durable { Only (D.seen device) (D.may_leave device) }
+        ensures stored { IfOk result (λ stored. (batches : List (List ℕ))
+            × StandsFor servers batches (D.seen device)
+            × IsStored D.seen D.may_leave servers batches stored) }
+        ensures good { IfOk result (IsGood D.seen D.may_leave) }
+        ensures any_moment { (batches : List (List ℕ)) → StandsFor servers batches (D.seen device)
+            → IfOk result (λ stored. LeavesOnly D.moment D.left_since device (file_of stored)
+            (StandsFor servers batches)) }
+        ensures any_moment_err { (batches : List (List ℕ))
+            → StandsFor servers batches (D.seen device)
+            → IfErr result (λ e. LeavesOnly D.moment D.left_since device e.1
+            (StandsFor servers batches)) }
+        ensures untouched { IfErr result (λ e. IsOfReading e.0
+            → (D.seen e.1 ≡ D.seen device)
+            × LeavesOnly D.moment D.left_since device e.1 (λ c. c ≡ D.seen device)) }
+        ensures fault { IfErr result (λ e. IsSuchFile servers (D.seen device) e.0) }
+    {
+        let mut device = device;
+        let state = match look(alloc, &mut device, servers) {
+            Ok((state, _)) => state,
+            Err(fault) => return Err((fault, device)),
+        };
+        match zjournal::open(alloc, device, servers.number()) {
+            Ok((journal, _)) => Ok(Stored {
+                alloc,
+                state,
+                journal,
+            }),
+            Err((e, device)) => {
+                drop(state);
+                Err((OpenFault::Journal(e), device))
+            }
+        }
+    }
+
+    /// How many bytes the journal has.
+    pub fn size(&self) -> usize
+        ensures { result ≡ bytes_of self.now }
+    {
+        self.journal.size()
+    }
+
+    /// Puts a file with the state alone in the place of the one that there is, which may have many
+    /// changes. At each moment a crash leaves a file with the same state. After a fault it is to be
+    /// opened again.
+    pub fn shorten(&mut self) -> Result<(), CommitFault>
+        requires { IsGood D.seen D.may_leave self.old }
+        ensures kept { (servers : ℕ) (batches : List (List ℕ))
+            → IsStored D.seen D.may_leave servers batches self.old
+            → OnOk result ((next : List (List ℕ))
+            × IsStored D.seen D.may_leave servers next self.new
+            × (joined next ≡ snapshot_text (state_of self.old))) }
+        ensures good { OnOk result (IsGood D.seen D.may_leave self.new) }
+        ensures same { state_of self.new ≡ state_of self.old }
+        ensures any_moment { (servers : ℕ) (batches : List (List ℕ))
+            → IsStored D.seen D.may_leave servers batches self.old
+            → LeavesOnly D.moment D.left_since (file_of self.old) (file_of self.new)
+            (KeepsState servers (state_of self.old)) }
+    {
+        shorten(self.alloc, &mut self.journal, &self.state)?;
+        Ok(())
+    }
+}
