@@ -23,8 +23,8 @@ use Rattle.zworld.specs.Did.{outcome_of}
 use Rattle.zworld.specs.Steps.{HasHappened, HasSettled}
 use Rattle.zturns.proofs.TakingTurns.{NoCall, IsOrder}
 use Rattle.zturns.proofs.Settled.{settling_is_silent}
-use Rattle.zalone.specs.declared.order.Order.{Order}
-use Rattle.zalone.specs.declared.order.Order.TheVariants.{Fail, Join, Retire}
+use Rattle.zalone.specs.declared.chain_order.ChainOrder.{ChainOrder}
+use Rattle.zalone.specs.declared.chain_order.ChainOrder.TheVariants.{Fail, Order}
 use Rattle.zalone.specs.Order.{event_of}
 use Rattle.zalone.proofs.Past.{with_past, run_past}
 
@@ -53,18 +53,15 @@ pub call_reads : (w : ServiceWorld) (client : ℕ) (call : Call) (outcome : Outc
 call_reads w client call Acted = refl
 call_reads w client call other = refl
 
-pub order_reads : (w : ServiceWorld) (order : Order) (outcome : Outcome) → read kept_tree w (event_of order) outcome ≡ event_of order
+pub order_reads : (w : ServiceWorld) (order : ChainOrder) (outcome : Outcome) → read kept_tree w (event_of order) outcome ≡ event_of order
 order_reads w (Fail s) Acted = refl
 order_reads w (Fail s) other = refl
-order_reads w (Join s) Acted = refl
-order_reads w (Join s) other = refl
-order_reads w (Retire s) Acted = refl
-order_reads w (Retire s) other = refl
+order_reads w (Order order) Acted = refl
+order_reads w (Order order) other = refl
 
-pub is_order : (order : Order) → IsOrder (event_of order)
+pub is_order : (order : ChainOrder) → IsOrder (event_of order)
 is_order (Fail s) = tt
-is_order (Join s) = tt
-is_order (Retire s) = tt
+is_order (Order order) = tt
 
 -- an event that reads as it is was a run
 pub done_run : (v w : ServiceWorld) (event : Event) (did : Did) → ((outcome : Outcome) → read kept_tree v event outcome ≡ event) → HasHappened v event did w

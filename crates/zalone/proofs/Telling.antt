@@ -26,7 +26,7 @@ use Rattle.zturns.specs.World.{TakesTurns, GoesOn}
 use Rattle.zturns.proofs.Settled.{run_goes_on}
 use Rattle.zturns.proofs.TakingTurns.{begins, exhausted, opening_turns, order_keeps}
 use Rattle.zalone.specs.declared.limits.TheConstants.{MAX_EVENTS}
-use Rattle.zalone.specs.declared.order.Order.{Order}
+use Rattle.zalone.specs.declared.chain_order.ChainOrder.{ChainOrder}
 use Rattle.zalone.specs.Changes.{Keeps, no_changes, all_taken}
 use Rattle.zalone.specs.Alone.{AloneView, SameCall, Waits, Rests, SettlesIf, GoesOnIf, Begins, AsksIf, Asks, Settles, cleared}
 use Rattle.zalone.specs.Order.{event_of}
@@ -141,7 +141,7 @@ module _ (t : Tree) where
       let rests : Rests old new told = subst (λ b. SettlesIf b old new told) h.waits settles in
       subst (GoesOnSettled (HasToldFrom t new) log None) (sym rests.none) (rested old new log h told rests)
 
-  pub orders_tell : (old new : AloneView) (order : Order) (did : Did) → HasDone old.world new.world (event_of order) did → SameCall old new → (log : Log) (waiting : Option Call) → HasToldFrom t old log waiting → HasToldFrom t new log waiting
+  pub orders_tell : (old new : AloneView) (order : ChainOrder) (did : Did) → HasDone old.world new.world (event_of order) did → SameCall old new → (log : Log) (waiting : Option Call) → HasToldFrom t old log waiting → HasToldFrom t new log waiting
   orders_tell old new order did has same log waiting h =
       let whole = world_after_from t h.servers 1 h.events in
       told_by t h.lawful h.bounded new log waiting h.servers h.events (event_of order ∷ []) h.before

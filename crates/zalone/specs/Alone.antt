@@ -9,15 +9,15 @@ use Rattle.zworld_model.specs.declared.event.Event.TheVariants as event
 use Rattle.zworld_model.specs.declared.history.CallEvent.TheVariants.{Begin, Answer}
 use Rattle.zworld_model.specs.declared.settled.Settled.{Settled}
 use Rattle.zworld_model.specs.History.{History}
-use Rattle.zprotocol.specs.declared.master.retire_fault.RetireFault.TheVariants.{Last}
+use Rattle.zprotocol.specs.declared.master.order_fault.OrderFault.TheVariants.{Last}
 use Rattle.zworld.specs.declared.did.Did.{Did}
 use Rattle.zworld.specs.declared.did.Did.TheVariants.{Idle}
-use Rattle.zworld.specs.declared.did.IdleCause.TheVariants.{Retire}
+use Rattle.zworld.specs.declared.did.IdleCause.TheVariants.{Order}
 use Rattle.zworld.specs.Did.{is_idle, HasCause}
 use Rattle.zworld.specs.Steps.{WorldView, HasDone, IsSettled, world_in}
 use Rattle.zknown.specs.Known.{KnownView, HasRoom, Fits, known_after}
 use Rattle.zalone.specs.declared.limits.TheConstants.{MAX_EVENTS}
-use Rattle.zalone.specs.declared.order.Order.{Order}
+use Rattle.zalone.specs.declared.chain_order.ChainOrder.{ChainOrder}
 use Rattle.zalone.specs.Order.{event_of, takes_last}
 use Rattle.zalone.specs.Changes.{ChangesView, made_more}
 
@@ -61,15 +61,15 @@ pub record SameCall (old new : AloneView) : Type 0 where
   pub waits : new.is_waiting ≡ old.is_waiting
 
 -- where updates are kept, an order that would take away the last server is refused
-abbrev pub is_refused : AloneView → Order → Bool
+abbrev pub is_refused : AloneView → ChainOrder → Bool
 is_refused v order = v.changes.is_kept && takes_last (world_in v.world) order
 
 -- an order, by whether it is refused: then nothing happens
-abbrev pub GivesIf : Bool → AloneView → Order → AloneView → Did → Type 0
-GivesIf true old order new did = (did ≡ Idle (Retire Last)) × (new ≡ old)
+abbrev pub GivesIf : Bool → AloneView → ChainOrder → AloneView → Did → Type 0
+GivesIf true old order new did = (did ≡ Idle (Order Last)) × (new ≡ old)
 GivesIf false old order new did = HasDone old.world new.world (event_of order) did × HasCause old.world.held (event_of order) did
 
-abbrev pub Gives : AloneView → Order → AloneView → Did → Type 0
+abbrev pub Gives : AloneView → ChainOrder → AloneView → Did → Type 0
 Gives old order new did = GivesIf (is_refused old order) old order new did
 
 -- the world settled, and the reply to the call that it is about was heard, if it came

@@ -8,16 +8,16 @@ use Rattle.zworld_model.specs.World.{World}
 use Rattle.zworld_model.specs.declared.event.Event.{Event}
 use Rattle.zworld_model.specs.declared.event.Event.TheVariants as event
 use Rattle.zworld.specs.Last.{is_last}
-use Rattle.zalone.specs.declared.order.Order.{Order}
-use Rattle.zalone.specs.declared.order.Order.TheVariants.{Fail, Join, Retire}
+use Rattle.zprotocol.specs.declared.master.order.Order.TheVariants.{Join, Retire}
+use Rattle.zalone.specs.declared.chain_order.ChainOrder.{ChainOrder}
+use Rattle.zalone.specs.declared.chain_order.ChainOrder.TheVariants.{Fail, Order}
 
-abbrev pub event_of : Order → Event
+abbrev pub event_of : ChainOrder → Event
 event_of (Fail server) = event.Fail server
-event_of (Join server) = event.Join server
-event_of (Retire server) = event.Retire server
+event_of (Order order) = event.Order order
 
 -- the order would take away the last server that has the state and stays
-abbrev pub takes_last : World (KeptState Tree) → Order → Bool
+abbrev pub takes_last : World (KeptState Tree) → ChainOrder → Bool
 takes_last w (Fail server) = is_last w server
-takes_last w (Join server) = false
-takes_last w (Retire server) = is_last w server
+takes_last w (Order (Join server)) = false
+takes_last w (Order (Retire server)) = is_last w server

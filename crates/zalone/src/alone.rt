@@ -17,18 +17,18 @@ ghost use Rattle.zalone.specs.Told.{HasToldFrom, StandsBehind};
 ghost use Rattle.zalone.specs.Told.{TellsAskedFrom, TellsAskedAllFrom};
 ghost use Rattle.zalone.specs.Told.{TellsOrderedFrom, TellsSettledFrom};
 
+use crate::chain_order::ChainOrder;
 use crate::changes::Changes;
 use crate::hearing::{event_of, hear, only_client, takes_last};
 use crate::knowing::known_from;
 use crate::limits::MAX_EVENTS;
 use crate::made::Made;
-use crate::order::Order;
 use std::alloc::Global;
 use std::marker::Model;
 use zalloc::Memory;
 use zcalls::{Call, Reply};
 use zknown::Known;
-use zprotocol::{RetireFault, ServerId};
+use zprotocol::{OrderFault, ServerId};
 use zserver::Snapshot;
 use zworld::{Did, IdleCause, World};
 use zworld_model::Event;
@@ -222,7 +222,7 @@ impl Alone {
 
     /// Does what the chain's operator orders, and returns what became of it. Where updates are kept,
     /// an order that would fail or retire the last server with the state is refused.
-    pub fn chain(&mut self, order: Order) -> Result<Did, Memory>
+    pub fn chain(&mut self, order: ChainOrder) -> Result<Did, Memory>
         ensures given { IfOk result (Gives self.old order self.new) }
         ensures same { OnOk result (SameCall self.old self.new) }
         ensures told { OnOk result (TellsOrdered self.old self.new) }
@@ -236,7 +236,7 @@ impl Alone {
             return Err(Memory);
         }
         if self.refuses(&order) {
-            return Ok(Did::Idle(IdleCause::Retire(RetireFault::Last)));
+            return Ok(Did::Idle(IdleCause::Order(OrderFault::Last)));
         }
         let did = self.world.step(event_of(order));
         self.is_broken = did.is_err();
@@ -244,7 +244,7 @@ impl Alone {
     }
 
     // Whether an order is refused.
-    fn refuses(&self, order: &Order) -> bool
+    fn refuses(&self, order: &ChainOrder) -> bool
         ensures { result ≡ is_refused self.now order.now }
     {
         let is_kept = self.changes.is_kept();

@@ -7,12 +7,13 @@ ghost use Rattle.zalone.specs.Alone.{heard, HeardFits, known_by, made_behind};
 ghost use Rattle.zalone.specs.Order.{event_of, takes_last};
 ghost use Rattle.zworld.specs.Steps.{world_in};
 
+use crate::chain_order::ChainOrder;
 use crate::changes::Changes;
-use crate::order::Order;
 use std::alloc::Global;
 use zalloc::Memory;
 use zcalls::Reply;
 use zknown::Known;
+use zprotocol::Order;
 use ztree::ClientId;
 use zworld::World;
 use zworld_model::{CallEvent, Event};
@@ -54,22 +55,22 @@ pub(crate) fn only_client() -> ClientId
 }
 
 /// Returns an order as an event.
-pub(crate) fn event_of(order: Order) -> Event
+pub(crate) fn event_of(order: ChainOrder) -> Event
     ensures { result ≡ event_of order }
 {
     match order {
-        Order::Fail(server) => Event::Fail(server),
-        Order::Join(server) => Event::Join(server),
-        Order::Retire(server) => Event::Retire(server),
+        ChainOrder::Fail(server) => Event::Fail(server),
+        ChainOrder::Order(order) => Event::Order(order),
     }
 }
 
 /// Returns whether an order would take away the last server that has the state and stays.
-pub(crate) fn takes_last(world: &World, order: &Order) -> bool
+pub(crate) fn takes_last(world: &World, order: &ChainOrder) -> bool
     ensures { result ≡ takes_last (world_in world.now) order.now }
 {
     match order {
-        Order::Fail(server) | Order::Retire(server) => world.is_last(*server),
-        Order::Join(_) => false,
+        ChainOrder::Fail(server) => world.is_last(*server),
+        ChainOrder::Order(Order::Retire(server)) => world.is_last(*server),
+        ChainOrder::Order(Order::Join(_)) => false,
     }
 }

@@ -9,16 +9,16 @@
 #![tactic(auto)]
 
 mod alone;
+mod chain_order;
 mod changes;
 mod hearing;
 mod knowing;
 pub mod laws;
 pub mod limits;
 mod made;
-mod order;
 mod rows;
 
 pub use alone::Alone;
+pub use chain_order::ChainOrder;
 pub use made::Made;
-pub use order::Order;
 pub use zworld::Did;

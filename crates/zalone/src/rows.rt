@@ -18,9 +18,11 @@ ghost use Rattle.zcalls.specs.declared.call.Call.TheVariants as call;
 ghost use Rattle.zcalls.specs.declared.call.Query.{Query};
 ghost use Rattle.zcalls.specs.declared.call.Update.{Update};
 ghost use Rattle.zalone.specs.Order.{event_of, takes_last};
-ghost use Rattle.zalone.specs.declared.order.Order.{Order};
+ghost use Rattle.zalone.specs.declared.chain_order.ChainOrder.{ChainOrder};
 ghost use Rattle.zalone.specs.Told.{GoesOnAsked, GoesOnAskedAll, GoesOnSettled};
-ghost use Rattle.zalone.specs.declared.order.Order.TheVariants.{Fail, Join, Retire};
+ghost use Rattle.zalone.specs.declared.chain_order.ChainOrder.TheVariants.{Fail, Order};
+ghost use Rattle.zprotocol.specs.declared.master.order.Order.TheVariants.{Join, Retire};
+ghost use Rattle.zworld_model.specs.Orders as orders;
 ghost use Rattle.zalone.specs.support.Samples.{AnswersTwo, IsNow};
 
 /// What the history of a call says: nothing, that it waits, or its reply.
@@ -81,28 +83,28 @@ pub fn logs_go_on_at_many()
 /// Orders as events.
 pub fn orders_are_events()
     ensures fail { event_of (Fail 2) ≡ event.Fail 2 }
-    ensures join { event_of (Join 4) ≡ event.Join 4 }
-    ensures retire { event_of (Retire 1) ≡ event.Retire 1 }
+    ensures join { event_of (Order (Join 4)) ≡ orders.Join 4 }
+    ensures retire { event_of (Order (Retire 1)) ≡ orders.Retire 1 }
 {}
 
 /// Orders that would take away the last server. In memory none is refused.
 pub fn orders_of_the_last()
     ensures fail { takes_last (opening_world kept_tree 1 1) (Fail 1) ≡ true }
-    ensures retire { takes_last (opening_world kept_tree 1 1) (Retire 1) ≡ true }
-    ensures join { takes_last (opening_world kept_tree 1 1) (Join 2) ≡ false }
+    ensures retire { takes_last (opening_world kept_tree 1 1) (Order (Retire 1)) ≡ true }
+    ensures join { takes_last (opening_world kept_tree 1 1) (Order (Join 2)) ≡ false }
     ensures one_of_two { takes_last (opening_world kept_tree 2 1) (Fail 1) ≡ false }
     ensures kept { (v : AloneView) → v.changes.is_kept ≡ true
         → world_in v.world ≡ opening_world kept_tree 1 1 → is_refused v (Fail 1) ≡ true }
-    ensures in_memory { (v : AloneView) (order : Order) → v.changes.is_kept ≡ false
+    ensures in_memory { (v : AloneView) (order : ChainOrder) → v.changes.is_kept ≡ false
         → is_refused v order ≡ false }
 {}
 
 /// An order that is refused isn't done, and changes nothing. In memory each one is done.
 pub fn orders_are_refused()
-    ensures not_done { (u v : AloneView) (order : Order) → GivesIf true u order v Done → ⊥ }
-    ensures same { (u v : AloneView) (order : Order) (did : Did) → GivesIf true u order v did
+    ensures not_done { (u v : AloneView) (order : ChainOrder) → GivesIf true u order v Done → ⊥ }
+    ensures same { (u v : AloneView) (order : ChainOrder) (did : Did) → GivesIf true u order v did
         → v ≡ u }
-    ensures in_memory { (u v : AloneView) (order : Order) (did : Did)
+    ensures in_memory { (u v : AloneView) (order : ChainOrder) (did : Did)
         → u.changes.is_kept ≡ false → Gives u order v did
         → HasDone u.world v.world (event_of order) did × HasCause u.world.held (event_of order) did }
 {}

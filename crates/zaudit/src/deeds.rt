@@ -25,8 +25,7 @@ fn event_for(alloc: Global, process: Process, act: &Act) -> Result<Option<Event>
         (Process::Server(server), Act::Took(_, Outcome::Stopped)) => Ok(Some(Event::Fail(server))),
         (Process::Server(_), Act::Left) => Ok(Some(Event::Take(Process::Master, process))),
         (Process::Server(server), Act::Halted) => Ok(Some(Event::Fail(server))),
-        (Process::Master, Act::Joined(server)) => Ok(Some(Event::Join(*server))),
-        (Process::Master, Act::Retired(server)) => Ok(Some(Event::Retire(*server))),
+        (Process::Master, Act::Ordered(order)) => Ok(Some(Event::Order(*order))),
         (Process::Client(client), Act::Began(call)) => {
             Ok(Some(Event::Begin(client, call.copied(alloc)?)))
         }
@@ -35,11 +34,11 @@ fn event_for(alloc: Global, process: Process, act: &Act) -> Result<Option<Event>
     }
 }
 
-// Returns whether the master is asked for it, which may refuse: a join, or an order to leave.
+// Returns whether the master is asked for it, which may refuse.
 fn asks_the_master(event: &Event) -> bool
     ensures { result ≡ asks_the_master event.now }
 {
-    matches!(event, Event::Join(_) | Event::Retire(_))
+    matches!(event, Event::Order(_))
 }
 
 // Returns what the world's answer means. An event that isn't enabled is `Disorder`, unless the

@@ -7,7 +7,7 @@ use zaudit::{AuditFault, audit};
 use zcalls::{Call, CallNumber, ClientId, Create, Kind, Lifetime, Query, Reply, Update};
 use zliterals::{call_number, client, server};
 use zpath::Path;
-use zprotocol::Process;
+use zprotocol::{Order, Process};
 use ztraces::{Act, ClientTrace, Stamp, Trace, TraceEvent, Traces};
 use ztree::{Data, Stat, Zxid};
 use zworld_model::{CallEvent, Outcome};
@@ -39,8 +39,8 @@ fn act(alloc: Global, deed: Deed) -> Result<Act, Fail> {
         Deed::Creates => Ok(Act::Began(creates(alloc)?)),
         Deed::Gets => Ok(Act::Began(gets(alloc)?)),
         Deed::Retries => Ok(Act::Retried),
-        Deed::Joins(_) => Ok(Act::Joined(server(1))),
-        Deed::Retires => Ok(Act::Retired(server(1))),
+        Deed::Joins(_) => Ok(Act::Ordered(Order::Join(server(1)))),
+        Deed::Retires => Ok(Act::Ordered(Order::Retire(server(1)))),
         Deed::Leaves => Ok(Act::Left),
         Deed::Halts => Ok(Act::Halted),
     }

@@ -1,7 +1,7 @@
 -- The outcomes that were heard are those of the first orders.
 use Rattle.std.proofs.Common.{◌≡◌, List, ◌++◌, map, ap, ◌∙◌, append_assoc}
 use Rattle.std.proofs.lemmas.List.{map-append}
-use Rattle.zconsole.specs.declared.order.Order.{Order}
+use Rattle.zprotocol.specs.declared.master.order.Order.{Order}
 use Rattle.zconsole.specs.declared.outcome.OrderOutcome.{OrderOutcome}
 use Rattle.zconsole.specs.Outcomes.{order_of}
 

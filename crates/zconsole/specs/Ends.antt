@@ -3,7 +3,7 @@ use Rattle.std.specs.Prelude.{◌≡◌, ℕ, List}
 use Rattle.crossbeam_channel.specs.Claims.{view}
 use Rattle.crossbeam_channel.specs.Ends.{receives_on, ruled_capacity, sends_on}
 use Rattle.zrings.specs.Ends as ring
-use Rattle.zconsole.specs.declared.order.Order.{Order}
+use Rattle.zprotocol.specs.declared.master.order.Order.{Order}
 use Rattle.zconsole.specs.declared.outcome.OrderOutcome.{OrderOutcome}
 use Rattle.zconsole.specs.declared.ends.Console.{Console}
 use Rattle.zconsole.specs.declared.ends.Inbox.{Inbox}

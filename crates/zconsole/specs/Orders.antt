@@ -3,7 +3,7 @@
 use Rattle.std.specs.Prelude.{◌≡◌, ℕ, Bool, true, List, ◌++◌}
 use mathlib.Core.Option.{some}
 use lib.ListN.{get_elem?}
-use Rattle.zconsole.specs.declared.order.Order.{Order}
+use Rattle.zprotocol.specs.declared.master.order.Order.{Order}
 use Rattle.zconsole.specs.declared.rule.Log.{Log}
 
 abbrev pub log : Bool → Bool → List Order → List Order → Log

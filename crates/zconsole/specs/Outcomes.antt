@@ -1,18 +1,15 @@
 -- What the master said to which orders.
 use Rattle.std.specs.Prelude.{◌≡◌, List, ◌++◌, map}
-use Rattle.zconsole.specs.declared.order.Order.{Order}
-use Rattle.zconsole.specs.declared.order.Order.TheVariants.{Join, Retire}
+use Rattle.zprotocol.specs.declared.master.order.Order.{Order}
 use Rattle.zconsole.specs.declared.outcome.OrderOutcome.{OrderOutcome}
-use Rattle.zconsole.specs.declared.outcome.OrderOutcome.TheVariants.{Joins, JoinRefused, Leaves, RetireRefused}
+use Rattle.zconsole.specs.declared.outcome.OrderOutcome.TheVariants.{Obeyed, Refused}
 use Rattle.zconsole.specs.declared.ends.Inbox.{Inbox}
 use Rattle.zconsole.specs.Ends.{said, taken_of}
 
 -- the order that an outcome is said to
 abbrev pub order_of : OrderOutcome → Order
-order_of (Joins s) = Join s
-order_of (JoinRefused s fault) = Join s
-order_of (Leaves s) = Retire s
-order_of (RetireRefused s fault) = Retire s
+order_of (Obeyed order) = order
+order_of (Refused order fault) = order
 
 -- each order that was received has its outcome, said in turn, but for the last ones
 abbrev pub AreSaid : Inbox → List Order → Type 0

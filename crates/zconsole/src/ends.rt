@@ -5,7 +5,6 @@ ghost use Rattle.std.specs.Prelude.{IfErr, IfOk, IsTrue, OnErr, OnOk};
 ghost use Rattle.crossbeam_channel.specs.Claims.{view, IsSeatAt};
 ghost use Rattle.crossbeam_channel.specs.Ends.{receives_on, sends_on};
 
-use crate::order::Order;
 use crate::outcome::OrderOutcome;
 use crate::rule::{Fifo, Law, Log, Puts, Roles, Takes};
 use crossbeam_channel::{Pass, RuledReceiver, RuledSender, bounded_with};
@@ -14,7 +13,7 @@ use std::sync::Wait;
 use thiserror::Error;
 use zalloc::Memory;
 use zbells::Bells;
-use zprotocol::{Process, ServerId};
+use zprotocol::{Order, Process, ServerId};
 use zrings::ends::{Rx, Tx, link, told};
 
 /// How many orders the channel has room for.
@@ -49,8 +48,8 @@ pub struct Inbox {
 
 impl Console {
     ghost use Rattle.zconsole.specs.declared.ends.TheConstants.{ROOM};
-    ghost use Rattle.zconsole.specs.declared.order.Order.{Order};
-    ghost use Rattle.zconsole.specs.declared.order.Order.TheVariants.{Join, Retire};
+    ghost use Rattle.zprotocol.specs.declared.master.order.Order.{Order};
+    ghost use Rattle.zprotocol.specs.declared.master.order.Order.TheVariants.{Join, Retire};
     ghost use Rattle.zconsole.specs.declared.outcome.OrderOutcome.{OrderOutcome};
     ghost use Rattle.zconsole.specs.Ends.{AreEnds, heard, IsSameConsole, ordered, room_of, said};
     ghost use Rattle.zconsole.specs.Ends.{taken_of};

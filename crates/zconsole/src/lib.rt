@@ -4,7 +4,6 @@
 #![tactic(auto)]
 
 pub mod ends;
-pub mod order;
 pub mod outcome;
 pub mod rows;
 pub mod rule;

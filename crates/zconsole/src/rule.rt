@@ -4,9 +4,9 @@
 ghost use Rattle.std.specs.Prelude.{◌≡◌, true, false, [], ◌∷◌, ◌++◌};
 ghost use Rattle.zconsole.specs.Orders.{log, InOrder};
 
-use crate::order::Order;
 use crossbeam_channel::protocol::{Join, Lesson, Outcome, Protocol, Split};
 use std::collections::LinkedList;
+use zprotocol::Order;
 
 /// What an end may do, and what it has sent or received. No value of it is made.
 pub struct Log {

@@ -1,7 +1,8 @@
 -- The lines that are refused, so that some server always has the state. This is the project's profile.
 use Rattle.std.specs.Prelude.{ℕ, Bool, false, List, [], ◌∷◌, ◌++◌, codes, Ok, if◌then◌else◌}
 use Rattle.zlines.specs.declared.line.Line.{Line}
-use Rattle.zlines.specs.declared.line.Line.TheVariants.{Fail, Retire}
+use Rattle.zprotocol.specs.declared.master.order.Order.TheVariants.{Retire}
+use Rattle.zlines.specs.declared.line.Line.TheVariants.{Fail, Order}
 use Rattle.zlines.specs.Request.{Read}
 use Rattle.zlines.specs.Line.{line_of}
 use Rattle.zworld.specs.Last.{is_last}
@@ -10,7 +11,7 @@ use Rattle.zscript.specs.Line.{ServiceWorld, ScriptState, answer, after}
 -- the line fails or retires a server, and no other one has the state and stays
 abbrev pub takes_last : ServiceWorld → Read Line → Bool
 takes_last w (Ok (Fail server)) = is_last w server
-takes_last w (Ok (Retire server)) = is_last w server
+takes_last w (Ok (Order (Retire server))) = is_last w server
 takes_last w read = false
 
 -- such a line is refused

@@ -13,6 +13,7 @@ use memchr::memchr;
 use std::alloc::{AllocError, Global};
 use zalloc::Memory;
 use zlines::{Line, LineFault, read_line};
+use zprotocol::Order;
 use zscript::{ServerId, answer_line_strictly, script_world};
 use zworld::World;
 
@@ -97,7 +98,8 @@ fn takes_last(world: &World, asked: &Line) -> bool
     ensures { result ≡ takes_last (world_between world.now.held) (Ok asked.now) }
 {
     match asked {
-        Line::Fail(server) | Line::Retire(server) => world.is_last(*server),
+        Line::Fail(server) => world.is_last(*server),
+        Line::Order(Order::Retire(server)) => world.is_last(*server),
         _ => false,
     }
 }

@@ -2,10 +2,8 @@
 -- script (docs/GUIDE.md): fail, join, retire, settle. Any other line is `bad line`, so the operator
 -- makes no call.
 use Rattle.std.specs.Prelude.{◌≡◌, ℕ, List, [], ◌∷◌, ◌++◌, codes, Option, None, Some, Result, Ok, Err}
-use Rattle.zprotocol.specs.declared.master.join_fault.JoinFault.{JoinFault}
-use Rattle.zprotocol.specs.declared.master.join_fault.JoinFault.TheVariants as join
-use Rattle.zprotocol.specs.declared.master.retire_fault.RetireFault.{RetireFault}
-use Rattle.zprotocol.specs.declared.master.retire_fault.RetireFault.TheVariants as retire
+use Rattle.zprotocol.specs.declared.master.order_fault.OrderFault.{OrderFault}
+use Rattle.zprotocol.specs.declared.master.order_fault.OrderFault.TheVariants as refusal
 use Rattle.zlines.specs.declared.line.Line.{Line}
 use Rattle.zlines.specs.declared.line.Line.TheVariants as line
 use Rattle.zlines.specs.declared.request.LineFault.{LineFault}
@@ -17,8 +15,8 @@ use Rattle.zworld.specs.declared.did.IdleCause.{IdleCause}
 use Rattle.zworld.specs.declared.did.IdleCause.TheVariants as cause
 use Rattle.zcalls.specs.declared.call.Call.{Call}
 use Rattle.zcalls.specs.declared.reply.Reply.{Reply}
-use Rattle.zalone.specs.declared.order.Order.{Order}
-use Rattle.zalone.specs.declared.order.Order.TheVariants as order
+use Rattle.zalone.specs.declared.chain_order.ChainOrder.{ChainOrder}
+use Rattle.zalone.specs.declared.chain_order.ChainOrder.TheVariants as order
 use Rattle.zalone.specs.Alone.{AloneView, Gives, Settles, SameCall}
 use Rattle.zalone.specs.Told.{TellsOrdered, TellsSettled}
 use Rattle.ztables.specs.Tables.{operator_sent}
@@ -26,25 +24,19 @@ use Rattle.zfront.specs.declared.orders.Wanted.{Wanted}
 use Rattle.zfront.specs.declared.orders.Wanted.TheVariants as wanted
 use Rattle.zfront.specs.Front.{FrontView, with_tables, IsReady, HearsIf}
 
--- why a join is refused
-abbrev pub join_text : JoinFault → List ℕ
-join_text join.Used = codes "no Used"
-join_text join.Joining = codes "no Joining"
-join_text join.NoChain = codes "no NoChain"
-join_text join.Lost = codes "no Lost"
-join_text join.Retiring = codes "no Retiring"
-
--- why an order to leave is refused
-abbrev pub retire_text : RetireFault → List ℕ
-retire_text retire.NotMember = codes "no NotMember"
-retire_text retire.Joining = codes "no Joining"
-retire_text retire.Last = codes "no Last"
-retire_text retire.Retiring = codes "no Retiring"
+-- why an order is refused
+abbrev pub fault_text : OrderFault → List ℕ
+fault_text refusal.Used = codes "no Used"
+fault_text refusal.NotMember = codes "no NotMember"
+fault_text refusal.Joining = codes "no Joining"
+fault_text refusal.NoChain = codes "no NoChain"
+fault_text refusal.Lost = codes "no Lost"
+fault_text refusal.Last = codes "no Last"
+fault_text refusal.Retiring = codes "no Retiring"
 
 -- why nothing happened
 abbrev pub cause_text : IdleCause → List ℕ
-cause_text (cause.Join fault) = join_text fault
-cause_text (cause.Retire fault) = retire_text fault
+cause_text (cause.Order why) = fault_text why
 cause_text other = codes "idle"
 
 -- what became of an order
@@ -58,7 +50,7 @@ told_operator text v = with_tables (operator_sent (text ++ 10 ∷ []) v.tables) 
 
 -- an order is given to the chain, which refuses it where it would take away the last server of a
 -- service that keeps its changes
-pub record IsGiven (given : Order) (old new : FrontView) : Type 0 where
+pub record IsGiven (given : ChainOrder) (old new : FrontView) : Type 0 where
   pub did : Did
   pub asker : AloneView
   pub gives : Gives old.asker given asker did
@@ -83,8 +75,7 @@ SettlesNow old new = (middle : FrontView) × SettlesIf old.late old middle × (n
 -- what a line asks for
 abbrev pub wanted_of : Line → Wanted
 wanted_of (line.Fail server) = wanted.Order (order.Fail server)
-wanted_of (line.Join server) = wanted.Order (order.Join server)
-wanted_of (line.Retire server) = wanted.Order (order.Retire server)
+wanted_of (line.Order given) = wanted.Order (order.Order given)
 wanted_of line.Settle = wanted.Settle
 wanted_of other = wanted.Nothing
 

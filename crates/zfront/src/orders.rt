@@ -6,9 +6,9 @@ ghost use Rattle.zfront.specs.Orders as table;
 
 use crate::inner::Inner;
 use zalloc::Memory;
-use zalone::{Did, Order};
+use zalone::{ChainOrder, Did};
 use zlines::{Line, LineFault, read_line};
-use zprotocol::{JoinFault, RetireFault};
+use zprotocol::OrderFault;
 use zworld::IdleCause;
 
 impl Inner {
@@ -51,7 +51,7 @@ impl Inner {
     }
 
     // Gives an order to the chain.
-    fn give(&mut self, order: Order) -> Result<(), Memory>
+    fn give(&mut self, order: ChainOrder) -> Result<(), Memory>
         ensures { OnOk result (IsGiven order self.old self.new) }
     {
         let did = self.alone.chain(order)?;
@@ -92,7 +92,7 @@ impl Inner {
 #[derive(Clone, Copy, Debug, PartialEq, Eq)]
 pub(crate) enum Wanted {
     // The chain is given an order.
-    Order(Order),
+    Order(ChainOrder),
     // The service is to settle.
     Settle,
     // What an operator has no line for.
@@ -104,9 +104,8 @@ fn wanted_of(line: &Line) -> Wanted
     ensures { result ≡ table.wanted_of line.now }
 {
     match line {
-        Line::Fail(server) => Wanted::Order(Order::Fail(*server)),
-        Line::Join(server) => Wanted::Order(Order::Join(*server)),
-        Line::Retire(server) => Wanted::Order(Order::Retire(*server)),
+        Line::Fail(server) => Wanted::Order(ChainOrder::Fail(*server)),
+        Line::Order(order) => Wanted::Order(ChainOrder::Order(*order)),
         Line::Settle => Wanted::Settle,
         _ => Wanted::Nothing,
     }
@@ -117,34 +116,23 @@ fn did_text(did: Did) -> &'static str
     ensures { result.now ≡ table.did_text did }
 {
     match did {
-        Did::Idle(IdleCause::Join(fault)) => join_text(fault),
-        Did::Idle(IdleCause::Retire(fault)) => retire_text(fault),
+        Did::Idle(IdleCause::Order(fault)) => fault_text(fault),
         Did::Idle(_) => "idle",
         Did::Done | Did::Unheard | Did::Stopped => "done",
     }
 }
 
-// Returns what is said of a join that is refused.
-fn join_text(fault: JoinFault) -> &'static str
-    ensures { result.now ≡ table.join_text fault }
+// Returns what is said of an order that is refused.
+fn fault_text(fault: OrderFault) -> &'static str
+    ensures { result.now ≡ table.fault_text fault }
 {
     match fault {
-        JoinFault::Used => "no Used",
-        JoinFault::Joining => "no Joining",
-        JoinFault::NoChain => "no NoChain",
-        JoinFault::Lost => "no Lost",
-        JoinFault::Retiring => "no Retiring",
-    }
-}
-
-// Returns what is said of an order to leave that is refused.
-fn retire_text(fault: RetireFault) -> &'static str
-    ensures { result.now ≡ table.retire_text fault }
-{
-    match fault {
-        RetireFault::NotMember => "no NotMember",
-        RetireFault::Joining => "no Joining",
-        RetireFault::Last => "no Last",
-        RetireFault::Retiring => "no Retiring",
+        OrderFault::Used => "no Used",
+        OrderFault::NotMember => "no NotMember",
+        OrderFault::Joining => "no Joining",
+        OrderFault::NoChain => "no NoChain",
+        OrderFault::Lost => "no Lost",
+        OrderFault::Last => "no Last",
+        OrderFault::Retiring => "no Retiring",
     }
 }

@@ -2,8 +2,8 @@
 
 ghost use Rattle.std.specs.Prelude.{◌≡◌, ℕ, negsuc, true, false, List, [], ◌∷◌, codes, None, Some};
 ghost use Rattle.std.specs.FinMap.{empty, insert};
-ghost use Rattle.zprotocol.specs.declared.master.join_fault.JoinFault.TheVariants as join;
-ghost use Rattle.zprotocol.specs.declared.master.retire_fault.RetireFault.TheVariants as retire;
+ghost use Rattle.zprotocol.specs.declared.master.order.Order.TheVariants.{Join, Retire};
+ghost use Rattle.zprotocol.specs.declared.master.order_fault.OrderFault.TheVariants as refusal;
 ghost use Rattle.zcalls.specs.declared.call.Call.{Call};
 ghost use Rattle.zcalls.specs.declared.call.Call.TheVariants.{Update};
 ghost use Rattle.zcalls.specs.declared.call.Update.TheVariants.{Open, Ping, Tick};
@@ -16,7 +16,7 @@ ghost use Rattle.zlines.specs.declared.request.Request.{Request};
 ghost use Rattle.zworld.specs.declared.did.Did.TheVariants as became;
 ghost use Rattle.zworld.specs.declared.did.IdleCause.TheVariants as cause;
 ghost use Rattle.zpieces.specs.declared.phase.Phase.TheVariants.{Closing, Silent, Speaking};
-ghost use Rattle.zalone.specs.declared.order.Order.TheVariants as order;
+ghost use Rattle.zalone.specs.declared.chain_order.ChainOrder.TheVariants as order;
 ghost use Rattle.zsittings.specs.Sittings.{restored_sitting};
 ghost use Rattle.ztables.specs.Tables.{TablesView, closed, is_open};
 ghost use Rattle.zserving.specs.Greeting.{welcomed};
@@ -54,8 +54,9 @@ pub fn words_are_answered()
 /// What lines of the operator ask for. A line that makes a call asks for nothing.
 pub fn lines()
     ensures fail { wanted_of (line.Fail 2) ≡ wanted.Order (order.Fail 2) }
-    ensures join { wanted_of (line.Join 2) ≡ wanted.Order (order.Join 2) }
-    ensures retire { wanted_of (line.Retire 2) ≡ wanted.Order (order.Retire 2) }
+    ensures join { wanted_of (line.Order (Join 2)) ≡ wanted.Order (order.Order (Join 2)) }
+    ensures retire { wanted_of (line.Order (Retire 2))
+        ≡ wanted.Order (order.Order (Retire 2)) }
     ensures settle { wanted_of line.Settle ≡ wanted.Settle }
     ensures call { (r : Request) → wanted_of (line.Call r) ≡ wanted.Nothing }
     ensures begin { (r : Request) → wanted_of (line.Begin r) ≡ wanted.Nothing }
@@ -67,8 +68,8 @@ pub fn orders_are_answered()
     ensures done { did_text became.Done ≡ codes "done" }
     ensures stopped { did_text became.Stopped ≡ codes "done" }
     ensures idle { did_text (became.Idle cause.Nothing) ≡ codes "idle" }
-    ensures joining { did_text (became.Idle (cause.Join join.Used)) ≡ codes "no Used" }
-    ensures last { did_text (became.Idle (cause.Retire retire.Last)) ≡ codes "no Last" }
+    ensures joining { did_text (became.Idle (cause.Order refusal.Used)) ≡ codes "no Used" }
+    ensures last { did_text (became.Idle (cause.Order refusal.Last)) ≡ codes "no Last" }
 {}
 
 /// A tick renews sessions, and then time goes on. Whether it took nodes away.

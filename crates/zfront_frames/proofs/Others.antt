@@ -55,8 +55,8 @@ use Rattle.zfront.specs.Reading.{HandlesIn, HandlesUnless, Handles, HandlesAll, 
 use Rattle.zfront.specs.Requests.{touched_by, EndsIf, Makes, Acts, Requests}
 use Rattle.zfront.specs.Ticking.{tick_calls, rested, TicksIf, TicksBy, TicksUnless, Ticks}
 use Rattle.zfront.specs.Words.{said, text_of_word}
-use Rattle.zalone.specs.declared.order.Order.{Order}
-use Rattle.zalone.specs.declared.order.Order.TheVariants as order
+use Rattle.zalone.specs.declared.chain_order.ChainOrder.{ChainOrder}
+use Rattle.zalone.specs.declared.chain_order.ChainOrder.TheVariants as order
 use Rattle.zfront_laws.specs.Runs.{KeepsFew}
 use Rattle.zfront_laws.proofs.Kept.{changed_alike, rests_alike}
 use Rattle.zfront_laws.proofs.Coming as coming
@@ -307,7 +307,7 @@ module _ (c : ℕ) (connection : c ≢ 0) where
   tells_operator : (text : List ℕ) (v : FrontView) → Calm c v.tables (told_operator text v).tables
   tells_operator text v = operator_told text v.tables
 
-  is_given : (given : Order) (old new : FrontView) → IsGiven given old new → Calm c old.tables new.tables
+  is_given : (given : ChainOrder) (old new : FrontView) → IsGiven given old new → Calm c old.tables new.tables
   is_given given old new has = front.becomes c old new _ has.told (operator_told (did_text has.did) old.tables)
 
   settles_if : (late : Option Call) (old new : FrontView) → SettlesIf late old new → Calm c old.tables new.tables
@@ -324,8 +324,7 @@ module _ (c : ℕ) (connection : c ≢ 0) where
 
   obeys : (given : Line) (old new : FrontView) → Obeys (wanted_of given) old new → Calm c old.tables new.tables
   obeys (line.Fail server) old new has = is_given (order.Fail server) old new has
-  obeys (line.Join server) old new has = is_given (order.Join server) old new has
-  obeys (line.Retire server) old new has = is_given (order.Retire server) old new has
+  obeys (line.Order given) old new has = is_given (order.Order given) old new has
   obeys line.Settle old new has = settles_now old new has
   obeys unknown old new is = is_bad old new is
 

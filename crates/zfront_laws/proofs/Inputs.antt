@@ -12,8 +12,8 @@ use Rattle.zlines.specs.declared.request.LineFault.{LineFault}
 use Rattle.zlines.specs.Line.{line_of}
 use Rattle.zsittings.specs.Sittings.{touched_ids}
 use Rattle.zalone.proofs.Earlier.{is_one_tree, its_log}
-use Rattle.zalone.specs.declared.order.Order.{Order}
-use Rattle.zalone.specs.declared.order.Order.TheVariants as order
+use Rattle.zalone.specs.declared.chain_order.ChainOrder.{ChainOrder}
+use Rattle.zalone.specs.declared.chain_order.ChainOrder.TheVariants as order
 use Rattle.ztables.specs.Tables.{TablesView}
 use Rattle.ztables.specs.Tables as tables
 use Rattle.zfront.specs.Front.{FrontView}
@@ -57,7 +57,7 @@ ticks old new has =
     both old has.0 new (is_ready old has.0 has.1) (ticks_unless (is_some has.0.late) has.0 new (none_late has.0.late) has.2)
 
 -- a line of the operator
-is_given : (given : Order) (old new : FrontView) → IsGiven given old new → Step old new
+is_given : (given : ChainOrder) (old new : FrontView) → IsGiven given old new → Step old new
 is_given given old new has =
     becomes old new (told_operator (did_text has.did) (record old { asker = has.asker })) has.told
     (since.ordered old (told_operator (did_text has.did) (record old { asker = has.asker })) given has.did refl has.gives has.same)
@@ -77,8 +77,7 @@ settles_now old new has =
 
 obeys : (said : Line) (old new : FrontView) → Obeys (wanted_of said) old new → Step old new
 obeys (line.Fail server) old new has = is_given (order.Fail server) old new has
-obeys (line.Join server) old new has = is_given (order.Join server) old new has
-obeys (line.Retire server) old new has = is_given (order.Retire server) old new has
+obeys (line.Order given) old new has = is_given (order.Order given) old new has
 obeys line.Settle old new has = settles_now old new has
 obeys other old new is = retabled (told_operator (codes "bad line") old).tables old new is (unmoved old.tables)
 

@@ -17,8 +17,8 @@ use Rattle.zpieces.specs.declared.phase.Phase.{Phase}
 use Rattle.zpieces.specs.declared.phase.Phase.TheVariants.{Silent, Speaking, Closing}
 use Rattle.zsittings.specs.Sittings.{touched_ids}
 use Rattle.zturns.specs.Turns.{Log}
-use Rattle.zalone.specs.declared.order.Order.{Order}
-use Rattle.zalone.specs.declared.order.Order.TheVariants as order
+use Rattle.zalone.specs.declared.chain_order.ChainOrder.{ChainOrder}
+use Rattle.zalone.specs.declared.chain_order.ChainOrder.TheVariants as order
 use Rattle.zalone.specs.Alone.{AloneView}
 use Rattle.zalone.specs.Told.{TellsSettled}
 use Rattle.zalone.proofs.Earlier.{known_tree}
@@ -92,7 +92,7 @@ ticks old new has =
 
 -- ---- lines of the operator
 
-is_given : (given : Order) (old new : FrontView) → IsGiven given old new → LivesOn old new
+is_given : (given : ChainOrder) (old new : FrontView) → IsGiven given old new → LivesOn old new
 is_given given old new has told waiting is alive =
     subst Alive (sym has.told) (λ none id there.
     ap (λ (k : KnownView). contains_key k.sessions id) (same_log old.asker has.asker told waiting waiting is.told (has.tells told waiting is.told)) ∙ alive none id there)
@@ -116,8 +116,7 @@ bad_line old new is = retables (told_operator (codes "bad line") old).tables old
 
 obeys : (said : Line) (old new : FrontView) → Obeys (wanted_of said) old new → LivesOn old new
 obeys (line.Fail server) old new has = is_given (order.Fail server) old new has
-obeys (line.Join server) old new has = is_given (order.Join server) old new has
-obeys (line.Retire server) old new has = is_given (order.Retire server) old new has
+obeys (line.Order given) old new has = is_given (order.Order given) old new has
 obeys line.Settle old new has = settles_now old new has
 obeys other old new is = bad_line old new is
 

@@ -4,7 +4,7 @@ use Rattle.std.specs.Prelude.{◌&&◌, codes}
 use Rattle.ztree.specs.Tree.{Tree}
 use Rattle.zanswering.specs.declared.clock.Clock.{Clock}
 use Rattle.zworld.specs.Steps.{world_in}
-use Rattle.zalone.specs.declared.order.Order.{Order}
+use Rattle.zalone.specs.declared.chain_order.ChainOrder.{ChainOrder}
 use Rattle.zalone.specs.Alone.{GivesIf}
 use Rattle.zalone.specs.Order.{takes_last}
 use Rattle.zfront.specs.Front.{FrontView, IsReady}
@@ -42,7 +42,7 @@ keeps_as_first last times tree seats inputs first v ready b restored kept runs b
     ∙ kept
 
 -- an order that is refused
-refused : (order : Order) (old new : FrontView) (given : IsGiven order old new) → GivesIf true old.asker order given.asker given.did → new ≡ told_operator (codes "no Last") old
+refused : (order : ChainOrder) (old new : FrontView) (given : IsGiven order old new) → GivesIf true old.asker order given.asker given.did → new ≡ told_operator (codes "no Last") old
 refused order old new given is = given.told ∙ (λ i. told_operator (did_text (is.0 i)) (record old { asker = is.1 i }))
 
 pub no_order_takes_the_last : NoOrderTakesTheLast

@@ -8,7 +8,7 @@ use Rattle.zcalls.specs.declared.call.Call.{Call}
 use Rattle.zcalls.specs.declared.reply.Reply.{Reply}
 use Rattle.zworld.specs.declared.did.Did.{Did}
 use Rattle.zturns.specs.Turns.{Log, IsOneTrees}
-use Rattle.zalone.specs.declared.order.Order.{Order}
+use Rattle.zalone.specs.declared.chain_order.ChainOrder.{ChainOrder}
 use Rattle.zalone.specs.Alone.{AloneView, AsksAll, Gives, GivesIf, SameCall, Settles, is_refused}
 use Rattle.zalone.specs.Told.{HasToldFrom, GoesOnSettled, StopsBefore}
 use Rattle.zalone.proofs.Earlier.{behind, left_by}
@@ -121,12 +121,12 @@ settles old new told kept has t log waiting is =
     settled t old new log waiting told kept is (settles_tell t old.asker new.asker told has log waiting is.told)
 
 -- an order is given, or refused
-given : (t : Tree) (refused : Bool) (old new : AloneView) (order : Order) (did : Did) → GivesIf refused old order new did → SameCall old new
+given : (t : Tree) (refused : Bool) (old new : AloneView) (order : ChainOrder) (did : Did) → GivesIf refused old order new did → SameCall old new
     → (log : Log) (waiting : Option Call) → HasToldFrom t old log waiting → HasToldFrom t new log waiting
 given t true old new order did has same log waiting told = subst (λ v. HasToldFrom t v log waiting) (sym has.1) told
 given t false old new order did has same log waiting told = orders_tell t old new order did has.0 same log waiting told
 
-pub ordered : (old new : FrontView) (order : Order) (did : Did) → new.late ≡ old.late → Gives old.asker order new.asker did → SameCall old.asker new.asker
+pub ordered : (old new : FrontView) (order : ChainOrder) (did : Did) → new.late ≡ old.late → Gives old.asker order new.asker did → SameCall old.asker new.asker
     → GoesOnSince old new
 ordered old new order did kept has same t log waiting is =
     stays t new log waiting (record {

@@ -17,8 +17,8 @@ use Rattle.zlines.specs.declared.line.Line.TheVariants as line
 use Rattle.zlines.specs.declared.request.LineFault.{LineFault}
 use Rattle.zlines.specs.Line.{line_of}
 use Rattle.zanswering.specs.Answers.{failed}
-use Rattle.zalone.specs.declared.order.Order.{Order}
-use Rattle.zalone.specs.declared.order.Order.TheVariants as order
+use Rattle.zalone.specs.declared.chain_order.ChainOrder.{ChainOrder}
+use Rattle.zalone.specs.declared.chain_order.ChainOrder.TheVariants as order
 use Rattle.zsittings.specs.Sittings.{touched_ids}
 use Rattle.zwatches.specs.declared.place.Place.{Place}
 use Rattle.ztables.specs.Tables.{TablesView, closed}
@@ -127,7 +127,7 @@ module _ (R : TablesView → TablesView → Type 0) (carry : Carries R) where
   ticks old new has = joins old has.0 new (is_ready old has.0 has.1) (ticks_unless (is_some has.0.late) has.0 new has.2)
 
   -- lines of the operator
-  is_given : (given : Order) (old new : FrontView) → IsGiven given old new → From R old new
+  is_given : (given : ChainOrder) (old new : FrontView) → IsGiven given old new → From R old new
   is_given given old new has =
       becomes old (told_operator (did_text has.did) (record old { asker = has.asker })) new has.told (carry.piece _ old.tables)
 
@@ -145,8 +145,7 @@ module _ (R : TablesView → TablesView → Type 0) (carry : Carries R) where
 
   obeys : (said : Line) (old new : FrontView) → Obeys (wanted_of said) old new → From R old new
   obeys (line.Fail server) old new has = is_given (order.Fail server) old new has
-  obeys (line.Join server) old new has = is_given (order.Join server) old new has
-  obeys (line.Retire server) old new has = is_given (order.Retire server) old new has
+  obeys (line.Order given) old new has = is_given (order.Order given) old new has
   obeys line.Settle old new has = settles_now old new has
   obeys other old new is = bad_line old new is
 

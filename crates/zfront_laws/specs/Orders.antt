@@ -6,7 +6,7 @@ use Rattle.ztree.specs.Tree.{Tree}
 use Rattle.zanswering.specs.declared.clock.Clock.{Clock}
 use Rattle.zworld.specs.Did.{HasCause}
 use Rattle.zworld.specs.Steps.{HasDone, world_in}
-use Rattle.zalone.specs.declared.order.Order.{Order}
+use Rattle.zalone.specs.declared.chain_order.ChainOrder.{ChainOrder}
 use Rattle.zalone.specs.Order.{event_of, takes_last}
 use Rattle.zfront.specs.Front.{FrontView, IsReady}
 use Rattle.zfront.specs.Orders.{IsGiven, told_operator}
@@ -23,7 +23,7 @@ EveryRunKeepsAlike =
 -- else is different. That is asked of the world in which the order would be done
 abbrev pub NoOrderTakesTheLast : Type 0
 NoOrderTakesTheLast =
-    (last : ℕ) (times : Clock) (tree : Tree) (seats : List Seat) (inputs : List Input) (first v ready w : FrontView) (order : Order)
+    (last : ℕ) (times : Clock) (tree : Tree) (seats : List Seat) (inputs : List Input) (first v ready w : FrontView) (order : ChainOrder)
     → IsRestored last times tree seats first → KeepsMade first → Runs inputs first v → IsReady v ready
     → takes_last (world_in ready.asker.world) order ≡ true → IsGiven order ready w
     → w ≡ told_operator (codes "no Last") ready
@@ -31,7 +31,7 @@ NoOrderTakesTheLast =
 -- where it doesn't, each order is an event of the world
 abbrev pub EveryOrderIsDone : Type 0
 EveryOrderIsDone =
-    (last : ℕ) (times : Clock) (tree : Tree) (seats : List Seat) (inputs : List Input) (first v ready w : FrontView) (order : Order)
+    (last : ℕ) (times : Clock) (tree : Tree) (seats : List Seat) (inputs : List Input) (first v ready w : FrontView) (order : ChainOrder)
     → IsRestored last times tree seats first → first.asker.changes.is_kept ≡ false → Runs inputs first v → IsReady v ready
     → (given : IsGiven order ready w)
     → HasDone ready.asker.world given.asker.world (event_of order) given.did × HasCause ready.asker.world.held (event_of order) given.did

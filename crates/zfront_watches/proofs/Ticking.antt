@@ -15,8 +15,8 @@ use Rattle.zturns.specs.Turns.{served}
 use Rattle.zalone.specs.Alone.{AloneView}
 use Rattle.zalone.specs.Laws.{RepliesAreTheTrees}
 use Rattle.zalone.specs.Told.{HasTold, TellsSettled}
-use Rattle.zalone.specs.declared.order.Order.{Order}
-use Rattle.zalone.specs.declared.order.Order.TheVariants as order
+use Rattle.zalone.specs.declared.chain_order.ChainOrder.{ChainOrder}
+use Rattle.zalone.specs.declared.chain_order.ChainOrder.TheVariants as order
 use Rattle.zsittings.specs.Sittings.{touched_ids, all_rested}
 use Rattle.ztables.specs.Tables.{TablesView, operator_sent}
 use Rattle.zfront.specs.Front.{FrontView, Asks, Tidies, takes_nodes}
@@ -132,7 +132,7 @@ same_log old asker s tells there = record {
   free = there.free;
 }
 
-is_given : (given : Order) (old new : FrontView) (s : Scene) → At old s → IsGiven given old new → Reaches new s
+is_given : (given : ChainOrder) (old new : FrontView) (s : Scene) → At old s → IsGiven given old new → Reaches new s
 is_given given old new s there has =
     subst (λ (v : FrontView). Reaches v s) (sym has.told)
     (tells_operator (did_text has.did) (record old { asker = has.asker }) s (same_log old has.asker s has.tells there))
@@ -166,8 +166,7 @@ bad_line old new s there is = subst (λ (v : FrontView). Reaches v s) (sym is) (
 
 obeys : (said : Line) (old new : FrontView) (s : Scene) → At old s → Obeys (wanted_of said) old new → Reaches new s
 obeys (line.Fail server) old new s there has = is_given (order.Fail server) old new s there has
-obeys (line.Join server) old new s there has = is_given (order.Join server) old new s there has
-obeys (line.Retire server) old new s there has = is_given (order.Retire server) old new s there has
+obeys (line.Order given) old new s there has = is_given (order.Order given) old new s there has
 obeys line.Settle old new s there has = settles_now old new s there has
 obeys other old new s there is = bad_line old new s there is
 

@@ -2,7 +2,7 @@
 use Rattle.std.specs.Prelude.{◌≡◌, ℕ, true, List, [], ◌++◌, codes, Option}
 use Rattle.zcalls.specs.declared.call.Call.{Call}
 use Rattle.zworld.specs.Steps.{world_in}
-use Rattle.zalone.specs.declared.order.Order.{Order}
+use Rattle.zalone.specs.declared.chain_order.ChainOrder.{ChainOrder}
 use Rattle.zalone.specs.Order.{takes_last}
 use Rattle.zturns.specs.Turns.{Log, IsOneTrees}
 use Rattle.zalone.specs.Told.{Leaves}
@@ -31,7 +31,7 @@ WhatIsKeptStandsInALog =
 -- which the order would be done: behind what is done before each input
 abbrev pub TheLastServerStays : Type 0
 TheLastServerStays =
-    (servers : ℕ) (s : State) (v ready w : FrontView) (order : Order) → HasKept servers s v → IsReady v ready
+    (servers : ℕ) (s : State) (v ready w : FrontView) (order : ChainOrder) → HasKept servers s v → IsReady v ready
     → takes_last (world_in ready.asker.world) order ≡ true → IsGiven order ready w
     → w ≡ told_operator (codes "no Last") ready
 

@@ -2,9 +2,10 @@
 use Rattle.std.specs.Prelude.{ℕ, List, [], ◌∷◌, codes, Option, None, Some, Ok, Err, if◌then◌else◌}
 use Rattle.std.specs.Option.{option_map}
 use Rattle.std.specs.Str.{bytes_eq}
+use Rattle.zprotocol.specs.declared.master.order.Order.TheVariants as order
 use Rattle.zprotocol.specs.declared.process.Process.{Process}
 use Rattle.zlines.specs.declared.line.Line.{Line}
-use Rattle.zlines.specs.declared.line.Line.TheVariants.{Call, Begin, Take, Ignore, Fail, Join, Retire, Retry, Settle}
+use Rattle.zlines.specs.declared.line.Line.TheVariants.{Call, Begin, Take, Ignore, Fail, Order, Retry, Settle}
 use Rattle.zlines.specs.declared.request.LineFault.TheVariants.{BadLine}
 use Rattle.zlines.specs.LineWords.{Word, words_of, is_malformed, client_of}
 use Rattle.zlines.specs.ProcessWords.{server_of, client_process_of, process_of}
@@ -36,6 +37,13 @@ lone_server_in words = None
 -- fail SERVER
 abbrev pub fail_in : List Word → Option Line
 fail_in words = option_map Fail (lone_server_in words)
+
+-- the orders of lines
+abbrev pub Join : ℕ → Line
+Join server = Order (order.Join server)
+
+abbrev pub Retire : ℕ → Line
+Retire server = Order (order.Retire server)
 
 -- join SERVER
 abbrev pub join_in : List Word → Option Line

@@ -2,7 +2,7 @@
 
 use crate::request::Request;
 use zcalls::ClientId;
-use zprotocol::{Process, ServerId};
+use zprotocol::{Order, Process, ServerId};
 
 /// The meaning of a line.
 #[derive(Drop)]
@@ -17,10 +17,8 @@ pub enum Line {
     Ignore(Process, Process),
     /// A server fails for good.
     Fail(ServerId),
-    /// A server is asked to join the chain.
-    Join(ServerId),
-    /// A member is ordered to leave the chain.
-    Retire(ServerId),
+    /// A server is asked to join the chain, or a member is ordered to leave it.
+    Order(Order),
     /// A client sends its outstanding call again.
     Retry(ClientId),
     /// Messages are delivered until none is left.

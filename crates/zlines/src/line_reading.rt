@@ -15,7 +15,7 @@ use crate::words::{client_in, client_process_in, process_in, server_in};
 use std::alloc::Global;
 use std::str;
 use zcalls::ClientId;
-use zprotocol::{Process, ServerId};
+use zprotocol::{Order, Process, ServerId};
 
 /// Parses a line, without its LF. Returns its meaning, or its fault.
 #[tactic(auto, unfolding(crate::specs::Line::line_of))]
@@ -103,14 +103,14 @@ fn fail_line(words: Cursor) -> Option<Line>
 fn join_line(words: Cursor) -> Option<Line>
     ensures { result ≡ join_in words.entry }
 {
-    Some(Line::Join(lone_server(words)?))
+    Some(Line::Order(Order::Join(lone_server(words)?)))
 }
 
 // retire SERVER
 fn retire_line(words: Cursor) -> Option<Line>
     ensures { result ≡ retire_in words.entry }
 {
-    Some(Line::Retire(lone_server(words)?))
+    Some(Line::Order(Order::Retire(lone_server(words)?)))
 }
 
 // retry CLIENT

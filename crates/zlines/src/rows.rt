@@ -20,7 +20,7 @@ ghost use Rattle.zlines.specs.LineWords.{number_of, client_of, data_of, data_tex
 ghost use Rattle.zprotocol.specs.declared.process.Process.TheVariants.{Master, Server, Client};
 ghost use Rattle.zlines.specs.declared.line.Line.TheVariants as line;
 ghost use Rattle.zlines.specs.ProcessWords.{process_of, server_of, client_process_of};
-ghost use Rattle.zlines.specs.Line.{line_of};
+ghost use Rattle.zlines.specs.Line.{Join, Retire, line_of};
 ghost use Rattle.zlines.specs.Shape.{kind_of};
 ghost use Rattle.zlines.specs.Reply.{reply_text, stat_text};
 ghost use Rattle.zlines.specs.support.Rows.{asks, begins, get_a, create_root, first_stat};
@@ -113,9 +113,9 @@ pub fn event_lines()
     ensures ignore { line_of (codes "ignore m c0") ≡ Ok (line.Ignore Master (Client 0)) }
     ensures fail { line_of (codes "fail s1") ≡ Ok (line.Fail 1) }
     ensures server_zero { line_of (codes "fail s0") ≡ Err BadLine }
-    ensures join { line_of (codes "join s2") ≡ Ok (line.Join 2) }
+    ensures join { line_of (codes "join s2") ≡ Ok (Join 2) }
     ensures client_joins { line_of (codes "join c1") ≡ Err BadLine }
-    ensures retire { line_of (codes "retire s2") ≡ Ok (line.Retire 2) }
+    ensures retire { line_of (codes "retire s2") ≡ Ok (Retire 2) }
     ensures client_retires { line_of (codes "retire c1") ≡ Err BadLine }
     ensures retry { line_of (codes "retry c1") ≡ Ok (line.Retry 1) }
     ensures server_retries { line_of (codes "retry s1") ≡ Err BadLine }

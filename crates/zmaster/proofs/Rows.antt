@@ -4,15 +4,17 @@ use Rattle.std.proofs.Common.{◌≡◌, ℕ, ◌+◌, ◌≤◌, Bool, true, fa
 use Rattle.std.proofs.lemmas.Bool.Decides.{nat_tests}
 use Rattle.std.specs.List.{last_or}
 use Rattle.std.proofs.lemmas.List.FromFn.{length-map-range_with_len, map-range_with_len_more}
-use Rattle.zprotocol.specs.declared.master.join_fault.JoinFault.{JoinFault}
-use Rattle.zprotocol.specs.declared.master.join_fault.JoinFault.TheVariants.{Used, Lost, Retiring}
-use Rattle.zprotocol.specs.declared.master.retire_fault.RetireFault.TheVariants as retire
+use Rattle.zpath.specs.First.{first_that_holds}
+use Rattle.zprotocol.specs.declared.master.order.Order.{Order}
+use Rattle.zprotocol.specs.declared.master.order.Order.TheVariants.{Join, Retire}
+use Rattle.zprotocol.specs.declared.master.order_fault.OrderFault.{OrderFault}
+use Rattle.zprotocol.specs.declared.master.order_fault.OrderFault.TheVariants.{Used, NotMember, Joining, Last, Retiring}
 use Rattle.zcalls.proofs.Among.{test}
 use Rattle.zprotocol.specs.declared.message.Message.TheVariants as message
 use Rattle.zprotocol.specs.declared.process.Process.TheVariants.{Server, Client}
 use Rattle.zprotocol.specs.server.View.{Neighbour, PostOf}
 use Rattle.zprotocol.specs.master.View.{MasterView, is_among, members, is_joining, with_number, head_of, tail_of}
-use Rattle.zprotocol.specs.master.Table.{before, without_next, have_row, joined_row, gone_row, join_step, join_fault, retire_fault, retire_step, and_tell_clients}
+use Rattle.zprotocol.specs.master.Table.{before, without_next, have_row, joined_row, gone_row, own_tests, order_fault, order_step, and_tell_clients}
 use Rattle.zmaster.specs.support.Mending.{joins, who_stays, IsPlace, mended_at, mended_behind_at, chain_fault}
 use Rattle.zmaster.specs.support.Telling.{config_posts_to}
 use Rattle.std.specs.List.{remove}
@@ -58,13 +60,13 @@ module _ {T : Type 0} (v : MasterView) (s : ℕ) where
       rw (among, mended_place {T = T} (v.epoch + 1) s at v.chain place) refl
 
   pub join_behind : (last : ℕ) → last_or None (members v) ≡ Some last
-      → join_step {T = T} v s ≡ (record v { chain = v.chain ++ (s, v.epoch + 1) ∷ []; joining = Some s; used = with_number s v.used; epoch = v.epoch + 1 }, (Server s, message.NewPred (v.epoch + 1) last) ∷ [])
-  unfolding join_step
-  join_behind last is = rw (is, join_step) refl
+      → order_step {T = T} v (Join s) ≡ (record v { chain = v.chain ++ (s, v.epoch + 1) ∷ []; joining = Some s; used = with_number s v.used; epoch = v.epoch + 1 }, (Server s, message.NewPred (v.epoch + 1) last) ∷ [])
+  unfolding order_step
+  join_behind last is = rw (is, order_step) refl
 
-  pub join_nowhere : last_or None (members v) ≡ None → join_step {T = T} v s ≡ (v, [])
-  unfolding join_step
-  join_nowhere is = rw (is, join_step) refl
+  pub join_nowhere : last_or None (members v) ≡ None → order_step {T = T} v (Join s) ≡ (v, [])
+  unfolding order_step
+  join_nowhere is = rw (is, order_step) refl
 
 -- at most one message tells of a mended chain
 next_few : (T : Type 0) (epoch p : ℕ) (rest : List Neighbour) → length (without_next {T = T} epoch p rest).1 ≤ 1
@@ -82,27 +84,33 @@ mended_few T epoch zero (t ∷ rest) = omega arith
 mended_few T epoch (suc at) [] = omega arith
 mended_few T epoch (suc at) (t ∷ rest) = behind_few T epoch t.0 at rest
 
--- where nothing is wrong with the chain, one that was ordered to leave may be
-pub or_retiring : Option JoinFault → Option ℕ → Option JoinFault
-or_retiring None retiring = if is_some retiring then Some Retiring else None
-or_retiring (Some fault) retiring = Some fault
+-- the first test that holds is one of the own ones, or the last
+first_behind : (tests : List (Bool × OrderFault)) (last : Bool) (fault : OrderFault) (own : Option OrderFault) → first_that_holds tests ≡ own
+    → first_that_holds (tests ++ (last, fault) ∷ []) ≡ (elim own [ None ↦ if last then Some fault else None | Some one ↦ Some one ])
+first_behind [] last fault own is = rw (← is) refl
+first_behind ((true, one) ∷ tests) last fault own is = rw (← is) refl
+first_behind ((false, one) ∷ tests) last fault own is = first_behind tests last fault own is
 
--- a choice of a fault
-chosen_fault : (b : Bool) (fault : JoinFault) (retiring : Option ℕ)
-    → (if b then Some fault else (if is_some retiring then Some Retiring else None)) ≡ or_retiring (if b then Some fault else None) retiring
-unfolding or_retiring
-chosen_fault true fault retiring = refl
-chosen_fault false fault retiring = refl
+-- one of the order's own tests holds
+pub fault_is_own : (v : MasterView) (order : Order) (fault : OrderFault) → first_that_holds (own_tests v order) ≡ Some fault → order_fault v order ≡ Some fault
+unfolding order_fault
+fault_is_own v order fault is = first_behind (own_tests v order) (is_some v.retiring) Retiring (Some fault) is
 
--- why a server can't join
+-- or none does, and a member was ordered to leave, or not
+pub fault_of_leaving : (v : MasterView) (order : Order) (leaving : Bool) → first_that_holds (own_tests v order) ≡ None
+    → is_some v.retiring ≡ leaving → order_fault v order ≡ (if leaving then Some Retiring else None)
+unfolding order_fault
+fault_of_leaving v order leaving fine is =
+    first_behind (own_tests v order) (is_some v.retiring) Retiring None fine ∙ ap (λ b. if b then Some Retiring else None) is
+
+-- why a server can't join: its number was used, or by the chain
 faults : (s : ℕ) (chain : List Neighbour) (joining retiring : Option ℕ) (used : List ℕ) (epoch clients : ℕ) → is_among s used ≡ false
-    → join_fault (record { chain = chain; joining = joining; retiring = retiring; used = used; epoch = epoch; clients = clients }) s
-    ≡ or_retiring (chain_fault joining chain) retiring
-unfolding join_fault or_retiring
+    → first_that_holds (own_tests (record { chain = chain; joining = joining; retiring = retiring; used = used; epoch = epoch; clients = clients }) (Join s))
+    ≡ chain_fault joining chain
 faults s [] None retiring used epoch clients new = rw new refl
 faults s [] (Some j) retiring used epoch clients new = rw new refl
 faults s (t ∷ []) None retiring used epoch clients new = rw new refl
-faults s (t ∷ []) (Some j) retiring used epoch clients new = rw new (chosen_fault (j == t.0) Lost retiring)
+faults s (t ∷ []) (Some j) retiring used epoch clients new = rw new refl
 faults s (t ∷ (u ∷ rest)) None retiring used epoch clients new =
     let some : (length (t ∷ (u ∷ rest)) == 0) ≡ false = grind (arith, nat_tests) in
     rw (new, some) refl
@@ -110,23 +118,10 @@ faults s (t ∷ (u ∷ rest)) (Some j) retiring used epoch clients new =
     let long : nat_lt 1 (length (t ∷ (u ∷ rest))) ≡ true = grind (arith, nat_tests) in
     rw (new, long) refl
 
-fault_of_chain : (v : MasterView) (s : ℕ) → is_among s v.used ≡ false → join_fault v s ≡ or_retiring (chain_fault v.joining v.chain) v.retiring
+pub fault_of_chain : (v : MasterView) (s : ℕ) → is_among s v.used ≡ false → first_that_holds (own_tests v (Join s)) ≡ chain_fault v.joining v.chain
 fault_of_chain v s new = faults s v.chain v.joining v.retiring v.used v.epoch v.clients new
 
--- something is wrong with the chain
-pub fault_of_members : (v : MasterView) (s : ℕ) (fault : JoinFault) → is_among s v.used ≡ false → chain_fault v.joining v.chain ≡ Some fault
-    → join_fault v s ≡ Some fault
-unfolding or_retiring
-fault_of_members v s fault new is = fault_of_chain v s new ∙ ap (λ f. or_retiring f v.retiring) is
-
--- or nothing is, and a member was ordered to leave, or not
-pub fault_of_leaving : (v : MasterView) (s : ℕ) (leaving : Bool) → is_among s v.used ≡ false → chain_fault v.joining v.chain ≡ None
-    → is_some v.retiring ≡ leaving → join_fault v s ≡ (if leaving then Some Retiring else None)
-unfolding or_retiring
-fault_of_leaving v s leaving new fine is = fault_of_chain v s new ∙ ap (λ f. or_retiring f v.retiring) fine ∙ ap (λ b. if b then Some Retiring else None) is
-
-pub fault_used : (v : MasterView) (s : ℕ) → is_among s v.used ≡ true → join_fault v s ≡ Some Used
-unfolding join_fault
+pub fault_used : (v : MasterView) (s : ℕ) → is_among s v.used ≡ true → first_that_holds (own_tests v (Join s)) ≡ Some Used
 fault_used v s old = rw old refl
 
 -- what the first clients are told
@@ -139,38 +134,33 @@ config_more T v count =
     map-range_with_len_more {X = PostOf T} (λ c. (Client c, message.Config v.epoch (head_of v) (tail_of v))) 0 count count (omega arith)
 
 -- who isn't refused has a new number
-pub free_is_new : (v : MasterView) (s : ℕ) → join_fault v s ≡ None → is_among s v.used ≡ false
+pub free_is_new : (v : MasterView) (s : ℕ) → order_fault v (Join s) ≡ None → is_among s v.used ≡ false
 free_is_new v s free = elim (test (is_among s v.used)) [
   | inl old ↦
-      let refused : ◌≡◌ {A = Option JoinFault} (Some Used) None = sym (fault_used v s old) ∙ free in
+      let refused : ◌≡◌ {A = Option OrderFault} (Some Used) None = sym (fault_is_own v (Join s) Used (fault_used v s old)) ∙ free in
       let never : ⊥ = cc in
       absurd never
   | inr new ↦ new
 ]
 
--- why a server can't be ordered to leave, by the tests in their order
+-- why a server can't be ordered to leave, by its tests in their order
 module _ (v : MasterView) (s : ℕ) where
-  pub leave_outside : is_among s (members v) ≡ false → retire_fault v s ≡ Some retire.NotMember
-  unfolding retire_fault
+  pub leave_outside : is_among s (members v) ≡ false → first_that_holds (own_tests v (Retire s)) ≡ Some NotMember
   leave_outside is = rw is refl
 
-  pub leave_in_a_join : is_among s (members v) ≡ true → is_some v.joining ≡ true → retire_fault v s ≡ Some retire.Joining
-  unfolding retire_fault
+  pub leave_in_a_join : is_among s (members v) ≡ true → is_some v.joining ≡ true → first_that_holds (own_tests v (Retire s)) ≡ Some Joining
   leave_in_a_join is joins = rw (is, joins) refl
 
-  pub leave_last : is_among s (members v) ≡ true → is_some v.joining ≡ false → length v.chain ≡ 1 → retire_fault v s ≡ Some retire.Last
-  unfolding retire_fault
+  pub leave_last : is_among s (members v) ≡ true → is_some v.joining ≡ false → length v.chain ≡ 1 → first_that_holds (own_tests v (Retire s)) ≡ Some Last
   leave_last is joins one = let last : (length v.chain == 1) ≡ true = eq-eqb _ _ one in rw (is, joins, last) refl
 
-  pub leave_in_turn : (leaving : Bool) → is_among s (members v) ≡ true → is_some v.joining ≡ false → (length v.chain ≡ 1 → ⊥) → is_some v.retiring ≡ leaving
-      → retire_fault v s ≡ (if leaving then Some retire.Retiring else None)
-  unfolding retire_fault
-  leave_in_turn leaving is joins more retires = elim (test (length v.chain == 1)) [
+  pub leave_freely : is_among s (members v) ≡ true → is_some v.joining ≡ false → (length v.chain ≡ 1 → ⊥) → first_that_holds (own_tests v (Retire s)) ≡ None
+  leave_freely is joins more = elim (test (length v.chain == 1)) [
     | inl one ↦ absurd (more (eqb-true _ _ one))
-    | inr several ↦ rw (is, joins, several, retires) refl
+    | inr several ↦ rw (is, joins, several) refl
   ]
 
 -- an order to leave
-pub retired : {T : Type 0} (v : MasterView) (s : ℕ) → retire_step {T = T} v s ≡ (record v { retiring = Some s }, (Server s, message.Retire) ∷ [])
-unfolding retire_step
+pub retired : {T : Type 0} (v : MasterView) (s : ℕ) → order_step {T = T} v (Retire s) ≡ (record v { retiring = Some s }, (Server s, message.Retire) ∷ [])
+unfolding order_step
 retired v s = refl

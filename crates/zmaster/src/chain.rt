@@ -10,7 +10,7 @@ ghost use Rattle.zmaster.specs.support.Mending.{chain_fault};
 use crate::limits::SERVERS;
 use crate::member::Member;
 use arrayvec::ArrayVec;
-use zprotocol::{Epoch, JoinFault, Message, Out, Process, ServerId};
+use zprotocol::{Epoch, Message, OrderFault, Out, Process, ServerId};
 
 /// The members, from the head down.
 pub(crate) type Members = ArrayVec<Member, SERVERS>;
@@ -58,14 +58,14 @@ pub(crate) fn who_stays(who: Option<ServerId>, gone: ServerId) -> Option<ServerI
 
 /// Returns why no server can join this chain: another one is joining, or no member can hand over
 /// the state.
-pub(crate) fn chain_fault(members: &[Member], joining: &Option<ServerId>) -> Option<JoinFault>
+pub(crate) fn chain_fault(members: &[Member], joining: &Option<ServerId>) -> Option<OrderFault>
     ensures { result ≡ chain_fault joining.now members.now }
 {
     match members {
-        [] => Some(JoinFault::NoChain),
-        [only] if is_the_joining(joining, only.id()) => Some(JoinFault::Lost),
+        [] => Some(OrderFault::NoChain),
+        [only] if is_the_joining(joining, only.id()) => Some(OrderFault::Lost),
         [_] => None,
-        _ if joining.is_some() => Some(JoinFault::Joining),
+        _ if joining.is_some() => Some(OrderFault::Joining),
         _ => None,
     }
 }

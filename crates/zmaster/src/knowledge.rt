@@ -1,10 +1,12 @@
 //! What the master knows, and the rows of its table.
 
-ghost use Rattle.std.specs.Prelude.{◌≡◌, ◌+◌, ◌<◌, ◌≤◌, length};
+ghost use Rattle.std.specs.Prelude.{◌≡◌, ◌+◌, ◌<◌, ◌≤◌, None, length};
+ghost use Rattle.zpath.specs.First.{first_that_holds};
 ghost use Rattle.zprotocol.specs.declared.limits.TheConstants.{MAX_EPOCH, MAX_SERVERS};
 ghost use Rattle.zprotocol.specs.master.View.{opening_master, head_of, tail_of, with_number};
-ghost use Rattle.zprotocol.specs.master.Table.{config_posts, join_fault, join_step, master_step, have_row, joined_row, gone_row};
-ghost use Rattle.zprotocol.specs.master.Table.{retire_fault, retire_step};
+ghost use Rattle.zprotocol.specs.declared.master.order.Order.TheVariants.{Join, Retire};
+ghost use Rattle.zprotocol.specs.master.Table.{config_posts, master_step, have_row, joined_row, gone_row};
+ghost use Rattle.zprotocol.specs.master.Table.{order_fault, order_step, own_tests};
 ghost use Rattle.zprotocol.specs.Posts.{PutsInRoom};
 ghost use Rattle.ztree.specs.declared.limits.TheConstants.{MAX_CLIENTS};
 ghost use Rattle.zmaster.specs.Staying.{is_staying};
@@ -18,9 +20,7 @@ use crate::limits::{MAX_POSTS, SERVERS};
 use crate::member::Member;
 use crate::used::{is_used, keeps_few, mark_used};
 use std::marker::Model;
-use zprotocol::{
-    ClientId, Epoch, JoinFault, LogNumber, Message, Out, Process, RetireFault, ServerId,
-};
+use zprotocol::{ClientId, Epoch, LogNumber, Message, Order, OrderFault, Out, Process, ServerId};
 
 /// What the master knows. Its owner bounds how many epochs it gives out.
 #[derive(Drop)]
@@ -182,29 +182,77 @@ impl Knowledge {
         self.tell(out);
     }
 
-    /// Returns why the server can't join.
-    pub(crate) fn join_fault(&self, server: ServerId) -> Option<JoinFault>
-        ensures { result ≡ join_fault self.now server }
+    /// Returns why the order is refused.
+    pub(crate) fn order_fault(&self, order: &Order) -> Option<OrderFault>
+        ensures { result ≡ order_fault self.now order.now }
     {
-        if is_used(&self.used, server) {
-            return Some(JoinFault::Used);
-        }
-        if let Some(fault) = chain_fault(&self.chain, &self.joining) {
+        if let Some(fault) = self.own_fault(order) {
             return Some(fault);
         }
         if self.retiring.is_some() {
-            return Some(JoinFault::Retiring);
+            return Some(OrderFault::Retiring);
         }
         None
     }
 
-    /// Lets a server join. The caller has checked that it isn't refused.
-    pub(crate) fn join<T: Drop>(&mut self, server: ServerId, out: &mut Out<T>)
+    /// Obeys an order. The caller has checked that it isn't refused.
+    pub(crate) fn order<T: Drop>(&mut self, order: &Order, out: &mut Out<T>)
+        requires epochs { self.old.epoch < MAX_EPOCH }
+        requires enough { length self.old.chain ≤ length self.old.used }
+        requires allowed { order_fault self.old order.now ≡ None }
+        requires room { MAX_POSTS ≤ out.old.room }
+        ensures next { self.new ≡ (order_step {T = T} self.old order.now).0 }
+        ensures puts { PutsInRoom out.old out.new (order_step self.old order.now).1 }
+    {
+        match order {
+            Order::Join(server) => self.join(*server, out),
+            Order::Retire(server) => self.retire(*server, out),
+        }
+    }
+
+    // Returns which of the order's own tests holds.
+    fn own_fault(&self, order: &Order) -> Option<OrderFault>
+        ensures { result ≡ first_that_holds (own_tests self.now order.now) }
+    {
+        match order {
+            Order::Join(server) => self.join_fault(*server),
+            Order::Retire(server) => self.retire_fault(*server),
+        }
+    }
+
+    // The same of a join.
+    fn join_fault(&self, server: ServerId) -> Option<OrderFault>
+        ensures { result ≡ first_that_holds (own_tests self.now (Join server)) }
+    {
+        if is_used(&self.used, server) {
+            return Some(OrderFault::Used);
+        }
+        chain_fault(&self.chain, &self.joining)
+    }
+
+    // The same of an order to leave.
+    fn retire_fault(&self, server: ServerId) -> Option<OrderFault>
+        ensures { result ≡ first_that_holds (own_tests self.now (Retire server)) }
+    {
+        if position_of(&self.chain, server).is_none() {
+            return Some(OrderFault::NotMember);
+        }
+        if self.joining.is_some() {
+            return Some(OrderFault::Joining);
+        }
+        if self.chain.len() == 1 {
+            return Some(OrderFault::Last);
+        }
+        None
+    }
+
+    // A server joins behind the last member.
+    fn join<T: Drop>(&mut self, server: ServerId, out: &mut Out<T>)
         requires epochs { self.old.epoch < MAX_EPOCH }
         requires new { length self.old.chain < length (with_number server self.old.used) }
         requires room { MAX_POSTS ≤ out.old.room }
-        ensures next { self.new ≡ (join_step {T = T} self.old server).0 }
-        ensures puts { PutsInRoom out.old out.new (join_step self.old server).1 }
+        ensures next { self.new ≡ (order_step {T = T} self.old (Join server)).0 }
+        ensures puts { PutsInRoom out.old out.new (order_step self.old (Join server)).1 }
     {
         let Some(before) = last_member(&self.chain, None) else {
             return;
@@ -217,30 +265,11 @@ impl Knowledge {
         out.put_reserved(Process::Server(server), Message::NewPred(epoch, before));
     }
 
-    /// Returns why the server can't be ordered to leave.
-    pub(crate) fn retire_fault(&self, server: ServerId) -> Option<RetireFault>
-        ensures { result ≡ retire_fault self.now server }
-    {
-        if position_of(&self.chain, server).is_none() {
-            return Some(RetireFault::NotMember);
-        }
-        if self.joining.is_some() {
-            return Some(RetireFault::Joining);
-        }
-        if self.chain.len() == 1 {
-            return Some(RetireFault::Last);
-        }
-        if self.retiring.is_some() {
-            return Some(RetireFault::Retiring);
-        }
-        None
-    }
-
-    /// Orders a member to leave. The caller has checked that it isn't refused.
-    pub(crate) fn retire<T: Drop>(&mut self, server: ServerId, out: &mut Out<T>)
+    // A member is told to leave.
+    fn retire<T: Drop>(&mut self, server: ServerId, out: &mut Out<T>)
         requires { MAX_POSTS ≤ out.old.room }
-        ensures next { self.new ≡ (retire_step {T = T} self.old server).0 }
-        ensures puts { PutsInRoom out.old out.new (retire_step self.old server).1 }
+        ensures next { self.new ≡ (order_step {T = T} self.old (Retire server)).0 }
+        ensures puts { PutsInRoom out.old out.new (order_step self.old (Retire server)).1 }
     {
         self.retiring = Some(server);
         out.put_reserved(Process::Server(server), Message::Retire);

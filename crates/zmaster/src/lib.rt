@@ -1,7 +1,7 @@
 //! The master: it learns of failures, repairs the chain, adds servers to it, and orders them to
 //! leave.
 //!
-//! It consumes messages, and orders to let a server join or leave. It produces messages to servers
+//! It consumes messages, and orders: that a server join or leave. It produces messages to servers
 //! and clients. Each function is one row of the master table. The payload of a `Snapshot` is a type
 //! parameter: the master never looks at it. It allocates nothing: servers are few, and the caller
 //! reserves room for what is sent.
@@ -17,4 +17,4 @@ mod worked;
 
 pub use limits::MAX_POSTS;
 pub use master::Master;
-pub use zprotocol::{JoinFault, RetireFault};
+pub use zprotocol::{JoinFault, Order, OrderFault, RetireFault};

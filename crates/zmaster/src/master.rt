@@ -2,8 +2,8 @@
 
 ghost use Rattle.std.specs.Prelude.{◌≡◌, ◌≤◌, IfErr, OnErr, OnOk, None, Some};
 ghost use Rattle.zprotocol.specs.master.View.{opening_master};
-ghost use Rattle.zprotocol.specs.master.Table.{join_fault, join_step, retire_fault, retire_step};
-ghost use Rattle.zprotocol.specs.master.Table.{master_step};
+ghost use Rattle.zprotocol.specs.declared.master.order.Order.TheVariants.{Join, Retire};
+ghost use Rattle.zprotocol.specs.master.Table.{master_step, order_fault, order_step};
 ghost use Rattle.zprotocol.specs.Posts.{PutsInRoom};
 ghost use Rattle.ztree.specs.declared.limits.TheConstants.{MAX_CLIENTS};
 ghost use Rattle.zmaster.specs.Staying.{is_staying};
@@ -12,7 +12,7 @@ ghost use Rattle.zmaster.specs.declared.limits.TheConstants.{MAX_POSTS};
 use crate::knowledge::Knowledge;
 use crate::limits::MAX_POSTS;
 use std::marker::Model;
-use zprotocol::{JoinFault, Message, Out, Process, RetireFault, ServerId};
+use zprotocol::{JoinFault, Message, Order, OrderFault, Out, Process, RetireFault, ServerId};
 
 /// The master. Whatever it receives, it gives at most three epochs for each server number.
 #[derive(Drop)]
@@ -65,37 +65,58 @@ impl Master {
         self.known.keeps_few_used();
     }
 
-    /// Returns why the server can't join now.
-    pub fn join_fault(&self, server: ServerId) -> Option<JoinFault>
-        ensures { result ≡ join_fault self.now server }
+    /// Returns why the order is refused now.
+    pub fn order_fault(&self, order: &Order) -> Option<OrderFault>
+        ensures { result ≡ order_fault self.now order.now }
     {
-        self.known.join_fault(server)
+        self.known.order_fault(order)
     }
 
-    /// Lets a server join behind the tail, or returns why it can't. It allocates nothing.
-    pub fn join<T: Drop>(&mut self, server: ServerId, out: &mut Out<T>) -> Result<(), JoinFault>
+    /// Obeys an order, or returns why it is refused. It allocates nothing.
+    pub fn order<T: Drop>(&mut self, order: &Order, out: &mut Out<T>) -> Result<(), OrderFault>
         requires { MAX_POSTS ≤ out.old.room }
-        ensures next { OnOk result (self.new ≡ (join_step {T = T} self.old server).0) }
-        ensures puts { OnOk result (PutsInRoom out.old out.new (join_step self.old server).1) }
-        ensures allowed { OnOk result (join_fault self.old server ≡ None) }
-        ensures fault { IfErr result (λ fault. join_fault self.old server ≡ Some fault) }
+        ensures next { OnOk result (self.new ≡ (order_step {T = T} self.old order.now).0) }
+        ensures puts { OnOk result (PutsInRoom out.old out.new (order_step self.old order.now).1) }
+        ensures allowed { OnOk result (order_fault self.old order.now ≡ None) }
+        ensures fault { IfErr result (λ fault. order_fault self.old order.now ≡ Some fault) }
         ensures same { OnErr result (self.new ≡ self.old) }
         ensures silent { OnErr result (out.new ≡ out.old) }
     {
-        if let Some(fault) = self.known.join_fault(server) {
+        if let Some(fault) = self.known.order_fault(order) {
             return Err(fault);
         }
-        self.known.join(server, out);
+        self.known.order(order, out);
         // As in `new`.
         let _ = self.known.count();
         Ok(())
     }
 
-    /// Returns why the member can't be ordered to leave now.
-    pub fn retire_fault(&self, server: ServerId) -> Option<RetireFault>
-        ensures { result ≡ retire_fault self.now server }
+    /// Lets a server join behind the tail, or returns why it can't. It allocates nothing.
+    pub fn join<T: Drop>(&mut self, server: ServerId, out: &mut Out<T>) -> Result<(), JoinFault>
+        requires { MAX_POSTS ≤ out.old.room }
+        ensures next { OnOk result (self.new ≡ (order_step {T = T} self.old (Join server)).0) }
+        ensures puts { OnOk result
+            (PutsInRoom out.old out.new (order_step self.old (Join server)).1) }
+        ensures allowed { OnOk result (order_fault self.old (Join server) ≡ None) }
+        ensures fault { IfErr result (λ fault. order_fault self.old (Join server) ≡ Some fault) }
+        ensures same { OnErr result (self.new ≡ self.old) }
+        ensures silent { OnErr result (out.new ≡ out.old) }
     {
-        self.known.retire_fault(server)
+        self.order(&Order::Join(server), out)
+    }
+
+    /// Orders a member to leave, or returns why it can't. It allocates nothing.
+    pub fn retire<T: Drop>(&mut self, server: ServerId, out: &mut Out<T>) -> Result<(), RetireFault>
+        requires { MAX_POSTS ≤ out.old.room }
+        ensures next { OnOk result (self.new ≡ (order_step {T = T} self.old (Retire server)).0) }
+        ensures puts { OnOk result
+            (PutsInRoom out.old out.new (order_step self.old (Retire server)).1) }
+        ensures allowed { OnOk result (order_fault self.old (Retire server) ≡ None) }
+        ensures fault { IfErr result (λ fault. order_fault self.old (Retire server) ≡ Some fault) }
+        ensures same { OnErr result (self.new ≡ self.old) }
+        ensures silent { OnErr result (out.new ≡ out.old) }
+    {
+        self.order(&Order::Retire(server), out)
     }
 
     /// Returns whether the server is a member that has the state and wasn't ordered to leave.
@@ -103,23 +124,5 @@ impl Master {
         ensures { result ≡ is_staying self.now server }
     {
         self.known.is_staying(server)
-    }
-
-    /// Orders a member to leave, or returns why it can't. It allocates nothing.
-    pub fn retire<T: Drop>(&mut self, server: ServerId, out: &mut Out<T>) -> Result<(), RetireFault>
-        requires { MAX_POSTS ≤ out.old.room }
-        ensures next { OnOk result (self.new ≡ (retire_step {T = T} self.old server).0) }
-        ensures puts { OnOk result (PutsInRoom out.old out.new (retire_step self.old server).1) }
-        ensures allowed { OnOk result (retire_fault self.old server ≡ None) }
-        ensures fault { IfErr result (λ fault. retire_fault self.old server ≡ Some fault) }
-        ensures same { OnErr result (self.new ≡ self.old) }
-        ensures silent { OnErr result (out.new ≡ out.old) }
-    {
-        if let Some(fault) = self.known.retire_fault(server) {
-            return Err(fault);
-        }
-        self.known.retire(server, out);
-        let _ = self.known.count();
-        Ok(())
     }
 }

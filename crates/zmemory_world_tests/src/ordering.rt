@@ -10,12 +10,12 @@ use zworld_model::Event;
 
 /// A server is to join behind the tail.
 pub(crate) fn server_joins(alloc: Global) -> Ended {
-    is_given(alloc, Event::Join(server(3)))
+    is_given(alloc, Event::join(server(3)))
 }
 
 /// The head is to leave.
 pub(crate) fn server_leaves(alloc: Global) -> Ended {
-    is_given(alloc, Event::Retire(server(1)))
+    is_given(alloc, Event::retire(server(1)))
 }
 
 // The order is given in a world of its own.
@@ -33,7 +33,7 @@ fn is_given(alloc: Global, order: Event) -> Ended {
 fn gives(world: &mut World, order: Event) -> Ended {
     match world.step(order) {
         Ok(did) => {
-            let next = world.step(Event::Retire(server(2)));
+            let next = world.step(Event::retire(server(2)));
             Ended::done(did == Did::Done && matches!(next, Ok(Did::Idle(_))))
         }
         Err(Memory) => Ended::refused(is_broken(world, 0)),

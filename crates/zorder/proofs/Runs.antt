@@ -4,7 +4,7 @@ use Rattle.zcalls.specs.Kept.{Plain}
 use Rattle.zcalls.specs.PlainTree.{plain_tree}
 use Rattle.zprotocol.specs.declared.process.Process.TheVariants.{Master, Server, Client}
 use Rattle.zworld_model.specs.declared.event.Event.{Event}
-use Rattle.zworld_model.specs.declared.event.Event.TheVariants.{Begin, Retry, Take, Ignore, Fail, Join, Retire}
+use Rattle.zworld_model.specs.declared.event.Event.TheVariants.{Begin, Retry, Take, Ignore, Fail, Order}
 use Rattle.zworld_model.specs.Events.{is_enabled, acts, run}
 use Rattle.zorder.specs.legal.Prefix.{IsPrefix}
 use Rattle.zorder.proofs.legal_lemmas.lists.Prefixes.{prefix_same, prefix_of}
@@ -19,7 +19,7 @@ use Rattle.zorder.proofs.chain_lemmas.steps.Drops.{requests_are_lost}
 use Rattle.zorder.proofs.servers_lemmas.Events.{servers_hear_servers, servers_hear_clients}
 use Rattle.zorder.proofs.clients_lemmas.Events.{clients_hear, calls_begin, calls_are_sent_again, servers_fail}
 use Rattle.zorder.proofs.master_lemmas.orders.Orders.{servers_hear_master}
-use Rattle.zorder.proofs.master_lemmas.Events.{master_hears, servers_join, members_retire}
+use Rattle.zorder.proofs.master_lemmas.Events.{master_hears, master_obeys}
 use Rattle.zorder.specs.Facts.{account_of, EveryRunIsSound, CommittedStays}
 
 -- what is told beside the world leaves the world
@@ -48,8 +48,7 @@ module _ {P : Type 0} (plain : Plain P) where
   each_event (Take from (Client c)) = clients_hear plain from c
   each_event (Ignore from to) = requests_are_lost plain from to
   each_event (Fail x) = servers_fail plain x
-  each_event (Join x) = servers_join plain x
-  each_event (Retire x) = members_retire plain x
+  each_event (Order order) = master_obeys plain order
 
   pub lasts_next : (t : Account) (event : Event) → LastsAreLengths t.world → LastsAreLengths (next_account plain t event).world
   lasts_next t event exact =

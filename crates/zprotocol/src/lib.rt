@@ -22,7 +22,7 @@ pub use client::BeginFault;
 pub use epoch::Epoch;
 pub use limits::{MAX_EPOCH, MAX_LOG_NUMBER, MAX_SERVERS, PROCESSES};
 pub use log_number::LogNumber;
-pub use master::{JoinFault, RetireFault};
+pub use master::{JoinFault, Order, OrderFault, RetireFault};
 pub use message::Message;
 pub use out_list::Out;
 pub use process::Process;

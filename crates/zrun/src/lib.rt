@@ -46,6 +46,6 @@ pub use zclient::BeginFault;
 pub use zconsole::ends::{Closed, Console};
 pub use zconsole::outcome::OrderOutcome;
 pub use zpath::{Path, PathFault};
-pub use zprotocol::{JoinFault, RetireFault, ServerId};
+pub use zprotocol::{JoinFault, Order, OrderFault, RetireFault, ServerId};
 pub use zthreads::{Gate, Open};
 pub use ztraces::Stamp;

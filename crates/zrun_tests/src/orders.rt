@@ -8,7 +8,7 @@ use std::test::Fail;
 use std::thread;
 use zaudit::audit;
 use zliterals::server;
-use zrun::{Console, JoinFault, OrderOutcome, RetireFault};
+use zrun::{Console, Order, OrderFault, OrderOutcome};
 
 // The ring has places for 64 outcomes, and the channel for 32 orders.
 const MANY: u8 = 200;
@@ -25,6 +25,11 @@ fn hear(console: &mut Console) -> Option<OrderOutcome> {
     None
 }
 
+// Returns whether the next outcome is that this order was refused for this.
+fn refuses(console: &mut Console, order: Order, fault: OrderFault) -> bool {
+    hear(console) == Some(OrderOutcome::Refused(order, fault))
+}
+
 // Gives five orders, all but one of which are refused. Returns whether they were handed on.
 fn order_five<R: Wait>(rt: &R, console: &mut Console) -> bool {
     let mut given = console.join(rt, server(1)).is_ok();
@@ -36,12 +41,11 @@ fn order_five<R: Wait>(rt: &R, console: &mut Console) -> bool {
 
 // Returns whether each of the five has its outcome, in order.
 fn hear_five(console: &mut Console) -> bool {
-    let used = JoinFault::Used;
-    let mut right = hear(console) == Some(OrderOutcome::JoinRefused(server(1), used));
-    right &= hear(console) == Some(OrderOutcome::RetireRefused(server(1), RetireFault::Last));
-    right &= hear(console) == Some(OrderOutcome::Joins(server(2)));
-    right &= hear(console) == Some(OrderOutcome::RetireRefused(server(3), RetireFault::NotMember));
-    right & (hear(console) == Some(OrderOutcome::JoinRefused(server(2), used)))
+    let mut right = refuses(console, Order::Join(server(1)), OrderFault::Used);
+    right &= refuses(console, Order::Retire(server(1)), OrderFault::Last);
+    right &= hear(console) == Some(OrderOutcome::Obeyed(Order::Join(server(2))));
+    right &= refuses(console, Order::Retire(server(3)), OrderFault::NotMember);
+    right & refuses(console, Order::Join(server(2)), OrderFault::Used)
 }
 
 #[test]
@@ -65,7 +69,7 @@ fn an_order_to_leave_has_its_outcome(rt: HostRuntime) -> Result<(), Fail> {
     let given = console.retire(&rt, server(1)).is_ok();
     let outcome = hear(&mut console);
     let traces = cluster.join(&rt, alloc, console, clients)?;
-    assert!(rt; given && outcome == Some(OrderOutcome::Leaves(server(1))));
+    assert!(rt; given && outcome == Some(OrderOutcome::Obeyed(Order::Retire(server(1)))));
     assert!(rt; audit(alloc, &traces).is_ok());
     Ok(())
 }
@@ -93,11 +97,11 @@ fn hear_many(console: &mut Console) -> bool {
     for number in 0..MANY {
         let target = target(number);
         let fault = if target == 1 {
-            RetireFault::Last
+            OrderFault::Last
         } else {
-            RetireFault::NotMember
+            OrderFault::NotMember
         };
-        right &= hear(console) == Some(OrderOutcome::RetireRefused(server(target), fault));
+        right &= refuses(console, Order::Retire(server(target)), fault);
     }
     right
 }

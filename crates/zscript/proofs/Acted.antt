@@ -158,8 +158,7 @@ module _ (w : ServiceWorld) (outcomes : List Outcome) (acted : AreActed outcomes
   bare_line (asked.Take from to) = bare_event (event.Take from to) _ _
   bare_line (asked.Ignore from to) = bare_event (event.Ignore from to) _ _
   bare_line (asked.Fail server) = bare_event (event.Fail server) _ _
-  bare_line (asked.Join server) = bare_event (event.Join server) _ _
-  bare_line (asked.Retire server) = bare_event (event.Retire server) _ _
+  bare_line (asked.Order order) = bare_event (event.Order order) _ _
   bare_line (asked.Retry client) = bare_event (event.Retry client) _ _
   bare_line asked.Settle = bare_settles
 

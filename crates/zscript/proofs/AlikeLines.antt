@@ -175,8 +175,7 @@ module _ (v : ServiceWorld) (others : ℕ → ServerView (KeptState Tree)) (link
   line_like (asked.Take from to) = event_like (event.Take from to) _ _
   line_like (asked.Ignore from to) = event_like (event.Ignore from to) _ _
   line_like (asked.Fail server) = event_like (event.Fail server) _ _
-  line_like (asked.Join server) = event_like (event.Join server) _ _
-  line_like (asked.Retire server) = event_like (event.Retire server) _ _
+  line_like (asked.Order order) = event_like (event.Order order) _ _
   line_like (asked.Retry client) = event_like (event.Retry client) _ _
   line_like asked.Settle = settles_like
 

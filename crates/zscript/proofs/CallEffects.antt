@@ -161,8 +161,7 @@ not_begun : (held : Held) (history : History) (request : Request) (outcomes : Li
     → IsCause held (event.Begin request.client request.call) why → not_begun_text (script_state (world_of held history) outcomes) request ≡ cause_text why
 not_begun held history request outcomes (cause.Begin fault) (there, is) = rw there (ap (λ fault. option_map_or begin_fault_text fault (codes "idle")) is)
 not_begun held history request outcomes cause.Nothing (is, none) = rw none refl
-not_begun held history request outcomes (cause.Join fault) (is, none) = let never : ⊥ = cc in absurd never
-not_begun held history request outcomes (cause.Retire fault) (is, none) = let never : ⊥ = cc in absurd never
+not_begun held history request outcomes (cause.Order fault) (is, none) = let never : ⊥ = cc in absurd never
 
 -- a world in which a call didn't begin has told nothing
 nothing_told : (v w : ServiceWorld) (event : Event) (why : IdleCause) → HasHappened v event (became.Idle why) w → v.history ≡ [] → w.history ≡ []

@@ -7,7 +7,8 @@ use mathlib.Core.Bool.{true≢false}
 use Rattle.ztree.specs.Tree.{Tree}
 use Rattle.zcalls.specs.Kept.{KeptState}
 use Rattle.zprotocol.specs.server.Machine.{kept_tree}
-use Rattle.zprotocol.specs.master.Table.{join_fault, retire_fault}
+use Rattle.zprotocol.specs.declared.master.order.Order.{Order}
+use Rattle.zprotocol.specs.master.Table.{order_fault}
 use Rattle.zworld_model.specs.declared.event.Event.{Event}
 use Rattle.zworld_model.specs.declared.event.Event.TheVariants as event
 use Rattle.zworld_model.specs.declared.outcome.Outcome.{Outcome}
@@ -28,7 +29,7 @@ use Rattle.zworld.specs.support.Settled.{HasSettledBy}
 use Rattle.zworld.proofs.Steps.{read_acted, happens_not}
 use Rattle.zworld.proofs.Tries.{acted_at}
 use Rattle.zscript.specs.declared.limits.TheConstants.{MAX_EVENTS}
-use Rattle.zscript.specs.Line.{ServiceWorld, ScriptState, script_state, LineEffect, after_try, event_effect, plain_effect, join_effect, join_fault_name, retire_effect, retire_fault_name, settled_text, settle_effect, taken_text}
+use Rattle.zscript.specs.Line.{ServiceWorld, ScriptState, script_state, LineEffect, after_try, event_effect, plain_effect, order_effect, order_fault_name, settled_text, settle_effect, taken_text}
 use Rattle.zscript.specs.support.Effects.{cause_text, did_text, LeadsTo, IsEffectDoneBy, IsEventDone}
 
 -- the opposite of a test
@@ -141,49 +142,26 @@ plain_done strict old new event writes nothing done =
     event_done (world_in old) (world_in new) event strict done.did writes (λ strictly. acted_at done.did (done.acted strictly)) done.happened (λ s. plain_effect s event) (codes "done") (codes "idle") (did_text done.did) (λ outcomes. refl)
     (plain_text done.did (λ why is. nothing why (done.caused why is))) done.written
 
--- join
-join_text : (old : Held) (server : ℕ) (did : Did) → ((why : IdleCause) → did ≡ became.Idle why → IsCause old (event.Join server) why)
-    → (if is_idle did then option_map_or (λ fault. codes "no " ++ join_fault_name fault) (join_fault old.master server) (codes "idle") else codes "done") ≡ did_text did
-join_text old server (became.Idle why) caused = refused why (caused why refl)
+-- join and retire
+order_text : (old : Held) (order : Order) (did : Did) → ((why : IdleCause) → did ≡ became.Idle why → IsCause old (event.Order order) why)
+    → (if is_idle did then option_map_or (λ fault. codes "no " ++ order_fault_name fault) (order_fault old.master order) (codes "idle") else codes "done") ≡ did_text did
+order_text old order (became.Idle why) caused = refused why (caused why refl)
   where
-    refused : (why : IdleCause) → IsCause old (event.Join server) why
-        → option_map_or (λ fault. codes "no " ++ join_fault_name fault) (join_fault old.master server) (codes "idle") ≡ cause_text why
-    refused (cause.Join fault) is = ap (λ fault. option_map_or (λ fault. codes "no " ++ join_fault_name fault) fault (codes "idle")) is
+    refused : (why : IdleCause) → IsCause old (event.Order order) why
+        → option_map_or (λ fault. codes "no " ++ order_fault_name fault) (order_fault old.master order) (codes "idle") ≡ cause_text why
+    refused (cause.Order fault) is = ap (λ fault. option_map_or (λ fault. codes "no " ++ order_fault_name fault) fault (codes "idle")) is
     refused (cause.Begin fault) is = absurd is
-    refused (cause.Retire fault) is = absurd is
     refused cause.Nothing is = absurd is
-join_text old server became.Done caused = refl
-join_text old server became.Unheard caused = refl
-join_text old server became.Stopped caused = refl
+order_text old order became.Done caused = refl
+order_text old order became.Unheard caused = refl
+order_text old order became.Stopped caused = refl
 
-pub join_done : (strict : Bool) (old new : WorldView) (server : ℕ) (writes : List ℕ → Type 0) → IsEventDone strict old new (event.Join server) writes
-    → IsEffectDoneBy strict (world_in old) (world_in new) (λ s. join_effect s server) writes
-join_done strict old new server writes done =
-    event_done (world_in old) (world_in new) (event.Join server) strict done.did writes (λ strictly. acted_at done.did (done.acted strictly)) done.happened (λ s. join_effect s server) (codes "done")
-    (option_map_or (λ fault. codes "no " ++ join_fault_name fault) (join_fault old.held.master server) (codes "idle")) (did_text done.did) (λ outcomes. refl)
-    (join_text old.held server done.did done.caused) done.written
-
--- retire
-retire_text : (old : Held) (server : ℕ) (did : Did) → ((why : IdleCause) → did ≡ became.Idle why → IsCause old (event.Retire server) why)
-    → (if is_idle did then option_map_or (λ fault. codes "no " ++ retire_fault_name fault) (retire_fault old.master server) (codes "idle") else codes "done") ≡ did_text did
-retire_text old server (became.Idle why) caused = refused why (caused why refl)
-  where
-    refused : (why : IdleCause) → IsCause old (event.Retire server) why
-        → option_map_or (λ fault. codes "no " ++ retire_fault_name fault) (retire_fault old.master server) (codes "idle") ≡ cause_text why
-    refused (cause.Retire fault) is = ap (λ fault. option_map_or (λ fault. codes "no " ++ retire_fault_name fault) fault (codes "idle")) is
-    refused (cause.Begin fault) is = absurd is
-    refused (cause.Join fault) is = absurd is
-    refused cause.Nothing is = absurd is
-retire_text old server became.Done caused = refl
-retire_text old server became.Unheard caused = refl
-retire_text old server became.Stopped caused = refl
-
-pub retire_done : (strict : Bool) (old new : WorldView) (server : ℕ) (writes : List ℕ → Type 0) → IsEventDone strict old new (event.Retire server) writes
-    → IsEffectDoneBy strict (world_in old) (world_in new) (λ s. retire_effect s server) writes
-retire_done strict old new server writes done =
-    event_done (world_in old) (world_in new) (event.Retire server) strict done.did writes (λ strictly. acted_at done.did (done.acted strictly)) done.happened (λ s. retire_effect s server) (codes "done")
-    (option_map_or (λ fault. codes "no " ++ retire_fault_name fault) (retire_fault old.held.master server) (codes "idle")) (did_text done.did) (λ outcomes. refl)
-    (retire_text old.held server done.did done.caused) done.written
+pub order_done : (strict : Bool) (old new : WorldView) (order : Order) (writes : List ℕ → Type 0) → IsEventDone strict old new (event.Order order) writes
+    → IsEffectDoneBy strict (world_in old) (world_in new) (λ s. order_effect s order) writes
+order_done strict old new order writes done =
+    event_done (world_in old) (world_in new) (event.Order order) strict done.did writes (λ strictly. acted_at done.did (done.acted strictly)) done.happened (λ s. order_effect s order) (codes "done")
+    (option_map_or (λ fault. codes "no " ++ order_fault_name fault) (order_fault old.held.master order) (codes "idle")) (did_text done.did) (λ outcomes. refl)
+    (order_text old.held order done.did done.caused) done.written
 
 -- settle
 pub settle_done : (strict : Bool) (v w : ServiceWorld) (settled : Settled) (writes : List ℕ → Type 0) → HasSettledBy strict v MAX_EVENTS settled w

@@ -71,8 +71,7 @@ line_leads s (asked.Begin request) = tried_leads s (event.Begin request.client r
 line_leads s (asked.Take from to) = tried_leads s (event.Take from to)
 line_leads s (asked.Ignore from to) = tried_leads s (event.Ignore from to)
 line_leads s (asked.Fail server) = tried_leads s (event.Fail server)
-line_leads s (asked.Join server) = tried_leads s (event.Join server)
-line_leads s (asked.Retire server) = tried_leads s (event.Retire server)
+line_leads s (asked.Order order) = tried_leads s (event.Order order)
 line_leads s (asked.Retry client) = tried_leads s (event.Retry client)
 line_leads s asked.Settle = settled_leads s.world (opening_settling s.world 0 s.outcomes) refl
 

@@ -8,7 +8,7 @@ use Rattle.zprotocol.specs.server.View.{ServerView, MessageOf, Post}
 use Rattle.zcalls.specs.declared.reply.Reply.{Reply}
 use Rattle.zprotocol.specs.client.Table as client
 use Rattle.zworld_model.specs.declared.event.Event.{Event}
-use Rattle.zworld_model.specs.declared.event.Event.TheVariants.{Begin, Retry, Take, Ignore, Fail, Join, Retire}
+use Rattle.zworld_model.specs.declared.event.Event.TheVariants.{Begin, Retry, Take, Ignore, Fail, Order}
 use Rattle.zworld_model.specs.declared.history.CallEvent.TheVariants as call_event
 use Rattle.zworld_model.specs.History.{History}
 use Rattle.zworld_model.specs.Links.{without_front}
@@ -58,8 +58,7 @@ module _ {M : Type 0} (machine : Does M) (past : History) where
   acts_past w (Take from to) = front_past w from to (w.links from to)
   acts_past w (Ignore from to) = refl
   acts_past w (Fail s) = refl
-  acts_past w (Join s) = refl
-  acts_past w (Retire s) = refl
+  acts_past w (Order order) = refl
 
   happens_by : (w : World M) (event : Event) (b : Bool) → is_enabled w event ≡ b
       → happens machine (with_past past w) event ≡ with_past past (happens machine w event)

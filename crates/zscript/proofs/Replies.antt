@@ -88,8 +88,7 @@ line_answered s (asked.Begin request) = nobody_waits (line_effect s (asked.Begin
 line_answered s (asked.Take from to) = nobody_waits (line_effect s (asked.Take from to)) refl
 line_answered s (asked.Ignore from to) = nobody_waits (line_effect s (asked.Ignore from to)) refl
 line_answered s (asked.Fail server) = nobody_waits (line_effect s (asked.Fail server)) refl
-line_answered s (asked.Join server) = nobody_waits (line_effect s (asked.Join server)) refl
-line_answered s (asked.Retire server) = nobody_waits (line_effect s (asked.Retire server)) refl
+line_answered s (asked.Order order) = nobody_waits (line_effect s (asked.Order order)) refl
 line_answered s (asked.Retry client) = nobody_waits (line_effect s (asked.Retry client)) refl
 line_answered s asked.Settle = nobody_waits (line_effect s asked.Settle) refl
 

@@ -11,11 +11,10 @@ use Rattle.zcalls.specs.Kept.{KeptState}
 use Rattle.zcalls.specs.declared.reply.Reply.{Reply}
 use Rattle.zprotocol.specs.server.Machine.{kept_tree}
 use Rattle.zprotocol.specs.server.View.{spare}
-use Rattle.zprotocol.specs.declared.master.join_fault.JoinFault.{JoinFault}
-use Rattle.zprotocol.specs.declared.master.join_fault.JoinFault.TheVariants.{Used, Joining, NoChain, Lost, Retiring}
-use Rattle.zprotocol.specs.declared.master.retire_fault.RetireFault.{RetireFault}
-use Rattle.zprotocol.specs.declared.master.retire_fault.RetireFault.TheVariants as retire
-use Rattle.zprotocol.specs.master.Table.{join_fault, retire_fault}
+use Rattle.zprotocol.specs.declared.master.order.Order.{Order}
+use Rattle.zprotocol.specs.declared.master.order_fault.OrderFault.{OrderFault}
+use Rattle.zprotocol.specs.declared.master.order_fault.OrderFault.TheVariants.{Used, NotMember, Joining, NoChain, Lost, Last, Retiring}
+use Rattle.zprotocol.specs.master.Table.{order_fault}
 use Rattle.zprotocol.specs.declared.client.begin_fault.BeginFault.{BeginFault}
 use Rattle.zprotocol.specs.declared.client.begin_fault.BeginFault.TheVariants as begin
 use Rattle.zprotocol.specs.client.Table.{begin_fault}
@@ -109,32 +108,21 @@ not_begun_text s request =
 abbrev pub begin_effect : ScriptState → Request → LineEffect
 begin_effect s request = event_effect s (event.Begin request.client request.call) (codes "begun") (not_begun_text s request)
 
--- the name of a fault of a join
-abbrev pub join_fault_name : JoinFault → List ℕ
-join_fault_name Used = codes "Used"
-join_fault_name Joining = codes "Joining"
-join_fault_name NoChain = codes "NoChain"
-join_fault_name Lost = codes "Lost"
-join_fault_name Retiring = codes "Retiring"
+-- the name of a fault of an order
+abbrev pub order_fault_name : OrderFault → List ℕ
+order_fault_name Used = codes "Used"
+order_fault_name NotMember = codes "NotMember"
+order_fault_name Joining = codes "Joining"
+order_fault_name NoChain = codes "NoChain"
+order_fault_name Lost = codes "Lost"
+order_fault_name Last = codes "Last"
+order_fault_name Retiring = codes "Retiring"
 
--- join
-abbrev pub join_effect : ScriptState → ℕ → LineEffect
-join_effect s server =
-    event_effect s (event.Join server) (codes "done")
-    (option_map_or (λ fault. codes "no " ++ join_fault_name fault) (join_fault s.world.master server) (codes "idle"))
-
--- the name of a fault of an order to leave
-abbrev pub retire_fault_name : RetireFault → List ℕ
-retire_fault_name retire.NotMember = codes "NotMember"
-retire_fault_name retire.Joining = codes "Joining"
-retire_fault_name retire.Last = codes "Last"
-retire_fault_name retire.Retiring = codes "Retiring"
-
--- retire
-abbrev pub retire_effect : ScriptState → ℕ → LineEffect
-retire_effect s server =
-    event_effect s (event.Retire server) (codes "done")
-    (option_map_or (λ fault. codes "no " ++ retire_fault_name fault) (retire_fault s.world.master server) (codes "idle"))
+-- join and retire
+abbrev pub order_effect : ScriptState → Order → LineEffect
+order_effect s order =
+    event_effect s (event.Order order) (codes "done")
+    (option_map_or (λ fault. codes "no " ++ order_fault_name fault) (order_fault s.world.master order) (codes "idle"))
 
 -- how settling ended
 abbrev pub settled_text : Settled → List ℕ
@@ -187,8 +175,7 @@ line_effect s (asked.Begin request) = begin_effect s request
 line_effect s (asked.Take from to) = plain_effect s (event.Take from to)
 line_effect s (asked.Ignore from to) = plain_effect s (event.Ignore from to)
 line_effect s (asked.Fail server) = plain_effect s (event.Fail server)
-line_effect s (asked.Join server) = join_effect s server
-line_effect s (asked.Retire server) = retire_effect s server
+line_effect s (asked.Order order) = order_effect s order
 line_effect s (asked.Retry client) = plain_effect s (event.Retry client)
 line_effect s asked.Settle = settle_effect s
 

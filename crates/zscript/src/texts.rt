@@ -3,7 +3,7 @@
 ghost use Rattle.std.specs.Prelude.{◌≡◌, ◌++◌, OnOk};
 ghost use Rattle.std.specs.List.{flat_map};
 ghost use Rattle.zlines.specs.Texts.{Writes};
-ghost use Rattle.zscript.specs.Line.{join_fault_name, retire_fault_name, settled_text};
+ghost use Rattle.zscript.specs.Line.{order_fault_name, settled_text};
 ghost use Rattle.zscript.specs.Line.{taken_text, is_answer_to};
 ghost use Rattle.zscript.specs.support.Effects.{cause_text, did_text, begun_text, called_text};
 ghost use Rattle.zscript.specs.support.Effects.{WritesFault, taken_lines, own_call};
@@ -11,7 +11,7 @@ ghost use Rattle.zscript.specs.support.Effects.{WritesFault, taken_lines, own_ca
 use zalloc::Memory;
 use zcalls::{CallNumber, ClientId};
 use zlines::{LineFault, write_reply};
-use zprotocol::{BeginFault, JoinFault, RetireFault};
+use zprotocol::{BeginFault, OrderFault};
 use zworld::{Did, IdleCause};
 use zworld_model::{CallEvent, Settled};
 
@@ -99,40 +99,26 @@ pub(crate) fn write_cause(cause: IdleCause, out: &mut String) -> Result<(), Memo
         IdleCause::Begin(BeginFault::Busy) => out.push_str("busy")?,
         IdleCause::Begin(BeginFault::Exhausted) => out.push_str("no Numbers")?,
         IdleCause::Begin(BeginFault::Memory) => return Err(Memory),
-        IdleCause::Join(fault) => {
+        IdleCause::Order(fault) => {
             out.push_str("no ")?;
-            out.push_str(join_fault_name(fault))?;
-        }
-        IdleCause::Retire(fault) => {
-            out.push_str("no ")?;
-            out.push_str(retire_fault_name(fault))?;
+            out.push_str(order_fault_name(fault))?;
         }
     }
     Ok(())
 }
 
-// Returns the name of a fault of a join.
-fn join_fault_name(fault: JoinFault) -> &'static str
-    ensures { result.now ≡ join_fault_name fault }
+// Returns the name of a fault of an order.
+fn order_fault_name(fault: OrderFault) -> &'static str
+    ensures { result.now ≡ order_fault_name fault }
 {
     match fault {
-        JoinFault::Used => "Used",
-        JoinFault::Joining => "Joining",
-        JoinFault::NoChain => "NoChain",
-        JoinFault::Lost => "Lost",
-        JoinFault::Retiring => "Retiring",
-    }
-}
-
-// Returns the name of a fault of an order to leave.
-fn retire_fault_name(fault: RetireFault) -> &'static str
-    ensures { result.now ≡ retire_fault_name fault }
-{
-    match fault {
-        RetireFault::NotMember => "NotMember",
-        RetireFault::Joining => "Joining",
-        RetireFault::Last => "Last",
-        RetireFault::Retiring => "Retiring",
+        OrderFault::Used => "Used",
+        OrderFault::NotMember => "NotMember",
+        OrderFault::Joining => "Joining",
+        OrderFault::NoChain => "NoChain",
+        OrderFault::Lost => "Lost",
+        OrderFault::Last => "Last",
+        OrderFault::Retiring => "Retiring",
     }
 }
 

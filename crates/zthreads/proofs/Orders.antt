@@ -4,21 +4,15 @@ use Rattle.zworld_model.specs.declared.outcome.Outcome.TheVariants.{Acted}
 use Rattle.ztraces.specs.declared.trace.Act.{Act}
 use Rattle.ztraces.specs.declared.trace.Act.TheVariants.{Took}
 use Rattle.ztraces.specs.declared.trace.TraceEvent.{TraceEvent}
-use Rattle.zconsole.specs.declared.order.Order.{Order}
-use Rattle.zconsole.specs.declared.order.Order.TheVariants.{Join, Retire}
+use Rattle.zprotocol.specs.declared.master.order.Order.{Order}
 use Rattle.zdesks.specs.declared.desk.Desk.{Desk}
 use Rattle.zdesks.specs.Desks.{SameBooks}
-use Rattle.zthreads.specs.Acts.{act_of, DidNext, HasFollowed, MasterReceived, order_of, orders_in}
+use Rattle.zthreads.specs.Acts.{DidNext, HasFollowed, MasterReceived, order_of, orders_in}
 
 pub orders_more : (es : List TraceEvent) (e : TraceEvent) → orders_in (es ++ e ∷ []) ≡ orders_in es ++ order_of e.act
 orders_more [] e = append-nil (order_of e.act)
 orders_more (x ∷ es) e =
     ap (λ l. order_of x.act ++ l) (orders_more es e) ∙ sym (append_assoc (order_of x.act) (orders_in es) (order_of e.act))
-
--- the order that the master followed is the one
-pub order_of-act_of : (order : Order) → order_of (act_of order) ≡ order ∷ []
-order_of-act_of (Join s) = refl
-order_of-act_of (Retire s) = refl
 
 module _ (a b : Desk) where
   pub followed_same : (received : List Order) (waiting : Option Order) → SameBooks a b → HasFollowed a received waiting → HasFollowed b received waiting

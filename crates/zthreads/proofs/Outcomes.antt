@@ -1,32 +1,25 @@
 -- Which orders have their outcome said, after what the master did.
-use Rattle.std.proofs.Common.{◌≡◌, ◌≤◌, ℕ, List, [], ◌∷◌, ◌++◌, Option, None, Some, length, map, refl, sym, ap, ◌∙◌, arith}
+use Rattle.std.proofs.Common.{◌≡◌, ◌≤◌, List, [], ◌∷◌, ◌++◌, Option, None, Some, length, map, refl, sym, ap, ◌∙◌, arith}
 use Rattle.std.proofs.lemmas.List.{append-nil, map-append}
-use Rattle.zprotocol.specs.declared.master.join_fault.JoinFault.{JoinFault}
-use Rattle.zprotocol.specs.declared.master.retire_fault.RetireFault.{RetireFault}
+use Rattle.zprotocol.specs.declared.master.order_fault.OrderFault.{OrderFault}
 use Rattle.zprotocol.specs.master.View.{MasterView}
-use Rattle.zprotocol.specs.master.Table.{join_fault, retire_fault}
-use Rattle.zconsole.specs.declared.order.Order.{Order}
-use Rattle.zconsole.specs.declared.order.Order.TheVariants.{Join, Retire}
+use Rattle.zprotocol.specs.master.Table.{order_fault}
+use Rattle.zprotocol.specs.declared.master.order.Order.{Order}
 use Rattle.zconsole.specs.declared.outcome.OrderOutcome.{OrderOutcome}
 use Rattle.zconsole.specs.declared.ends.Inbox.{Inbox}
 use Rattle.zconsole.specs.Ends.{said, taken_of}
 use Rattle.zconsole.specs.Outcomes.{AreSaid, order_of}
 use Rattle.zthreads.specs.declared.owed.Owed.{Owed}
 use Rattle.zthreads.specs.declared.owed.Owed.TheVariants.{Nothing, Deed, Word}
-use Rattle.zthreads.specs.Outcomes.{joined_or, left_or, outcome_at, unsaid}
+use Rattle.zthreads.specs.Outcomes.{outcome_at, outcome_by, unsaid}
 
-order_of-joined_or : (s : ℕ) (fault : Option JoinFault) → order_of (joined_or s fault) ≡ Join s
-order_of-joined_or s None = refl
-order_of-joined_or s (Some fault) = refl
-
-order_of-left_or : (s : ℕ) (fault : Option RetireFault) → order_of (left_or s fault) ≡ Retire s
-order_of-left_or s None = refl
-order_of-left_or s (Some fault) = refl
+order_of-outcome_by : (order : Order) (fault : Option OrderFault) → order_of (outcome_by order fault) ≡ order
+order_of-outcome_by order None = refl
+order_of-outcome_by order (Some fault) = refl
 
 -- what the master says to an order is the outcome of that order
 pub order_of-outcome_at : (v : MasterView) (order : Order) → order_of (outcome_at v order) ≡ order
-order_of-outcome_at v (Join s) = order_of-joined_or s (join_fault v s)
-order_of-outcome_at v (Retire s) = order_of-left_or s (retire_fault v s)
+order_of-outcome_at v order = order_of-outcome_by order (order_fault v order)
 
 -- of one order at most the outcome isn't said
 pub few_unsaid : (owed : Owed) → length (unsaid owed) ≤ 1

@@ -1,10 +1,8 @@
 -- An event of a server and of the master, from what its table did.
 use mathlib.Core.Bool.{true≢false}
-use Rattle.std.proofs.Common.{◌≡◌, ◌<◌, ◌≤◌, ℕ, ◌+◌, ◌&&◌, true, false, [], Some, None, nat_lt, nat_le, refl, sym, ap, ◌∙◌, max, arith}
-use Rattle.std.proofs.lemmas.Bool.Decides.{nat_tests}
+use Rattle.std.proofs.Common.{◌≡◌, ℕ, ◌+◌, true, false, [], Some, None, refl, sym, max}
 use Rattle.ztree.specs.Tree.{Tree}
 use Rattle.zcalls.specs.Kept.{KeptState}
-use Rattle.zprotocol.specs.declared.limits.TheConstants.{MAX_SERVERS}
 use Rattle.zprotocol.specs.declared.process.Process.{Process}
 use Rattle.zprotocol.specs.declared.process.Process.TheVariants.{Master, Server, Client}
 use Rattle.zprotocol.specs.declared.process.Process.TheVariants as process
@@ -12,10 +10,11 @@ use Rattle.zprotocol.specs.server.Machine.{kept_tree}
 use Rattle.zprotocol.specs.server.Memory.{may_be_unheard, may_stop}
 use Rattle.zprotocol.specs.server.View.{Transfer}
 use Rattle.zprotocol.specs.server.Table.{is_retirement}
-use Rattle.zprotocol.specs.declared.master.join_fault.JoinFault.{JoinFault}
-use Rattle.zprotocol.specs.declared.master.retire_fault.RetireFault.{RetireFault}
+use Rattle.zprotocol.specs.declared.master.order.Order.{Order}
+use Rattle.zprotocol.specs.declared.master.order_fault.OrderFault.{OrderFault}
+use Rattle.zprotocol.specs.master.Order.{server_of}
 use Rattle.zprotocol.specs.master.View.{MasterView}
-use Rattle.zprotocol.specs.master.Table.{join_fault, join_step, retire_fault, retire_step, master_step}
+use Rattle.zprotocol.specs.master.Table.{order_fault, order_step, master_step}
 use Rattle.zserver.specs.declared.stopped.Stopped.{Stopped}
 use Rattle.zserver.specs.declared.stopped.Stopped.TheVariants as stopped
 use Rattle.zserver.specs.Server.{TreeView, TreeMessage, taken_result, StopsAt}
@@ -23,8 +22,8 @@ use Rattle.zserver.specs.declared.taken.Taken.{Taken}
 use Rattle.zserver.specs.declared.taken.Taken.TheVariants as taken
 use Rattle.zprotocol.specs.Places.{is_server}
 use Rattle.zworld_model.specs.declared.outcome.Outcome.TheVariants as outcome
-use Rattle.ztraces.specs.declared.trace.Act.TheVariants.{Took, Halted, Joined, Retired, Left}
-use Rattle.ztraces.specs.Deeds.{AtServer, AtMaster, Out, last_post, ServerTakes, ServerIgnores, ServerStops, ServerLeaves, ServerHalts, MasterTakes, MasterJoins, MasterRefuses, MasterRetires, MasterKeeps}
+use Rattle.ztraces.specs.declared.trace.Act.TheVariants.{Took, Halted, Ordered, Left}
+use Rattle.ztraces.specs.Deeds.{AtServer, AtMaster, Out, last_post, ServerTakes, ServerIgnores, ServerStops, ServerLeaves, ServerHalts, MasterTakes, MasterObeys, MasterRefuses}
 use Rattle.zdesks.specs.Desks.{IsEvent}
 use Rattle.zthreads.specs.Threads.{IsServer, outcome_of, end_of}
 
@@ -69,24 +68,10 @@ module _ (me : Process) (last : ℕ) (v : MasterView) (is : me ≡ process.Maste
   master_takes from stamp n m e =
       record { row = rw is (MasterTakes v from (stamp, m)); from = λ p. refl; at = rw is e }
 
-  pub master_joins : (s n : ℕ) → is_server s ≡ true → join_fault v s ≡ None → n ≡ max last 0 + 1
-      → IsEvent me last (AtMaster v) None (Joined s) n (AtMaster (join_step {T = Transfer (KeptState Tree)} v s).0) (join_step v s).1 []
-  master_joins s n server none e = record { row = rw is (MasterJoins v s server none); from = λ p. refl; at = rw is e }
+  pub master_obeys : (order : Order) (n : ℕ) → is_server (server_of order) ≡ true → order_fault v order ≡ None → n ≡ max last 0 + 1
+      → IsEvent me last (AtMaster v) None (Ordered order) n (AtMaster (order_step {T = Transfer (KeptState Tree)} v order).0) (order_step v order).1 []
+  master_obeys order n server none e = record { row = rw is (MasterObeys v order server none); from = λ p. refl; at = rw is e }
 
-  pub master_refuses : (s n : ℕ) (fault : JoinFault) → join_fault v s ≡ Some fault → n ≡ max last 0 + 1
-      → IsEvent me last (AtMaster v) None (Joined s) n (AtMaster v) [] []
-  master_refuses s n fault fails e = record { row = rw is (MasterRefuses v s fault fails); from = λ p. refl; at = rw is e }
-
-  pub master_retires : (s n : ℕ) → is_server s ≡ true → retire_fault v s ≡ None → n ≡ max last 0 + 1
-      → IsEvent me last (AtMaster v) None (Retired s) n (AtMaster (retire_step {T = Transfer (KeptState Tree)} v s).0) (retire_step v s).1 []
-  master_retires s n server none e = record { row = rw is (MasterRetires v s server none); from = λ p. refl; at = rw is e }
-
-  pub master_keeps : (s n : ℕ) (fault : RetireFault) → retire_fault v s ≡ Some fault → n ≡ max last 0 + 1
-      → IsEvent me last (AtMaster v) None (Retired s) n (AtMaster v) [] []
-  master_keeps s n fault fails e = record { row = rw is (MasterKeeps v s fault fails); from = λ p. refl; at = rw is e }
-
-pub server_is : (s : ℕ) → 0 < s → s ≤ MAX_SERVERS → is_server s ≡ true
-server_is s some small =
-    let above : nat_lt 0 s ≡ true = grind (arith, nat_tests) in
-    let below : nat_le s MAX_SERVERS ≡ true = grind (arith, nat_tests) in
-    ap (λ t. t && nat_le s MAX_SERVERS) above ∙ below
+  pub master_refuses : (order : Order) (n : ℕ) (fault : OrderFault) → order_fault v order ≡ Some fault → n ≡ max last 0 + 1
+      → IsEvent me last (AtMaster v) None (Ordered order) n (AtMaster v) [] []
+  master_refuses order n fault fails e = record { row = rw is (MasterRefuses v order fault fails); from = λ p. refl; at = rw is e }

@@ -4,10 +4,9 @@ use Rattle.zprotocol.specs.declared.process.Process.{Process}
 use Rattle.zworld_model.specs.declared.outcome.Outcome.{Outcome}
 use Rattle.zworld_model.specs.declared.outcome.Outcome.TheVariants.{Acted}
 use Rattle.ztraces.specs.declared.trace.Act.{Act}
-use Rattle.ztraces.specs.declared.trace.Act.TheVariants.{Took, Joined, Retired, Left}
+use Rattle.ztraces.specs.declared.trace.Act.TheVariants.{Took, Ordered, Left}
 use Rattle.ztraces.specs.declared.trace.TraceEvent.{TraceEvent}
-use Rattle.zconsole.specs.declared.order.Order.{Order}
-use Rattle.zconsole.specs.declared.order.Order.TheVariants.{Join, Retire}
+use Rattle.zprotocol.specs.declared.master.order.Order.{Order}
 use Rattle.zdesks.specs.declared.desk.Desk.{Desk}
 use Rattle.zdesks.specs.Desks.{IsEntered, is_cut_of, stamp_of_desk, trace_of}
 
@@ -23,15 +22,9 @@ MasterReceived a b = (from : Process) × DidNext a b (Took from Acted)
 abbrev pub ServerReceived : Desk → Desk → Type 0
 ServerReceived a b = ((from : Process) × (outcome : Outcome) × DidNext a b (Took from outcome)) ⊎ DidNext a b Left
 
--- what the master does at an order
-abbrev pub act_of : Order → Act
-act_of (Join s) = Joined s
-act_of (Retire s) = Retired s
-
--- the order that it followed by doing that, if it was one
+-- the order that the master followed by doing that, if it was one
 abbrev pub order_of : Act → List Order
-order_of (Joined s) = Join s ∷ []
-order_of (Retired s) = Retire s ∷ []
+order_of (Ordered order) = order ∷ []
 order_of other = []
 
 -- the orders that it followed, oldest first

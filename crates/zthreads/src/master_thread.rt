@@ -3,12 +3,10 @@
 ghost use Rattle.std.specs.Prelude.{◌≡◌, ◌<◌, ◌≤◌, None, [], true, false};
 ghost use Rattle.std.specs.Prelude.{IfNone, IfSome, IsFalse, IsTrue, OnSome};
 ghost use Rattle.zprotocol.specs.declared.process.Process.TheVariants as process;
-ghost use Rattle.zprotocol.specs.master.Table.{join_fault, retire_fault};
 ghost use Rattle.zmaster.specs.declared.limits.TheConstants.{MAX_POSTS};
-ghost use Rattle.zconsole.specs.declared.order.Order.TheVariants as order;
 ghost use Rattle.zworld_model.specs.declared.outcome.Outcome.TheVariants.{Acted};
 ghost use Rattle.ztraces.specs.Deeds.{AtMaster};
-ghost use Rattle.ztraces.specs.declared.trace.Act.TheVariants.{Joined, Retired, Took};
+ghost use Rattle.ztraces.specs.declared.trace.Act.TheVariants.{Ordered, Took};
 ghost use Rattle.zdesks.specs.Desks.{is_cut_of, is_traced_of, IsAt, IsSettled, link_count};
 ghost use Rattle.zdesks.specs.Desks.{process_of, room_of, SameBooks, SameDesk, self_of, Stands};
 ghost use Rattle.zdesks.specs.Desks.{trace_of, wires_of};
@@ -16,15 +14,14 @@ ghost use Rattle.zdesks.specs.Waiting.{SeesNothing, SeesSome};
 ghost use Rattle.zdesks.specs.Endings.{HasEnded, IsCutAsBefore, IsLostAsBefore};
 ghost use Rattle.zdesks.specs.Endings.{LeavesNothing, SameWires};
 ghost use Rattle.zthreads.specs.Threads.{MasterMoves};
-ghost use Rattle.zthreads.specs.Acts.{act_of, DidNext, MasterReceived};
-ghost use Rattle.zthreads.specs.Outcomes.{joined_or, left_or, outcome_at};
+ghost use Rattle.zthreads.specs.Acts.{DidNext, MasterReceived};
+ghost use Rattle.zthreads.specs.Outcomes.{outcome_at};
 
 use crate::took::took;
-use zconsole::order::Order;
 use zconsole::outcome::OrderOutcome;
 use zdesks::{Desk, Ending};
 use zmaster::{MAX_POSTS, Master};
-use zprotocol::{Message, Process, ServerId};
+use zprotocol::{Message, Order, Process};
 use zserver::Snapshot;
 use ztraces::{Act, Stamp};
 use zwords::looks::Look;
@@ -106,63 +103,25 @@ impl MasterThread {
         true
     }
 
-    /// Lets a server join, or refuses it, and returns which. None where that has to be tried again,
-    /// for memory.
-    pub fn join(&mut self, server: ServerId) -> Option<OrderOutcome>
-        ensures idle { IfNone result
-            (SameBooks (master_desk self.old) (master_desk self.new)) }
-        ensures done { OnSome result
-            (DidNext (master_desk self.old) (master_desk self.new) (Joined server)) }
-        ensures said { IfSome result (λ said.
-            said ≡ outcome_at (master_view self.old) (order.Join server)) }
-        ensures same { SameDesk (master_desk self.old) (master_desk self.new) }
-    {
-        if !self.desk.settle() {
-            return None;
-        }
-        if self.desk.out.reserve(MAX_POSTS).is_err() {
-            return None;
-        }
-        let said = admit(&mut self.desk, &mut self.master, server);
-        Some(said)
-    }
-
-    /// Orders a server to leave, or keeps it, and returns which. None where that has to be tried
-    /// again, for memory.
-    pub fn retire(&mut self, server: ServerId) -> Option<OrderOutcome>
-        ensures idle { IfNone result
-            (SameBooks (master_desk self.old) (master_desk self.new)) }
-        ensures done { OnSome result
-            (DidNext (master_desk self.old) (master_desk self.new) (Retired server)) }
-        ensures said { IfSome result (λ said.
-            said ≡ outcome_at (master_view self.old) (order.Retire server)) }
-        ensures same { SameDesk (master_desk self.old) (master_desk self.new) }
-    {
-        if !self.desk.settle() {
-            return None;
-        }
-        if self.desk.out.reserve(MAX_POSTS).is_err() {
-            return None;
-        }
-        let said = dismiss(&mut self.desk, &mut self.master, server);
-        Some(said)
-    }
-
-    /// Follows an order of the console, and returns its outcome. None where that has to be tried
-    /// again, for memory.
+    /// Obeys an order of the console, or refuses it, and returns which. None where that has to be
+    /// tried again, for memory.
     pub fn follow(&mut self, order: &Order) -> Option<OrderOutcome>
         ensures idle { IfNone result
             (SameBooks (master_desk self.old) (master_desk self.new)) }
         ensures done { OnSome result
-            (DidNext (master_desk self.old) (master_desk self.new) (act_of order.now)) }
+            (DidNext (master_desk self.old) (master_desk self.new) (Ordered order.now)) }
         ensures said { IfSome result (λ said.
             said ≡ outcome_at (master_view self.old) order.now) }
         ensures same { SameDesk (master_desk self.old) (master_desk self.new) }
     {
-        match order {
-            Order::Join(server) => self.join(*server),
-            Order::Retire(server) => self.retire(*server),
+        if !self.desk.settle() {
+            return None;
         }
+        if self.desk.out.reserve(MAX_POSTS).is_err() {
+            return None;
+        }
+        let said = follow(&mut self.desk, &mut self.master, order);
+        Some(said)
     }
 
     /// What it leaves, once its thread has ended.
@@ -202,53 +161,28 @@ fn hear(
     desk.enter(took(&from, Outcome::Acted), next, None);
 }
 
-// The master lets a server join, or refuses it.
-fn admit(desk: &mut Desk, master: &mut Master, server: ServerId) -> OrderOutcome
+// The master obeys an order, or refuses it.
+fn follow(desk: &mut Desk, master: &mut Master, order: &Order) -> OrderOutcome
     requires me { process_of desk.old ≡ process.Master }
     requires settled { IsSettled desk.old }
     requires room { MAX_POSTS ≤ room_of desk.old }
     ensures at { Stands desk.old (AtMaster master.old) None []
         → IsAt desk.new (AtMaster master.new) }
-    ensures did { DidNext desk.old desk.new (Joined server) }
-    ensures said { result ≡ joined_or server (join_fault master.old server) }
+    ensures did { DidNext desk.old desk.new (Ordered order.now) }
+    ensures said { result ≡ outcome_at master.old order.now }
     ensures same { SameDesk desk.old desk.new }
 {
-    // The number of a server is one of a chain: its clause tells that.
-    let _ = server.number();
+    // The order is about one of the servers: its clause tells that.
+    let _ = order.server();
     let next = desk.next_stamp(Stamp::zero());
-    match master.join(server, &mut desk.out) {
+    match master.order(order, &mut desk.out) {
         Ok(()) => {
-            desk.enter(Act::Joined(server), next, None);
-            OrderOutcome::Joins(server)
+            desk.enter(Act::Ordered(*order), next, None);
+            OrderOutcome::Obeyed(*order)
         }
         Err(fault) => {
-            desk.enter(Act::Joined(server), next, None);
-            OrderOutcome::JoinRefused(server, fault)
-        }
-    }
-}
-
-// The master orders a server to leave, or keeps it.
-fn dismiss(desk: &mut Desk, master: &mut Master, server: ServerId) -> OrderOutcome
-    requires me { process_of desk.old ≡ process.Master }
-    requires settled { IsSettled desk.old }
-    requires room { MAX_POSTS ≤ room_of desk.old }
-    ensures at { Stands desk.old (AtMaster master.old) None []
-        → IsAt desk.new (AtMaster master.new) }
-    ensures did { DidNext desk.old desk.new (Retired server) }
-    ensures said { result ≡ left_or server (retire_fault master.old server) }
-    ensures same { SameDesk desk.old desk.new }
-{
-    let _ = server.number();
-    let next = desk.next_stamp(Stamp::zero());
-    match master.retire(server, &mut desk.out) {
-        Ok(()) => {
-            desk.enter(Act::Retired(server), next, None);
-            OrderOutcome::Leaves(server)
-        }
-        Err(fault) => {
-            desk.enter(Act::Retired(server), next, None);
-            OrderOutcome::RetireRefused(server, fault)
+            desk.enter(Act::Ordered(*order), next, None);
+            OrderOutcome::Refused(*order, fault)
         }
     }
 }

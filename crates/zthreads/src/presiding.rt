@@ -5,7 +5,7 @@ ghost use Rattle.std.specs.Prelude.{option_to_list};
 ghost use Rattle.zwords.specs.HaltSeats.{IsSeatOf};
 ghost use Rattle.zconsole.specs.Ends.{IsSameInbox, said, taken_of};
 ghost use Rattle.zconsole.specs.Outcomes.{AreSaid, order_of};
-ghost use Rattle.zconsole.specs.declared.order.Order.{Order};
+ghost use Rattle.zprotocol.specs.declared.master.order.Order.{Order};
 ghost use Rattle.zconsole.specs.declared.outcome.OrderOutcome.{OrderOutcome};
 ghost use Rattle.zdesks.specs.Desks.{SameDesk};
 ghost use Rattle.zthreads.specs.Acts.{HasFollowed};
@@ -18,7 +18,7 @@ use crate::master_thread::MasterThread;
 use crate::owed::Owed;
 use std::sync::Wait;
 use zconsole::ends::Inbox;
-use zconsole::order::Order;
+use zprotocol::Order;
 use zwords::halts::{Halt, HaltSeat};
 
 /// Goes over the links in turn, and takes the console's orders, until bit 0 is set. It sends what

@@ -90,8 +90,7 @@ module _ {M : Type 0} (machine : Does M) where
 
 -- worlds that are alike have the same in place
 in_place_alike : {M : Type 0} (machine : Does M) (v w : World M) (e : Event) → IsAlike v w → is_in_place v e ≡ is_in_place w e
-in_place_alike machine v w (event.Join s) alike = refl
-in_place_alike machine v w (event.Retire s) alike = refl
+in_place_alike machine v w (event.Order order) alike = refl
 in_place_alike machine v w (event.Begin c call) alike = have_the_same_enabled machine v w (event.Begin c call) alike
 in_place_alike machine v w (event.Retry c) alike = have_the_same_enabled machine v w (event.Retry c) alike
 in_place_alike machine v w (event.Take from to) alike = have_the_same_enabled machine v w (event.Take from to) alike

@@ -16,10 +16,10 @@ use Rattle.zworld_model.specs.History.{History}
 use Rattle.zworld_model.specs.World.{World}
 use Rattle.zprotocol.specs.Places.{is_server}
 use Rattle.ztraces.specs.declared.trace.Act.{Act}
-use Rattle.ztraces.specs.declared.trace.Act.TheVariants.{Took, Began, Retried, Joined, Retired, Halted}
-use Rattle.ztraces.specs.Deeds.{Stamped, Standing, AtMaster, AtServer, AtClient, standing_in, answer_told, Row, MasterTakes, ServerTakes, ClientTakes, ServerIgnores, ServerStops, ServerLeaves, ServerHalts, MasterJoins, MasterRefuses, MasterRetires, MasterKeeps, ClientBegins, ClientRetries}
+use Rattle.ztraces.specs.declared.trace.Act.TheVariants.{Took, Began, Retried, Ordered, Halted}
+use Rattle.ztraces.specs.Deeds.{Stamped, Standing, AtMaster, AtServer, AtClient, standing_in, answer_told, Row, MasterTakes, ServerTakes, ClientTakes, ServerIgnores, ServerStops, ServerLeaves, ServerHalts, MasterObeys, MasterRefuses, ClientBegins, ClientRetries}
 use Rattle.ztraces.proofs.row_lemmas.Happens.{Arrives, IsRowOf, delivered}
-use Rattle.ztraces.proofs.row_lemmas.MasterRows.{master_takes, master_joins, master_refuses, master_retires, master_keeps}
+use Rattle.ztraces.proofs.row_lemmas.MasterRows.{master_takes, master_obeys, master_refuses}
 use Rattle.ztraces.proofs.row_lemmas.ServerRows.{server_view, both_are, server_takes, server_ignores, server_fails, server_leaves}
 use Rattle.ztraces.proofs.row_lemmas.ClientRows.{client_view, client_takes, client_begins, client_retries}
 
@@ -51,22 +51,14 @@ module _ {M : Type 0} (machine : Does M) (w : World M) where
   row_happens _ _ _ _ _ _ _ (ServerHalts s v) is arrives =
       let (alive, same) = server_view (is_server s && not (w.failed s)) (w.servers s) v is in
       server_fails machine w s Halted (both_are _ _ alive).0 (both_are _ _ alive).1 refl
-  row_happens _ _ _ _ _ _ _ (MasterJoins v s there none) is arrives =
+  row_happens _ _ _ _ _ _ _ (MasterObeys v order there none) is arrives =
       let same : w.master ≡ v = cc is in
-      subst (λ u. IsRowOf machine w Master (Joined s) (AtMaster (master.join_step {T = Transfer M} u s).0) (master.join_step u s).1 []) same
-      (master_joins machine w s there (ap (λ u. master.join_fault u s) same ∙ none))
-  row_happens _ _ _ _ _ _ _ (MasterRefuses v s fault refuses) is arrives =
+      subst (λ u. IsRowOf machine w Master (Ordered order) (AtMaster (master.order_step {T = Transfer M} u order).0) (master.order_step u order).1 []) same
+      (master_obeys machine w order there (ap (λ u. master.order_fault u order) same ∙ none))
+  row_happens _ _ _ _ _ _ _ (MasterRefuses v order fault refuses) is arrives =
       let same : w.master ≡ v = cc is in
-      subst (λ u. IsRowOf machine w Master (Joined s) (AtMaster u) [] []) same
-      (master_refuses machine w s fault (ap (λ u. master.join_fault u s) same ∙ refuses))
-  row_happens _ _ _ _ _ _ _ (MasterRetires v s there none) is arrives =
-      let same : w.master ≡ v = cc is in
-      subst (λ u. IsRowOf machine w Master (Retired s) (AtMaster (master.retire_step {T = Transfer M} u s).0) (master.retire_step u s).1 []) same
-      (master_retires machine w s there (ap (λ u. master.retire_fault u s) same ∙ none))
-  row_happens _ _ _ _ _ _ _ (MasterKeeps v s fault refuses) is arrives =
-      let same : w.master ≡ v = cc is in
-      subst (λ u. IsRowOf machine w Master (Retired s) (AtMaster u) [] []) same
-      (master_keeps machine w s fault (ap (λ u. master.retire_fault u s) same ∙ refuses))
+      subst (λ u. IsRowOf machine w Master (Ordered order) (AtMaster u) [] []) same
+      (master_refuses machine w order fault (ap (λ u. master.order_fault u order) same ∙ refuses))
   row_happens _ _ _ _ _ _ _ (ClientBegins c v call none) is arrives =
       let (there, same) = client_view {M = M} (nat_lt c w.master.clients) (w.clients c) v is in
       subst (λ u. IsRowOf machine w (Client c) (Began call) (AtClient (client.begin_step {T = Transfer M} u call).0) (client.begin_step u call).1 (call_event.Begin c (u.number + 1) call ∷ [])) same

@@ -22,10 +22,10 @@ use Rattle.zworld_model.specs.Links.{is_same, messages_to, without_front}
 use Rattle.zworld_model.specs.World.{World, opening_world}
 use Rattle.zworld_model.specs.Events.{run}
 use Rattle.ztraces.specs.declared.trace.Act.{Act}
-use Rattle.ztraces.specs.declared.trace.Act.TheVariants.{Took, Began, Retried, Joined, Retired, Left, Halted}
+use Rattle.ztraces.specs.declared.trace.Act.TheVariants.{Took, Began, Retried, Ordered, Left, Halted}
 use Rattle.ztraces.specs.declared.trace.TraceEvent.{TraceEvent}
 use Rattle.ztraces.specs.declared.trace.Traces.{Traces}
-use Rattle.ztraces.specs.Deeds.{Stamped, Standing, standing_in, answer_told, Row, MasterTakes, ServerTakes, ClientTakes, ServerIgnores, ServerStops, ServerLeaves, ServerHalts, MasterJoins, MasterRefuses, MasterRetires, MasterKeeps, ClientBegins, ClientRetries, Deed, stamp_of, GoesBy, trace_by, taken_from, takes, stamped, puts, told_by}
+use Rattle.ztraces.specs.Deeds.{Stamped, Standing, standing_in, answer_told, Row, MasterTakes, ServerTakes, ClientTakes, ServerIgnores, ServerStops, ServerLeaves, ServerHalts, MasterObeys, MasterRefuses, ClientBegins, ClientRetries, Deed, stamp_of, GoesBy, trace_by, taken_from, takes, stamped, puts, told_by}
 use Rattle.ztraces.specs.Traces.{event_of, Step, comes_before, at_process, Merges, IsMerge, BeginsMerge, is_step_in_place, step_happens, are_in_place, event_list, events_of, client_of, told_of, trace_of, record_of, client_count, stamps_rise_from, stamps_rise}
 use Rattle.ztraces.specs.Lawful.{AccountFor}
 use Rattle.ztraces.proofs.Deeds.{rises, out_ends}
@@ -126,8 +126,7 @@ module _ {M : Type 0} (machine : Does M) where
     there (Took from outcome) None row early taken = absurd (no_delivery machine p (standing_in w p) left from outcome posts told row)
     there (Began call) took row early taken = (tt, λ x. subst (λ l. Flows (w.links x p) (puts p (rest x)) l) (taken x) (f.links x p))
     there Retried took row early taken = (tt, λ x. subst (λ l. Flows (w.links x p) (puts p (rest x)) l) (taken x) (f.links x p))
-    there (Joined s) took row early taken = (tt, λ x. subst (λ l. Flows (w.links x p) (puts p (rest x)) l) (taken x) (f.links x p))
-    there (Retired s) took row early taken = (tt, λ x. subst (λ l. Flows (w.links x p) (puts p (rest x)) l) (taken x) (f.links x p))
+    there (Ordered order) took row early taken = (tt, λ x. subst (λ l. Flows (w.links x p) (puts p (rest x)) l) (taken x) (f.links x p))
     there Halted took row early taken = (tt, λ x. subst (λ l. Flows (w.links x p) (puts p (rest x)) l) (taken x) (f.links x p))
 
     -- what it puts is put
@@ -205,10 +204,8 @@ module _ {M : Type 0} (machine : Does M) where
   row_told c _ _ _ _ _ _ _ (ServerStops s v from m grows) = refl
   row_told c _ _ _ _ _ _ _ (ServerLeaves s v m order) = refl
   row_told c _ _ _ _ _ _ _ (ServerHalts s v) = refl
-  row_told c _ _ _ _ _ _ _ (MasterJoins v s there none) = refl
-  row_told c _ _ _ _ _ _ _ (MasterRefuses v s fault refuses) = refl
-  row_told c _ _ _ _ _ _ _ (MasterRetires v s there none) = refl
-  row_told c _ _ _ _ _ _ _ (MasterKeeps v s fault refuses) = refl
+  row_told c _ _ _ _ _ _ _ (MasterObeys v order there none) = refl
+  row_told c _ _ _ _ _ _ _ (MasterRefuses v order fault refuses) = refl
   row_told c _ _ _ _ _ _ _ (ClientBegins d v call none) = ap (λ b. cond b (call_event.Begin d (v.number + 1) call ∷ []) []) (swapped c d)
   row_told c _ _ _ _ _ _ _ (ClientRetries d v waits) = nothing (c == d)
 

@@ -15,7 +15,7 @@ use Rattle.zworld_model.specs.Links.{is_same}
 use Rattle.zworld_model.specs.World.{World}
 use Rattle.zworld_model.specs.Events.{is_enabled, happens}
 use Rattle.ztraces.specs.declared.trace.Act.{Act}
-use Rattle.ztraces.specs.declared.trace.Act.TheVariants.{Took, Began, Retried, Joined, Retired, Left, Halted}
+use Rattle.ztraces.specs.declared.trace.Act.TheVariants.{Took, Began, Retried, Ordered, Left, Halted}
 use Rattle.ztraces.specs.declared.trace.TraceEvent.{TraceEvent}
 use Rattle.ztraces.specs.declared.trace.Trace.{Trace}
 use Rattle.ztraces.specs.declared.trace.ClientTrace.{ClientTrace}
@@ -44,8 +44,7 @@ event_of (Server s) (Took from Unheard) = Some (event.Ignore from (Server s))
 event_of (Server s) (Took from Stopped) = Some (event.Fail s)
 event_of (Server s) Left = Some (event.Take Master (Server s))
 event_of (Server s) Halted = Some (event.Fail s)
-event_of Master (Joined s) = Some (event.Join s)
-event_of Master (Retired s) = Some (event.Retire s)
+event_of Master (Ordered order) = Some (event.Order order)
 event_of (Client c) (Began call) = Some (event.Begin c call)
 event_of (Client c) Retried = Some (event.Retry c)
 event_of p act = None
@@ -94,11 +93,9 @@ abbrev pub stamps_rise : List TraceEvent → Bool
 stamps_rise [] = true
 stamps_rise (e ∷ more) = stamps_rise_from e.stamp more
 
--- an event is in its place if it is enabled, or is a join or an order to leave, which the master
--- may refuse
+-- an event is in its place if it is enabled, or is an order, which the master may refuse
 abbrev pub is_in_place : {M : Type 0} → World M → Event → Bool
-is_in_place w (event.Join s) = true
-is_in_place w (event.Retire s) = true
+is_in_place w (event.Order order) = true
 is_in_place w other = is_enabled w other
 
 -- a step is in its place: it stands for an event, which is

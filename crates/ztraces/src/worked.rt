@@ -6,8 +6,10 @@ ghost use Rattle.zprotocol.specs.declared.process.Process.TheVariants.{Master, S
 ghost use Rattle.zworld_model.specs.declared.event.Event.TheVariants as event;
 ghost use Rattle.zworld_model.specs.declared.outcome.Outcome.TheVariants.{Acted, Stopped, Unheard};
 ghost use Rattle.zworld_model.specs.World.{at};
-ghost use Rattle.ztraces.specs.declared.trace.Act.TheVariants.{Took, Began, Retried, Joined, Halted};
-ghost use Rattle.ztraces.specs.declared.trace.Act.TheVariants.{Retired, Left};
+ghost use Rattle.zworld_model.specs.Orders as orders;
+ghost use Rattle.zprotocol.specs.declared.master.order.Order.TheVariants.{Join, Retire};
+ghost use Rattle.ztraces.specs.declared.trace.Act.TheVariants.{Took, Began, Retried, Ordered, Halted};
+ghost use Rattle.ztraces.specs.declared.trace.Act.TheVariants.{Left};
 ghost use Rattle.ztraces.specs.declared.trace.Traces.{Traces};
 ghost use Rattle.ztraces.specs.Traces.{event_of, comes_before, stamps_rise, is_in_place};
 ghost use Rattle.ztraces.specs.Traces.{is_step_in_place, told_of, Merges};
@@ -29,9 +31,9 @@ pub fn acts_are_events()
     ensures ignored_query { event_of s1 (Took c0 Unheard) ≡ Some (event.Ignore c0 s1) }
     ensures stop { event_of s1 (Took c0 Stopped) ≡ Some (event.Fail 1) }
     ensures halt { event_of s1 Halted ≡ Some (event.Fail 1) }
-    ensures join { event_of Master (Joined 2) ≡ Some (event.Join 2) }
+    ensures join { event_of Master (Ordered (Join 2)) ≡ Some (orders.Join 2) }
     ensures leave { event_of s1 Left ≡ Some (event.Take Master s1) }
-    ensures order { event_of Master (Retired 2) ≡ Some (event.Retire 2) }
+    ensures order { event_of Master (Ordered (Retire 2)) ≡ Some (orders.Retire 2) }
     ensures begin { event_of c0 (Began write) ≡ Some (event.Begin 0 write) }
     ensures retry { event_of c0 Retried ≡ Some (event.Retry 0) }
     ensures client_stops { event_of c0 (Took s1 Stopped) ≡ None }
@@ -39,9 +41,9 @@ pub fn acts_are_events()
     ensures master_is_halted { event_of Master Halted ≡ None }
     ensures server_begins { event_of s1 (Began write) ≡ None }
     ensures server_retries { event_of s1 Retried ≡ None }
-    ensures server_lets_join { event_of s1 (Joined 2) ≡ None }
+    ensures server_lets_join { event_of s1 (Ordered (Join 2)) ≡ None }
     ensures master_leaves { event_of Master Left ≡ None }
-    ensures server_orders { event_of s1 (Retired 2) ≡ None }
+    ensures server_orders { event_of s1 (Ordered (Retire 2)) ≡ None }
 {}
 
 /// Steps come by their timestamps. At one timestamp the master's come first, then the servers' by
@@ -107,9 +109,9 @@ pub fn retirement_is_a_run()
 /// Which events are in their place in the initial state of one server and one client. A join or an
 /// order to leave is, even if the master refuses it.
 pub fn places_are_tested()
-    ensures refused_join { is_in_place opening (event.Join 1) ≡ true }
-    ensures refused_order { is_in_place opening (event.Retire 1) ≡ true }
-    ensures granted_join { is_in_place opening (event.Join 2) ≡ true }
+    ensures refused_join { is_in_place opening (orders.Join 1) ≡ true }
+    ensures refused_order { is_in_place opening (orders.Retire 1) ≡ true }
+    ensures granted_join { is_in_place opening (orders.Join 2) ≡ true }
     ensures empty_link { is_in_place opening (event.Take c0 s1) ≡ false }
     ensures failure { is_in_place opening (event.Fail 1) ≡ true }
     ensures idle_retry { is_in_place opening (event.Retry 0) ≡ false }

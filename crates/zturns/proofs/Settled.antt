@@ -7,7 +7,7 @@ use Rattle.zprotocol.specs.declared.process.Process.{Process}
 use Rattle.zprotocol.specs.declared.process.Process.TheVariants.{Master, Server, Client}
 use Rattle.zprotocol.specs.server.Machine.{Does}
 use Rattle.zworld_model.specs.declared.event.Event.{Event}
-use Rattle.zworld_model.specs.declared.event.Event.TheVariants.{Begin, Retry, Take, Ignore, Fail, Join, Retire}
+use Rattle.zworld_model.specs.declared.event.Event.TheVariants.{Begin, Retry, Take, Ignore, Fail, Order}
 use Rattle.zworld_model.specs.declared.outcome.Outcome.{Outcome}
 use Rattle.zworld_model.specs.declared.outcome.Outcome.TheVariants.{Acted, Stopped, Unheard}
 use Rattle.zworld_model.specs.World.{World}
@@ -30,8 +30,7 @@ resolved (Take from (Server s)) Stopped none = tt
 resolved (Take from (Server s)) Unheard none = tt
 resolved (Ignore from to) outcome none = tt
 resolved (Fail s) outcome none = tt
-resolved (Join s) outcome none = tt
-resolved (Retire s) outcome none = tt
+resolved (Order order) outcome none = tt
 
 pub no_call_read : {M : Type 0} (machine : Does M) (w : World M) (event : Event) (outcome : Outcome) → NoCall event → NoCall (read machine w event outcome)
 no_call_read machine w event outcome none =

@@ -3,7 +3,6 @@ use Rattle.std.proofs.Common.{◌≡◌, ◌⊎◌, ℕ, ◌+◌, ◌<◌, Bool,
 use Rattle.std.specs.Prelude.{◌≤◌, ◌&&◌, is_none, nat_lt}
 use Rattle.std.proofs.lemmas.Bool.Decides.{nat_tests}
 use Rattle.zcalls.specs.declared.limits.TheConstants.{MAX_CALL_NUMBER}
-use Rattle.std.specs.List.{last_or}
 use Rattle.zcalls.specs.declared.call.Call.{Call}
 use Rattle.zcalls.specs.declared.reply.Reply.{Reply}
 use Rattle.zcalls.proofs.Among.{test}
@@ -11,10 +10,10 @@ use Rattle.zprotocol.specs.declared.process.Process.{Process}
 use Rattle.zprotocol.specs.declared.process.Process.TheVariants.{Master, Server, Client}
 use Rattle.zprotocol.specs.server.Machine.{Does}
 use Rattle.zprotocol.specs.server.Table.{is_retirement}
-use Rattle.zprotocol.specs.server.View.{ServerView, Transfer, MessageOf, Post}
-use Rattle.zprotocol.specs.master.View.{MasterView, members, with_number}
-use Rattle.zprotocol.specs.master.Table.{master_step, join_step, retire_step}
-use Rattle.zprotocol.specs.declared.message.Message.TheVariants as message
+use Rattle.zprotocol.specs.server.View.{ServerView, Transfer, MessageOf}
+use Rattle.zprotocol.specs.master.View.{MasterView}
+use Rattle.zprotocol.specs.master.Table.{master_step, order_step}
+use Rattle.zprotocol.proofs.master_lemmas.Orders.{order_counts}
 use Rattle.zprotocol.specs.master.support.Cases as master
 use Rattle.zprotocol.proofs.master_lemmas.Cases.{master_case}
 use Rattle.zprotocol.specs.client.View.{ClientView}
@@ -22,7 +21,7 @@ use Rattle.zprotocol.specs.client.Table.{ClientResult, begin_fault, begin_step, 
 use Rattle.zprotocol.specs.client.support.Cases as client
 use Rattle.zprotocol.proofs.client_lemmas.Cases.{client_case}
 use Rattle.zworld_model.specs.declared.event.Event.{Event}
-use Rattle.zworld_model.specs.declared.event.Event.TheVariants.{Begin, Retry, Take, Ignore, Fail, Join, Retire}
+use Rattle.zworld_model.specs.declared.event.Event.TheVariants.{Begin, Retry, Take, Ignore, Fail, Order}
 use Rattle.zworld_model.specs.declared.history.CallEvent.TheVariants as call_event
 use Rattle.zworld_model.specs.Links.{Links, without_front}
 use Rattle.zworld_model.specs.World.{World, at, opening_world}
@@ -152,24 +151,6 @@ module _ {M : Type 0} (machine : Does M) (log : Log) (waiting : Option Call) whe
   front_goes w from to (m ∷ more) is =
       process_goes (record w { links = without_front w.links from to }) from to m (kept log waiting w w.servers w.failed _ is)
 
-  join_keeps : (v : MasterView) (s : ℕ) → (join_step {T = Transfer M} v s).0.clients ≡ v.clients
-  unfolding join_step
-  join_keeps v s = by (last_or None (members v))
-    where
-      by : (o : Option ℕ) → (elim o as (λ x. MasterView × List (Post M)) [
-        | None ↦ (v, [])
-        | Some last ↦ (
-          record v { chain = v.chain ++ (s, v.epoch + 1) ∷ []; joining = Some s; used = with_number s v.used; epoch = v.epoch + 1 },
-          (Server s, message.NewPred (v.epoch + 1) last) ∷ [],
-        )
-      ]).0.clients ≡ v.clients
-      by None = refl
-      by (Some last) = refl
-
-  retire_keeps : (v : MasterView) (s : ℕ) → (retire_step {T = Transfer M} v s).0.clients ≡ v.clients
-  unfolding retire_step
-  retire_keeps v s = refl
-
   -- an enabled event at which no call begins
   acts_go : (w : World M) (event : Event) → NoCall event → TakesTurns w log waiting → Goes (acts machine w event)
   acts_go w (Begin c call) none is = absurd none
@@ -177,8 +158,7 @@ module _ {M : Type 0} (machine : Does M) (log : Log) (waiting : Option Call) whe
   acts_go w (Take from to) none is = front_goes w from to (w.links from to) is
   acts_go w (Ignore from to) none is = inl (kept log waiting w w.servers w.failed _ is)
   acts_go w (Fail s) none is = inl (kept log waiting w w.servers _ _ is)
-  acts_go w (Join s) none is = inl (mastered log waiting w (join_step w.master s).0 _ (join_keeps w.master s) is)
-  acts_go w (Retire s) none is = inl (mastered log waiting w (retire_step w.master s).0 _ (retire_keeps w.master s) is)
+  acts_go w (Order order) none is = inl (mastered log waiting w (order_step w.master order).0 _ (order_counts (Transfer M) w.master order) is)
 
   happens_goes : (w : World M) (event : Event) → NoCall event → TakesTurns w log waiting → Goes (happens machine w event)
   happens_goes w event none is = chosen Goes (is_enabled w event) (acts machine w event) w (acts_go w event none is) (inl is)
@@ -229,8 +209,7 @@ kind (Retry c) = inr tt
 kind (Take from to) = inr tt
 kind (Ignore from to) = inr tt
 kind (Fail s) = inr tt
-kind (Join s) = inr tt
-kind (Retire s) = inr tt
+kind (Order order) = inr tt
 
 -- some log and some call that waits
 abbrev pub HasTurns : {M : Type 0} → World M → Type 0
@@ -263,8 +242,7 @@ module _ {M : Type 0} (machine : Does M) where
 -- events of the chain's operator
 abbrev pub IsOrder : Event → Type 0
 IsOrder (Fail s) = Unit {0}
-IsOrder (Join s) = Unit {0}
-IsOrder (Retire s) = Unit {0}
+IsOrder (Order order) = Unit {0}
 IsOrder event = ⊥
 
 -- a fact of what happens, by what an enabled event does
@@ -279,10 +257,9 @@ order_keeps machine w log waiting (Retry c) order is = absurd order
 order_keeps machine w log waiting (Take from to) order is = absurd order
 order_keeps machine w log waiting (Ignore from to) order is = absurd order
 order_keeps machine w log waiting (Fail s) order is = of_event machine (λ u. TakesTurns u log waiting) w (Fail s) (kept log waiting w w.servers _ _ is) is
-order_keeps machine w log waiting (Join s) order is =
-    of_event machine (λ u. TakesTurns u log waiting) w (Join s) (mastered log waiting w (join_step w.master s).0 _ (join_keeps machine log waiting w.master s) is) is
-order_keeps machine w log waiting (Retire s) order is =
-    of_event machine (λ u. TakesTurns u log waiting) w (Retire s) (mastered log waiting w (retire_step w.master s).0 _ (retire_keeps machine log waiting w.master s) is) is
+order_keeps {M} machine w log waiting (Order asked) order is =
+    of_event machine (λ u. TakesTurns u log waiting) w (Order asked)
+    (mastered log waiting w (order_step w.master asked).0 _ (order_counts (Transfer M) w.master asked) is) is
 
 -- a client that waits for nothing and can't begin has no number left
 out_of_numbers : (v : ClientView) → v.outstanding ≡ None → is_none (begin_fault v) ≡ false → MAX_CALL_NUMBER ≤ v.number

@@ -1,4 +1,4 @@
--- What the master puts, servers that join, members that are ordered to leave, and servers that fail.
+-- What the master puts, orders that it obeys, and servers that fail.
 use Rattle.std.proofs.Common.{◌≡◌, ℕ, ◌+◌, ◌<◌, ◌≤◌, Bool, true, false, if◌then◌else◌, Option, None, Some, List, [], ◌∷◌, ◌++◌, length, get_or, set, refl, sym, ap, subst, ◌∙◌, inl, inr, append-nil, arith, add-one, eqb-true, lt-ltb, le-leb}
 use Rattle.std.proofs.lemmas.List.{get_or_default}
 use Rattle.std.specs.Prelude.{◌&&◌, ◌==◌, not, is_none}
@@ -13,9 +13,10 @@ use Rattle.zprotocol.specs.declared.process.Process.TheVariants.{Master, Server,
 use Rattle.zprotocol.specs.server.Machine.{kept_tree}
 use Rattle.zprotocol.specs.server.View.{Transfer, Post}
 use Rattle.zprotocol.specs.master.View.{MasterView}
-use Rattle.zprotocol.specs.master.Table.{join_fault, join_step, retire_fault, retire_step}
-use Rattle.zprotocol.specs.declared.master.join_fault.JoinFault.{JoinFault}
-use Rattle.zprotocol.specs.declared.master.retire_fault.RetireFault.{RetireFault}
+use Rattle.zprotocol.specs.declared.master.order.Order.{Order}
+use Rattle.zprotocol.specs.declared.master.order_fault.OrderFault.{OrderFault}
+use Rattle.zprotocol.specs.master.Order.{server_of}
+use Rattle.zprotocol.specs.master.Table.{order_fault, order_step}
 use Rattle.zlinks.specs.Places.{links_of, without_receiver}
 use Rattle.zworld_model.specs.declared.event.Event.TheVariants as event
 use Rattle.zworld_model.specs.History.{History}
@@ -47,45 +48,24 @@ master_alike held did rows history done =
 pub is_server_number : (s : ℕ) → 0 < s → s ≤ MAX_SERVERS → is_server s ≡ true
 is_server_number s some few = rw (lt-ltb 0 s some, le-leb s MAX_SERVERS few) refl
 
--- a server joins
-pub joined : (held : Held) (s : ℕ) (view : MasterView) (posts : List (Post (KeptState Tree))) (rows : Rows) → is_server s ≡ true → join_fault held.master s ≡ None
-    → view ≡ (join_step {T = Transfer (KeptState Tree)} held.master s).0 → posts ≡ (join_step {T = Transfer (KeptState Tree)} held.master s).1
+-- the master obeys an order
+pub obeyed : (held : Held) (order : Order) (view : MasterView) (posts : List (Post (KeptState Tree))) (rows : Rows) → is_server (server_of order) ≡ true
+    → order_fault held.master order ≡ None
+    → view ≡ (order_step {T = Transfer (KeptState Tree)} held.master order).0 → posts ≡ (order_step {T = Transfer (KeptState Tree)} held.master order).1
     → IsPosted held.members held.links Master posts rows
-    → HasStepped held (record held { master = view; links = rows }) (event.Join s) became.Done []
-joined held s view posts rows one free is puts done =
-    let did : MasterView × List (Post (KeptState Tree)) = join_step held.master s in
-    done_stepped held (record held { master = view; links = rows }) (event.Join s) [] (rw (one, free) refl)
+    → HasStepped held (record held { master = view; links = rows }) (event.Order order) became.Done []
+obeyed held order view posts rows one free is puts done =
+    let did : MasterView × List (Post (KeptState Tree)) = order_step held.master order in
+    done_stepped held (record held { master = view; links = rows }) (event.Order order) [] (rw (one, free) refl)
     (λ history.
     subst (λ (h : History). IsAlike (master_does (world_of held history) did) (world_of (record held { master = view; links = rows }) h)) (sym (append-nil history))
     (subst (λ (v : MasterView). IsAlike (master_does (world_of held history) did) (world_of (record held { master = v; links = rows }) history)) (sym is)
     (master_alike held did rows history (subst (λ (ps : List (Post (KeptState Tree))). IsPosted held.members held.links Master ps rows) puts done))))
 
 -- or is refused
-pub not_joined : (held : Held) (s : ℕ) (fault : JoinFault) → join_fault held.master s ≡ Some fault
-    → HasStepped held held (event.Join s) (became.Idle (cause.Join fault)) []
-not_joined held s fault refused = idle_stepped held (event.Join s) (cause.Join fault) (rw refused (and_false (is_server s))) refused
-  where
-    and_false : (b : Bool) → (b && false) ≡ false
-    and_false true = refl
-    and_false false = refl
-
--- a member is ordered to leave
-pub retired : (held : Held) (s : ℕ) (view : MasterView) (posts : List (Post (KeptState Tree))) (rows : Rows) → is_server s ≡ true → retire_fault held.master s ≡ None
-    → view ≡ (retire_step {T = Transfer (KeptState Tree)} held.master s).0 → posts ≡ (retire_step {T = Transfer (KeptState Tree)} held.master s).1
-    → IsPosted held.members held.links Master posts rows
-    → HasStepped held (record held { master = view; links = rows }) (event.Retire s) became.Done []
-retired held s view posts rows one free is puts done =
-    let did : MasterView × List (Post (KeptState Tree)) = retire_step held.master s in
-    done_stepped held (record held { master = view; links = rows }) (event.Retire s) [] (rw (one, free) refl)
-    (λ history.
-    subst (λ (h : History). IsAlike (master_does (world_of held history) did) (world_of (record held { master = view; links = rows }) h)) (sym (append-nil history))
-    (subst (λ (v : MasterView). IsAlike (master_does (world_of held history) did) (world_of (record held { master = v; links = rows }) history)) (sym is)
-    (master_alike held did rows history (subst (λ (ps : List (Post (KeptState Tree))). IsPosted held.members held.links Master ps rows) puts done))))
-
--- or the master keeps it
-pub not_retired : (held : Held) (s : ℕ) (fault : RetireFault) → retire_fault held.master s ≡ Some fault
-    → HasStepped held held (event.Retire s) (became.Idle (cause.Retire fault)) []
-not_retired held s fault refused = idle_stepped held (event.Retire s) (cause.Retire fault) (rw refused (and_false (is_server s))) refused
+pub not_obeyed : (held : Held) (order : Order) (fault : OrderFault) → order_fault held.master order ≡ Some fault
+    → HasStepped held held (event.Order order) (became.Idle (cause.Order fault)) []
+not_obeyed held order fault refused = idle_stepped held (event.Order order) (cause.Order fault) (rw refused (and_false (is_server (server_of order)))) refused
   where
     and_false : (b : Bool) → (b && false) ≡ false
     and_false true = refl
@@ -212,22 +192,13 @@ fail_done old held s place was member rows gone same is inside read asked not is
     (subst (λ (m : MemberView). HasStepped held (record held { members = set held.members place m; links = rows }) (event.Fail s) became.Done []) (sym is_it)
     (failed held s place rows is inside (ap is_gone here ∙ sym asked ∙ not) cleared (is_server_number s (omega (arith, is)) few)))
 
--- a server joined, by what the master says
-pub join_done : (old held : Held) (s : ℕ) (view : MasterView) (before after : List (Post (KeptState Tree))) (now : List MemberView) (rows : Rows)
-    → held ≡ old → is_server s ≡ true → join_fault held.master s ≡ None → view ≡ (join_step {T = Transfer (KeptState Tree)} held.master s).0 → before ≡ []
-    → after ≡ before ++ (join_step {T = Transfer (KeptState Tree)} held.master s).1 → now ≡ held.members → IsPosted now held.links Master after rows
-    → HasStepped old (record held { master = view; links = rows }) (event.Join s) became.Done []
-join_done old held s view before after now rows same one free is silent puts value done =
-    subst (λ (o : Held). HasStepped o (record held { master = view; links = rows }) (event.Join s) became.Done []) same
-    (joined held s view after rows one free is (puts ∙ ap (λ ps. ps ++ (join_step {T = Transfer (KeptState Tree)} held.master s).1) silent)
-    (subst (λ (ms : List MemberView). IsPosted ms held.links Master after rows) value done))
-
--- a member was ordered to leave, by what the master says
-pub retire_done : (old held : Held) (s : ℕ) (view : MasterView) (before after : List (Post (KeptState Tree))) (now : List MemberView) (rows : Rows)
-    → held ≡ old → is_server s ≡ true → retire_fault held.master s ≡ None → view ≡ (retire_step {T = Transfer (KeptState Tree)} held.master s).0 → before ≡ []
-    → after ≡ before ++ (retire_step {T = Transfer (KeptState Tree)} held.master s).1 → now ≡ held.members → IsPosted now held.links Master after rows
-    → HasStepped old (record held { master = view; links = rows }) (event.Retire s) became.Done []
-retire_done old held s view before after now rows same one free is silent puts value done =
-    subst (λ (o : Held). HasStepped o (record held { master = view; links = rows }) (event.Retire s) became.Done []) same
-    (retired held s view after rows one free is (puts ∙ ap (λ ps. ps ++ (retire_step {T = Transfer (KeptState Tree)} held.master s).1) silent)
+-- the master obeyed an order, by what it says
+pub order_done : (old held : Held) (order : Order) (view : MasterView) (before after : List (Post (KeptState Tree))) (now : List MemberView) (rows : Rows)
+    → held ≡ old → is_server (server_of order) ≡ true → order_fault held.master order ≡ None
+    → view ≡ (order_step {T = Transfer (KeptState Tree)} held.master order).0 → before ≡ []
+    → after ≡ before ++ (order_step {T = Transfer (KeptState Tree)} held.master order).1 → now ≡ held.members → IsPosted now held.links Master after rows
+    → HasStepped old (record held { master = view; links = rows }) (event.Order order) became.Done []
+order_done old held order view before after now rows same one free is silent puts value done =
+    subst (λ (o : Held). HasStepped o (record held { master = view; links = rows }) (event.Order order) became.Done []) same
+    (obeyed held order view after rows one free is (puts ∙ ap (λ ps. ps ++ (order_step {T = Transfer (KeptState Tree)} held.master order).1) silent)
     (subst (λ (ms : List MemberView). IsPosted ms held.links Master after rows) value done))

@@ -7,7 +7,7 @@ use Rattle.zalloc.specs.declared.memory.Memory.{Memory}
 use Rattle.zcalls.specs.Kept.{KeptState}
 use Rattle.zprotocol.specs.server.Machine.{Does, kept_tree, kept_tree_from}
 use Rattle.zworld_model.specs.declared.event.Event.{Event}
-use Rattle.zworld_model.specs.declared.event.Event.TheVariants.{Begin, Retry, Take, Ignore, Fail, Join, Retire}
+use Rattle.zworld_model.specs.declared.event.Event.TheVariants.{Begin, Retry, Take, Ignore, Fail, Order}
 use Rattle.zworld_model.specs.declared.outcome.Outcome.{Outcome}
 use Rattle.zworld_model.specs.declared.outcome.Outcome.TheVariants.{Acted}
 use Rattle.zworld_model.specs.History.{History}
@@ -288,8 +288,7 @@ can_anyway held history (Ignore from to) = refl
 can_anyway held history (Begin c call) = enabled_anyway held history (Begin c call)
 can_anyway held history (Retry c) = enabled_anyway held history (Retry c)
 can_anyway held history (Take from to) = enabled_anyway held history (Take from to)
-can_anyway held history (Join s) = enabled_anyway held history (Join s)
-can_anyway held history (Retire s) = enabled_anyway held history (Retire s)
+can_anyway held history (Order order) = enabled_anyway held history (Order order)
 
 -- so nor does what is said of an event that was refused
 pub needed_anyway : (r : Result Did Memory) (held : Held) (history : History) (event : Event)

@@ -6,7 +6,7 @@ use Rattle.ztree.specs.Tree.{Tree}
 use Rattle.zcalls.specs.Kept.{KeptState}
 use Rattle.zprotocol.specs.server.Machine.{kept_tree}
 use Rattle.zworld_model.specs.declared.event.Event.{Event}
-use Rattle.zworld_model.specs.declared.event.Event.TheVariants.{Begin, Retry, Take, Ignore, Fail, Join, Retire}
+use Rattle.zworld_model.specs.declared.event.Event.TheVariants.{Begin, Retry, Take, Ignore, Fail, Order}
 use Rattle.zworld_model.specs.History.{History}
 use Rattle.zworld_model.specs.World.{World}
 use Rattle.zworld_model.specs.Events.{is_enabled, run}
@@ -28,8 +28,7 @@ can_alike v w (Ignore from to) alike = refl
 can_alike v w (Begin c call) alike = have_the_same_enabled kept_tree v w (Begin c call) alike
 can_alike v w (Retry c) alike = have_the_same_enabled kept_tree v w (Retry c) alike
 can_alike v w (Take from to) alike = have_the_same_enabled kept_tree v w (Take from to) alike
-can_alike v w (Join s) alike = have_the_same_enabled kept_tree v w (Join s) alike
-can_alike v w (Retire s) alike = have_the_same_enabled kept_tree v w (Retire s) alike
+can_alike v w (Order order) alike = have_the_same_enabled kept_tree v w (Order order) alike
 
 -- events of which some were done, and the next can want memory
 pub has_run_out : (v w : World (KeptState Tree)) (events front back : List Event) (event : Event) (history : History) → LeadRead v front w
@@ -45,8 +44,7 @@ enabled_can w (Take from to) is on = on
 enabled_can w (Begin c call) is on = absurd (true≢false (sym is))
 enabled_can w (Ignore from to) is on = absurd (true≢false (sym is))
 enabled_can w (Fail s) is on = absurd (true≢false (sym is))
-enabled_can w (Join s) is on = absurd (true≢false (sym is))
-enabled_can w (Retire s) is on = absurd (true≢false (sym is))
+enabled_can w (Order order) is on = absurd (true≢false (sym is))
 
 -- so settling can run out of memory there
 pub can_run_out : (held : Held) (event : Event) (left : ℕ) → 0 < left → is_of_settling event ≡ true → is_enabled (world_of held []) event ≡ true → CanRunOut held left

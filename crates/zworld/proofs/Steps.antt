@@ -7,7 +7,7 @@ use Rattle.zcalls.specs.Kept.{KeptState}
 use Rattle.zprotocol.specs.declared.process.Process.TheVariants.{Master, Server, Client}
 use Rattle.zprotocol.specs.server.Machine.{kept_tree}
 use Rattle.zworld_model.specs.declared.event.Event.{Event}
-use Rattle.zworld_model.specs.declared.event.Event.TheVariants.{Begin, Retry, Take, Ignore, Fail, Join, Retire}
+use Rattle.zworld_model.specs.declared.event.Event.TheVariants.{Begin, Retry, Take, Ignore, Fail, Order}
 use Rattle.zworld_model.specs.declared.outcome.Outcome.{Outcome}
 use Rattle.zworld_model.specs.declared.outcome.Outcome.TheVariants.{Acted, Stopped, Unheard}
 use Rattle.zworld_model.specs.History.{History}
@@ -30,8 +30,7 @@ enabled_anyway held history (Retry c) = refl
 enabled_anyway held history (Take from to) = refl
 enabled_anyway held history (Ignore from to) = refl
 enabled_anyway held history (Fail s) = refl
-enabled_anyway held history (Join s) = refl
-enabled_anyway held history (Retire s) = refl
+enabled_anyway held history (Order order) = refl
 
 -- an event at which the taker acted reads as itself
 pub read_acted : (w : World (KeptState Tree)) (event : Event) → read kept_tree w event Acted ≡ event
@@ -42,8 +41,7 @@ read_acted w (Take from (Server s)) = refl
 read_acted w (Take from (Client c)) = refl
 read_acted w (Ignore from to) = refl
 read_acted w (Fail s) = refl
-read_acted w (Join s) = refl
-read_acted w (Retire s) = refl
+read_acted w (Order order) = refl
 
 -- what outcomes an event can have doesn't hang on the history either
 pub fitting_anyway : (held : Held) (history : History) (event : Event) (outcome : Outcome)
@@ -56,8 +54,7 @@ fitting_anyway held history (Take from (Server s)) Stopped = refl
 fitting_anyway held history (Take from (Client c)) Stopped = refl
 fitting_anyway held history (Ignore from to) Stopped = refl
 fitting_anyway held history (Fail s) Stopped = refl
-fitting_anyway held history (Join s) Stopped = refl
-fitting_anyway held history (Retire s) Stopped = refl
+fitting_anyway held history (Order order) Stopped = refl
 fitting_anyway held history (Begin c call) Unheard = refl
 fitting_anyway held history (Retry c) Unheard = refl
 fitting_anyway held history (Take from Master) Unheard = refl
@@ -65,8 +62,7 @@ fitting_anyway held history (Take from (Server s)) Unheard = refl
 fitting_anyway held history (Take from (Client c)) Unheard = refl
 fitting_anyway held history (Ignore from to) Unheard = refl
 fitting_anyway held history (Fail s) Unheard = refl
-fitting_anyway held history (Join s) Unheard = refl
-fitting_anyway held history (Retire s) Unheard = refl
+fitting_anyway held history (Order order) Unheard = refl
 
 -- nor does how it reads
 pub read_anyway : (held : Held) (history : History) (event : Event) (outcome : Outcome)

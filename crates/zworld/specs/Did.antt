@@ -1,7 +1,7 @@
 -- What is said of an event that was asked for, in terms of the definitions.
 use Rattle.std.specs.Prelude.{◌≡◌, Bool, true, false, nat_lt, Some, []}
 use Rattle.zprotocol.specs.client.Table.{begin_fault}
-use Rattle.zprotocol.specs.master.Table.{join_fault, retire_fault}
+use Rattle.zprotocol.specs.master.Table.{order_fault}
 use Rattle.zworld_model.specs.declared.event.Event.{Event}
 use Rattle.zworld_model.specs.declared.event.Event.TheVariants as event
 use Rattle.zworld_model.specs.declared.outcome.Outcome.{Outcome}
@@ -34,10 +34,8 @@ abbrev pub IsCause : Held → Event → IdleCause → Type 0
 IsCause old (event.Begin client call) (cause.Begin fault) =
     (nat_lt client old.master.clients ≡ true) × (begin_fault ((world_of old []).clients client) ≡ Some fault)
 IsCause old (event.Begin client call) why = (why ≡ cause.Nothing) × (nat_lt client old.master.clients ≡ false)
-IsCause old (event.Join server) (cause.Join fault) = join_fault old.master server ≡ Some fault
-IsCause old (event.Join server) why = ⊥
-IsCause old (event.Retire server) (cause.Retire fault) = retire_fault old.master server ≡ Some fault
-IsCause old (event.Retire server) why = ⊥
+IsCause old (event.Order order) (cause.Order fault) = order_fault old.master order ≡ Some fault
+IsCause old (event.Order order) why = ⊥
 IsCause old event why = why ≡ cause.Nothing
 
 -- where an event didn't happen, this was why

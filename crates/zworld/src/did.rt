@@ -1,7 +1,7 @@
 //! What became of an event.
 
 use zclient::BeginFault;
-use zmaster::{JoinFault, RetireFault};
+use zmaster::OrderFault;
 
 /// Why an event didn't happen.
 #[derive(Clone, Copy, Debug, PartialEq, Eq)]
@@ -10,10 +10,8 @@ pub enum IdleCause {
     Nothing,
     /// The client refused the call.
     Begin(BeginFault),
-    /// The master refused to let the server join.
-    Join(JoinFault),
-    /// The master refused to let the server leave.
-    Retire(RetireFault),
+    /// The master refused the order.
+    Order(OrderFault),
 }
 
 /// What became of an event.

@@ -66,8 +66,7 @@ impl Processes {
             Event::Take(from, to) => self.take(from, to, seen),
             Event::Ignore(from, to) => Ok(self.ignore(from, to)),
             Event::Fail(server) => Ok(self.fail(server)),
-            Event::Join(server) => self.join(server),
-            Event::Retire(server) => self.retire(server),
+            Event::Order(order) => self.order(order),
         }
     }
 }

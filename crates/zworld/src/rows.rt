@@ -4,7 +4,8 @@ ghost use Rattle.std.specs.Prelude.{◌≡◌, [], ◌∷◌, true, false};
 ghost use Rattle.zprotocol.specs.server.Machine.{kept_tree};
 ghost use Rattle.zworld_model.specs.World.{opening_world};
 ghost use Rattle.zworld_model.specs.Events.{run};
-ghost use Rattle.zworld_model.specs.declared.event.Event.TheVariants.{Fail, Join, Retire};
+ghost use Rattle.zworld_model.specs.declared.event.Event.TheVariants.{Fail};
+ghost use Rattle.zworld_model.specs.Orders.{Join, Retire};
 ghost use Rattle.zworld.specs.Last.{is_last};
 
 /// Which server is the last: who has failed, is joining or was ordered to leave doesn't count.

@@ -11,7 +11,7 @@ use Rattle.zprotocol.specs.server.View.{ServerView, Transfer, MessageOf, Post}
 use Rattle.zprotocol.specs.server.Table as server
 use Rattle.zprotocol.specs.client.Table as client
 use Rattle.zworld_model.specs.declared.event.Event.{Event}
-use Rattle.zworld_model.specs.declared.event.Event.TheVariants.{Begin, Retry, Take, Ignore, Fail, Join, Retire}
+use Rattle.zworld_model.specs.declared.event.Event.TheVariants.{Begin, Retry, Take, Ignore, Fail, Order}
 use Rattle.zworld_model.specs.Links.{Links, put, without_front, is_same, messages_to}
 use Rattle.zworld_model.specs.World.{World, at}
 use Rattle.zworld_model.specs.Events.{front_is, is_request, has_failed, is_enabled, with_answer, server_does, server_stops, client_does, process_step, front_step, acts, happens, run}
@@ -148,8 +148,7 @@ module _ {M : Type 0} (machine : Does M) (v : World M) (others : ℕ → ServerV
       (takes_front_alike from to (v.links from to) alive)
   acts_alike (Ignore from to) enabled = record { rest = refl; servers = same_views; links = front_agrees v _ _ from to agree }
   acts_alike (Fail s) enabled = stops_alike s v.links links agree
-  acts_alike (Join s) enabled = record { rest = refl; servers = same_views; links = put_agrees v _ _ Master _ agree }
-  acts_alike (Retire s) enabled = record { rest = refl; servers = same_views; links = put_agrees v _ _ Master _ agree }
+  acts_alike (Order order) enabled = record { rest = refl; servers = same_views; links = put_agrees v _ _ Master _ agree }
 
   -- the same events can happen in both
   enabled_alike : (event : Event) → is_enabled v event ≡ is_enabled other event
@@ -158,8 +157,7 @@ module _ {M : Type 0} (machine : Does M) (v : World M) (others : ℕ → ServerV
   enabled_alike (Take from to) = same_where_alive (has_failed v to) _ _ (λ alive. ap (front_is (λ message. true)) (agree from to alive))
   enabled_alike (Ignore from to) = same_where_alive (has_failed v to) _ _ (λ alive. ap (front_is is_request) (agree from to alive))
   enabled_alike (Fail s) = refl
-  enabled_alike (Join s) = refl
-  enabled_alike (Retire s) = refl
+  enabled_alike (Order order) = refl
 
   -- an event that is enabled in both, or in neither
   happens_as : (event : Event) (b : Bool) → is_enabled v event ≡ b → is_enabled other event ≡ b

@@ -12,11 +12,12 @@ use Rattle.zprotocol.specs.server.Machine.{Does, kept_tree}
 use Rattle.zprotocol.specs.server.View.{Transfer, MessageOf}
 use Rattle.zprotocol.specs.server.Table.{is_retirement, server_step}
 use Rattle.zprotocol.specs.master.Laws.{IsRisingFrom, IsBounded}
-use Rattle.zprotocol.specs.master.Table.{join_fault, retire_fault}
-use Rattle.zprotocol.proofs.master_lemmas.Bounds.{opening_is_bounded, messages_keep, joins_keep, retires_keep}
+use Rattle.zprotocol.specs.master.Order.{server_of}
+use Rattle.zprotocol.specs.master.Table.{order_fault}
+use Rattle.zprotocol.proofs.master_lemmas.Bounds.{opening_is_bounded, messages_keep, orders_keep}
 use Rattle.zprotocol.specs.client.Table.{ClientResult, client_step}
 use Rattle.zworld_model.specs.declared.event.Event.{Event}
-use Rattle.zworld_model.specs.declared.event.Event.TheVariants.{Begin, Retry, Take, Ignore, Fail, Join, Retire}
+use Rattle.zworld_model.specs.declared.event.Event.TheVariants.{Begin, Retry, Take, Ignore, Fail, Order}
 use Rattle.zworld_model.specs.Links.{without_front}
 use Rattle.zworld_model.specs.World.{World, opening_world}
 use Rattle.zprotocol.specs.Places.{is_server}
@@ -60,10 +61,9 @@ module _ {M : Type 0} (machine : Does M) where
   acts_keeps w (Take from to) bounded enabled = front_keeps w from to (w.links from to) bounded
   acts_keeps w (Ignore from to) bounded enabled = bounded
   acts_keeps w (Fail s) bounded enabled = bounded
-  acts_keeps w (Join s) bounded enabled =
-      joins_keep (Transfer M) w.master s (is_none_of (join_fault w.master s) (both (is_server s) (is_none (join_fault w.master s)) enabled).1) bounded
-  acts_keeps w (Retire s) bounded enabled =
-      retires_keep (Transfer M) w.master s (is_none_of (retire_fault w.master s) (both (is_server s) (is_none (retire_fault w.master s)) enabled).1) bounded
+  acts_keeps w (Order order) bounded enabled =
+      let free = both (is_server (server_of order)) (is_none (order_fault w.master order)) enabled in
+      orders_keep (Transfer M) w.master order (is_none_of (order_fault w.master order) free.1) bounded
 
   happens_keeps : (w : World M) (event : Event) → IsBounded w.master → IsBounded (happens machine w event).master
   happens_keeps w event bounded = elim (test (is_enabled w event)) [

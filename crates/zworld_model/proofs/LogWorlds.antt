@@ -14,12 +14,12 @@ use Rattle.zprotocol.specs.server.support.Homomorphism.{IsHomomorphism, message_
 use Rattle.zprotocol.proofs.server_lemmas.Projection.{table_with}
 use Rattle.zprotocol.specs.master.Table as master
 use Rattle.zprotocol.specs.master.Laws.{master_result_with as master_with}
-use Rattle.zprotocol.proofs.master_lemmas.Projection.{table_with as master_takes_with, join_with as joins_with, retire_with as retires_with}
+use Rattle.zprotocol.proofs.master_lemmas.Projection.{table_with as master_takes_with, order_with as orders_with}
 use Rattle.zprotocol.specs.client.View.{ClientView}
 use Rattle.zprotocol.specs.client.Table as client
 use Rattle.zprotocol.proofs.client_lemmas.Projection.{begins_with, retries_with, table_with as client_takes_with}
 use Rattle.zworld_model.specs.declared.event.Event.{Event}
-use Rattle.zworld_model.specs.declared.event.Event.TheVariants.{Begin, Retry, Take, Ignore, Fail, Join, Retire}
+use Rattle.zworld_model.specs.declared.event.Event.TheVariants.{Begin, Retry, Take, Ignore, Fail, Order}
 use Rattle.zworld_model.specs.declared.history.CallEvent.TheVariants as call_event
 use Rattle.zworld_model.specs.Links.{Links, put, without_front, is_same, messages_to}
 use Rattle.zworld_model.specs.World.{World, at, opening_world}
@@ -131,8 +131,7 @@ module _ {M N : Type 0} (h : M → N) where
   enabled_with w (Take from to) = λ i. front_there (w.links from to) i && not (failed_with w to i)
   enabled_with w (Ignore from to) = λ i. front_test (w.links from to) i && not (failed_with w to i)
   enabled_with w (Fail s) = refl
-  enabled_with w (Join s) = refl
-  enabled_with w (Retire s) = refl
+  enabled_with w (Order order) = refl
 
   -- an order to retire is one in both
   retirement_with : (from : Process) (m : MessageOf M) → server.is_retirement from (message_with h m) ≡ server.is_retirement from m
@@ -177,8 +176,7 @@ module _ {M N : Type 0} (h : M → N) where
     acts_with w (Take from to) = takes_front_with w from to (w.links from to)
     acts_with w (Ignore from to) = popped_with w from to
     acts_with w (Fail s) = stops_with w s
-    acts_with w (Join s) = ap (master_does (world_with h w)) (joins_with h w.master s) ∙ master_does_with w (master.join_step w.master s)
-    acts_with w (Retire s) = ap (master_does (world_with h w)) (retires_with h w.master s) ∙ master_does_with w (master.retire_step w.master s)
+    acts_with w (Order order) = ap (master_does (world_with h w)) (orders_with h w.master order) ∙ master_does_with w (master.order_step w.master order)
 
     -- where it can happen
     happens_if : (b : Bool) (w acted : World M) (acted' : World N) → acted' ≡ world_with h acted

@@ -8,7 +8,7 @@ use Rattle.zprotocol.specs.server.View.{MessageOf}
 use Rattle.zprotocol.specs.server.Table.{is_retirement}
 use Rattle.zprotocol.proofs.server_lemmas.Starts.{same_table}
 use Rattle.zworld_model.specs.declared.event.Event.{Event}
-use Rattle.zworld_model.specs.declared.event.Event.TheVariants.{Begin, Retry, Take, Ignore, Fail, Join, Retire}
+use Rattle.zworld_model.specs.declared.event.Event.TheVariants.{Begin, Retry, Take, Ignore, Fail, Order}
 use Rattle.zworld_model.specs.Links.{without_front}
 use Rattle.zworld_model.specs.World.{World}
 use Rattle.zworld_model.specs.Events.{is_enabled, process_step, front_step, server_stops, server_does, acts, happens, run}
@@ -35,8 +35,7 @@ module _ {M : Type 0} (does : Does M) (start : M) where
   same_acts w (Take from to) = same_front w from to (w.links from to)
   same_acts w (Ignore from to) = refl
   same_acts w (Fail s) = refl
-  same_acts w (Join s) = refl
-  same_acts w (Retire s) = refl
+  same_acts w (Order order) = refl
 
   pub same_happens : (w : World M) (event : Event) → happens other w event ≡ happens does w event
   same_happens w event = ap (λ u. if is_enabled w event then u else w) (same_acts w event)

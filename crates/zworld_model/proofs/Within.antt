@@ -15,14 +15,15 @@ use Rattle.zprotocol.specs.server.View.{ServerView, Transfer, MessageOf, Post}
 use Rattle.zprotocol.specs.server.Table.{is_retirement, server_step}
 use Rattle.zprotocol.proofs.server_lemmas.Cases.{server_case}
 use Rattle.zprotocol.specs.master.View.{MasterView}
-use Rattle.zprotocol.specs.master.Table.{master_step, join_step, retire_step}
+use Rattle.zprotocol.specs.master.Order.{server_of}
+use Rattle.zprotocol.specs.master.Table.{master_step, order_step}
 use Rattle.zprotocol.proofs.master_lemmas.Cases.{master_case}
 use Rattle.zprotocol.specs.client.View.{ClientView}
 use Rattle.zprotocol.specs.client.Table.{ClientResult, client_step, begin_step, retry_posts}
 use Rattle.zprotocol.specs.client.support.Cases as client
 use Rattle.zprotocol.proofs.client_lemmas.Cases.{client_case}
 use Rattle.zworld_model.specs.declared.event.Event.{Event}
-use Rattle.zworld_model.specs.declared.event.Event.TheVariants.{Begin, Retry, Take, Ignore, Fail, Join, Retire}
+use Rattle.zworld_model.specs.declared.event.Event.TheVariants.{Begin, Retry, Take, Ignore, Fail, Order}
 use Rattle.zworld_model.specs.Links.{Links, put, without_front, is_same, messages_to}
 use Rattle.zworld_model.specs.World.{World, at}
 use Rattle.zprotocol.specs.Places.{is_server}
@@ -30,7 +31,7 @@ use Rattle.zworld_model.specs.Events.{is_enabled, process_step, front_step, acts
 use Rattle.zworld_model.specs.support.Within.{is_process, SpeaksWithin, GoesWithin, IsViewWithin, IsClientWithin, AreLinksWithin, IsWithin}
 use Rattle.zworld_model.proofs.Processes.{same_process}
 use Rattle.zworld_model.proofs.Tests.{both}
-use Rattle.zworld_model.proofs.WithinTables.{row_within, outstanding_within, IsMasterWithin, master_within, join_within, retire_within}
+use Rattle.zworld_model.proofs.WithinTables.{row_within, outstanding_within, IsMasterWithin, master_within, order_within}
 
 -- one value of a family is replaced
 each_at : {V : Type 0} (P : ℕ → V → Type 0) (i : ℕ) (v : V) (family : ℕ → V) → P i v → ((m : ℕ) → P m (family m)) → (m : ℕ) → P m (at i v family m)
@@ -228,12 +229,9 @@ module _ (M : Type 0) (n : ℕ) where
       sent = front_within w.links from to within.sent;
     }
     acts_within w (Fail s) within enabled = stops_within w s within (both (is_server s) _ enabled).0
-    acts_within w (Join s) within enabled =
-        master_acts w (join_step w.master s) within
-        (join_within M n w.master s (record { counted = within.counted; chain = within.chain; used = within.used }) (both (is_server s) _ enabled).0)
-    acts_within w (Retire s) within enabled =
-        master_acts w (retire_step w.master s) within
-        (retire_within M n w.master s (record { counted = within.counted; chain = within.chain; used = within.used }) (both (is_server s) _ enabled).0)
+    acts_within w (Order order) within enabled =
+        let same : IsMasterWithin n w.master = record { counted = within.counted; chain = within.chain; used = within.used } in
+        master_acts w (order_step w.master order) within (order_within M n w.master order same (both (is_server (server_of order)) _ enabled).0)
 
     -- an event, and a run
     happens_within : (w : World M) (event : Event) → IsWithin n w → IsWithin n (happens machine w event)

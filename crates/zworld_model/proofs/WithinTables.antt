@@ -17,7 +17,10 @@ use Rattle.zprotocol.specs.server.support.Cases.{IsAccepted, Processes, Forwards
 use Rattle.zprotocol.specs.client.View.{ClientView}
 use Rattle.zprotocol.specs.client.Table.{call_posts, outstanding_posts}
 use Rattle.zprotocol.specs.master.View.{MasterView, with_number, members, is_joining, first_of, head_of, tail_of}
-use Rattle.zprotocol.specs.master.Table.{before, config_posts, MendedChain, join_step, retire_step}
+use Rattle.zprotocol.specs.declared.master.order.Order.{Order}
+use Rattle.zprotocol.specs.declared.master.order.Order.TheVariants.{Join, Retire}
+use Rattle.zprotocol.specs.master.Order.{server_of}
+use Rattle.zprotocol.specs.master.Table.{before, config_posts, MendedChain, order_step}
 use Rattle.zprotocol.specs.master.support.Cases as master
 use Rattle.zprotocol.specs.Places.{is_server}
 use Rattle.zworld_model.specs.support.Within.{is_process, IsServer, IsNamed, IsNear, IsOfClient, SpeaksWithin, GoesWithin, IsViewWithin, IsMemberWithin}
@@ -229,13 +232,9 @@ module _ (M : Type 0) (n : ℕ) where
     ((is, named), tt),
   )
 
-  pub join_within : (v : MasterView) (s : ℕ) → IsMasterWithin n v → is_server s ≡ true
-      → IsMasterWithin n (join_step {T = Transfer M} v s).0 × GoWithin (join_step {T = Transfer M} v s).1
-  unfolding join_step join_found
-  join_within v s within is = found_within v s within is (last_or None (members v)) (last_within None (members v) tt (numbers_within v.chain within.chain))
-
-  -- an order to leave
-  pub retire_within : (v : MasterView) (s : ℕ) → IsMasterWithin n v → is_server s ≡ true
-      → IsMasterWithin n (retire_step {T = Transfer M} v s).0 × GoWithin (retire_step {T = Transfer M} v s).1
-  unfolding retire_step
-  retire_within v s within is = (record { counted = within.counted; chain = within.chain; used = within.used }, ((is, tt), tt))
+  -- an order
+  pub order_within : (v : MasterView) (order : Order) → IsMasterWithin n v → is_server (server_of order) ≡ true
+      → IsMasterWithin n (order_step {T = Transfer M} v order).0 × GoWithin (order_step {T = Transfer M} v order).1
+  unfolding order_step join_found
+  order_within v (Join s) within is = found_within v s within is (last_or None (members v)) (last_within None (members v) tt (numbers_within v.chain within.chain))
+  order_within v (Retire s) within is = (record { counted = within.counted; chain = within.chain; used = within.used }, ((is, tt), tt))

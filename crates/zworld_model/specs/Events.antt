@@ -14,12 +14,13 @@ use Rattle.zprotocol.specs.server.Machine.{Does}
 use Rattle.zprotocol.specs.Places.{is_server}
 use Rattle.zprotocol.specs.server.View.{ServerView, Transfer, MessageOf, Post}
 use Rattle.zprotocol.specs.server.Table as server
+use Rattle.zprotocol.specs.master.Order.{server_of}
 use Rattle.zprotocol.specs.master.View.{MasterView}
 use Rattle.zprotocol.specs.master.Table as master
 use Rattle.zprotocol.specs.client.View.{ClientView}
 use Rattle.zprotocol.specs.client.Table as client
 use Rattle.zworld_model.specs.declared.event.Event.{Event}
-use Rattle.zworld_model.specs.declared.event.Event.TheVariants.{Begin, Retry, Take, Ignore, Fail, Join, Retire}
+use Rattle.zworld_model.specs.declared.event.Event.TheVariants.{Begin, Retry, Take, Ignore, Fail, Order}
 use Rattle.zworld_model.specs.declared.history.CallEvent.TheVariants as call_event
 use Rattle.zworld_model.specs.Links.{put, without_front}
 use Rattle.zworld_model.specs.World.{World, at}
@@ -48,8 +49,7 @@ is_enabled w (Retry c) = is_some (w.clients c).outstanding
 is_enabled w (Take from to) = front_is (λ message. true) (w.links from to) && not (has_failed w to)
 is_enabled w (Ignore from to) = front_is is_request (w.links from to) && not (has_failed w to)
 is_enabled w (Fail s) = is_server s && not (w.failed s)
-is_enabled w (Join s) = is_server s && is_none (master.join_fault w.master s)
-is_enabled w (Retire s) = is_server s && is_none (master.retire_fault w.master s)
+is_enabled w (Order order) = is_server (server_of order) && is_none (master.order_fault w.master order)
 
 -- a server gets this view, and sends this
 abbrev pub server_does : {M : Type 0} → World M → ℕ → ServerView M × List (Post M) → World M
@@ -103,8 +103,7 @@ acts machine w (Retry c) = client_does w c (w.clients c) (client.retry_posts (w.
 acts machine w (Take from to) = front_step machine w from to (w.links from to)
 acts machine w (Ignore from to) = record w { links = without_front w.links from to }
 acts machine w (Fail s) = server_stops w s
-acts machine w (Join s) = master_does w (master.join_step w.master s)
-acts machine w (Retire s) = master_does w (master.retire_step w.master s)
+acts machine w (Order order) = master_does w (master.order_step w.master order)
 
 -- an event that isn't enabled changes nothing
 abbrev pub happens : {M : Type 0} → Does M → World M → Event → World M

@@ -5,6 +5,7 @@ pub mod FromTree
 pub mod Lives
 pub mod Links
 pub mod World
+pub mod Orders
 pub mod Events
 pub mod Reading
 pub mod Settle

@@ -1,7 +1,7 @@
 //! The events of the world.
 
 use zcalls::{Call, ClientId};
-use zprotocol::{Process, ServerId};
+use zprotocol::{Order, Process, ServerId};
 
 /// One event: a call is invoked, a message is delivered, a server fails, joins or retires. Each is
 /// one atomic step: at most one process changes its state, receives at most one message, and sends
@@ -22,8 +22,26 @@ pub enum Event {
     /// A server fails for good; its failure notice `Gone` is its last message. Enabled where it has
     /// not failed.
     Fail(ServerId),
-    /// A server is asked to join behind the tail. Enabled where the master accepts it.
-    Join(ServerId),
-    /// A member of the chain is ordered to leave. Enabled where the master accepts it.
-    Retire(ServerId),
+    /// A server is asked to join behind the tail, or a member of the chain is ordered to leave.
+    /// Enabled where the master accepts the order.
+    Order(Order),
+}
+
+impl Event {
+    ghost use Rattle.std.specs.Prelude.{◌≡◌};
+    ghost use Rattle.zworld_model.specs.Orders.{Join, Retire};
+
+    /// Returns the event that a server is asked to join.
+    pub fn join(server: ServerId) -> Event
+        ensures { result ≡ Join server }
+    {
+        Event::Order(Order::Join(server))
+    }
+
+    /// Returns the event that a member is ordered to leave.
+    pub fn retire(server: ServerId) -> Event
+        ensures { result ≡ Retire server }
+    {
+        Event::Order(Order::Retire(server))
+    }
 }

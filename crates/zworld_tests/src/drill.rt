@@ -157,8 +157,8 @@ fn event(alloc: Global, each: Move) -> Result<Event, Trouble> {
         Move::Retry => Ok(Event::Retry(client()?)),
         Move::Take(from, to) => Ok(Event::Take(process(from)?, process(to)?)),
         Move::Fail(number) => Ok(Event::Fail(server(number)?)),
-        Move::Join(number) => Ok(Event::Join(server(number)?)),
-        Move::Retire(number) => Ok(Event::Retire(server(number)?)),
+        Move::Join(number) => Ok(Event::join(server(number)?)),
+        Move::Retire(number) => Ok(Event::retire(server(number)?)),
     }
 }
 

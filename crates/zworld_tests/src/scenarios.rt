@@ -49,7 +49,7 @@ fn answers_a_call(rt: HostRuntime) {
 #[test]
 fn lets_a_server_join(rt: HostRuntime) {
     let mut world = opened(&rt, rt.alloc(), 1);
-    does(&rt, &mut world, Event::Join(server(&rt, 2)));
+    does(&rt, &mut world, Event::join(server(&rt, 2)));
     takes(&rt, &mut world, JOIN);
     assert!(rt; world.history().is_empty());
     drop(world);
@@ -58,11 +58,11 @@ fn lets_a_server_join(rt: HostRuntime) {
 #[test]
 fn lets_a_server_leave(rt: HostRuntime) {
     let mut world = opened(&rt, rt.alloc(), 2);
-    does(&rt, &mut world, Event::Retire(server(&rt, 2)));
-    refuses(&rt, &mut world, Event::Retire(server(&rt, 2)));
-    refuses(&rt, &mut world, Event::Retire(server(&rt, 1)));
+    does(&rt, &mut world, Event::retire(server(&rt, 2)));
+    refuses(&rt, &mut world, Event::retire(server(&rt, 2)));
+    refuses(&rt, &mut world, Event::retire(server(&rt, 1)));
     takes(&rt, &mut world, LEAVE);
-    refuses(&rt, &mut world, Event::Retire(server(&rt, 1)));
+    refuses(&rt, &mut world, Event::retire(server(&rt, 1)));
     refuses(&rt, &mut world, Event::Fail(server(&rt, 2)));
     begins(&rt, &mut world);
     takes(&rt, &mut world, CALL);

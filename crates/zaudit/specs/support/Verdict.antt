@@ -1,7 +1,7 @@
 -- What the world's answer to a replayed event means.
 use Rattle.std.specs.Prelude.{Bool, true, false, Result, Ok, Err, if◌then◌else◌}
 use Rattle.zworld_model.specs.declared.event.Event.{Event}
-use Rattle.zworld_model.specs.declared.event.Event.TheVariants.{Join, Retire}
+use Rattle.zworld_model.specs.declared.event.Event.TheVariants.{Order}
 use Rattle.zworld.specs.declared.did.Did.{Did}
 use Rattle.zworld.specs.declared.did.Did.TheVariants as did
 use Rattle.zaudit.specs.declared.faults.AuditFault.{AuditFault}
@@ -9,8 +9,7 @@ use Rattle.zaudit.specs.declared.faults.AuditFault.TheVariants.{Disorder, Memory
 
 -- the master is asked for the event, and may refuse it
 abbrev pub asks_the_master : Event → Bool
-asks_the_master (Join server) = true
-asks_the_master (Retire server) = true
+asks_the_master (Order order) = true
 asks_the_master other = false
 
 -- what the answer means

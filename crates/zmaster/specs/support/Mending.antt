@@ -2,8 +2,8 @@
 -- which looks for the member itself.
 use Rattle.std.specs.Prelude.{◌≡◌, ℕ, zero, suc, Bool, true, false, Option, None, Some, List, [], ◌∷◌, ◌==◌, not, map, filter, is_some, if◌then◌else◌}
 use Rattle.zprotocol.specs.server.View.{Neighbour}
-use Rattle.zprotocol.specs.declared.master.join_fault.JoinFault.{JoinFault}
-use Rattle.zprotocol.specs.declared.master.join_fault.JoinFault.TheVariants.{Joining, NoChain, Lost}
+use Rattle.zprotocol.specs.declared.master.order_fault.OrderFault.{OrderFault}
+use Rattle.zprotocol.specs.declared.master.order_fault.OrderFault.TheVariants.{Joining, NoChain, Lost}
 use Rattle.zprotocol.specs.master.Table.{MendedChain, without_first, without_next}
 
 -- this server is the one that joins, if any does
@@ -42,7 +42,7 @@ mended_at {T} epoch (suc at) (t ∷ rest) =
     (t ∷ mended.0, mended.1)
 
 -- why nobody can join a chain, by its length
-abbrev pub chain_fault : Option ℕ → List Neighbour → Option JoinFault
+abbrev pub chain_fault : Option ℕ → List Neighbour → Option OrderFault
 chain_fault joining [] = Some NoChain
 chain_fault joining (only ∷ []) = if joins joining only.0 then Some Lost else None
 chain_fault joining (t ∷ (u ∷ rest)) = if is_some joining then Some Joining else None

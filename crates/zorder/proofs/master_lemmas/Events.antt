@@ -10,8 +10,12 @@ use Rattle.zprotocol.specs.declared.process.Process.{Process}
 use Rattle.zprotocol.specs.declared.process.Process.TheVariants.{Master, Server, Client}
 use Rattle.zprotocol.specs.server.View.{Transfer}
 use Rattle.zprotocol.specs.master.View.{MasterView, members, is_among}
+use Rattle.zprotocol.specs.declared.master.order.Order.{Order}
+use Rattle.zprotocol.specs.declared.master.order.Order.TheVariants.{Join, Retire}
+use Rattle.zprotocol.specs.master.Order.{server_of}
 use Rattle.zprotocol.specs.master.Table as master
-use Rattle.zworld_model.specs.declared.event.Event.TheVariants.{Take, Join, Retire}
+use Rattle.zworld_model.specs.declared.event.Event.TheVariants as event
+use Rattle.zworld_model.specs.declared.event.Event.TheVariants.{Take}
 use Rattle.zworld_model.specs.Links.{without_front}
 use Rattle.zprotocol.specs.Places.{is_server}
 use Rattle.zworld_model.specs.Events.{front_step}
@@ -32,13 +36,13 @@ use Rattle.zorder.proofs.master_lemmas.chain.Departures.{gone_heard}
 use Rattle.zorder.proofs.master_lemmas.chain.Joins.{joins_sound}
 
 -- who may join wasn't used
-not_used : (v : MasterView) (x : ℕ) → is_none (master.join_fault v x) ≡ true → is_among x v.used ≡ true → ⊥
-unfolding master.join_fault
+not_used : (v : MasterView) (x : ℕ) → is_none (master.order_fault v (Join x)) ≡ true → is_among x v.used ≡ true → ⊥
+unfolding master.order_fault
 not_used v x free used = let not : ◌≡◌ {A = Bool} false true = rw used at free in cc not
 
 -- who may be ordered to leave is a member
-is_member : (v : MasterView) (x : ℕ) → is_none (master.retire_fault v x) ≡ true → Among x (members v)
-unfolding master.retire_fault
+is_member : (v : MasterView) (x : ℕ) → is_none (master.order_fault v (Retire x)) ≡ true → Among x (members v)
+unfolding master.order_fault
 is_member v x free = elim (test (is_among x (members v))) [
   | inl among ↦ among_tested x (members v) among
   | inr not ↦ let no : ◌≡◌ {A = Bool} false true = rw not at free in absurd (cc no)
@@ -73,11 +77,13 @@ module _ {P : Type 0} (plain : Plain P) where
   master_hears (Client c) t lasts s = where_enabled plain t (Take (Client c) Master) s (λ e. front_there plain t (Client c) Master e
       (λ m rest link alive. quiet_event plain t _ (front_heard t s (Client c) m rest link)))
 
-  -- the event Join
-  pub servers_join : (x : ℕ) → KeepsSoundOver plain (Join x)
-  servers_join x t lasts s = where_enabled plain t (Join x) s (λ e. quiet_event plain t _ (joins_sound plain t s x (not_used t.world.master x (right_of (is_server x) (is_none (master.join_fault t.world.master x)) e))))
+  -- what it does at an order that isn't refused
+  obeyed : (t : Account) → IsSound plain t → (order : Order) → is_none (master.order_fault t.world.master order) ≡ true
+      → IsSound plain (record t { world = world_with_move t.world (master.order_step {T = Transfer (List Entry)} t.world.master order).0 (master.order_step t.world.master order).1 })
+  obeyed t s (Join x) free = joins_sound plain t s x (not_used t.world.master x free)
+  obeyed t s (Retire x) free = retire_ordered plain t s x (is_member t.world.master x free)
 
-  -- the event Retire
-  pub members_retire : (x : ℕ) → KeepsSoundOver plain (Retire x)
-  members_retire x t lasts s = where_enabled plain t (Retire x) s (λ e. quiet_event plain t _
-      (retire_ordered plain t s x (is_member t.world.master x (right_of (is_server x) (is_none (master.retire_fault t.world.master x)) e))))
+  -- the events of orders
+  pub master_obeys : (order : Order) → KeepsSoundOver plain (event.Order order)
+  master_obeys order t lasts s = where_enabled plain t (event.Order order) s (λ e. quiet_event plain t _
+      (obeyed t s order (right_of (is_server (server_of order)) (is_none (master.order_fault t.world.master order)) e)))

@@ -1,9 +1,10 @@
--- The events that repair and extend the chain: servers receive the master's orders, the master
--- receives messages, servers join, and members are ordered to leave.
+-- The events that repair and extend the chain: servers receive what the master sends, the master
+-- receives messages, and it obeys orders, by which servers join and members leave.
 use Rattle.std.specs.Prelude.{ℕ}
 use Rattle.zprotocol.specs.declared.process.Process.{Process}
 use Rattle.zprotocol.specs.declared.process.Process.TheVariants.{Master, Server}
-use Rattle.zworld_model.specs.declared.event.Event.TheVariants.{Take, Join, Retire}
+use Rattle.zprotocol.specs.declared.master.order.Order as master
+use Rattle.zworld_model.specs.declared.event.Event.TheVariants.{Take, Order}
 use Rattle.zorder.specs.chain.Events.{KeepsSound}
 
 -- a server receives any message of the master
@@ -14,10 +15,6 @@ ServersHearMaster = (s : ℕ) → KeepsSound (Take Master (Server s))
 abbrev pub MasterHears : Type 0
 MasterHears = (from : Process) → KeepsSound (Take from Master)
 
--- a server joins
-abbrev pub ServersJoin : Type 0
-ServersJoin = (s : ℕ) → KeepsSound (Join s)
-
--- a member is ordered to leave
-abbrev pub MembersRetire : Type 0
-MembersRetire = (s : ℕ) → KeepsSound (Retire s)
+-- the master obeys an order: a server joins, or a member is ordered to leave
+abbrev pub MasterObeys : Type 0
+MasterObeys = (order : master.Order) → KeepsSound (Order order)

@@ -1,6 +1,6 @@
 //! The laws.
 
-ghost use Rattle.zorder.specs.master.Laws.{MasterHears, ServersHearMaster, ServersJoin, MembersRetire};
+ghost use Rattle.zorder.specs.master.Laws.{MasterHears, ServersHearMaster, MasterObeys};
 
 /// A server receives any message from the master: an order, also one to leave, or one that doesn't
 /// count.
@@ -13,12 +13,7 @@ pub fn master_hears()
     ensures { MasterHears }
 {}
 
-/// A server joins.
-pub fn servers_join()
-    ensures { ServersJoin }
-{}
-
-/// A member is ordered to leave.
-pub fn members_retire()
-    ensures { MembersRetire }
+/// The master obeys an order: a server joins, or a member is ordered to leave.
+pub fn master_obeys()
+    ensures { MasterObeys }
 {}

@@ -12,11 +12,11 @@ use Rattle.zprotocol.specs.declared.process.Process.{Process}
 use Rattle.zprotocol.specs.declared.process.Process.TheVariants.{Server}
 use Rattle.zprotocol.specs.server.View.{Neighbour}
 use Rattle.zprotocol.specs.master.View.{MasterView, is_among, with_number, members, is_joining}
-use Rattle.zprotocol.specs.declared.master.join_fault.JoinFault.{JoinFault}
-use Rattle.zprotocol.specs.declared.master.join_fault.JoinFault.TheVariants.{Used}
-use Rattle.zprotocol.specs.declared.master.retire_fault.RetireFault.{RetireFault}
-use Rattle.zprotocol.specs.declared.master.retire_fault.RetireFault.TheVariants.{NotMember}
-use Rattle.zprotocol.specs.master.Table.{MasterResult, no_effect, MendedChain, join_fault, join_step, retire_fault, retire_step, master_step}
+use Rattle.zprotocol.specs.declared.master.order.Order.{Order}
+use Rattle.zprotocol.specs.declared.master.order.Order.TheVariants.{Join, Retire}
+use Rattle.zprotocol.specs.declared.master.order_fault.OrderFault.{OrderFault}
+use Rattle.zprotocol.specs.declared.master.order_fault.OrderFault.TheVariants.{Used, NotMember}
+use Rattle.zprotocol.specs.master.Table.{MasterResult, no_effect, MendedChain, order_fault, order_step, master_step}
 use Rattle.zprotocol.specs.master.support.Cases.{IsMended, Only, First, Last, Between, IsMasterRow, Ignores, Reports, Joins, LeavesOutside, Leaves}
 use Rattle.zprotocol.specs.master.Laws.{IsRisingFrom, joining_count, IsBounded, OpeningIsBounded}
 use Rattle.zprotocol.proofs.master_lemmas.Numbers.{numbers_of, later, among_behind, no_fewer, one_more, still_rising}
@@ -123,7 +123,7 @@ opening_is_bounded servers clients = record {
 }
 
 -- who isn't refused has a new number
-is_new : (used : Bool) (rest : Option JoinFault) → ◌≡◌ {A = Option JoinFault} (if used then Some Used else rest) None → used ≡ false
+is_new : (used : Bool) (rest : Option OrderFault) → ◌≡◌ {A = Option OrderFault} (if used then Some Used else rest) None → used ≡ false
 is_new false rest none = refl
 is_new true rest none = let no_one : ⊥ = cc in absurd no_one
 
@@ -147,23 +147,23 @@ longer_among x more (t ∷ chain) among = either (t.0 == x) (longer_among x more
     either false later among = later among
 
 -- who may be ordered to leave is a member
-is_member : (member : Bool) (rest : Option RetireFault) → ◌≡◌ {A = Option RetireFault} (if not member then Some NotMember else rest) None → member ≡ true
+is_member : (member : Bool) (rest : Option OrderFault) → ◌≡◌ {A = Option OrderFault} (if not member then Some NotMember else rest) None → member ≡ true
 is_member true rest none = refl
 is_member false rest none = let no_one : ⊥ = cc in absurd no_one
 
-module _ (T : Type 0) (v : MasterView) (s : ℕ) where
+module _ (T : Type 0) (v : MasterView) where
   -- a join, by the last member that is found
-  join_found : Option ℕ → MasterResult T
-  join_found None = no_effect v
-  join_found (Some last) = (
+  join_found : ℕ → Option ℕ → MasterResult T
+  join_found s None = no_effect v
+  join_found s (Some last) = (
     record v { chain = v.chain ++ (s, v.epoch + 1) ∷ []; joining = Some s; used = with_number s v.used; epoch = v.epoch + 1 },
     (Server s, message.NewPred (v.epoch + 1) last) ∷ [],
   )
 
-  found_keeps : is_among s v.used ≡ false → IsBounded v → (found : Option ℕ) → IsBounded (join_found found).0
+  found_keeps : (s : ℕ) → is_among s v.used ≡ false → IsBounded v → (found : Option ℕ) → IsBounded (join_found s found).0
   unfolding join_found
-  found_keeps new b None = b
-  found_keeps new b (Some last) =
+  found_keeps s new b None = b
+  found_keeps s new b (Some last) =
       let one : length (with_number s v.used) ≡ length v.used + 1 = one_more s v.used new in
       let longer : length (v.chain ++ (s, v.epoch + 1) ∷ []) ≡ length v.chain + 1 = length-append v.chain ((s, v.epoch + 1) ∷ []) in
       record {
@@ -174,15 +174,11 @@ module _ (T : Type 0) (v : MasterView) (s : ℕ) where
         retires = λ x is. longer_among x (s, v.epoch + 1) v.chain (b.retires x is);
       }
 
-  -- a join keeps the bounds
-  pub joins_keep : join_fault v s ≡ None → IsBounded v → IsBounded (join_step {T = T} v s).0
-  unfolding join_fault join_step join_found
-  joins_keep free b = found_keeps (is_new (is_among s v.used) _ free) b (last_or None (members v))
-
-  -- and so does an order to leave
-  pub retires_keep : retire_fault v s ≡ None → IsBounded v → IsBounded (retire_step {T = T} v s).0
-  unfolding retire_fault retire_step
-  retires_keep free b =
+  -- an order keeps the bounds
+  pub orders_keep : (order : Order) → order_fault v order ≡ None → IsBounded v → IsBounded (order_step {T = T} v order).0
+  unfolding order_fault order_step join_found
+  orders_keep (Join s) free b = found_keeps s (is_new (is_among s v.used) _ free) b (last_or None (members v))
+  orders_keep (Retire s) free b =
       let among = is_member (is_among s (members v)) _ free in
       record {
         rising = b.rising;

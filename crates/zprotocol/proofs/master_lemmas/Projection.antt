@@ -8,7 +8,9 @@ use Rattle.zprotocol.specs.declared.process.Process.TheVariants.{Server, Client}
 use Rattle.zprotocol.specs.server.View.{Neighbour, Transfer, MessageOf, Post}
 use Rattle.zprotocol.specs.server.support.Homomorphism.{message_with, posts_with}
 use Rattle.zprotocol.specs.master.View.{MasterView, is_among, with_number, members, is_joining, head_of, tail_of}
-use Rattle.zprotocol.specs.master.Table.{MasterResult, no_effect, config_posts, and_tell_clients, join_step, retire_step, before, have_row, joined_row, MendedChain, without_first, without_next, mended_chain_behind, mended_chain, without_member, gone_row, master_step}
+use Rattle.zprotocol.specs.master.Table.{MasterResult, no_effect, config_posts, and_tell_clients, order_step, before, have_row, joined_row, MendedChain, without_first, without_next, mended_chain_behind, mended_chain, without_member, gone_row, master_step}
+use Rattle.zprotocol.specs.declared.master.order.Order.{Order}
+use Rattle.zprotocol.specs.declared.master.order.Order.TheVariants.{Join, Retire}
 use Rattle.zprotocol.specs.master.Laws.{master_result_with}
 
 module _ {M N : Type 0} (h : M → N) where
@@ -121,13 +123,10 @@ module _ {M N : Type 0} (h : M → N) where
   join_found_with v s None = refl
   join_found_with v s (Some last) = refl
 
-  pub join_with : (v : MasterView) (s : ℕ) → join_step v s ≡ master_result_with h (join_step v s)
-  unfolding join_step join_found
-  join_with v s = join_found_with v s (last_or None (members v))
-
-  pub retire_with : (v : MasterView) (s : ℕ) → retire_step v s ≡ master_result_with h (retire_step v s)
-  unfolding retire_step
-  retire_with v s = refl
+  pub order_with : (v : MasterView) (order : Order) → order_step v order ≡ master_result_with h (order_step v order)
+  unfolding order_step join_found
+  order_with v (Join s) = join_found_with v s (last_or None (members v))
+  order_with v (Retire s) = refl
 
   -- the table
   pub table_with : (v : MasterView) (from : Process) (m : MessageOf M) → master_step v from (message_with h m) ≡ master_result_with h (master_step v from m)

@@ -6,7 +6,8 @@ use Rattle.zprotocol.specs.server.Machine.{Does, replay}
 use Rattle.zprotocol.specs.server.View.{Transfer, MessageOf}
 use Rattle.zprotocol.specs.server.support.Homomorphism.{message_with, posts_with}
 use Rattle.zprotocol.specs.master.View.{MasterView, is_among, members, opening_master}
-use Rattle.zprotocol.specs.master.Table.{MasterResult, join_fault, join_step, retire_fault, retire_step, master_step}
+use Rattle.zprotocol.specs.declared.master.order.Order.{Order}
+use Rattle.zprotocol.specs.master.Table.{MasterResult, order_fault, order_step, master_step}
 
 -- the same view, with the machines in the outgoing messages mapped
 abbrev pub master_result_with : {M N : Type 0} → (M → N) → MasterResult (Transfer M) → MasterResult (Transfer N)
@@ -19,13 +20,9 @@ TableKeepsLogs does =
     (v : MasterView) (from : Process) (m : MessageOf (List Entry))
     → master_step v from (message_with (replay does) m) ≡ master_result_with (replay does) (master_step v from m)
 
--- the same holds of a join
-abbrev pub JoinKeepsLogs : {M : Type 0} → Does M → Type 0
-JoinKeepsLogs does = (v : MasterView) (s : ℕ) → join_step v s ≡ master_result_with (replay does) (join_step v s)
-
--- the same holds of an order to leave
-abbrev pub RetireKeepsLogs : {M : Type 0} → Does M → Type 0
-RetireKeepsLogs does = (v : MasterView) (s : ℕ) → retire_step v s ≡ master_result_with (replay does) (retire_step v s)
+-- the same holds of an order
+abbrev pub OrderKeepsLogs : {M : Type 0} → Does M → Type 0
+OrderKeepsLogs does = (v : MasterView) (order : Order) → order_step v order ≡ master_result_with (replay does) (order_step v order)
 
 -- the numbers are strictly rising, and none is below `first`
 abbrev pub IsRisingFrom : ℕ → List ℕ → Type 0
@@ -60,10 +57,7 @@ OpeningIsBounded = (servers clients : ℕ) → IsBounded (opening_master servers
 abbrev pub MessagesKeepBounds : {M : Type 0} → Does M → Type 0
 MessagesKeepBounds {M} does = (v : MasterView) (from : Process) (m : MessageOf M) → IsBounded v → IsBounded (master_step v from m).0
 
--- every join that isn't refused preserves them
-abbrev pub JoinsKeepBounds : {M : Type 0} → Does M → Type 0
-JoinsKeepBounds {M} does = (v : MasterView) (s : ℕ) → join_fault v s ≡ None → IsBounded v → IsBounded (join_step {T = Transfer M} v s).0
-
--- every order to leave that isn't refused preserves them
-abbrev pub RetiresKeepBounds : {M : Type 0} → Does M → Type 0
-RetiresKeepBounds {M} does = (v : MasterView) (s : ℕ) → retire_fault v s ≡ None → IsBounded v → IsBounded (retire_step {T = Transfer M} v s).0
+-- every order that isn't refused preserves them
+abbrev pub OrdersKeepBounds : {M : Type 0} → Does M → Type 0
+OrdersKeepBounds {M} does =
+    (v : MasterView) (order : Order) → order_fault v order ≡ None → IsBounded v → IsBounded (order_step {T = Transfer M} v order).0

@@ -1,5 +1,6 @@
--- The master table: what the master does with each message of a server, at a join, and at an order
--- to leave. It never looks at what a Snapshot hands over, so that can be of any type. The source is
+-- The master table: what the master does with each message of a server, and at each order: that a
+-- server join, or that a member leave. It never looks at what a Snapshot hands over, so that can be
+-- of any type. The source is
 -- van Renesse and Schneider, "Chain Replication for Supporting High Throughput and Availability"
 -- (OSDI 2004), section 3. Epochs, Have, Joined, and the rules of joining and leaving are this
 -- project's profile.
@@ -11,10 +12,10 @@ use Rattle.zprotocol.specs.declared.message.Message.TheVariants as message
 use Rattle.zprotocol.specs.declared.process.Process.{Process}
 use Rattle.zprotocol.specs.declared.process.Process.TheVariants.{Server, Client}
 use Rattle.zprotocol.specs.server.View.{Neighbour, PostOf}
-use Rattle.zprotocol.specs.declared.master.join_fault.JoinFault.{JoinFault}
-use Rattle.zprotocol.specs.declared.master.join_fault.JoinFault.TheVariants.{Used, Joining, NoChain, Lost, Retiring}
-use Rattle.zprotocol.specs.declared.master.retire_fault.RetireFault.{RetireFault}
-use Rattle.zprotocol.specs.declared.master.retire_fault.RetireFault.TheVariants as retire
+use Rattle.zprotocol.specs.declared.master.order.Order.{Order}
+use Rattle.zprotocol.specs.declared.master.order.Order.TheVariants.{Join, Retire}
+use Rattle.zprotocol.specs.declared.master.order_fault.OrderFault.{OrderFault}
+use Rattle.zprotocol.specs.declared.master.order_fault.OrderFault.TheVariants.{Used, NotMember, Joining, NoChain, Lost, Last, Retiring}
 use Rattle.zprotocol.specs.master.View.{MasterView, is_among, with_number, members, is_joining, is_retiring, head_of, tail_of}
 
 -- the view after an input, and the messages sent
@@ -42,22 +43,30 @@ abbrev pub is_only_member_joining : MasterView → List ℕ → Bool
 is_only_member_joining v (s ∷ []) = is_joining v s
 is_only_member_joining v members = false
 
--- why a server can't join, by the first test that holds
-unfoldable pub join_fault : MasterView → ℕ → Option JoinFault
-join_fault v s =
-    first_that_holds (
+-- the tests of a join, and those of an order to leave, each with its fault
+abbrev pub own_tests : MasterView → Order → List (Bool × OrderFault)
+own_tests v (Join s) =
     (is_among s v.used, Used)
     ∷ (is_another_joining v, Joining)
     ∷ (length v.chain == 0, NoChain)
     ∷ (is_only_member_joining v (members v), Lost)
-    ∷ (is_some v.retiring, Retiring)
     ∷ []
-    )
+own_tests v (Retire s) =
+    (not (is_among s (members v)), NotMember)
+    ∷ (is_some v.joining, Joining)
+    ∷ (length v.chain == 1, Last)
+    ∷ []
 
--- A join that isn't refused. The server is appended to the chain, and the old last member is its
--- predecessor, in a new epoch.
-unfoldable pub join_step : {T : Type 0} → MasterView → ℕ → MasterResult T
-join_step v s =
+-- why an order is refused, by the first test that holds. The last test of each is that a member is
+-- leaving
+unfoldable pub order_fault : MasterView → Order → Option OrderFault
+order_fault v order = first_that_holds (own_tests v order ++ (is_some v.retiring, Retiring) ∷ [])
+
+-- An order that isn't refused. A server that joins is appended to the chain, and the old last member
+-- is its predecessor, in a new epoch. An order to leave is sent to the member, which stays a member
+-- until its Gone arrives.
+unfoldable pub order_step : {T : Type 0} → MasterView → Order → MasterResult T
+order_step v (Join s) =
     elim (last_or None (members v)) [
       | None ↦ no_effect v
       | Some last ↦ (
@@ -65,22 +74,7 @@ join_step v s =
         (Server s, message.NewPred (v.epoch + 1) last) ∷ [],
       )
     ]
-
--- why a server can't be ordered to leave, by the first test that holds
-unfoldable pub retire_fault : MasterView → ℕ → Option RetireFault
-retire_fault v s =
-    first_that_holds (
-    (not (is_among s (members v)), retire.NotMember)
-    ∷ (is_some v.joining, retire.Joining)
-    ∷ (length v.chain == 1, retire.Last)
-    ∷ (is_some v.retiring, retire.Retiring)
-    ∷ []
-    )
-
--- an order to leave that isn't refused: it is sent to the member, which stays a member until its
--- Gone arrives
-unfoldable pub retire_step : {T : Type 0} → MasterView → ℕ → MasterResult T
-retire_step v s = (record v { retiring = Some s }, (Server s, message.Retire) ∷ [])
+order_step v (Retire s) = (record v { retiring = Some s }, (Server s, message.Retire) ∷ [])
 
 -- the predecessor of a member, if their pair has this epoch; the first member has none
 abbrev pub before : ℕ → ℕ → List Neighbour → Option ℕ

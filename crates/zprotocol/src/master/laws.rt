@@ -1,15 +1,14 @@
 //! Laws of the definitions. Each function's contract is a law; its body does nothing.
 
 ghost use Rattle.zprotocol.specs.server.Machine.{kept_tree};
-ghost use Rattle.zprotocol.specs.master.Laws.{TableKeepsLogs, JoinKeepsLogs, RetireKeepsLogs};
-ghost use Rattle.zprotocol.specs.master.Laws.{OpeningIsBounded, MessagesKeepBounds, JoinsKeepBounds};
-ghost use Rattle.zprotocol.specs.master.Laws.{RetiresKeepBounds};
+ghost use Rattle.zprotocol.specs.master.Laws.{TableKeepsLogs, OrderKeepsLogs};
+ghost use Rattle.zprotocol.specs.master.Laws.{OpeningIsBounded, MessagesKeepBounds};
+ghost use Rattle.zprotocol.specs.master.Laws.{OrdersKeepBounds};
 
 /// The master does the same whether the servers hold logs, or the trees that those logs lead to.
 pub fn master_looks_at_no_machine()
     ensures table { TableKeepsLogs kept_tree }
-    ensures join { JoinKeepsLogs kept_tree }
-    ensures retire { RetireKeepsLogs kept_tree }
+    ensures order { OrderKeepsLogs kept_tree }
 {}
 
 /// Whatever the master receives, it gives at most three epochs for each used number. A server that
@@ -17,6 +16,5 @@ pub fn master_looks_at_no_machine()
 pub fn epochs_are_few()
     ensures opening { OpeningIsBounded }
     ensures messages { MessagesKeepBounds kept_tree }
-    ensures joins { JoinsKeepBounds kept_tree }
-    ensures retires { RetiresKeepBounds kept_tree }
+    ensures orders { OrdersKeepBounds kept_tree }
 {}

@@ -4,18 +4,19 @@
 ghost use Rattle.std.specs.Prelude.{◌≡◌, None, Some, [], ◌∷◌};
 ghost use Rattle.zprotocol.specs.declared.message.Message.TheVariants as message;
 ghost use Rattle.zprotocol.specs.declared.process.Process.TheVariants.{Server, Client};
-ghost use Rattle.zprotocol.specs.declared.master.join_fault.JoinFault.TheVariants.{Used, Joining, NoChain};
-ghost use Rattle.zprotocol.specs.declared.master.join_fault.JoinFault.TheVariants.{Lost, Retiring};
-ghost use Rattle.zprotocol.specs.declared.master.retire_fault.RetireFault.TheVariants as retire;
+ghost use Rattle.zprotocol.specs.declared.master.order.Order.TheVariants.{Join, Retire};
+ghost use Rattle.zprotocol.specs.declared.master.order_fault.OrderFault.TheVariants.{Used, NotMember};
+ghost use Rattle.zprotocol.specs.declared.master.order_fault.OrderFault.TheVariants.{Joining, NoChain};
+ghost use Rattle.zprotocol.specs.declared.master.order_fault.OrderFault.TheVariants.{Lost, Last, Retiring};
 ghost use Rattle.zprotocol.specs.master.View.{opening_master, with_number, head_of, tail_of};
-ghost use Rattle.zprotocol.specs.master.Table.{join_fault, retire_fault};
+ghost use Rattle.zprotocol.specs.master.Table.{order_fault};
 ghost use Rattle.zprotocol.specs.master.support.Rows.{opening_of_two, three, four, growing, one};
 ghost use Rattle.zprotocol.specs.master.support.Rows.{lost, empty, with_fifth, retiring, with_chain};
 ghost use Rattle.zprotocol.specs.master.support.Rows.{three_without_1, three_without_2, three_without_4};
 ghost use Rattle.zprotocol.specs.master.support.Rows.{four_without_2, four_without_3, growing_without_2};
 ghost use Rattle.zprotocol.specs.master.support.Rows.{without_joining, tells, tells_of_none, passed_on};
-ghost use Rattle.zprotocol.specs.master.support.Rows.{new_head, new_tail, new_pred, Ignores, after_join};
-ghost use Rattle.zprotocol.specs.master.support.Rows.{after_retire, after_have, after_joined, after_gone};
+ghost use Rattle.zprotocol.specs.master.support.Rows.{new_head, new_tail, new_pred, Ignores, after_order};
+ghost use Rattle.zprotocol.specs.master.support.Rows.{after_have, after_joined, after_gone};
 
 /// What the master does with a server's Have, and with the Joined of a new server.
 pub fn reports_are_passed_on()
@@ -47,36 +48,40 @@ pub fn chain_is_mended()
 
 /// How a server joins, and why a join is refused.
 pub fn servers_join()
-    ensures joins { after_join three 5 ≡ (with_fifth, (Server 5, message.NewPred 7 4) ∷ []) }
-    ensures allowed { join_fault three 5 ≡ None }
-    ensures used { join_fault three 3 ≡ Some Used }
-    ensures used_before_all { join_fault growing 4 ≡ Some Used }
-    ensures joining { join_fault growing 5 ≡ Some Joining }
-    ensures no_chain { join_fault empty 5 ≡ Some NoChain }
-    ensures lost { join_fault lost 5 ≡ Some Lost }
-    ensures one_with_state { join_fault one 5 ≡ None }
-    ensures retiring { join_fault (retiring 2 three) 5 ≡ Some Retiring }
-    ensures used_before_retiring { join_fault (retiring 2 three) 3 ≡ Some Used }
-    ensures joining_before_retiring { join_fault (retiring 2 growing) 5 ≡ Some Joining }
-    ensures lost_before_retiring { join_fault (retiring 4 lost) 5 ≡ Some Lost }
+    ensures joins { after_order three (Join 5)
+        ≡ (with_fifth, (Server 5, message.NewPred 7 4) ∷ []) }
+    ensures allowed { order_fault three (Join 5) ≡ None }
+    ensures used { order_fault three (Join 3) ≡ Some Used }
+    ensures used_before_all { order_fault growing (Join 4) ≡ Some Used }
+    ensures joining { order_fault growing (Join 5) ≡ Some Joining }
+    ensures no_chain { order_fault empty (Join 5) ≡ Some NoChain }
+    ensures lost { order_fault lost (Join 5) ≡ Some Lost }
+    ensures one_with_state { order_fault one (Join 5) ≡ None }
+    ensures retiring { order_fault (retiring 2 three) (Join 5) ≡ Some Retiring }
+    ensures used_before_retiring { order_fault (retiring 2 three) (Join 3) ≡ Some Used }
+    ensures joining_before_retiring { order_fault (retiring 2 growing) (Join 5) ≡ Some Joining }
+    ensures lost_before_retiring { order_fault (retiring 4 lost) (Join 5) ≡ Some Lost }
 {}
 
 /// How a member is ordered to leave, and why an order is refused.
 pub fn servers_retire()
-    ensures head { after_retire three 1 ≡ (retiring 1 three, (Server 1, message.Retire) ∷ []) }
-    ensures middle { after_retire three 2 ≡ (retiring 2 three, (Server 2, message.Retire) ∷ []) }
-    ensures tail { after_retire three 4 ≡ (retiring 4 three, (Server 4, message.Retire) ∷ []) }
-    ensures allowed { retire_fault three 1 ≡ None }
-    ensures not_member { retire_fault three 3 ≡ Some retire.NotMember }
-    ensures not_member_before_all { retire_fault lost 3 ≡ Some retire.NotMember }
-    ensures empty_chain { retire_fault empty 1 ≡ Some retire.NotMember }
-    ensures joining { retire_fault growing 1 ≡ Some retire.Joining }
-    ensures joining_itself { retire_fault growing 4 ≡ Some retire.Joining }
-    ensures joining_before_last { retire_fault lost 4 ≡ Some retire.Joining }
-    ensures last { retire_fault one 2 ≡ Some retire.Last }
-    ensures last_before_retiring { retire_fault (retiring 2 one) 2 ≡ Some retire.Last }
-    ensures retiring { retire_fault (retiring 1 three) 2 ≡ Some retire.Retiring }
-    ensures retiring_itself { retire_fault (retiring 1 three) 1 ≡ Some retire.Retiring }
+    ensures head { after_order three (Retire 1)
+        ≡ (retiring 1 three, (Server 1, message.Retire) ∷ []) }
+    ensures middle { after_order three (Retire 2)
+        ≡ (retiring 2 three, (Server 2, message.Retire) ∷ []) }
+    ensures tail { after_order three (Retire 4)
+        ≡ (retiring 4 three, (Server 4, message.Retire) ∷ []) }
+    ensures allowed { order_fault three (Retire 1) ≡ None }
+    ensures not_member { order_fault three (Retire 3) ≡ Some NotMember }
+    ensures not_member_before_all { order_fault lost (Retire 3) ≡ Some NotMember }
+    ensures empty_chain { order_fault empty (Retire 1) ≡ Some NotMember }
+    ensures joining { order_fault growing (Retire 1) ≡ Some Joining }
+    ensures joining_itself { order_fault growing (Retire 4) ≡ Some Joining }
+    ensures joining_before_last { order_fault lost (Retire 4) ≡ Some Joining }
+    ensures last { order_fault one (Retire 2) ≡ Some Last }
+    ensures last_before_retiring { order_fault (retiring 2 one) (Retire 2) ≡ Some Last }
+    ensures retiring { order_fault (retiring 1 three) (Retire 2) ≡ Some Retiring }
+    ensures retiring_itself { order_fault (retiring 1 three) (Retire 1) ≡ Some Retiring }
 {}
 
 /// When the member ordered to leave is gone, the chain is repaired as for any other. Then another
@@ -87,10 +92,10 @@ pub fn retired_servers_are_gone()
     ensures tail { after_gone (retiring 4 three) 4 ≡ (three_without_4, new_tail 1 2) }
     ensures another { after_gone (retiring 1 three) 4 ≡ (retiring 1 three_without_4, new_tail 1 2) }
     ensures outside { Ignores (retiring 1 three) (Server 3) message.Gone }
-    ensures next { retire_fault (after_gone (retiring 1 three) 1).0 2 ≡ None }
-    ensures next_joins { join_fault (after_gone (retiring 1 three) 1).0 5 ≡ None }
-    ensures gone_one { retire_fault (after_gone (retiring 1 three) 1).0 1 ≡ Some retire.NotMember }
-    ensures gone_one_joins { join_fault (after_gone (retiring 1 three) 1).0 1 ≡ Some Used }
+    ensures next { order_fault (after_gone (retiring 1 three) 1).0 (Retire 2) ≡ None }
+    ensures next_joins { order_fault (after_gone (retiring 1 three) 1).0 (Join 5) ≡ None }
+    ensures gone_one { order_fault (after_gone (retiring 1 three) 1).0 (Retire 1) ≡ Some NotMember }
+    ensures gone_one_joins { order_fault (after_gone (retiring 1 three) 1).0 (Join 1) ≡ Some Used }
 {}
 
 /// The initial view of two servers and three clients, the head and tail that clients are told, and

@@ -15,7 +15,7 @@ use Rattle.zworld.specs.declared.did.IdleCause.{IdleCause}
 use Rattle.zworld.specs.declared.did.IdleCause.TheVariants as cause
 use Rattle.zworld.specs.Did.{IsCause, is_short}
 use Rattle.zworld.specs.Steps.{WorldView, AreActed, HasHappened, world_in}
-use Rattle.zscript.specs.Line.{ServiceWorld, ScriptState, script_state, LineEffect, begin_fault_text, join_fault_name, retire_fault_name, line_fault_text, taken_text, own_reply_text}
+use Rattle.zscript.specs.Line.{ServiceWorld, ScriptState, script_state, LineEffect, begin_fault_text, order_fault_name, line_fault_text, taken_text, own_reply_text}
 
 -- the reason why a line asked for nothing was written, and it isn't out of memory
 abbrev pub WritesFault : {A : Type 0} → LineFault → String A → String A → Type 0
@@ -25,8 +25,7 @@ WritesFault fault before after = (fault ≡ line_fault.Memory → ⊥) × Writes
 abbrev pub cause_text : IdleCause → List ℕ
 cause_text cause.Nothing = codes "idle"
 cause_text (cause.Begin fault) = begin_fault_text fault
-cause_text (cause.Join fault) = codes "no " ++ join_fault_name fault
-cause_text (cause.Retire fault) = codes "no " ++ retire_fault_name fault
+cause_text (cause.Order fault) = codes "no " ++ order_fault_name fault
 
 -- what became of an event
 abbrev pub did_text : Did → List ℕ

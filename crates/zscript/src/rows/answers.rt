@@ -3,20 +3,20 @@
 ghost use Rattle.std.specs.Prelude.{◌≡◌, [], ◌∷◌, codes, Some, None};
 ghost use Rattle.zpath.specs.declared.fault.PathFault.TheVariants.{Empty};
 ghost use Rattle.zcalls.specs.declared.reply.Reply.TheVariants.{Children, Deleted, Pinged};
-ghost use Rattle.zprotocol.specs.declared.master.join_fault.JoinFault.TheVariants.{Used, Joining, NoChain, Lost};
-ghost use Rattle.zprotocol.specs.declared.master.join_fault.JoinFault.TheVariants.{Retiring};
-ghost use Rattle.zprotocol.specs.declared.master.retire_fault.RetireFault.TheVariants as retire;
+ghost use Rattle.zprotocol.specs.declared.master.order_fault.OrderFault.TheVariants.{Used, NotMember};
+ghost use Rattle.zprotocol.specs.declared.master.order_fault.OrderFault.TheVariants.{Joining, NoChain};
+ghost use Rattle.zprotocol.specs.declared.master.order_fault.OrderFault.TheVariants.{Lost, Last, Retiring};
 ghost use Rattle.zprotocol.specs.declared.client.begin_fault.BeginFault.TheVariants.{Busy, Exhausted};
 ghost use Rattle.zworld_model.specs.declared.settled.Settled.TheVariants.{Quiet, Limit};
 ghost use Rattle.zlines.specs.declared.request.LineFault.TheVariants.{BadLine, BadPath, BadData};
 ghost use Rattle.zscript.specs.declared.limits.TheConstants.{MAX_EVENTS};
 ghost use Rattle.zworld_model.specs.declared.history.CallEvent.TheVariants.{Answer};
-ghost use Rattle.zscript.specs.Line.{taken_text, reply_in, join_fault_name, begin_fault_text, settled_text};
-ghost use Rattle.zscript.specs.Line.{line_fault_text, retire_fault_name};
+ghost use Rattle.zscript.specs.Line.{taken_text, reply_in, order_fault_name, begin_fault_text, settled_text};
+ghost use Rattle.zscript.specs.Line.{line_fault_text};
 ghost use Rattle.zscript.specs.support.Rows.{AreAnswered, row, begins, takes, takes_none, text_line, call_2, call_3};
 
 /// Events that aren't enabled, failures and joins.
-#[tactic(auto, unfolding(crate::specs::Line::effect_of, crate::specs::Line::answer, crate::specs::Line::after, zlines::specs::Line::line_of, zprotocol::specs::master::Table::join_fault, zprotocol::specs::master::Table::retire_fault))]
+#[tactic(auto, unfolding(crate::specs::Line::effect_of, crate::specs::Line::answer, crate::specs::Line::after, zlines::specs::Line::line_of, zprotocol::specs::master::Table::order_fault))]
 pub fn chain_lines()
     ensures own_link { AreAnswered (row "take s1 s1" "idle" ∷ []) }
     ensures no_server { AreAnswered (row "take s17 m" "bad line" ∷ []) }
@@ -49,15 +49,13 @@ pub fn answers_are_told()
 /// The texts for refused joins and calls, for the ends of settling and for lines that ask for
 /// nothing. Among them are those that no script brings about.
 pub fn words_of_answers()
-    ensures used { join_fault_name Used ≡ codes "Used" }
-    ensures joining { join_fault_name Joining ≡ codes "Joining" }
-    ensures no_chain { join_fault_name NoChain ≡ codes "NoChain" }
-    ensures lost { join_fault_name Lost ≡ codes "Lost" }
-    ensures retiring { join_fault_name Retiring ≡ codes "Retiring" }
-    ensures not_member { retire_fault_name retire.NotMember ≡ codes "NotMember" }
-    ensures waits_for_a_join { retire_fault_name retire.Joining ≡ codes "Joining" }
-    ensures last { retire_fault_name retire.Last ≡ codes "Last" }
-    ensures another_retires { retire_fault_name retire.Retiring ≡ codes "Retiring" }
+    ensures used { order_fault_name Used ≡ codes "Used" }
+    ensures joining { order_fault_name Joining ≡ codes "Joining" }
+    ensures no_chain { order_fault_name NoChain ≡ codes "NoChain" }
+    ensures lost { order_fault_name Lost ≡ codes "Lost" }
+    ensures retiring { order_fault_name Retiring ≡ codes "Retiring" }
+    ensures not_member { order_fault_name NotMember ≡ codes "NotMember" }
+    ensures last { order_fault_name Last ≡ codes "Last" }
     ensures busy { begin_fault_text Busy ≡ codes "busy" }
     ensures no_numbers { begin_fault_text Exhausted ≡ codes "no Numbers" }
     ensures quiet { settled_text Quiet ≡ codes "quiet" }

@@ -16,7 +16,8 @@ use Rattle.zworld_model.specs.History.{History}
 use Rattle.zworld_model.specs.World.{World, opening_world}
 use Rattle.zworld_model.specs.Events.{run}
 use Rattle.ztraces.specs.declared.trace.Act.{Act}
-use Rattle.ztraces.specs.declared.trace.Act.TheVariants.{Took, Began, Retried, Joined, Retired, Left, Halted}
+use Rattle.zprotocol.specs.declared.master.order.Order.TheVariants.{Join, Retire}
+use Rattle.ztraces.specs.declared.trace.Act.TheVariants.{Took, Began, Retried, Ordered, Left, Halted}
 use Rattle.ztraces.specs.declared.trace.TraceEvent.{TraceEvent}
 use Rattle.ztraces.specs.declared.trace.Trace.{Trace}
 use Rattle.ztraces.specs.declared.trace.ClientTrace.{ClientTrace}
@@ -89,7 +90,7 @@ mended =
     ∷ step_of s1 6 Halted
     ∷ step_of Master 7 (Took s1 Acted)
     ∷ step_of Master 8 (Took (Server 3) Acted)
-    ∷ step_of Master 9 (Joined 4)
+    ∷ step_of Master 9 (Ordered (Join 4))
     ∷ step_of c0 10 (Took Master Acted)
     ∷ step_of c0 11 Retried
     ∷ []
@@ -99,7 +100,7 @@ mended =
 abbrev pub retirement : List Step
 retirement =
     step_of c0 1 (Began write)
-    ∷ step_of Master 2 (Retired 1)
+    ∷ step_of Master 2 (Ordered (Retire 1))
     ∷ step_of s1 3 Left
     ∷ step_of Master 4 (Took s1 Acted)
     ∷ step_of (Server 2) 5 (Took Master Acted)

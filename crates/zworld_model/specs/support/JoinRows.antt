@@ -1,7 +1,8 @@
 -- Worked runs in which a server joins, over a machine that counts, with two clients (0 and 1).
 use Rattle.std.specs.Prelude.{List, [], ◌∷◌}
 use Rattle.zworld_model.specs.declared.event.Event.{Event}
-use Rattle.zworld_model.specs.declared.event.Event.TheVariants.{Begin, Take, Fail, Join}
+use Rattle.zworld_model.specs.declared.event.Event.TheVariants.{Begin, Take, Fail}
+use Rattle.zworld_model.specs.Orders.{Join}
 use Rattle.zworld_model.specs.support.Counter.{create, exists}
 use Rattle.zworld_model.specs.support.RunRows.{m, s1, s2, s3, c1}
 

@@ -2,7 +2,8 @@
 -- (0 and 1).
 use Rattle.std.specs.Prelude.{List, [], ◌∷◌}
 use Rattle.zworld_model.specs.declared.event.Event.{Event}
-use Rattle.zworld_model.specs.declared.event.Event.TheVariants.{Begin, Take, Fail, Join, Retire}
+use Rattle.zworld_model.specs.declared.event.Event.TheVariants.{Begin, Take, Fail}
+use Rattle.zworld_model.specs.Orders.{Join, Retire}
 use Rattle.zworld_model.specs.support.Counter.{create, exists}
 use Rattle.zworld_model.specs.support.RunRows.{m, s1, s2, s3, c1}
 use Rattle.zworld_model.specs.support.ScenarioRows.{Scene, Happen, Settles, Calls}

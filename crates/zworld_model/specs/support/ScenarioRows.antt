@@ -4,7 +4,8 @@
 use Rattle.std.specs.Prelude.{ℕ, List, [], ◌∷◌}
 use Rattle.zcalls.specs.declared.call.Call.{Call}
 use Rattle.zworld_model.specs.declared.event.Event.{Event}
-use Rattle.zworld_model.specs.declared.event.Event.TheVariants.{Begin, Take, Fail, Join}
+use Rattle.zworld_model.specs.declared.event.Event.TheVariants.{Begin, Take, Fail}
+use Rattle.zworld_model.specs.Orders.{Join}
 use Rattle.zprotocol.specs.master.View.{MasterView}
 use Rattle.zprotocol.specs.server.View.{Neighbour}
 use Rattle.zworld_model.specs.History.{History}

@@ -1,9 +1,10 @@
 //! Worked runs in which a server joins.
 
 ghost use Rattle.std.specs.Prelude.{◌≡◌, [], ◌∷◌, None, Some, take};
-ghost use Rattle.zprotocol.specs.declared.master.join_fault.JoinFault.TheVariants.{Joining, Lost};
-ghost use Rattle.zprotocol.specs.master.Table.{join_fault};
-ghost use Rattle.zworld_model.specs.declared.event.Event.TheVariants.{Join};
+ghost use Rattle.zprotocol.specs.declared.master.order_fault.OrderFault.TheVariants.{Joining, Lost};
+ghost use Rattle.zprotocol.specs.declared.master.order.Order.TheVariants as order;
+ghost use Rattle.zprotocol.specs.master.Table.{order_fault};
+ghost use Rattle.zworld_model.specs.Orders.{Join};
 ghost use Rattle.zworld_model.specs.declared.history.CallEvent.TheVariants as saw;
 ghost use Rattle.zworld_model.specs.support.Counter.{exists};
 ghost use Rattle.zworld_model.specs.support.RunRows.{after, seen, link, view, m, s1, s2, s3, c1};
@@ -14,7 +15,8 @@ ghost use Rattle.zworld_model.specs.support.RunRows.{CannotHappen, create_and_ex
 /// A server joins behind the tail. Once the old tail has sent its snapshot, it answers nobody; the
 /// new tail answers once it has the state.
 pub fn joining_server_is_handed_the_state()
-    ensures one_joins { join_fault (after 1 (take 4 state_is_handed_over)).master 3 ≡ Some Joining }
+    ensures one_joins { order_fault (after 1 (take 4 state_is_handed_over)).master (order.Join 3)
+        ≡ Some Joining }
     ensures silent { link 1 (take 9 state_is_handed_over) s1 c1 ≡ [] }
     ensures told { link 1 (take 11 state_is_handed_over) m c1 ≡ config 2 1 2 }
     ensures handed_over { (view 1 (take 10 state_is_handed_over) 2).last ≡ 1 }
@@ -32,6 +34,6 @@ pub fn stale_snapshot_is_ignored()
 pub fn state_is_lost_with_its_only_server()
     ensures silent { link 1 state_is_lost s2 c1 ≡ [] }
     ensures unanswered { seen 1 state_is_lost ≡ saw.Begin 1 1 exists ∷ [] }
-    ensures refused { join_fault (after 1 state_is_lost).master 3 ≡ Some Lost }
+    ensures refused { order_fault (after 1 state_is_lost).master (order.Join 3) ≡ Some Lost }
     ensures not_enabled { CannotHappen 1 state_is_lost (Join 3) }
 {}

@@ -2,12 +2,13 @@
 
 ghost use Rattle.std.specs.Prelude.{◌≡◌, [], ◌∷◌, ◌++◌, None, Some, true, false, take};
 ghost use Rattle.zprotocol.specs.declared.message.Message.TheVariants as message;
-ghost use Rattle.zprotocol.specs.declared.master.join_fault.JoinFault.TheVariants as join;
-ghost use Rattle.zprotocol.specs.declared.master.retire_fault.RetireFault.TheVariants.{NotMember};
-ghost use Rattle.zprotocol.specs.declared.master.retire_fault.RetireFault.TheVariants.{Joining, Last};
-ghost use Rattle.zprotocol.specs.declared.master.retire_fault.RetireFault.TheVariants.{Retiring};
-ghost use Rattle.zprotocol.specs.master.Table.{join_fault, retire_fault};
-ghost use Rattle.zworld_model.specs.declared.event.Event.TheVariants.{Retry, Take, Fail, Retire};
+ghost use Rattle.zprotocol.specs.declared.master.order_fault.OrderFault.TheVariants.{Used, NotMember};
+ghost use Rattle.zprotocol.specs.declared.master.order_fault.OrderFault.TheVariants.{Joining, Last};
+ghost use Rattle.zprotocol.specs.declared.master.order_fault.OrderFault.TheVariants.{Retiring};
+ghost use Rattle.zprotocol.specs.declared.master.order.Order.TheVariants as order;
+ghost use Rattle.zprotocol.specs.master.Table.{order_fault};
+ghost use Rattle.zworld_model.specs.declared.event.Event.TheVariants.{Retry, Take, Fail};
+ghost use Rattle.zworld_model.specs.Orders.{Retire};
 ghost use Rattle.zworld_model.specs.declared.outcome.Outcome.TheVariants.{Acted, Stopped};
 ghost use Rattle.zworld_model.specs.Events.{is_enabled};
 ghost use Rattle.zworld_model.specs.support.RunRows.{after, seen, link, view, m, s1, s2, s3, c1};
@@ -64,21 +65,24 @@ pub fn members_are_ordered_to_leave()
 
 /// Members leave one at a time, and the last one stays.
 pub fn members_leave_in_turn()
-    ensures second { retire_fault (scenes_master 3 (take 2 two_retire)) 2 ≡ Some Retiring }
+    ensures second { order_fault (scenes_master 3 (take 2 two_retire)) (order.Retire 2)
+        ≡ Some Retiring }
     ensures first_left { scenes_chain 3 (take 3 two_retire) ≡ (2, 0) ∷ (3, 0) ∷ [] }
-    ensures last { retire_fault (scenes_master 3 two_retire) 3 ≡ Some Last }
-    ensures not_member { retire_fault (scenes_master 3 two_retire) 1 ≡ Some NotMember }
+    ensures last { order_fault (scenes_master 3 two_retire) (order.Retire 3) ≡ Some Last }
+    ensures not_member { order_fault (scenes_master 3 two_retire) (order.Retire 1)
+        ≡ Some NotMember }
     ensures seen { scenes_history 3 two_retire ≡ create_and_exists }
 {}
 
 /// Nobody is ordered to leave while a server joins, and nobody joins while a member leaves. So
 /// servers can be replaced one by one.
 pub fn servers_are_replaced()
-    ensures joining { retire_fault (scenes_master 2 (take 1 one_is_replaced)) 1 ≡ Some Joining }
-    ensures retiring { join_fault (scenes_master 2 (take 3 one_is_replaced)) 4
-        ≡ Some join.Retiring }
-    ensures free { join_fault (scenes_master 2 one_is_replaced) 4 ≡ None }
-    ensures gone_one { join_fault (scenes_master 2 one_is_replaced) 1 ≡ Some join.Used }
+    ensures joining { order_fault (scenes_master 2 (take 1 one_is_replaced)) (order.Retire 1)
+        ≡ Some Joining }
+    ensures retiring { order_fault (scenes_master 2 (take 3 one_is_replaced)) (order.Join 4)
+        ≡ Some Retiring }
+    ensures free { order_fault (scenes_master 2 one_is_replaced) (order.Join 4) ≡ None }
+    ensures gone_one { order_fault (scenes_master 2 one_is_replaced) (order.Join 1) ≡ Some Used }
     ensures chain { scenes_chain 2 both_are_replaced ≡ (3, 1) ∷ (4, 4) ∷ [] }
     ensures seen { scenes_history 2 both_are_replaced ≡ create_and_exists }
 {}
@@ -99,6 +103,6 @@ pub fn retiring_server_fails_first()
     ensures stands { (scenes_master 3 (take 2 retiring_server_fails)).retiring ≡ Some 1 }
     ensures gone { (scenes_end 3 (take 2 retiring_server_fails)).links s1 m ≡ message.Gone ∷ [] }
     ensures done { (scenes_master 3 retiring_server_fails).retiring ≡ None }
-    ensures next { retire_fault (scenes_master 3 retiring_server_fails) 2 ≡ None }
+    ensures next { order_fault (scenes_master 3 retiring_server_fails) (order.Retire 2) ≡ None }
     ensures seen { scenes_history 3 retiring_server_fails ≡ two_creates }
 {}

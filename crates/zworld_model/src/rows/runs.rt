@@ -2,7 +2,7 @@
 
 ghost use Rattle.std.specs.Prelude.{◌≡◌, [], ◌∷◌, take};
 ghost use Rattle.zworld_model.specs.declared.event.Event.TheVariants.{Begin, Retry, Take, Ignore, Fail};
-ghost use Rattle.zworld_model.specs.declared.event.Event.TheVariants.{Join};
+ghost use Rattle.zworld_model.specs.Orders.{Join};
 ghost use Rattle.zworld_model.specs.support.Counter.{create, exists};
 ghost use Rattle.zworld_model.specs.support.RunRows.{seen, link, view, CanHappen, CannotHappen, s1, s2, c1};
 ghost use Rattle.zworld_model.specs.support.RunRows.{began, told, create_begun, first_entry, update_in_turn};

@@ -1,8 +1,9 @@
 //! Worked scenarios of failures and joins.
 
 ghost use Rattle.std.specs.Prelude.{◌≡◌, [], ◌∷◌, Some};
-ghost use Rattle.zprotocol.specs.declared.master.join_fault.JoinFault.TheVariants.{Used, NoChain};
-ghost use Rattle.zprotocol.specs.master.Table.{join_fault};
+ghost use Rattle.zprotocol.specs.declared.master.order_fault.OrderFault.TheVariants.{Used, NoChain};
+ghost use Rattle.zprotocol.specs.declared.master.order.Order.TheVariants as order;
+ghost use Rattle.zprotocol.specs.master.Table.{order_fault};
 ghost use Rattle.zworld_model.specs.support.ScenarioRows.{two_fail, both_middle_servers_fail};
 ghost use Rattle.zworld_model.specs.support.ScenarioRows.{head_fails_in_a_repair, state_moves_on};
 ghost use Rattle.zworld_model.specs.support.ScenarioRows.{tail_fails_in_a_join, joining_server_fails};
@@ -37,11 +38,11 @@ pub fn joins_survive_failures()
 /// is used up.
 pub fn failed_spare_leaves_again()
     ensures seen { scenes_history 1 failed_spare_joins ≡ one_create }
-    ensures used { join_fault (scenes_master 1 failed_spare_joins) 2 ≡ Some Used }
+    ensures used { order_fault (scenes_master 1 failed_spare_joins) (order.Join 2) ≡ Some Used }
 {}
 
 /// Without a chain nobody can join.
 pub fn empty_chain_takes_nobody()
-    ensures no_chain { join_fault (scenes_master 1 chain_is_empty) 2 ≡ Some NoChain }
-    ensures used { join_fault (scenes_master 1 chain_is_empty) 1 ≡ Some Used }
+    ensures no_chain { order_fault (scenes_master 1 chain_is_empty) (order.Join 2) ≡ Some NoChain }
+    ensures used { order_fault (scenes_master 1 chain_is_empty) (order.Join 1) ≡ Some Used }
 {}

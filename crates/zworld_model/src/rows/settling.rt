@@ -1,8 +1,9 @@
 //! Worked runs of settling and of resolved events.
 
 ghost use Rattle.std.specs.Prelude.{◌≡◌, true, false, [], ◌∷◌, Some, take};
-ghost use Rattle.zprotocol.specs.declared.master.join_fault.JoinFault.TheVariants.{Lost};
-ghost use Rattle.zprotocol.specs.master.Table.{join_fault};
+ghost use Rattle.zprotocol.specs.declared.master.order_fault.OrderFault.TheVariants.{Lost};
+ghost use Rattle.zprotocol.specs.declared.master.order.Order.TheVariants as order;
+ghost use Rattle.zprotocol.specs.master.Table.{order_fault};
 ghost use Rattle.zworld_model.specs.declared.event.Event.TheVariants.{Begin, Retry, Take, Ignore, Fail};
 ghost use Rattle.zworld_model.specs.declared.history.CallEvent.TheVariants as saw;
 ghost use Rattle.zworld_model.specs.declared.settled.Settled.TheVariants.{Quiet, Limit};
@@ -50,7 +51,8 @@ pub fn settling_retries_once()
 pub fn settling_ends_where_the_state_is_lost()
     ensures quiet { settling_end (settled_after 1 lost_state 100 []) ≡ Quiet }
     ensures unanswered { settled_history 1 lost_state ≡ saw.Begin 1 1 exists ∷ [] }
-    ensures refused { join_fault (settled_after 1 lost_state 100 []).world.master 3 ≡ Some Lost }
+    ensures refused { order_fault (settled_after 1 lost_state 100 []).world.master (order.Join 3)
+        ≡ Some Lost }
 {}
 
 /// Resolved events: a delivery at which a server ran out of memory is its failure, and an unheard

@@ -1,5 +1,5 @@
 use Rattle.std.proofs.Common.{◌&&◌, refl}
-use Rattle.zalone.specs.declared.order.Order.TheVariants.{Fail}
+use Rattle.zalone.specs.declared.chain_order.ChainOrder.TheVariants.{Fail}
 use Rattle.zalone.specs.Order.{takes_last}
 use Rattle.zalone.proofs.rows.orders_of_the_last.Goals as goal
 

@@ -14,12 +14,12 @@ use Rattle.zprotocol.specs.master.Table as master
 use Rattle.zprotocol.specs.client.View.{ClientView}
 use Rattle.zprotocol.specs.client.Table as client
 use Rattle.zworld_model.specs.declared.event.Event.{Event}
-use Rattle.zworld_model.specs.declared.event.Event.TheVariants.{Begin, Retry, Take, Ignore, Fail, Join, Retire}
+use Rattle.zworld_model.specs.declared.event.Event.TheVariants.{Begin, Retry, Take, Ignore, Fail, Order}
 use Rattle.zworld_model.specs.Links.{Links, put, without_front}
 use Rattle.zworld_model.specs.World.{World}
 use Rattle.zworld_model.specs.Events.{is_enabled, server_does, server_stops, client_does, with_answer, process_step, front_step, acts, happens, run}
 use Rattle.zorder.proofs.chain_lemmas.links.Links.{put_among, front_among, at_cases, AllPosts, all_none, all_and}
-use Rattle.zorder.proofs.chain_lemmas.tables.OtherPosts.{IsOrder, IsRequest, master_orders, join_orders, retire_orders, begin_requests, retry_requests, client_requests}
+use Rattle.zorder.proofs.chain_lemmas.tables.OtherPosts.{IsOrder, IsRequest, master_orders, order_orders, begin_requests, retry_requests, client_requests}
 
 -- each view has the one, and each message under way the other
 pub record Everywhere {M : Type 0} (V : ServerView M → Type 0) (Q : MessageOf M → Type 0) (w : World M) : Type 0 where
@@ -89,10 +89,8 @@ module _ {M : Type 0} (does : Does M) (V : ServerView M → Type 0) (Q : Message
   acts_all w (Take from to) h = front_all w from to (w.links from to) (h.under_way from to) h
   acts_all w (Ignore from to) h = popped_all w from to h
   acts_all w (Fail s) h = stops_all w s h
-  acts_all w (Join s) h =
-      record { views = h.views; under_way = put_all w.links Master (master.join_step w.master s).1 (ordered_all _ (join_orders w.master s)) h.under_way }
-  acts_all w (Retire s) h =
-      record { views = h.views; under_way = put_all w.links Master (master.retire_step w.master s).1 (ordered_all _ (retire_orders w.master s)) h.under_way }
+  acts_all w (Order order) h =
+      record { views = h.views; under_way = put_all w.links Master (master.order_step w.master order).1 (ordered_all _ (order_orders w.master order)) h.under_way }
 
   -- an event
   pub happens_all : (w : World M) (event : Event) → Everywhere V Q w → Everywhere V Q (happens does w event)

@@ -10,6 +10,8 @@ use Rattle.zprotocol.specs.declared.process.Process.{Process}
 use Rattle.zprotocol.specs.declared.process.Process.TheVariants.{Master, Server, Client}
 use Rattle.zprotocol.specs.server.View.{MessageOf, Post, Neighbour, Transfer}
 use Rattle.zprotocol.specs.master.View.{MasterView, is_among, members, is_joining, head_of, tail_of, with_number}
+use Rattle.zprotocol.specs.declared.master.order.Order.{Order}
+use Rattle.zprotocol.specs.declared.master.order.Order.TheVariants.{Join, Retire}
 use Rattle.zprotocol.specs.master.Table as master
 use Rattle.zprotocol.specs.client.View.{ClientView}
 use Rattle.zprotocol.specs.client.Table as client
@@ -105,15 +107,11 @@ module _ {M : Type 0} where
   join_orders_by v s None = all_none IsOrder
   join_orders_by v s (Some last) = one_order (Server s, message.NewPred (v.epoch + 1) last) tt
 
-  -- at a join
-  pub join_orders : (v : MasterView) (s : ℕ) → AllPosts IsOrder (master.join_step {T = Transfer M} v s).1
-  unfolding master.join_step
-  join_orders v s = join_orders_by v s (last_or None (members v))
-
-  -- at an order to leave
-  pub retire_orders : (v : MasterView) (s : ℕ) → AllPosts IsOrder (master.retire_step {T = Transfer M} v s).1
-  unfolding master.retire_step
-  retire_orders v s = one_order (Server s, message.Retire) tt
+  -- at an order of the operator
+  pub order_orders : (v : MasterView) (order : Order) → AllPosts IsOrder (master.order_step {T = Transfer M} v order).1
+  unfolding master.order_step
+  order_orders v (Join s) = join_orders_by v s (last_or None (members v))
+  order_orders v (Retire s) = one_order (Server s, message.Retire) tt
 
   -- a client's
   one_request : (post : Post M) → IsRequest post.1 → AllPosts IsRequest (post ∷ [])

@@ -10,6 +10,7 @@ use Rattle.zprotocol.specs.declared.message.Message.TheVariants as message
 use Rattle.zprotocol.specs.declared.process.Process.TheVariants.{Master, Server}
 use Rattle.zprotocol.specs.server.View.{ServerView, Post, Neighbour, Transfer, spare}
 use Rattle.zprotocol.specs.master.View.{MasterView, members, is_among, with_number}
+use Rattle.zprotocol.specs.declared.master.order.Order.TheVariants.{Join}
 use Rattle.zprotocol.specs.master.Table as master
 use Rattle.zworld_model.specs.Links.{messages_to}
 use Rattle.zorder.proofs.legal_lemmas.lists.Members.{among_left, among_right, among_last}
@@ -166,6 +167,6 @@ module _ {P : Type 0} (plain : Plain P) (t : Account) (s : IsSound plain t) (x :
   join_by (Some p) is did same = subst (λ (d : MasterView × List (Post (List Entry))). IsSound plain (record t { world = world_with_move t.world d.0 d.1 })) (sym same) (join_sound plain t s x unused p is)
 
   -- where there is a chain, and where there is none
-  pub joins_sound : IsSound plain (record t { world = world_with_move t.world (master.join_step {T = Transfer (List Entry)} t.world.master x).0 (master.join_step t.world.master x).1 })
-  unfolding master.join_step
-  joins_sound = join_by (last_or None (members t.world.master)) refl (master.join_step t.world.master x) refl
+  pub joins_sound : IsSound plain (record t { world = world_with_move t.world (master.order_step {T = Transfer (List Entry)} t.world.master (Join x)).0 (master.order_step t.world.master (Join x)).1 })
+  unfolding master.order_step
+  joins_sound = join_by (last_or None (members t.world.master)) refl (master.order_step t.world.master (Join x)) refl

@@ -11,6 +11,7 @@ use Rattle.zprotocol.specs.declared.process.Process.{Process}
 use Rattle.zprotocol.specs.declared.process.Process.TheVariants.{Master, Server, Client}
 use Rattle.zprotocol.specs.server.View.{Post, Neighbour}
 use Rattle.zprotocol.specs.master.View.{MasterView, members, is_among, is_joining, head_of, tail_of}
+use Rattle.zprotocol.specs.declared.master.order.Order.TheVariants.{Retire}
 use Rattle.zprotocol.specs.master.Table as master
 use Rattle.zworld_model.specs.Links.{is_same, messages_to}
 use Rattle.zorder.specs.chain.Flow.{LogWorld, LogMessage}
@@ -173,8 +174,8 @@ module _ {P : Type 0} (plain : Plain P) (t : Account) (s : IsSound plain t) wher
   ]
 
   -- a member is ordered to leave
-  pub retire_ordered : (x : ℕ) → Among x (members t.world.master) → IsSound plain (after (master.retire_step t.world.master x))
-  unfolding master.retire_step
+  pub retire_ordered : (x : ℕ) → Among x (members t.world.master) → IsSound plain (after (master.order_step t.world.master (Retire x)))
+  unfolding master.order_step
   retire_ordered x member =
       standing_sound plain t s t.world.master.joining (Some x) t.world.master.epoch (omega arith) ((Server x, message.Retire) ∷ []) one
       (λ z. elim (test (z == x)) [

@@ -5,7 +5,8 @@ use Rattle.zprotocol.specs.declared.process.Process.TheVariants.{Server, Client}
 use Rattle.zprotocol.specs.declared.process.Process.{Process}
 use Rattle.zprotocol.specs.server.View.{Neighbour, Transfer, MessageOf, Post}
 use Rattle.zprotocol.specs.master.View.{MasterView}
-use Rattle.zprotocol.specs.master.Table.{MasterResult, master_step, join_step, retire_step}
+use Rattle.zprotocol.specs.declared.master.order.Order.{Order}
+use Rattle.zprotocol.specs.master.Table.{MasterResult, master_step, order_step}
 
 -- the master of two clients, of servers 1 to 4 and of epochs up to 6, with this chain and this server joining
 abbrev pub master : List Neighbour → Option ℕ → MasterView
@@ -66,13 +67,9 @@ after v from m = master_step v from m
 abbrev pub Ignores : MasterView → Process → MessageOf ℕ → Type 0
 Ignores v from m = after v from m ≡ (v, [])
 
--- what the master does when a server joins
-abbrev pub after_join : MasterView → ℕ → MasterResult (Transfer ℕ)
-after_join v s = join_step v s
-
--- and when it orders one to leave
-abbrev pub after_retire : MasterView → ℕ → MasterResult (Transfer ℕ)
-after_retire v s = retire_step v s
+-- what the master does at an order
+abbrev pub after_order : MasterView → Order → MasterResult (Transfer ℕ)
+after_order v order = order_step v order
 
 -- what it does with the report of server 4, of a pair of epoch 5, when that server has the state, and when a server is gone
 abbrev pub after_have : MasterView → Option ℕ → MasterResult (Transfer ℕ)

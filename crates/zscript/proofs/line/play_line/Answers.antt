@@ -1,7 +1,7 @@
 use Rattle.std.proofs.Common.{Ok, ap, ◌∙◌}
 use Rattle.std.proofs.lemmas.Result.{on_ok_weaker}
 use Rattle.zworld_model.specs.declared.event.Event.TheVariants.{Take, Ignore, Fail, Retry}
-use Rattle.zscript.proofs.Effects.{plain_done, join_done, retire_done}
+use Rattle.zscript.proofs.Effects.{plain_done, order_done}
 use Rattle.zscript.proofs.LineDone.{read_done, fault_done}
 use Rattle.zscript.proofs.line.play_line.Goals as goal
 
@@ -35,17 +35,11 @@ returns-in-Fail c =
     (λ done. read_done c.args.strict _ _ c.args.line.now _ _ (c.in-Ok.ensures.found ∙ ap Ok c.in-Fail.is) (plain_done c.args.strict _ _ (Fail c.in-Fail.server) _ (λ why is. is) done))
     c.do_event-in-Fail.ensures
 
-pub returns-in-Join : goal.returns-in-Join
-returns-in-Join c =
-    on_ok_weaker c.do_event-in-Join.result
-    (λ done. read_done c.args.strict _ _ c.args.line.now _ _ (c.in-Ok.ensures.found ∙ ap Ok c.in-Join.is) (join_done c.args.strict _ _ c.in-Join.server _ done))
-    c.do_event-in-Join.ensures
-
-pub returns-in-Retire : goal.returns-in-Retire
-returns-in-Retire c =
-    on_ok_weaker c.do_event-in-Retire.result
-    (λ done. read_done c.args.strict _ _ c.args.line.now _ _ (c.in-Ok.ensures.found ∙ ap Ok c.in-Retire.is) (retire_done c.args.strict _ _ c.in-Retire.server _ done))
-    c.do_event-in-Retire.ensures
+pub returns-in-Order : goal.returns-in-Order
+returns-in-Order c =
+    on_ok_weaker c.do_event-in-Order.result
+    (λ done. read_done c.args.strict _ _ c.args.line.now _ _ (c.in-Ok.ensures.found ∙ ap Ok c.in-Order.is) (order_done c.args.strict _ _ c.in-Order.order _ done))
+    c.do_event-in-Order.ensures
 
 pub returns-in-Retry : goal.returns-in-Retry
 returns-in-Retry c =

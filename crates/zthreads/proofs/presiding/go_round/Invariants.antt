@@ -1,6 +1,6 @@
 use Rattle.std.proofs.Common.{◌≡◌, List, Option}
 use Rattle.zwords.specs.HaltSeats.{IsSeatOf}
-use Rattle.zconsole.specs.declared.order.Order.{Order}
+use Rattle.zprotocol.specs.declared.master.order.Order.{Order}
 use Rattle.zdesks.specs.Desks.{SameDesk, link_count}
 use Rattle.zthreads.specs.Acts.{HasFollowed}
 use Rattle.zthreads.specs.Said.{GoesOn}

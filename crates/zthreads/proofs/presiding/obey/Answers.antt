@@ -2,12 +2,12 @@ use Rattle.std.proofs.Common.{◌≡◌, ◌++◌, [], ◌∷◌, None, map, sym
 use Rattle.std.proofs.lemmas.List.{append_cancel_right}
 use Rattle.zconsole.specs.Outcomes.{order_of}
 use Rattle.zdesks.specs.Desks.{trace_of}
-use Rattle.zthreads.specs.Acts.{act_of}
+use Rattle.ztraces.specs.declared.trace.Act.TheVariants.{Ordered}
 use Rattle.zthreads.specs.Acts as acts
 use Rattle.zthreads.specs.Outcomes.{outcome_at, unfollowed, unsaid}
 use Rattle.zthreads.specs.Said.{spoken, WereSaid}
 use Rattle.zthreads.specs.Owned.{master_view}
-use Rattle.zthreads.proofs.Orders.{followed_more, order_of-act_of}
+use Rattle.zthreads.proofs.Orders.{followed_more}
 use Rattle.zthreads.proofs.Outcomes.{order_of-outcome_at}
 use Rattle.zthreads.proofs.Said.{all_still_said, goes_more, goes_same, one_more_said}
 use Rattle.zthreads.proofs.presiding.obey.Goals as goal
@@ -17,9 +17,9 @@ returns-in-Some-clause-followed c received followed =
     let a = c.args.chief.now.desk in
     let b = c.follow.new.self.desk in
     let order = c.in-Deed.order in
-    let is : option_to_list (unfollowed c.args.owed) ≡ acts.order_of (act_of order) ++ [] =
-    ap (λ o. option_to_list (unfollowed o)) c.in-Deed.is ∙ sym (ap (λ l. l ++ []) (order_of-act_of order)) in
-    followed_more a b (act_of order) received (unfollowed c.args.owed) None c.in-Some.ensures.done is followed
+    let is : option_to_list (unfollowed c.args.owed) ≡ acts.order_of (Ordered order) ++ [] =
+    ap (λ o. option_to_list (unfollowed o)) c.in-Deed.is ∙ sym (ap (λ l. l ++ []) (order_of-Ordered order)) in
+    followed_more a b (Ordered order) received (unfollowed c.args.owed) None c.in-Some.ensures.done is followed
 
 pub returns-in-Some-clause-unsaid : goal.returns-in-Some-clause-unsaid
 returns-in-Some-clause-unsaid c =
@@ -42,7 +42,7 @@ returns-in-Some-clause-said c before followed were =
     let waits : unsaid c.args.owed ≡ order ∷ [] = ap (λ o. unsaid o) c.in-Deed.is in
     let asked : option_to_list (unfollowed c.args.owed) ≡ order ∷ [] = ap (λ o. option_to_list (unfollowed o)) c.in-Deed.is in
     let were_said : WereSaid a [] before = subst (λ os. WereSaid a [] os) (ap (λ o. spoken before o) c.in-Deed.is) were in
-    one_more_said b [] before outcome (all_still_said a b [] before c.follow.ensures.same (goes_more a b (act_of order) did) were_said)
+    one_more_said b [] before outcome (all_still_said a b [] before c.follow.ensures.same (goes_more a b (Ordered order) did) were_said)
     (record {
       at = a;
       view = view;
@@ -52,7 +52,7 @@ returns-in-Some-clause-said c before followed were =
       had = λ cut.
           let e = did cut in
           record {
-            rest = record { stamp = b.stamp; act = act_of order } ∷ [];
+            rest = record { stamp = b.stamp; act = Ordered order } ∷ [];
             trace = e.trace;
             followed = sym (append_cancel_right (map order_of before) (acts.orders_in (trace_of a)) (order ∷ [])
                 (ap (λ l. map order_of before ++ l) (sym waits) ∙ followed e.whole ∙ ap (λ l. acts.orders_in (trace_of a) ++ l) asked));

@@ -4,7 +4,7 @@ use Rattle.zprotocol.specs.server.View.{Neighbour}
 use Rattle.zprotocol.specs.master.View.{is_among, members}
 use Rattle.zmaster.specs.contracts.knowledge.Knowledge.{the_view}
 use Rattle.zmaster.proofs.Mending.{found_is_member}
-use Rattle.zmaster.proofs.Rows.{leave_outside, leave_in_a_join, leave_last, leave_in_turn}
+use Rattle.zmaster.proofs.Rows.{leave_outside, leave_in_a_join, leave_last, leave_freely}
 use Rattle.zmaster.proofs.knowledge.Knowledge.retire_fault.Goals as goal
 
 pub returns-then-is_none : goal.returns-then-is_none
@@ -31,18 +31,6 @@ returns-then-len-eq1 c =
     ∙ c.is_none.ensures ∙ ap not c.if-is_none.false in
     rw (← c.self.view_is, leave_last (the_view c.self.inside) c.args.server is (sym c.is_some.ensures ∙ c.if-is_some.false) (sym c.len.ensures.value ∙ c.if-len-eq1.true)) refl
 
-pub returns-then-is_some-2 : goal.returns-then-is_some-2
-returns-then-is_some-2 c =
-    let is : is_among c.args.server (members (the_view c.self.inside)) ≡ true =
-    found_is_member c.args.server c.self.inside.chain.items c.position_of.result
-    (c.position_of.ensures ∙ ap (λ (xs : List Neighbour). position (λ (member : Neighbour). member.0 == c.args.server) xs) c.deref.ensures.0)
-    ∙ c.is_none.ensures ∙ ap not c.if-is_none.false in
-    rw (
-      ← c.self.view_is,
-      leave_in_turn (the_view c.self.inside) c.args.server true is (sym c.is_some.ensures ∙ c.if-is_some.false)
-          (λ one. c.if-len-eq1.false (c.len.ensures.value ∙ one)) (sym c.is_some-2.ensures ∙ c.if-is_some-2.true),
-    ) refl
-
 pub returns : goal.returns
 returns c =
     let is : is_among c.args.server (members (the_view c.self.inside)) ≡ true =
@@ -51,6 +39,6 @@ returns c =
     ∙ c.is_none.ensures ∙ ap not c.if-is_none.false in
     rw (
       ← c.self.view_is,
-      leave_in_turn (the_view c.self.inside) c.args.server false is (sym c.is_some.ensures ∙ c.if-is_some.false)
-          (λ one. c.if-len-eq1.false (c.len.ensures.value ∙ one)) (sym c.is_some-2.ensures ∙ c.if-is_some-2.false),
+      leave_freely (the_view c.self.inside) c.args.server is (sym c.is_some.ensures ∙ c.if-is_some.false)
+          (λ one. c.if-len-eq1.false (c.len.ensures.value ∙ one)),
     ) refl

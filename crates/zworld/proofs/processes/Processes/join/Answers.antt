@@ -1,8 +1,0 @@
-use Rattle.std.proofs.Common.{◌∙◌, rules}
-use Rattle.zworld.proofs.FailureSteps.{join_done}
-use Rattle.zworld.proofs.processes.Processes.join.Goals as goal
-
-pub returns-in_ok-post-in-Ok-clause-stepped : goal.returns-in_ok-post-in-Ok-clause-stepped
-returns-in_ok-post-in-Ok-clause-stepped c =
-    join_done _ _ c.args.server c.join.new.self c.reserve.new.self.posts c.join.new.out.posts c.deref.result.now c.post.new.links c.self.view_is (search rules)
-    c.in-Ok.ensures.allowed c.in-Ok.ensures.next (c.reserve.ensures.posts ∙ c.self.invariant.2) c.in-Ok.ensures.puts.puts c.deref.ensures.value c.in_ok-post-in-Ok.ensures.posted
