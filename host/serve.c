@@ -325,19 +325,22 @@ static bool is_welcomed(void) {
     return true;
 }
 
-/* Waits at most so long, and does once what each event asks for. Returns how many there were. */
+/* Waits at most so long, and does once what each event asks for. Returns how many there were.
+   (connections end before others begin: who closes one and opens another finds its place) */
 static int pass(int milliseconds) {
     static struct epoll_event ready[MOST + 3];
-    int count = epoll_wait(events, ready, MOST + 3, milliseconds);
+    int count = epoll_wait(events, ready, MOST + 3, milliseconds), most = 0;
     for (int i = 0; i < count; i++) {
         uint32_t number = ready[i].data.u32, came = ready[i].events;
         if (number == SIGNALS) is_over = true;
         else if (number == OPERATOR) hear();
-        else if (number == LISTENER) for (int most = 64; most && is_welcomed(); most--) continue;
+        else if (number == LISTENER) most = 64;
         else if (came & EPOLLOUT) send_on(number);
         else read_from(number);
         if (!is_kept) finish();
     }
+    finish();
+    while (most && is_welcomed()) most--;
     finish();
     if (owed(&all[OPERATOR])) answer();
     return count;
