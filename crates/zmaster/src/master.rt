@@ -86,8 +86,7 @@ impl Master {
             return Err(fault);
         }
         self.known.order(order, out);
-        // As in `new`.
-        let _ = self.known.count();
+        self.known.keeps_few_used();
         Ok(())
     }
 

@@ -23,8 +23,7 @@ impl Processes {
         if let Some(fault) = self.master.order_fault(&order) {
             return Ok(Did::Idle(IdleCause::Order(fault)));
         }
-        // The order is about one of the servers: its clause tells that.
-        let _ = order.server();
+        order.keeps_in_range();
         self.out.reserve(MAX_POSTS)?;
         match self.master.order(&order, &mut self.out) {
             Ok(()) => {

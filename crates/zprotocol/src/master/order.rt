@@ -26,4 +26,12 @@ impl Order {
             Order::Retire(server) => server,
         }
     }
+
+    /// An invariant of every order: its server's number is 1 to `MAX_SERVERS`. The function does
+    /// nothing.
+    pub fn keeps_in_range(self)
+        ensures { is_server (server_of self) ≡ true }
+    {
+        let _ = self.server();
+    }
 }
