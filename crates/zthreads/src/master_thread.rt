@@ -172,8 +172,7 @@ fn follow(desk: &mut Desk, master: &mut Master, order: &Order) -> OrderOutcome
     ensures said { result ≡ outcome_at master.old order.now }
     ensures same { SameDesk desk.old desk.new }
 {
-    // The order is about one of the servers: its clause tells that.
-    let _ = order.server();
+    order.keeps_in_range();
     let next = desk.next_stamp(Stamp::zero());
     match master.order(order, &mut desk.out) {
         Ok(()) => {
