@@ -95,16 +95,6 @@ impl Knowledge {
         keeps_few(&self.used);
     }
 
-    /// Returns the length of the chain. Its clauses also say that at most `MAX_SERVERS` numbers are
-    /// used.
-    pub(crate) fn count(&self) -> usize
-        ensures chain { result ≡ length self.now.chain }
-        ensures used { length self.now.used ≤ MAX_SERVERS }
-    {
-        self.keeps_few_used();
-        self.chain.len()
-    }
-
     /// Handles a received message by the master table.
     #[tactic(auto, using(zprotocol::proofs::Posts::put_none), unfolding(zprotocol::specs::master::Table::master_step))]
     pub(crate) fn take<T: Drop>(&mut self, from: Process, message: &Message<T>, out: &mut Out<T>)

@@ -20,7 +20,7 @@ returns-in-Ok-clause-at c h cut =
     let rest = c.enter.ensures.rest in
     let pend : pending b ≡ did.1 = pending_none b (rest.0 ∙ c.requires.settled.0) ∙ ap (λ o. o.posts) rest.1 ∙ c.in-Ok.ensures.puts.puts ∙ ap (λ l. l ++ did.1) c.requires.settled.1 in
     let stands = c.enter.ensures.stands (AtMaster v) (AtMaster did.0) None did.1 h
-    (λ below. master_obeys d.me d.stamp v c.requires.me order c.next_stamp-next.result c.server.ensures.one c.in-Ok.ensures.allowed
+    (λ below. master_obeys d.me d.stamp v c.requires.me order c.next_stamp-next.result c.keeps_in_range.ensures c.in-Ok.ensures.allowed
     (is_next_idle c.next_stamp-next.result d.stamp c.zero.result c.zero.ensures c.next_stamp-next.ensures below)) in
     subst (λ (w : List TreePost). Stands b (AtMaster c.order.new.self) None w) (sym pend) (subst (λ (x : MasterView). Stands b (AtMaster x) None did.1) (sym c.in-Ok.ensures.next) stands) cut
 

@@ -13,4 +13,4 @@ pub invariant_of-self : goal.invariant_of-self
 invariant_of-self g c =
     let v : MasterView = c.self.inside.known in
     let free : ◌≡◌ {A = Option OrderFault} (order_fault v c.args.order.now) None = sym c.order_fault.ensures ∙ c.in_default.is in
-    (subst (λ (w : MasterView). IsBounded w) (sym c.order.ensures.next) (orders_keep _ v c.args.order.now free c.self.invariant.0), c.count.ensures.used)
+    (subst (λ (w : MasterView). IsBounded w) (sym c.order.ensures.next) (orders_keep _ v c.args.order.now free c.self.invariant.0), c.keeps_few_used.ensures)
