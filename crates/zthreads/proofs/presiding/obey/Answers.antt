@@ -18,7 +18,7 @@ returns-in-Some-clause-followed c received followed =
     let b = c.follow.new.self.desk in
     let order = c.in-Deed.order in
     let is : option_to_list (unfollowed c.args.owed) ≡ acts.order_of (Ordered order) ++ [] =
-    ap (λ o. option_to_list (unfollowed o)) c.in-Deed.is ∙ sym (ap (λ l. l ++ []) (order_of-Ordered order)) in
+    ap (λ o. option_to_list (unfollowed o)) c.in-Deed.is in
     followed_more a b (Ordered order) received (unfollowed c.args.owed) None c.in-Some.ensures.done is followed
 
 pub returns-in-Some-clause-unsaid : goal.returns-in-Some-clause-unsaid
