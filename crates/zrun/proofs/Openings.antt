@@ -1,8 +1,10 @@
 -- Where each process stands at the opening.
-use Rattle.std.proofs.Common.{◌≡◌, ◌<◌, ℕ, zero, suc, true, List, [], ◌∷◌, refl, sym, subst, lt-ltb}
+use Rattle.std.proofs.Common.{◌≡◌, ◌<◌, ◌≤◌, ℕ, zero, suc, true, List, [], ◌∷◌, refl, sym, subst, lt-ltb, arith}
 use Rattle.std.specs.Prelude.{All}
 use mathlib.Core.Option.{some-injective, some-ne-none}
+use Rattle.std.proofs.lemmas.Bool.Decides.{nat_tests}
 use Rattle.std.proofs.lemmas.List.Elements.{All-head, All-tail}
+use Rattle.zprotocol.specs.declared.limits.TheConstants.{MAX_SERVERS}
 use Rattle.zprotocol.specs.declared.process.Process.TheVariants.{Master, Server, Client}
 use Rattle.zprotocol.specs.server.Machine.{kept_tree}
 use Rattle.zprotocol.specs.server.View.{opening_server}
@@ -15,6 +17,10 @@ use Rattle.zdesks.specs.Desks.{Each, opening_of}
 pub master_opening : (last clients : ℕ) → opening_of last clients Master ≡ AtMaster (opening_master last clients)
 unfolding opening_of
 master_opening last clients = refl
+
+-- a server's number is one of theirs
+pub server_is : (s : ℕ) → 0 < s → s ≤ MAX_SERVERS → is_server s ≡ true
+server_is s some few = grind (arith, nat_tests, some, few)
 
 pub server_opening : (last clients s : ℕ) → is_server s ≡ true → opening_of last clients (Server s) ≡ AtServer (opening_server kept_tree last s)
 unfolding opening_of

@@ -2,8 +2,7 @@ use Rattle.std.proofs.Common.{sym, ap, ◌∙◌, subst}
 use Rattle.zserver.specs.Server.{ServerState}
 use Rattle.ztraces.specs.Deeds.{AtServer}
 use Rattle.zdesks.specs.Desks.{IsAt, TreeStanding}
-use Rattle.zthreads.proofs.Rows.{server_is}
-use Rattle.zrun.proofs.Openings.{server_opening}
+use Rattle.zrun.proofs.Openings.{server_is, server_opening}
 use Rattle.zrun.proofs.opening.Opening.server.Goals as goal
 
 pub new-requires-clause-at : goal.new-requires-clause-at
