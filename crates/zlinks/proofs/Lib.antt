@@ -1,3 +1,4 @@
+pub mod Results
 pub mod Places
 pub mod Order
 pub mod Sorted

@@ -8,7 +8,7 @@ use Rattle.std.specs.List.{AllByRecursion, list_any}
 use Rattle.zcalls.proofs.Among.{test}
 use Rattle.zprotocol.specs.declared.process.Process.{Process}
 use Rattle.zprotocol.specs.Places.{place_of}
-use Rattle.zlinks.specs.Places.{Channel, Channels, is_between, messages_at, links_of, is_silent, holds}
+use Rattle.zlinks.specs.Places.{Channel, Channels, is_between, messages_at, links_of, is_silent, holds, Between}
 use Rattle.zlinks.specs.support.Order.{IsBefore, IsFrom, IsBehind, AreSorted, IsFirstFrom}
 use Rattle.zlinks.proofs.Kept.{not_among, behind_others}
 use Rattle.zlinks.proofs.Order.{before_elsewhere, behind_elsewhere, places_between}
@@ -70,7 +70,7 @@ module _ {T : Type 0} where
     none_from all f t = subst (λ cs. AllByRecursion (λ other. IsFrom other f t) cs) (sym (drop_all count channels all)) tt
 
     -- so nothing is on the channels that it passed
-    pub empty_until : (bound : ℕ) → AllByRecursion (λ other. IsFrom other from bound) (drop count channels)
+    empty_until : (bound : ℕ) → AllByRecursion (λ other. IsFrom other from bound) (drop count channels)
         → (n : ℕ) → to ≤ n → n < bound → messages_at channels from n ≡ []
     empty_until bound others n behind before =
         ap (λ cs. messages_at cs from n) (sym (take-append-drop count channels))
@@ -100,8 +100,20 @@ module _ {T : Type 0} where
       ap not (list_any_at (λ (d : Channel T). d.from == place_of p) channels count c within
       (ap (λ (d : Channel T). d.from == place_of p) (sym read) ∙ eq-eqb c.from (place_of p) (sym is)))
 
-  pub found_holds : (channels : Channels T) (count : ℕ) (c : Channel T) → count < length channels → c ≡ get_or channels count c
+  found_holds : (channels : Channels T) (count : ℕ) (c : Channel T) → count < length channels → c ≡ get_or channels count c
       → (from to : ℕ) → c.from ≡ from → c.to ≡ to → holds (messages_at channels from to) ≡ true
   found_holds channels count c within read from to here there =
       held_among channels from to (list_any_at (λ (d : Channel T). is_between d from to) channels count c within
       (ap (λ (d : Channel T). is_between d from to) (sym read) ∙ places_between c from to here there))
+
+  -- the same, of processes
+  pub receivers_until : (channels : Channels T) (from : Process) (f at count bound : ℕ) → f ≡ place_of from → IsFirstFrom channels f at count
+      → AllByRecursion (λ other. IsFrom other f bound) (drop count channels) → Between at bound (λ to. links_of channels from to ≡ [])
+  unfolding links_of
+  receivers_until channels from f at count bound is first others to behind before =
+      ap (λ n. messages_at channels n (place_of to)) (sym is) ∙ empty_until channels f at count first bound others (place_of to) behind before
+
+  pub receiver_there : (channels : Channels T) (from to : Process) (count : ℕ) (c : Channel T) → count < length channels → c ≡ get_or channels count c
+      → c.from ≡ place_of from → c.to ≡ place_of to → holds (links_of channels from to) ≡ true
+  unfolding links_of
+  receiver_there channels from to count c within read here there = found_holds channels count c within read (place_of from) (place_of to) here there

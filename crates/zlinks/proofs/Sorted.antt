@@ -1,6 +1,6 @@
 -- Channels in order: where a search ends, and channels that are put in, taken out or left.
-use Rattle.std.proofs.Common.{◌≡◌, ℕ, zero, suc, ◌+◌, ◌<◌, ◌≤◌, Bool, true, false, not, List, [], ◌∷◌, ◌++◌, length, get_or, take, drop, set, filter, refl, sym, ap, subst, ◌∙◌, arith, inl, inr, add-one, take-append-drop, length-take, length-drop, get_or-take, get_or-drop}
-use Rattle.std.proofs.lemmas.List.{get_or_default, set_split, set-get_or}
+use Rattle.std.proofs.Common.{◌≡◌, ℕ, zero, suc, ◌+◌, ◌<◌, ◌≤◌, Bool, true, false, not, List, [], ◌∷◌, ◌++◌, length, get_or, take, drop, set, filter, refl, sym, ap, subst, ◌∙◌, arith, inl, inr, add-one, take-append-drop, length-take, length-drop, get_or-take, get_or-drop, drop-set-lt}
+use Rattle.std.proofs.lemmas.List.{get_or_default, set_split, set-get_or, take-set}
 use Rattle.std.proofs.lemmas.List.Elements.{All-from_recursion, recursion_from_All, All-from_all_within}
 use Rattle.std.specs.List.{AllByRecursion, AllWithin}
 use Rattle.std.specs.List.Sorted.{IsPartitionedBy, IsPartitionPoint}
@@ -43,6 +43,10 @@ module _ {X : Type 0} where
   -- a list around one of its items
   pub around_item : (xs : List X) (at : ℕ) (x : X) → at < length xs → x ≡ get_or xs at x → xs ≡ take at xs ++ x ∷ drop (suc at) xs
   around_item xs at x within read = sym (set-get_or xs at x) ∙ ap (λ y. set xs at y) (sym read) ∙ set_split xs at x within
+
+  -- and without it, whatever was written there
+  pub removed_set : (xs : List X) (at : ℕ) (x : X) → take at (set xs at x) ++ drop (suc at) (set xs at x) ≡ take at xs ++ drop (suc at) xs
+  removed_set xs at x = rw (take-set xs at x, drop-set-lt (suc at) xs at x (omega arith)) refl
 
 module _ {T : Type 0} where
   -- where the test ends to pass

@@ -1,7 +1,7 @@
 //! The channels.
 
-ghost use Rattle.std.specs.Prelude.{◌≡◌, ◌≤◌, ◌==◌, true, false, not, [], IfNone, IfOk, OnErr, OnOk};
-ghost use Rattle.std.specs.List.{filter};
+ghost use Rattle.std.specs.Prelude.{◌≡◌, ◌≤◌, ◌==◌, true, false, not, [], IfNone, IfOk, OnErr, OnOk, vec_len};
+ghost use Rattle.std.specs.List.{filter, insert};
 ghost use Rattle.zprotocol.specs.declared.process.Process.{Process};
 ghost use Rattle.zprotocol.specs.declared.limits.TheConstants.{PROCESSES};
 ghost use Rattle.zlinks.specs.Places.{links_of, with_last, without_first, without_receiver, Keeps};
@@ -51,7 +51,8 @@ impl<T: Drop> Links<T> {
         ensures silent { Between at result (λ from. is_silent self.now from ≡ true) }
         ensures sends { At result (λ from. is_silent self.now from ≡ false) }
     {
-        match self.queues.get(first_from(&self.queues, at, 0)) {
+        let first = first_from(&self.queues, at, 0);
+        match self.queues.get(first) {
             Some(queue) => queue.from(),
             None => PROCESSES,
         }
@@ -66,7 +67,8 @@ impl<T: Drop> Links<T> {
         ensures held { At result (λ to. holds (links_of self.now from.now to) ≡ true) }
     {
         let sender = from.place();
-        match self.queues.get(first_from(&self.queues, sender, at)) {
+        let first = first_from(&self.queues, sender, at);
+        match self.queues.get(first) {
             Some(queue) if queue.from() == sender => queue.to(),
             _ => PROCESSES,
         }
@@ -84,13 +86,7 @@ impl<T: Drop> Links<T> {
             Ok(at) => self.queues[at].put(message),
             Err(at) => {
                 let queue = Queue::new(self.alloc, sender, receiver, message);
-                match self.queues.insert(at, queue) {
-                    Ok(()) => Ok(()),
-                    Err(refused) => {
-                        drop(refused);
-                        Err(Memory)
-                    }
-                }
+                insert_at(&mut self.queues, at, queue)
             }
         }
     }
@@ -99,7 +95,9 @@ impl<T: Drop> Links<T> {
     pub fn front(&self, from: &Process, to: &Process) -> Option<&Message<T>>
         ensures { ShowsFront (links_of self.now from.now to.now) result }
     {
-        let Ok(at) = find(&self.queues, from.place(), to.place()) else {
+        let sender = from.place();
+        let receiver = to.place();
+        let Ok(at) = find(&self.queues, sender, receiver) else {
             return None;
         };
         Some(self.queues[at].front())
@@ -111,7 +109,9 @@ impl<T: Drop> Links<T> {
         ensures front { IsFrontOf (links_of self.old from.now to.now) result }
         ensures same { IfNone result (self.new ≡ self.old) }
     {
-        let Ok(at) = find(&self.queues, from.place(), to.place()) else {
+        let sender = from.place();
+        let receiver = to.place();
+        let Ok(at) = find(&self.queues, sender, receiver) else {
             return None;
         };
         if let Some(front) = self.queues[at].next() {
@@ -125,7 +125,23 @@ impl<T: Drop> Links<T> {
     pub fn clear(&mut self, to: &Process)
         ensures { Keeps self.new (without_receiver (links_of self.old) to.now) }
     {
-        keep_others(&mut self.queues, to.place());
+        let receiver = to.place();
+        keep_others(&mut self.queues, receiver);
+    }
+}
+
+// Inserts a queue; or drops it, where memory runs out.
+fn insert_at<T: Drop>(queues: &mut Vec<Queue<T>>, at: usize, queue: Queue<T>) -> Result<(), Memory>
+    requires { at ≤ vec_len queues.old }
+    ensures inserted { OnOk result (queues.new.items ≡ insert queues.old.items at queue) }
+    ensures same { OnErr result (queues.new.items ≡ queues.old.items) }
+{
+    match queues.insert(at, queue) {
+        Ok(()) => Ok(()),
+        Err(refused) => {
+            drop(refused);
+            Err(Memory)
+        }
     }
 }
 

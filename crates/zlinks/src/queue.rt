@@ -91,6 +91,7 @@ impl<T: Drop> Queue<T> {
 
     /// Appends a message.
     pub(crate) fn put(&mut self, message: Message<T>) -> Result<(), Memory>
+        ensures places { (self.new.from ≡ self.old.from) × (self.new.to ≡ self.old.to) }
         ensures put { OnOk result (self.new ≡ longer self.old message) }
         ensures same { OnErr result (self.new ≡ self.old) }
     {
@@ -115,7 +116,7 @@ impl<T: Drop> Queue<T> {
         ensures places { (self.new.from ≡ self.old.from) × (self.new.to ≡ self.old.to) }
         ensures more { IfSome result
             (λ front. (front ≡ self.old.front) × (self.old.others ≡ self.new.front ∷ self.new.others)) }
-        ensures only { IfNone result (self.old.others ≡ []) }
+        ensures only { IfNone result ((self.old.others ≡ []) × (self.new ≡ self.old)) }
     {
         let second = self.others.pop_front()?;
         Some(replace(&mut self.front, second))
