@@ -1,11 +1,12 @@
 //! The channels.
 
-ghost use Rattle.std.specs.Prelude.{◌≡◌, ◌≤◌, ◌==◌, true, false, not, [], IfNone, IfOk, OnErr, OnOk, vec_len};
+ghost use Rattle.std.specs.Prelude.{◌≡◌, ◌≤◌, true, false, [], IfNone, IfOk, OnErr, OnOk, vec_len};
 ghost use Rattle.std.specs.List.{filter, insert};
 ghost use Rattle.zprotocol.specs.declared.process.Process.{Process};
 ghost use Rattle.zprotocol.specs.declared.limits.TheConstants.{PROCESSES};
 ghost use Rattle.zlinks.specs.Places.{links_of, with_last, without_first, without_receiver, Keeps};
 ghost use Rattle.zlinks.specs.Places.{is_silent, holds, IsFrontOf, ShowsFront, Between, At};
+ghost use Rattle.zlinks.specs.support.Order.{is_for_others};
 
 use crate::queue::Queue;
 use crate::search::{find, first_from};
@@ -147,7 +148,7 @@ fn insert_at<T: Drop>(queues: &mut Vec<Queue<T>>, at: usize, queue: Queue<T>) ->
 
 // Leaves the queues to other receivers.
 fn keep_others<T: Drop>(queues: &mut Vec<Queue<T>>, to: usize)
-    ensures { queues.new.items ≡ filter (λ channel. not (channel.to == to)) queues.old.items }
+    ensures { queues.new.items ≡ filter (is_for_others to) queues.old.items }
 {
     queues.retain(|queue| queue.to() != to);
 }

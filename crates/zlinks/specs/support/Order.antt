@@ -1,6 +1,6 @@
 -- Channels in the order of their senders and then of their receivers, and where one stands among
 -- them.
-use Rattle.std.specs.Prelude.{◌≡◌, ℕ, suc, ◌<◌, ◌≤◌, ◌==◌, nat_lt, Bool, if◌then◌else◌, List, [], ◌∷◌, ◌++◌, length, take, drop, get_or}
+use Rattle.std.specs.Prelude.{◌≡◌, ℕ, suc, ◌<◌, ◌≤◌, ◌==◌, nat_lt, Bool, not, if◌then◌else◌, List, [], ◌∷◌, ◌++◌, length, take, drop, get_or}
 use Rattle.std.specs.List.{AllByRecursion}
 use Rattle.zprotocol.specs.declared.message.Message.{Message}
 use Rattle.zlinks.specs.Places.{Channel, Channels}
@@ -8,6 +8,10 @@ use Rattle.zlinks.specs.Places.{Channel, Channels}
 -- a channel with one message more
 abbrev pub longer : {T : Type 0} → Channel T → Message T → Channel T
 longer channel message = record channel { others = channel.others ++ message ∷ [] }
+
+-- a channel isn't to the process at this place
+abbrev pub is_for_others : {T : Type 0} → ℕ → Channel T → Bool
+is_for_others to channel = not (channel.to == to)
 
 -- two places precede two others: the senders' are apart, or they are one and the receivers' are
 abbrev pub Precedes : (from to next_from next_to : ℕ) → Type 0

@@ -1,6 +1,6 @@
-use Rattle.std.proofs.Common.{sym, subst, ◌==◌, not}
+use Rattle.std.proofs.Common.{sym, subst}
 use Rattle.zlinks.specs.Places.{links_of, without_receiver, Keeps}
-use Rattle.zlinks.specs.support.Order.{AreSorted}
+use Rattle.zlinks.specs.support.Order.{AreSorted, is_for_others}
 use Rattle.zlinks.proofs.Calls.{cleared}
 use Rattle.zlinks.proofs.Sorted.{sorted_left}
 use Rattle.zlinks.proofs.links.Links.clear.Goals as goal
@@ -15,4 +15,4 @@ returns g c =
 pub invariant_of-self : goal.invariant_of-self
 invariant_of-self g c =
     subst (λ channels. AreSorted channels) (sym c.keep_others.ensures)
-    (sorted_left (λ channel. not (channel.to == c.place-receiver.result)) c.self.inside.queues.items c.self.invariant)
+    (sorted_left (is_for_others c.place-receiver.result) c.self.inside.queues.items c.self.invariant)
