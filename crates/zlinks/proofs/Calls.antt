@@ -114,10 +114,10 @@ module _ {T : Type 0} where
       pub none_there : links_of view from to ≡ []
       none_there = ap (λ cs. links_of cs from to) (sym shown) ∙ written all channels from to [] was_none
 
-      pub nothing_there : Keeps channels (without_first (links_of view) from to)
+      pub nothing_there : Keeps view (without_first (links_of view) from to)
       nothing_there =
-          subst (λ ms. Keeps channels (with_link (links_of view) from to (drop 1 ms))) (sym none_there)
-          (subst (λ cs. Keeps channels (with_link (links_of cs) from to [])) shown (overwritten all channels channels from to [] [] was_none was_none))
+          subst (λ ms. Keeps view (with_link (links_of view) from to (drop 1 ms))) (sym none_there)
+          (subst (λ cs. Keeps cs (with_link (links_of cs) from to [])) shown (overwritten all channels channels from to [] [] was_none was_none))
 
       -- one is inserted
       module _ {queue : Channel T} {m : Message T} (made : queue ≡ record { from = f; to = t; front = m; others = [] }) where

@@ -22,7 +22,7 @@ module _ {T : Type 0} where
   not_among [] from to none = refl
   not_among (c ∷ cs) from to none = rw none.0 (not_among cs from to none.1)
 
-  behind_others : (front back : Channels T) (from to : ℕ) → AllByRecursion (λ c. is_between c from to ≡ false) front
+  pub behind_others : (front back : Channels T) (from to : ℕ) → AllByRecursion (λ c. is_between c from to ≡ false) front
       → messages_at (front ++ back) from to ≡ messages_at back from to
   behind_others [] back from to none = refl
   behind_others (c ∷ front) back from to none = rw none.0 (behind_others front back from to none.1)

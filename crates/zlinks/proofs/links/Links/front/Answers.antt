@@ -1,10 +1,6 @@
-use Rattle.std.proofs.Common.{sym, ap, subst, ◌∙◌, ◌∷◌}
-use Rattle.zlinks.specs.support.Order.{AreSorted}
+use Rattle.std.proofs.Common.{sym, ap, ◌∙◌, ◌∷◌}
 use Rattle.zlinks.proofs.Calls.{front_there, none_there}
 use Rattle.zlinks.proofs.links.Links.front.Goals as goal
-
-pub find-requires : goal.find-requires
-find-requires g c = subst (λ channels. AreSorted channels) (sym c.deref.ensures.value) c.self.invariant
 
 pub returns-in_default : goal.returns-in_default
 returns-in_default g c =

@@ -1,11 +1,7 @@
-use Rattle.std.proofs.Common.{◌≡◌, ◌∷◌, drop, sym, ap, subst, ◌∙◌, arith}
+use Rattle.std.proofs.Common.{◌≡◌, ◌∷◌, drop, sym, ap, ◌∙◌}
 use Rattle.zlinks.specs.Places.{Channel, messages, links_of}
-use Rattle.zlinks.specs.support.Order.{AreSorted}
 use Rattle.zlinks.proofs.Calls.{front_there, next_there, sorted_there, gone_there, gone_sorted, taken_there, none_there, nothing_there}
 use Rattle.zlinks.proofs.links.Links.next.Goals as goal
-
-pub find-requires : goal.find-requires
-find-requires g c = subst (λ channels. AreSorted channels) (sym c.deref.ensures.value) c.self.invariant
 
 -- nothing is there
 pub returns-in_default-clause-rest : goal.returns-in_default-clause-rest
@@ -19,11 +15,8 @@ returns-in_default-clause-front g c =
     c.place-sender.ensures.small c.place-receiver.ensures.small c.in_default.ensures.gap
 
 -- there is more behind the front
-pub index_mut-requires : goal.index_mut-requires
-index_mut-requires g c = omega (arith, c.in-Ok.ensures.found.within, c.deref.ensures.len)
-
-pub invariant_of-self-in-Some : goal.invariant_of-self-in-Some
-invariant_of-self-in-Some g c =
+pub invariant_of-self : goal.invariant_of-self
+invariant_of-self g c =
     sorted_there c.self.view_is c.deref.ensures.value c.args.from.now c.args.to.now c.place-sender.ensures.place c.place-receiver.ensures.place
     c.place-sender.ensures.small c.place-receiver.ensures.small c.in-Ok.ensures.found c.index_mut.ensures.value
     c.next.new.self c.next.ensures.places.0 c.next.ensures.places.1
@@ -42,11 +35,8 @@ returns-in-Some-clause-front g c =
     queued ∙ (λ i. sym c.in-Some.ensures.more.0 i ∷ drop 1 (sym queued i))
 
 -- the front is the only message
-pub remove-requires : goal.remove-requires
-remove-requires g c = omega (arith, c.in-Ok.ensures.found.within, c.deref.ensures.len)
-
-pub invariant_of-self : goal.invariant_of-self
-invariant_of-self g c =
+pub invariant_of-self-2 : goal.invariant_of-self-2
+invariant_of-self-2 g c =
     gone_sorted c.self.view_is c.deref.ensures.value c.args.from.now c.args.to.now c.place-sender.ensures.place c.place-receiver.ensures.place
     c.place-sender.ensures.small c.place-receiver.ensures.small c.in-Ok.ensures.found c.index_mut.ensures.value
     c.next.new.self c.remove-emptied.ensures.items
@@ -55,7 +45,7 @@ pub returns-clause-rest : goal.returns-clause-rest
 returns-clause-rest g c =
     gone_there c.self.view_is c.deref.ensures.value c.args.from.now c.args.to.now c.place-sender.ensures.place c.place-receiver.ensures.place
     c.place-sender.ensures.small c.place-receiver.ensures.small c.in-Ok.ensures.found c.index_mut.ensures.value
-    c.next.new.self c.remove-emptied.ensures.items c.in_default.ensures.only.0
+    c.next.new.self c.remove-emptied.ensures.items c.in_default-next.ensures.only.0
 
 pub returns-clause-front : goal.returns-clause-front
 returns-clause-front g c =
@@ -65,6 +55,6 @@ returns-clause-front g c =
     let taken : c.remove-emptied.result ≡ c.index_mut.result.now =
     taken_there c.self.view_is c.deref.ensures.value c.args.from.now c.args.to.now c.place-sender.ensures.place c.place-receiver.ensures.place
     c.place-sender.ensures.small c.place-receiver.ensures.small c.in-Ok.ensures.found c.index_mut.ensures.value
-    c.next.new.self c.remove-emptied.ensures.items c.in_default.ensures.only.1 c.remove-emptied.result c.remove-emptied.ensures.value in
+    c.next.new.self c.remove-emptied.ensures.items c.in_default-next.ensures.only.1 c.remove-emptied.result c.remove-emptied.ensures.value in
     let front : c.into_front.result ≡ c.index_mut.result.now.front = c.into_front.ensures ∙ ap (λ (q : Channel _). q.front) taken in
     queued ∙ (λ i. sym front i ∷ drop 1 (sym queued i))

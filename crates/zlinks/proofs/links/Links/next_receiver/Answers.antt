@@ -5,17 +5,14 @@ use Rattle.zlinks.specs.support.Order.{AreSorted, IsFirstFrom}
 use Rattle.zlinks.proofs.Searches.{found_from, rest_from, none_from, receivers_until, receiver_there}
 use Rattle.zlinks.proofs.links.Links.next_receiver.Goals as goal
 
-pub first_from-requires : goal.first_from-requires
-first_from-requires g c = subst (λ channels. AreSorted channels) (sym c.deref-first.ensures.value) c.self.invariant
-
 pub returns-in-Some : goal.returns-in-Some
 returns-in-Some g c =
     let channels = c.args.self.now in let queue = c.in-Some.queue.now in let at = c.args.at in let count = c.first_from-first.result in
     let from = c.place-sender.result in
     let sorted = subst (λ cs. AreSorted cs) c.self.view_is c.self.invariant in
-    let first = subst (λ cs. IsFirstFrom cs from at count) (c.deref-first.ensures.value ∙ c.self.view_is) c.first_from-first.ensures in
-    let within = subst (λ cs. count < length cs) (c.deref.ensures.value ∙ c.self.view_is) c.in-Some.ensures.lookup.3.0 in
-    let read = subst (λ cs. queue ≡ get_or cs count queue) (c.deref.ensures.value ∙ c.self.view_is) c.in-Some.ensures.lookup.1 in
+    let first = subst (λ cs. IsFirstFrom cs from at count) (c.deref.ensures.value ∙ c.self.view_is) c.first_from-first.ensures in
+    let within = subst (λ cs. count < length cs) (c.deref-2.ensures.value ∙ c.self.view_is) c.in-Some.ensures.lookup.3.0 in
+    let read = subst (λ cs. queue ≡ get_or cs count queue) (c.deref-2.ensures.value ∙ c.self.view_is) c.in-Some.ensures.lookup.1 in
     let here : queue.from ≡ from = sym c.from.ensures.place ∙ c.if-from-sender.true in
     let reached = found_from channels from at count first queue within read in
     record {
@@ -28,23 +25,24 @@ returns-in-Some g c =
     }
 
 -- the sender that was found comes later
-pub returns-in_default-2-clause-empty : goal.returns-in_default-2-clause-empty
-returns-in_default-2-clause-empty g c =
+pub returns-in_default-clause-empty : goal.returns-in_default-clause-empty
+returns-in_default-clause-empty g c =
     let channels = c.args.self.now in let queue = c.in-Some.queue.now in let at = c.args.at in let count = c.first_from-first.result in
     let from = c.place-sender.result in
     let sorted = subst (λ cs. AreSorted cs) c.self.view_is c.self.invariant in
-    let first = subst (λ cs. IsFirstFrom cs from at count) (c.deref-first.ensures.value ∙ c.self.view_is) c.first_from-first.ensures in
-    let within = subst (λ cs. count < length cs) (c.deref.ensures.value ∙ c.self.view_is) c.in-Some.ensures.lookup.3.0 in
-    let read = subst (λ cs. queue ≡ get_or cs count queue) (c.deref.ensures.value ∙ c.self.view_is) c.in-Some.ensures.lookup.1 in
+    let first = subst (λ cs. IsFirstFrom cs from at count) (c.deref.ensures.value ∙ c.self.view_is) c.first_from-first.ensures in
+    let within = subst (λ cs. count < length cs) (c.deref-2.ensures.value ∙ c.self.view_is) c.in-Some.ensures.lookup.3.0 in
+    let read = subst (λ cs. queue ≡ get_or cs count queue) (c.deref-2.ensures.value ∙ c.self.view_is) c.in-Some.ensures.lookup.1 in
     let reached = found_from channels from at count first queue within read in
     receivers_until channels c.args.from.now from at count PROCESSES c.place-sender.ensures.place first
     (rest_from channels from at count first queue within read sorted from PROCESSES
     (reached.0, λ back. absurd (c.if-from-sender.false (c.from.ensures.place ∙ (let same : queue.from ≡ from = omega (arith, reached.0, back) in same)))))
 
 -- and here there is none
-pub returns-in_default-clause-empty : goal.returns-in_default-clause-empty
-returns-in_default-clause-empty g c =
+pub returns-in_default-2-clause-empty : goal.returns-in_default-2-clause-empty
+returns-in_default-2-clause-empty g c =
     let channels = c.args.self.now in let at = c.args.at in let count = c.first_from-first.result in let from = c.place-sender.result in
-    let first = subst (λ cs. IsFirstFrom cs from at count) (c.deref-first.ensures.value ∙ c.self.view_is) c.first_from-first.ensures in
-    let all = subst (λ cs. length cs ≤ count) (c.deref.ensures.value ∙ c.self.view_is) c.in_default.ensures.lookup.3 in
+    let first = subst (λ cs. IsFirstFrom cs from at count) (c.deref.ensures.value ∙ c.self.view_is) c.first_from-first.ensures in
+    let none : length c.deref-2.result.now ≤ count = omega arith in
+    let all = subst (λ cs. length cs ≤ count) (c.deref-2.ensures.value ∙ c.self.view_is) none in
     receivers_until channels c.args.from.now from at count PROCESSES c.place-sender.ensures.place first (none_from channels from at count first all from PROCESSES)

@@ -1,19 +1,13 @@
-use Rattle.std.proofs.Common.{sym, ap, subst, ◌∙◌, insert, arith}
+use Rattle.std.proofs.Common.{sym, ap, subst, ◌∙◌, insert}
 use Rattle.zlinks.specs.Places.{links_of, Keeps, with_last}
 use Rattle.zlinks.specs.support.Order.{AreSorted}
 use Rattle.zlinks.proofs.Calls.{put_there, same_there, sorted_there, put_first, first_sorted}
 use Rattle.zlinks.proofs.Results.{on_ok, on_err, in_either}
 use Rattle.zlinks.proofs.links.Links.put.Goals as goal
 
-pub find-requires : goal.find-requires
-find-requires g c = subst (λ channels. AreSorted channels) (sym c.deref.ensures.value) c.self.invariant
-
 -- a message is appended to a queue
-pub index_mut-requires : goal.index_mut-requires
-index_mut-requires g c = omega (arith, c.in-Ok.ensures.found.within, c.deref.ensures.len)
-
-pub invariant_of-self-in-Ok : goal.invariant_of-self-in-Ok
-invariant_of-self-in-Ok g c =
+pub invariant_of-self : goal.invariant_of-self
+invariant_of-self g c =
     sorted_there c.self.view_is c.deref.ensures.value c.args.from.now c.args.to.now c.place-sender.ensures.place c.place-receiver.ensures.place
     c.place-sender.ensures.small c.place-receiver.ensures.small c.in-Ok.ensures.found c.index_mut.ensures.value
     c.put.new.self c.put.ensures.places.0 c.put.ensures.places.1
@@ -32,9 +26,6 @@ returns-in-Ok-clause-same g c =
     c.place-sender.ensures.small c.place-receiver.ensures.small c.in-Ok.ensures.found c.index_mut.ensures.value c.put.new.self so)
 
 -- a queue is inserted
-pub insert_at-requires : goal.insert_at-requires
-insert_at-requires g c = omega (arith, c.in-Err.ensures.gap.within, c.deref.ensures.len)
-
 pub invariant_of-self-in-Err : goal.invariant_of-self-in-Err
 invariant_of-self-in-Err g c =
     in_either (λ queues. AreSorted queues) c.insert_at.result c.insert_at.new.queues.items (insert c.self.inside.queues.items c.in-Err.at c.new-queue.result)
