@@ -43,6 +43,6 @@ pub returns-in_default-2-clause-empty : goal.returns-in_default-2-clause-empty
 returns-in_default-2-clause-empty g c =
     let channels = c.args.self.now in let at = c.args.at in let count = c.first_from-first.result in let from = c.place-sender.result in
     let first = subst (λ cs. IsFirstFrom cs from at count) (c.deref.ensures.value ∙ c.self.view_is) c.first_from-first.ensures in
-    let none : length c.deref-2.result.now ≤ count = omega arith in
+    let none : length c.deref-2.result.now ≤ count = c.in_default.in-None-own.ensures.3 in
     let all = subst (λ cs. length cs ≤ count) (c.deref-2.ensures.value ∙ c.self.view_is) none in
     receivers_until channels c.args.from.now from at count PROCESSES c.place-sender.ensures.place first (none_from channels from at count first all from PROCESSES)
