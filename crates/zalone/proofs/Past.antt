@@ -1,64 +1,60 @@
 -- What came before doesn't matter: a run with more history before it is the same run.
-use Rattle.std.proofs.Common.{◌≡◌, ℕ, Bool, true, false, if◌then◌else◌, List, [], ◌∷◌, ◌++◌, Option, Some, None, refl, ap, ◌∙◌, append_assoc}
+use Rattle.std.proofs.Common.{◌≡◌, Bool, true, false, List, [], ◌∷◌, ◌++◌, refl, ap, ◌∙◌, append_assoc}
 use Rattle.zprotocol.specs.declared.process.Process.{Process}
 use Rattle.zprotocol.specs.declared.process.Process.TheVariants.{Master, Server, Client}
 use Rattle.zprotocol.specs.server.Machine.{Does}
-use Rattle.zprotocol.specs.server.Table.{is_retirement, server_step}
-use Rattle.zprotocol.specs.server.View.{ServerView, MessageOf, Post}
-use Rattle.zcalls.specs.declared.reply.Reply.{Reply}
-use Rattle.zprotocol.specs.client.Table as client
+use Rattle.zprotocol.specs.server.View.{MessageOf}
 use Rattle.zworld_model.specs.declared.event.Event.{Event}
 use Rattle.zworld_model.specs.declared.event.Event.TheVariants.{Begin, Retry, Take, Ignore, Fail, Order}
-use Rattle.zworld_model.specs.declared.history.CallEvent.TheVariants as call_event
 use Rattle.zworld_model.specs.History.{History}
-use Rattle.zworld_model.specs.Links.{without_front}
+use Rattle.zworld_model.specs.Links.{put, without_front}
 use Rattle.zworld_model.specs.World.{World}
-use Rattle.zworld_model.specs.Events.{is_enabled, with_answer, client_does, server_does, server_stops, process_step, front_step, acts, happens, run}
+use Rattle.zworld_model.specs.Does as given
+use Rattle.zworld_model.specs.Does.{Standing, AtMaster, AtServer, AtClient, Out, Input, Hear, Obey, Stop, Effect, does}
+use Rattle.zworld_model.specs.Events.{is_enabled, with_standing, goes_on, did_in, does_in, front_step, acts, happens, run}
 
 -- the world, with more history before its own
 abbrev pub with_past : {M : Type 0} → History → World M → World M
 with_past past w = record w { history = past ++ w.history }
 
--- one more event is told behind both
-told : {M : Type 0} (past : History) (w : World M) (more : History)
-    → record (with_past past w) { history = (past ++ w.history) ++ more } ≡ with_past past (record w { history = w.history ++ more })
-told {M} past w more = ap (λ (h : History). record w { history = h }) (append_assoc past w.history more)
+-- what is told goes behind both
+told : (past history more : History) → goes_on (past ++ history) more ≡ past ++ goes_on history more
+told past history [] = refl
+told past history (seen ∷ more) = append_assoc past history (seen ∷ more)
 
-answered : {M : Type 0} (past : History) (w : World M) (c : ℕ) (reply : Option (ℕ × Reply))
-    → with_answer (with_past past w) c reply ≡ with_past past (with_answer w c reply)
-answered past w c None = refl
-answered past w c (Some reply) = told past w (call_event.Answer c reply.0 reply.1 ∷ [])
+-- where a process stands has nothing to do with it
+stands : {M : Type 0} (past : History) (w : World M) (p : Process) (left : Standing M)
+    → with_standing (with_past past w) p left ≡ with_past past (with_standing w p left)
+stands past w Master (AtMaster v) = refl
+stands past w Master left = refl
+stands past w (Server s) (AtServer v) = refl
+stands past w (Server s) Out = refl
+stands past w (Server s) left = refl
+stands past w (Client c) (AtClient v) = refl
+stands past w (Client c) left = refl
+
+did_past : {M : Type 0} (past : History) (w : World M) (p : Process) (did : Effect M) → did_in (with_past past w) p did ≡ with_past past (did_in w p did)
+did_past past w p did =
+    λ i. record (stands past w p did.left i) { links = put w.links p did.posts; history = told past w.history did.told i }
 
 module _ {M : Type 0} (machine : Does M) (past : History) where
-  -- whether the server stops or not
-  server_past : (w : World M) (s : ℕ) (stops : Bool) (did : ServerView M × List (Post M))
-      → (if stops then server_stops (with_past past w) s else server_does (with_past past w) s did)
-      ≡ with_past past (if stops then server_stops w s else server_does w s did)
-  server_past w s true did = refl
-  server_past w s false did = refl
-
-  step_past : (w : World M) (from to : Process) (message : MessageOf M)
-      → process_step machine (with_past past w) from to message ≡ with_past past (process_step machine w from to message)
-  step_past w from Master message = refl
-  step_past w from (Server s) message = server_past w s (is_retirement from message) (server_step machine (w.servers s) from message)
-  step_past w from (Client c) message =
-      let did = client.client_step (w.clients c) from message in
-      answered past (client_does w c did.0 did.1) c did.2
+  does_past : (w : World M) (p : Process) (input : Input M) → does_in machine (with_past past w) p input ≡ with_past past (does_in machine w p input)
+  does_past w Master input = did_past past w Master (does machine Master input (AtMaster w.master))
+  does_past w (Server s) input = did_past past w (Server s) (does machine (Server s) input (AtServer (w.servers s)))
+  does_past w (Client c) input = did_past past w (Client c) (does machine (Client c) input (AtClient (w.clients c)))
 
   front_past : (w : World M) (from to : Process) (link : List (MessageOf M))
       → front_step machine (with_past past w) from to link ≡ with_past past (front_step machine w from to link)
   front_past w from to [] = refl
-  front_past w from to (message ∷ more) = step_past (record w { links = without_front w.links from to }) from to message
+  front_past w from to (message ∷ more) = does_past (record w { links = without_front w.links from to }) to (Hear from message)
 
   acts_past : (w : World M) (event : Event) → acts machine (with_past past w) event ≡ with_past past (acts machine w event)
-  acts_past w (Begin c call) =
-      let did = client.begin_step (w.clients c) call in
-      told past (client_does w c did.0 did.1) (call_event.Begin c did.0.number call ∷ [])
-  acts_past w (Retry c) = refl
+  acts_past w (Begin c call) = does_past w (Client c) (given.Begin call)
+  acts_past w (Retry c) = does_past w (Client c) given.Retry
   acts_past w (Take from to) = front_past w from to (w.links from to)
   acts_past w (Ignore from to) = refl
-  acts_past w (Fail s) = refl
-  acts_past w (Order order) = refl
+  acts_past w (Fail s) = does_past w (Server s) Stop
+  acts_past w (Order order) = does_past w Master (Obey order)
 
   happens_by : (w : World M) (event : Event) (b : Bool) → is_enabled w event ≡ b
       → happens machine (with_past past w) event ≡ with_past past (happens machine w event)

@@ -1,4 +1,2 @@
 pub mod Happens
-pub mod MasterRows
-pub mod ServerRows
-pub mod ClientRows
+pub mod Effects

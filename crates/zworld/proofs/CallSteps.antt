@@ -1,5 +1,5 @@
 -- A client's new view, what it puts, and the calls that it begins or sends once more.
-use Rattle.std.proofs.Common.{◌≡◌, ℕ, ◌<◌, Bool, true, false, Option, None, Some, List, [], ◌∷◌, ◌++◌, length, get_or, set, refl, sym, ap, subst, ◌∙◌, append-nil, lt-ltb}
+use Rattle.std.proofs.Common.{◌≡◌, ℕ, ◌<◌, Bool, true, false, Option, None, Some, List, [], ◌∷◌, ◌++◌, length, get_or, set, refl, sym, ap, subst, ◌∙◌, lt-ltb}
 use Rattle.std.specs.Prelude.{◌&&◌, nat_lt, is_some, is_none}
 use Rattle.std.specs.Option.{option_map}
 use mathlib.Core.Bool.{true≢false}
@@ -15,7 +15,9 @@ use Rattle.zprotocol.specs.declared.client.begin_fault.BeginFault.{BeginFault}
 use Rattle.zworld_model.specs.declared.event.Event.TheVariants as event
 use Rattle.zworld_model.specs.declared.history.CallEvent.TheVariants as call_event
 use Rattle.zworld_model.specs.History.{History}
-use Rattle.zworld_model.specs.Events.{client_does, is_enabled}
+use Rattle.zworld_model.specs.Does.{AtClient, begin_effect}
+use Rattle.zworld_model.specs.Events.{did_in, is_enabled}
+use Rattle.zworld_model.proofs.Effects.{goes_on_is}
 use Rattle.zworld_model.specs.Alike.{IsAlike}
 use Rattle.zworld.specs.declared.did.Did.TheVariants as became
 use Rattle.zworld.specs.declared.did.IdleCause.TheVariants as cause
@@ -31,11 +33,13 @@ abbrev pub with_client : Held → ℕ → ClientView → Rows → Held
 with_client held c view rows = record held { clients = set held.clients c view; links = rows }
 
 -- a client's new view, and what it puts; the history goes on
-pub client_alike : (held : Held) (c : ℕ) (view : ClientView) (posts : List (Post (KeptState Tree))) (rows : Rows) (history later : History)
+pub client_alike : (held : Held) (c : ℕ) (view : ClientView) (posts : List (Post (KeptState Tree))) (rows : Rows) (history told : History)
     → c < length held.clients → IsPosted held.members held.links (Client c) posts rows
-    → IsAlike (record (client_does (world_of held history) c view posts) { history = later }) (world_of (with_client held c view rows) later)
-client_alike held c view posts rows history later inside done =
-    alike_by (record (client_does (world_of held history) c view posts) { history = later }) (world_of (with_client held c view rows) later) refl refl
+    → IsAlike (did_in (world_of held history) (Client c) (record { left = AtClient view; posts = posts; told = told }))
+    (world_of (with_client held c view rows) (history ++ told))
+client_alike held c view posts rows history told inside done =
+    alike_by (did_in (world_of held history) (Client c) (record { left = AtClient view; posts = posts; told = told }))
+    (world_of (with_client held c view rows) (history ++ told)) refl (sym (goes_on_is history told))
     (λ d. family_set held.clients c view nobody inside d) (λ s. refl) (λ s alive. refl)
     (λ from to alive. posted held.members held.links rows (Client c) posts (client_words held.members c) done from to (sym (lost_is held history to) ∙ alive))
 
@@ -51,11 +55,11 @@ begun held c call number view posts rows one free inside is puts counted done =
     let did : ClientView × List (Post (KeptState Tree)) = begin_step (get_or held.clients c nobody) call in
     done_stepped held (with_client held c view rows) (event.Begin c call) (call_event.Begin c number call ∷ []) (rw (one, free) refl)
     (λ history.
-    subst (λ (n : ℕ). IsAlike (record (client_does (world_of held history) c did.0 did.1) { history = history ++ call_event.Begin c did.0.number call ∷ [] })
+    subst (λ (n : ℕ). IsAlike (did_in (world_of held history) (Client c) (begin_effect c call did))
     (world_of (with_client held c view rows) (history ++ call_event.Begin c n call ∷ []))) (sym (counted ∙ ap (λ (v : ClientView). v.number) is))
-    (subst (λ (v : ClientView). IsAlike (record (client_does (world_of held history) c did.0 did.1) { history = history ++ call_event.Begin c did.0.number call ∷ [] })
+    (subst (λ (v : ClientView). IsAlike (did_in (world_of held history) (Client c) (begin_effect c call did))
     (world_of (with_client held c v rows) (history ++ call_event.Begin c did.0.number call ∷ []))) (sym is)
-    (client_alike held c did.0 did.1 rows history (history ++ call_event.Begin c did.0.number call ∷ []) inside
+    (client_alike held c did.0 did.1 rows history (call_event.Begin c did.0.number call ∷ []) inside
     (subst (λ (ps : List (Post (KeptState Tree))). IsPosted held.members held.links (Client c) ps rows) puts done))))
 
 -- a call doesn't
@@ -81,11 +85,11 @@ pub retried : (held : Held) (c : ℕ) (posts : List (Post (KeptState Tree))) (ro
 retried held c posts rows waits inside is done =
     done_stepped held (record held { links = rows }) (event.Retry c) [] waits
     (λ history. let view = get_or held.clients c nobody in
-    subst (λ (h : History). IsAlike (client_does (world_of held history) c view (retry_posts view)) (world_of (record held { links = rows }) h)) (sym (append-nil history))
-    (subst (λ (cs : List ClientView). IsAlike (client_does (world_of held history) c view (retry_posts view)) (world_of (record held { clients = cs; links = rows }) history))
+    subst (λ (cs : List ClientView). IsAlike (did_in (world_of held history) (Client c) (record { left = AtClient view; posts = retry_posts view; told = [] }))
+    (world_of (record held { clients = cs; links = rows }) (history ++ [])))
     (set-get_or held.clients c nobody)
-    (client_alike held c view (retry_posts view) rows history history inside
-    (subst (λ (ps : List (Post (KeptState Tree))). IsPosted held.members held.links (Client c) ps rows) is done))))
+    (client_alike held c view (retry_posts view) rows history [] inside
+    (subst (λ (ps : List (Post (KeptState Tree))). IsPosted held.members held.links (Client c) ps rows) is done)))
 
 -- nothing is there to be sent
 pub not_retried : (held : Held) (c : ℕ) → is_some (get_or held.clients c nobody).outstanding ≡ false

@@ -23,7 +23,8 @@ use Rattle.zworld_model.specs.History.{History}
 use Rattle.zworld_model.specs.Links.{Links, is_same, put}
 use Rattle.zworld_model.specs.World.{at}
 use Rattle.zprotocol.specs.Places.{is_server}
-use Rattle.zworld_model.specs.Events.{has_failed, master_does, acts}
+use Rattle.zworld_model.specs.Does.{master_effect}
+use Rattle.zworld_model.specs.Events.{has_failed, did_in, acts}
 use Rattle.zworld_model.specs.Alike.{IsAlike}
 use Rattle.zworld.specs.declared.did.Did.TheVariants as became
 use Rattle.zworld.specs.declared.did.IdleCause.TheVariants as cause
@@ -38,9 +39,9 @@ use Rattle.zworld.proofs.Steps.{idle_stepped, done_stepped}
 -- the master's new view, and what it puts
 pub master_alike : (held : Held) (did : MasterView × List (Post (KeptState Tree))) (rows : Rows) (history : History)
     → IsPosted held.members held.links Master did.1 rows
-    → IsAlike (master_does (world_of held history) did) (world_of (record held { master = did.0; links = rows }) history)
+    → IsAlike (did_in (world_of held history) Master (master_effect did)) (world_of (record held { master = did.0; links = rows }) history)
 master_alike held did rows history done =
-    alike_by (master_does (world_of held history) did) (world_of (record held { master = did.0; links = rows }) history) refl refl
+    alike_by (did_in (world_of held history) Master (master_effect did)) (world_of (record held { master = did.0; links = rows }) history) refl refl
     (λ c. refl) (λ s. refl) (λ s alive. refl)
     (λ from to alive. posted held.members held.links rows Master did.1 (master_words held.members) done from to (sym (lost_is held history to) ∙ alive))
 
@@ -58,8 +59,8 @@ obeyed held order view posts rows one free is puts done =
     let did : MasterView × List (Post (KeptState Tree)) = order_step held.master order in
     done_stepped held (record held { master = view; links = rows }) (event.Order order) [] (rw (one, free) refl)
     (λ history.
-    subst (λ (h : History). IsAlike (master_does (world_of held history) did) (world_of (record held { master = view; links = rows }) h)) (sym (append-nil history))
-    (subst (λ (v : MasterView). IsAlike (master_does (world_of held history) did) (world_of (record held { master = v; links = rows }) history)) (sym is)
+    subst (λ (h : History). IsAlike (did_in (world_of held history) Master (master_effect did)) (world_of (record held { master = view; links = rows }) h)) (sym (append-nil history))
+    (subst (λ (v : MasterView). IsAlike (did_in (world_of held history) Master (master_effect did)) (world_of (record held { master = v; links = rows }) history)) (sym is)
     (master_alike held did rows history (subst (λ (ps : List (Post (KeptState Tree))). IsPosted held.members held.links Master ps rows) puts done))))
 
 -- or is refused

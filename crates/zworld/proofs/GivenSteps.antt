@@ -27,7 +27,8 @@ use Rattle.zworld_model.specs.History.{History}
 use Rattle.zworld_model.specs.Links.{is_same, messages_to}
 use Rattle.zworld_model.specs.World.{at}
 use Rattle.zprotocol.specs.Places.{is_server}
-use Rattle.zworld_model.specs.Events.{has_failed, acts, process_step, server_does, server_stops, client_does, with_answer}
+use Rattle.zworld_model.specs.Does.{Hear, server_effect, stop_effect, answer_told}
+use Rattle.zworld_model.specs.Events.{has_failed, acts, did_in, does_in}
 use Rattle.zworld_model.specs.Alike.{IsAlike}
 use Rattle.zlinks.specs.Places.{links_of, without_receiver}
 use Rattle.zworld.specs.Held.{Held, MemberView, bystander, gone_member, nobody, is_gone, owes, view_of, member_at, last_words, world_of}
@@ -46,7 +47,7 @@ pub given_to_master : (held : Held) (from : Process) (m : MessageOf (KeptState T
     → IsPosted held.members held.links Master (master_step held.master from m).1 rows
     → IsGiven held from Master m [] (record held { master = (master_step held.master from m).0; links = rows })
 given_to_master held from m rows done history =
-    subst (λ (h : History). IsAlike (process_step kept_tree (world_of held history) from Master m)
+    subst (λ (h : History). IsAlike (does_in kept_tree (world_of held history) Master (Hear from m))
     (world_of (record held { master = (master_step held.master from m).0; links = rows }) h)) (sym (append-nil history))
     (master_alike held (master_step held.master from m) rows history done)
 
@@ -117,9 +118,9 @@ module _ (held : Held) (from : Process) (s place : ℕ) (m : MessageOf (KeptStat
   ]
 
   server_alike : (history : History)
-      → IsAlike (server_does (world_of held history) s did) (world_of (record held { members = members_then; links = rows }) history)
+      → IsAlike (did_in (world_of held history) (Server s) (server_effect did)) (world_of (record held { members = members_then; links = rows }) history)
   server_alike history =
-      alike_by (server_does (world_of held history) s did) (world_of (record held { members = members_then; links = rows }) history) refl refl
+      alike_by (did_in (world_of held history) (Server s) (server_effect did)) (world_of (record held { members = members_then; links = rows }) history) refl refl
       (λ c. refl) gone_then (λ t alive. views_then t)
       (λ p q alive.
       ap (λ words. if is_same p (Server s) then (links_of held.links p q ++ words) ++ messages_to q did.1 else links_of held.links p q ++ words) (same_words p q)
@@ -128,10 +129,10 @@ module _ (held : Held) (from : Process) (s place : ℕ) (m : MessageOf (KeptStat
   pub given_to_server : IsGiven held from (Server s) m [] (record held { members = members_then; links = rows })
   given_to_server history =
       let new : Held = record held { members = members_then; links = rows } in
-      subst (λ (h : History). IsAlike (process_step kept_tree (world_of held history) from (Server s) m) (world_of new h)) (sym (append-nil history))
-      (subst (λ b. IsAlike (if b then server_stops (world_of held history) s else server_does (world_of held history) s (server_step kept_tree (view_of (member_at held.members s)) from m))
+      subst (λ (h : History). IsAlike (does_in kept_tree (world_of held history) (Server s) (Hear from m)) (world_of new h)) (sym (append-nil history))
+      (subst (λ b. IsAlike (did_in (world_of held history) (Server s) (if b then stop_effect else server_effect (server_step kept_tree (view_of (member_at held.members s)) from m)))
       (world_of new history)) (sym serves)
-      (subst (λ (v : TreeView). IsAlike (server_does (world_of held history) s (server_step kept_tree v from m)) (world_of new history)) (sym view_was)
+      (subst (λ (v : TreeView). IsAlike (did_in (world_of held history) (Server s) (server_effect (server_step kept_tree v from m))) (world_of new history)) (sym view_was)
       (server_alike history)))
 
 -- the reply that a client hands out is that of the message, with its number
@@ -152,22 +153,9 @@ handed_out v from m = inl refl
 
 -- the answers that are told of what a client hands out
 abbrev pub IsTold : ℕ → Option (ℕ × Reply) → History → Type 0
-IsTold c None seen = seen ≡ []
-IsTold c (Some reply) seen = seen ≡ call_event.Answer c reply.0 reply.1 ∷ []
+IsTold c handed seen = seen ≡ answer_told c handed
 
 -- a client acts on a message
-module _ (held : Held) (c : ℕ) (view : ClientView) (posts : List (Post (KeptState Tree))) (rows : Rows) (inside : c < length held.clients)
-    (done : IsPosted held.members held.links (Client c) posts rows) where
-  client_gave : (handed : Option (ℕ × Reply)) (seen : History) (history : History) → IsTold c handed seen
-      → IsAlike (with_answer (client_does (world_of held history) c view posts) c handed) (world_of (with_client held c view rows) (history ++ seen))
-  client_gave None seen history told =
-      subst (λ (given : History). IsAlike (client_does (world_of held history) c view posts) (world_of (with_client held c view rows) (history ++ given))) (sym told)
-      (subst (λ (h : History). IsAlike (client_does (world_of held history) c view posts) (world_of (with_client held c view rows) h)) (sym (append-nil history))
-      (client_alike held c view posts rows history history inside done))
-  client_gave (Some reply) seen history told =
-      subst (λ (given : History). IsAlike (with_answer (client_does (world_of held history) c view posts) c (Some reply)) (world_of (with_client held c view rows) (history ++ given))) (sym told)
-      (client_alike held c view posts rows history (history ++ call_event.Answer c reply.0 reply.1 ∷ []) inside done)
-
 pub given_to_client : (held : Held) (from : Process) (c : ℕ) (m : MessageOf (KeptState Tree)) (view : ClientView) (rows : Rows) (seen : History)
     → c < length held.clients
     → view ≡ (client_step (get_or held.clients c nobody) from m).0
@@ -176,8 +164,9 @@ pub given_to_client : (held : Held) (from : Process) (c : ℕ) (m : MessageOf (K
     → IsGiven held from (Client c) m seen (with_client held c view rows)
 given_to_client held from c m view rows seen inside is done told history =
     let did : ClientResult (Transfer (KeptState Tree)) = client_step (get_or held.clients c nobody) from m in
-    subst (λ (v : ClientView). IsAlike (process_step kept_tree (world_of held history) from (Client c) m) (world_of (with_client held c v rows) (history ++ seen))) (sym is)
-    (client_gave held c did.0 did.1 rows inside done did.2 seen history told)
+    subst (λ (v : ClientView). IsAlike (does_in kept_tree (world_of held history) (Client c) (Hear from m)) (world_of (with_client held c v rows) (history ++ seen))) (sym is)
+    (subst (λ (given : History). IsAlike (does_in kept_tree (world_of held history) (Client c) (Hear from m)) (world_of (with_client held c did.0 rows) (history ++ given))) (sym told)
+    (client_alike held c did.0 did.1 rows history (answer_told c did.2) inside done))
 
 -- the member at a place
 pub member_was : (members : List MemberView) (s place : ℕ) (was : MemberView) → s ≡ place + 1 → place < length members → was ≡ get_or members place was
@@ -294,10 +283,10 @@ left_given old held from s place m was member before after rows same is inside r
     let view = has_view was lives in
     let had = took view.0 view.1 in
     let new : MemberView → Held = λ x. record held { members = set held.members place x; links = rows } in
-    subst (λ (h : History). IsAlike (process_step kept_tree (world_of old history) from (Server s) m) (world_of (new member) h)) (sym (append-nil history))
-    (subst (λ (o : Held). IsAlike (process_step kept_tree (world_of o history) from (Server s) m) (world_of (new member) history)) same
-    (subst (λ (x : MemberView). IsAlike (process_step kept_tree (world_of held history) from (Server s) m) (world_of (new x) history)) (sym had.0)
-    (subst (λ b. IsAlike (if b then server_stops (world_of held history) s else server_does (world_of held history) s (server_step kept_tree (view_of (member_at held.members s)) from m))
+    subst (λ (h : History). IsAlike (does_in kept_tree (world_of old history) (Server s) (Hear from m)) (world_of (new member) h)) (sym (append-nil history))
+    (subst (λ (o : Held). IsAlike (does_in kept_tree (world_of o history) (Server s) (Hear from m)) (world_of (new member) history)) same
+    (subst (λ (x : MemberView). IsAlike (does_in kept_tree (world_of held history) (Server s) (Hear from m)) (world_of (new x) history)) (sym had.0)
+    (subst (λ b. IsAlike (did_in (world_of held history) (Server s) (if b then stop_effect else server_effect (server_step kept_tree (view_of (member_at held.members s)) from m)))
     (world_of (new gone_member) history)) (sym had.1)
     (failed_alike held s place rows is inside (ap is_gone here ∙ lives) cleared history))))
 

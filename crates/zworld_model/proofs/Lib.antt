@@ -1,4 +1,5 @@
 pub mod Among
+pub mod Effects
 pub mod Processes
 pub mod OrderRows
 pub mod RunOrder

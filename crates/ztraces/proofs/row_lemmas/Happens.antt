@@ -4,19 +4,19 @@ use Rattle.std.specs.Prelude.{◌&&◌, if◌then◌else◌}
 use Rattle.std.proofs.lemmas.List.{append-nil}
 use Rattle.zcalls.proofs.Among.{test}
 use Rattle.zprotocol.specs.declared.process.Process.{Process}
-use Rattle.zprotocol.specs.declared.process.Process.TheVariants.{Master}
+use Rattle.zprotocol.specs.declared.process.Process.TheVariants.{Master, Server, Client}
 use Rattle.zprotocol.specs.server.Machine.{Does}
 use Rattle.zprotocol.specs.server.View.{MessageOf, Post}
 use Rattle.zworld_model.specs.declared.event.Event.{Event}
 use Rattle.zworld_model.specs.declared.event.Event.TheVariants as event
-use Rattle.zworld_model.specs.declared.outcome.Outcome.TheVariants.{Acted}
 use Rattle.zworld_model.specs.History.{History}
 use Rattle.zworld_model.specs.Links.{Links, is_same, messages_to, put, without_front}
 use Rattle.zworld_model.specs.World.{World}
-use Rattle.zworld_model.specs.Events.{has_failed, is_enabled, happens, process_step, acts}
+use Rattle.zworld_model.specs.Does.{Standing, Out, Hear, Effect}
+use Rattle.zworld_model.specs.Events.{has_failed, is_enabled, happens, does_in, acts}
 use Rattle.ztraces.specs.declared.trace.Act.{Act}
 use Rattle.ztraces.specs.declared.trace.Act.TheVariants.{Took, Left}
-use Rattle.ztraces.specs.Deeds.{Stamped, Standing, Out, standing_in}
+use Rattle.ztraces.specs.Deeds.{Stamped, standing_in}
 use Rattle.ztraces.specs.Traces.{event_of, at_process, is_in_place, is_step_in_place, step_happens}
 use Rattle.zworld_model.proofs.Processes.{same_process}
 
@@ -49,73 +49,68 @@ pub record IsRowOf {M : Type 0} (machine : Does M) (w : World M) (p : Process) (
   pub in_place : is_step_in_place w (event_of p act) ≡ true
   pub happens : HappensIn w p act left posts told (step_happens machine w (event_of p act))
 
--- nothing is told
-pub nothing_told : (history : History) → history ≡ history ++ []
-nothing_told history = sym (append-nil history)
-
 pub and_false : (b : Bool) → (b && false) ≡ false
 and_false true = refl
 and_false false = refl
 
 module _ {M : Type 0} (w : World M) where
-  -- the world without the front of a link
-  abbrev pub popped : Process → Process → World M
-  popped from to = record w { links = without_front w.links from to }
+  -- the fronts of links into others aren't taken
+  elsewhere : (from p x y : Process) → is_same y p ≡ false → without_front w.links from p x y ≡ w.links x y
+  elsewhere from p x y other = elim (test (is_same x from)) [ inl t ↦ rw t (rw other refl) | inr f ↦ rw f refl ]
 
-  -- the front of another link isn't taken
-  pub front_elsewhere : (from p x y : Process) → is_same y p ≡ false → without_front w.links from p x y ≡ w.links x y
-  front_elsewhere from p x y other = elim (test (is_same x from)) [ inl t ↦ rw t (rw other refl) | inr f ↦ rw f refl ]
+  fronts_elsewhere : (act : Act) (p x y : Process) → is_same y p ≡ false → fronts w.links act p x y ≡ w.links x y
+  fronts_elsewhere (Took from outcome) p x y other = elsewhere from p x y other
+  fronts_elsewhere Left p x y other = elsewhere Master p x y other
+  fronts_elsewhere act p x y other = refl
 
-  pub put_elsewhere : (from p : Process) (posts : List (Post M)) (x y : Process) → is_same y p ≡ false → put (without_front w.links from p) p posts x y ≡ put w.links p posts x y
-  put_elsewhere from p posts x y other = ap (λ link. if is_same x p then link ++ messages_to y posts else link) (front_elsewhere from p x y other)
+  pub put_elsewhere : (act : Act) (p : Process) (posts : List (Post M)) (x y : Process) → is_same y p ≡ false
+      → put (fronts w.links act p) p posts x y ≡ put w.links p posts x y
+  put_elsewhere act p posts x y other = ap (λ link. if is_same x p then link ++ messages_to y posts else link) (fronts_elsewhere act p x y other)
 
   -- nothing is put
-  pub put_nothing : (links : Links M) (p x y : Process) → put links p [] x y ≡ links x y
-  put_nothing links p x y = elim (test (is_same x p)) [ inl t ↦ rw t (append-nil (links x y)) | inr f ↦ rw f refl ]
+  put_nothing : (links : Links M) (p x y : Process) → links x y ≡ put links p [] x y
+  put_nothing links p x y = elim (test (is_same x p)) [ inl t ↦ rw t (sym (append-nil (links x y))) | inr f ↦ rw f refl ]
 
-  -- who stands where it stood
-  pub stays : (p : Process) (standing : Standing M) (q : Process) → standing_in w p ≡ standing → standing_in w q ≡ at_process p standing (standing_in w) q
-  stays p standing q is = elim (test (is_same q p)) [
-    | inl y ↦ rw y (ap (standing_in w) (same_process q p y) ∙ is)
-    | inr f ↦ rw f refl
-  ]
+  -- a process stays where it stands, and its message, if any, is gone
+  pub idles : (act : Act) (p : Process) → HappensIn w p act (standing_in w p) [] [] (record w { links = fronts w.links act p })
+  idles act p = record {
+    stands = λ q. unchanged q ∙ stays q;
+    others = λ x y other. fronts_elsewhere act p x y other ∙ put_nothing w.links p x y;
+    own = inr (λ x. put_nothing (fronts w.links act p) p x p);
+    history = sym (append-nil w.history);
+  }
+    where
+      unchanged : (q : Process) → standing_in (record w { links = fronts w.links act p }) q ≡ standing_in w q
+      unchanged Master = refl
+      unchanged (Server s) = refl
+      unchanged (Client c) = refl
+
+      stays : (q : Process) → standing_in w q ≡ at_process p (standing_in w p) (standing_in w) q
+      stays q = elim (test (is_same q p)) [ inl y ↦ rw y (ap (standing_in w) (same_process q p y)) | inr f ↦ rw f refl ]
 
 module _ {M : Type 0} (machine : Does M) (w : World M) where
-  -- an act whose event is enabled does what the event does
-  pub enabled_row : (p : Process) (act : Act) (e : Event) (left : Standing M) (posts : List (Post M)) (told : History)
-      → event_of p act ≡ Some e → is_in_place w e ≡ true → is_enabled w e ≡ true
-      → HappensIn w p act left posts told (acts machine w e) → IsRowOf machine w p act left posts told
-  enabled_row p act e left posts told is place enabled did = record {
+  -- an act whose event is in its place, and does this
+  pub row_by : (p : Process) (act : Act) (e : Event) (did : Effect M) (after : World M) → event_of p act ≡ Some e → is_in_place w e ≡ true
+      → after ≡ happens machine w e → HappensIn w p act did.left did.posts did.told after → IsRowOf machine w p act did.left did.posts did.told
+  row_by p act e did after is place same does = record {
     in_place = subst (λ o. is_step_in_place w o ≡ true) (sym is) place;
-    happens = subst (λ o. HappensIn w p act left posts told (step_happens machine w o)) (sym is)
-        (subst (HappensIn w p act left posts told) (sym (ap (λ b. if b then acts machine w e else w) enabled)) did);
+    happens = subst (λ o. HappensIn w p act did.left did.posts did.told (step_happens machine w o)) (sym is)
+        (subst (HappensIn w p act did.left did.posts did.told) same does);
   }
 
-  -- one whose event isn't enabled, but in its place, does nothing
-  pub idle_row : (p : Process) (act : Act) (e : Event) (left : Standing M) (posts : List (Post M)) (told : History)
-      → event_of p act ≡ Some e → is_in_place w e ≡ true → is_enabled w e ≡ false
-      → HappensIn w p act left posts told w → IsRowOf machine w p act left posts told
-  idle_row p act e left posts told is place idle did = record {
-    in_place = subst (λ o. is_step_in_place w o ≡ true) (sym is) place;
-    happens = subst (λ o. HappensIn w p act left posts told (step_happens machine w o)) (sym is)
-        (subst (HappensIn w p act left posts told) (sym (ap (λ b. if b then acts machine w e else w) idle)) did);
-  }
+  -- one that is enabled
+  pub enabled_row : (p : Process) (act : Act) (e : Event) (did : Effect M) → event_of p act ≡ Some e → is_in_place w e ≡ true → is_enabled w e ≡ true
+      → HappensIn w p act did.left did.posts did.told (acts machine w e) → IsRowOf machine w p act did.left did.posts did.told
+  enabled_row p act e did is place enabled does =
+      row_by p act e did (acts machine w e) is place (sym (ap (λ b. if b then acts machine w e else w) enabled)) does
 
-  -- a delivery that is enabled
-  pub take_happens : (from to : Process) (m : MessageOf M) (more : List (MessageOf M)) → w.links from to ≡ m ∷ more → has_failed w to ≡ false
-      → happens machine w (event.Take from to) ≡ process_step machine (popped w from to) from to m
-  take_happens from to m more is alive = rw (is, alive) refl
-
-  pub take_enabled : (from to : Process) (m : MessageOf M) (more : List (MessageOf M)) → w.links from to ≡ m ∷ more → has_failed w to ≡ false
-      → is_enabled w (event.Take from to) ≡ true
-  take_enabled from to m more is alive = rw (is, alive) refl
-
-  -- a delivery that does this is the row
-  pub delivered : (from p : Process) (m : MessageOf M) (more : List (MessageOf M)) (left : Standing M) (posts : List (Post M)) (told : History)
-      → w.links from p ≡ m ∷ more → has_failed w p ≡ false
-      → HappensIn w p (Took from Acted) left posts told (process_step machine (popped w from p) from p m)
-      → IsRowOf machine w p (Took from Acted) left posts told
-  delivered from p m more left posts told is alive did = record {
-    in_place = take_enabled from p m more is alive;
-    happens = subst (HappensIn w p (Took from Acted) left posts told) (sym (take_happens from p m more is alive)) did;
-  }
+  -- a delivery
+  pub delivered : (p : Process) (act : Act) (from : Process) (m : MessageOf M) (more : List (MessageOf M)) (did : Effect M)
+      → event_of p act ≡ Some (event.Take from p) → w.links from p ≡ m ∷ more → has_failed w p ≡ false
+      → HappensIn w p act did.left did.posts did.told (does_in machine (record w { links = without_front w.links from p }) p (Hear from m))
+      → IsRowOf machine w p act did.left did.posts did.told
+  delivered p act from m more did is front alive does =
+      row_by p act (event.Take from p) did _ is (rw (front, alive) refl) (sym takes) does
+    where
+      takes : happens machine w (event.Take from p) ≡ does_in machine (record w { links = without_front w.links from p }) p (Hear from m)
+      takes = rw (front, alive) refl

@@ -1,0 +1,153 @@
+-- What a process does with an input, in the world: one lemma for all processes and all inputs.
+use Rattle.std.proofs.Common.{◌≡◌, ℕ, Bool, true, false, cond, not, ◌==◌, nat_lt, List, Option, Some, None, refl, sym, ap, ◌∙◌, subst, inl, inr, eqb-true}
+use Rattle.std.specs.Prelude.{◌&&◌, if◌then◌else◌}
+use mathlib.Core.Bool.{true≢false}
+use Rattle.zcalls.proofs.Among.{test}
+use Rattle.zprotocol.specs.declared.process.Process.{Process}
+use Rattle.zprotocol.specs.declared.process.Process.TheVariants.{Master, Server, Client}
+use Rattle.zprotocol.specs.Places.{is_server}
+use Rattle.zprotocol.specs.server.Machine.{Does}
+use Rattle.zprotocol.specs.server.View.{Transfer, MessageOf}
+use Rattle.zprotocol.specs.server.Table as server
+use Rattle.zprotocol.specs.master.View.{MasterView}
+use Rattle.zprotocol.specs.master.Table as master
+use Rattle.zprotocol.specs.master.support.Cases.{IsMasterRow, Ignores, Reports, Joins, LeavesOutside, Leaves}
+use Rattle.zprotocol.proofs.master_lemmas.Cases.{master_case}
+use Rattle.zprotocol.proofs.master_lemmas.Orders.{order_counts}
+use Rattle.zworld_model.specs.History.{History}
+use Rattle.zworld_model.specs.Links.{Links}
+use Rattle.zworld_model.specs.World.{World}
+use Rattle.zworld_model.specs.Does as given
+use Rattle.zworld_model.specs.Does.{Standing, AtMaster, AtServer, AtClient, Out, Input, Hear, Obey, Stop, Effect, accepts, does, server_effect, stop_effect}
+use Rattle.zworld_model.specs.Events.{has_failed, standing_of, with_standing, did_in, does_in}
+use Rattle.ztraces.specs.declared.trace.Act.{Act}
+use Rattle.ztraces.specs.Deeds.{takes_part, standing_in, done}
+use Rattle.ztraces.specs.Traces.{at_process}
+use Rattle.ztraces.proofs.Deeds.{out_accepts}
+use Rattle.zworld_model.proofs.Effects.{goes_on_is}
+use Rattle.ztraces.proofs.row_lemmas.Happens.{fronts, HappensIn, and_false, put_elsewhere}
+
+-- some value where a test holds
+pub some_if : {A : Type 0} (b : Bool) (x y : A) → (if b then Some x else None) ≡ Some y → (b ≡ true) × (x ≡ y)
+some_if true x y is = (refl, cc is)
+some_if false x y is = absurd (cc is)
+
+-- the master's view after a message has as many clients
+master_counts : {M : Type 0} (v : MasterView) (from : Process) (m : MessageOf M) (r : master.MasterResult (Transfer M)) → IsMasterRow v from m r → r.0.clients ≡ v.clients
+master_counts v _ _ _ (Ignores from m) = refl
+master_counts v _ _ _ (Reports s epoch last p is) = refl
+master_counts v _ _ _ (Joins s epoch is) = refl
+master_counts v _ _ _ (LeavesOutside s out) = refl
+master_counts v _ _ _ (Leaves s chain among mended) = refl
+
+module _ {M : Type 0} (w : World M) where
+  -- a process may stand so, each in its own way; and the master knows of as many clients
+  abbrev Fits : Process → Standing M → Type 0
+  Fits Master (AtMaster v) = v.clients ≡ w.master.clients
+  Fits (Server s) (AtServer v) = Unit {0}
+  Fits (Server s) Out = Unit {0}
+  Fits (Client c) (AtClient v) = Unit {0}
+  Fits p standing = ⊥
+
+  fits_if : (s : ℕ) (b : Bool) (did : server.ServerResult M) → Fits (Server s) (if b then stop_effect else server_effect did).left
+  fits_if s true did = tt
+  fits_if s false did = tt
+
+  -- so it stands after an input
+  does_fit : (machine : Does M) (p : Process) (input : Input M) → accepts p input (standing_of w p) ≡ true → Fits p (does machine p input (standing_of w p)).left
+  does_fit machine Master (Hear from m) accepted = master_counts w.master from m (master.master_step w.master from m) (master_case w.master from m)
+  does_fit machine Master (Obey order) accepted = order_counts (Transfer M) w.master order
+  does_fit machine (Server s) (Hear from m) accepted = fits_if s (server.is_retirement from m) (server.server_step machine (w.servers s) from m)
+  does_fit machine (Server s) Stop accepted = tt
+  does_fit machine (Client c) (Hear from m) accepted = tt
+  does_fit machine (Client c) (given.Begin call) accepted = tt
+  does_fit machine (Client c) given.Retry accepted = tt
+  does_fit machine p input accepted = absurd (true≢false (sym accepted))
+
+  -- who takes part hasn't failed
+  pub lives : (p : Process) → takes_part w p ≡ true → has_failed w p ≡ false
+  lives Master part = refl
+  lives (Client c) part = refl
+  lives (Server s) part = by (is_server s) (w.failed s) part
+    where
+      by : (a b : Bool) → (a && not b) ≡ true → b ≡ false
+      by true false h = refl
+      by true true h = absurd (cc h)
+      by false b h = absurd (cc h)
+
+  -- where each process stands, once one stands somewhere else; links and history don't matter to that
+  moved : (links put : Links M) (history : History) (p : Process) (left : Standing M) → takes_part w p ≡ true → Fits p left → (q : Process)
+      → standing_in (record (with_standing (record w { links = links }) p left) { links = put; history = history }) q ≡ at_process p left (standing_in w) q
+  moved links put history Master (AtMaster v) part fits Master = refl
+  moved links put history Master (AtMaster v) part fits (Server t) = refl
+  moved links put history Master (AtMaster v) part fits (Client c) = rw fits refl
+  moved links put history (Server s) (AtServer v) part fits Master = refl
+  moved links put history (Server s) (AtServer v) part fits (Client c) = refl
+  moved links put history (Server s) (AtServer v) part fits (Server t) = elim (test (t == s)) [
+    | inl y ↦ rw y (ap (λ b. cond b (AtServer v) Out) (ap (λ n. is_server n && not (w.failed n)) (eqb-true t s y) ∙ part))
+    | inr f ↦ rw f refl
+  ]
+  moved links put history (Server s) Out part fits Master = refl
+  moved links put history (Server s) Out part fits (Client c) = refl
+  moved links put history (Server s) Out part fits (Server t) = elim (test (t == s)) [
+    | inl y ↦ rw y (ap (λ b. cond b (AtServer (w.servers t)) Out) (and_false (is_server t)))
+    | inr f ↦ rw f refl
+  ]
+  moved links put history (Client c) (AtClient v) part fits Master = refl
+  moved links put history (Client c) (AtClient v) part fits (Server s) = refl
+  moved links put history (Client c) (AtClient v) part fits (Client d) = elim (test (d == c)) [
+    | inl y ↦ rw y (ap (λ b. cond b (AtClient v) Out) (ap (λ n. nat_lt n w.master.clients) (eqb-true d c y) ∙ part))
+    | inr f ↦ rw f refl
+  ]
+  moved links put history p left part fits q = absurd fits
+
+  -- what a process did, once its message was taken
+  did_happens : (p : Process) (act : Act) (did : Effect M) → takes_part w p ≡ true → Fits p did.left
+      → HappensIn w p act did.left did.posts did.told (did_in (record w { links = fronts w.links act p }) p did)
+  did_happens p act did part fits = record {
+    stands = λ q. moved (fronts w.links act p) _ _ p did.left part fits q;
+    others = λ x y other. put_elsewhere w act p did.posts x y other;
+    own = inr (λ x. refl);
+    history = goes_on_is w.history did.told;
+  }
+
+module _ {M : Type 0} (machine : Does M) (w : World M) where
+  -- a process of a world does something with an input
+  pub record DoesSo (p : Process) (input : Input M) (did : Effect M) : Type 0 where
+    pub part : takes_part w p ≡ true
+    pub accepted : accepts p input (standing_of w p) ≡ true
+    pub same : does machine p input (standing_of w p) ≡ did
+
+  pub does_so : (p : Process) (input : Input M) (did : Effect M) → done machine p (standing_in w p) input ≡ Some did → DoesSo p input did
+  does_so p input did is = by (takes_part w p) refl
+    where
+      by : (b : Bool) → takes_part w p ≡ b → DoesSo p input did
+      by true part =
+          let here = some_if (accepts p input (standing_of w p)) (does machine p input (standing_of w p)) did
+          (subst (λ b. done machine p (if b then standing_of w p else Out) input ≡ Some did) part is) in
+          record { part = part; accepted = here.0; same = here.1 }
+      by false out =
+          let here = some_if (accepts p input Out) (does machine p input Out) did
+          (subst (λ b. done machine p (if b then standing_of w p else Out) input ≡ Some did) out is) in
+          absurd (cc (here.0, out_accepts machine p input))
+
+  -- it stands where it does whatever is on links
+  stands_so : (links : Links M) (p : Process) → standing_of w p ≡ standing_of (record w { links = links }) p
+  stands_so links Master = refl
+  stands_so links (Server s) = refl
+  stands_so links (Client c) = refl
+
+  -- then this happens in the world, once its message was taken
+  pub does_happen : (p : Process) (act : Act) (input : Input M) (did : Effect M) → DoesSo p input did
+      → HappensIn w p act did.left did.posts did.told (does_in machine (record w { links = fronts w.links act p }) p input)
+  does_happen p act input did so =
+      let taken : World M = record w { links = fronts w.links act p } in
+      let there : HappensIn w p act _ _ _ (did_in taken p (does machine p input (standing_of w p))) =
+      did_happens w p act (does machine p input (standing_of w p)) so.part (does_fit w machine p input so.accepted) in
+      subst (λ (e : Effect M). HappensIn w p act e.left e.posts e.told (does_in machine taken p input)) so.same
+      (subst (λ (s : Standing M). HappensIn w p act _ _ _ (did_in taken p (does machine p input s))) (stands_so (fronts w.links act p) p) there)
+
+  -- who ends needn't take its message
+  pub ends : (p : Process) (act other : Act) (did : Effect M) (after : World M) → did.left ≡ Out → HappensIn w p act did.left did.posts did.told after
+      → HappensIn w p other did.left did.posts did.told after
+  ends p act other did after out happens = record { stands = happens.stands; others = happens.others; own = inl out; history = happens.history }
