@@ -18,7 +18,7 @@ use Rattle.zworld_model.specs.History.{History}
 use Rattle.zworld_model.specs.World.{World}
 use Rattle.zworld_model.specs.Does as given
 use Rattle.zworld_model.specs.Does.{Standing, AtServer, Out, Input, Hear, Obey, Stop, Effect, idle_effect, stop_effect}
-use Rattle.zworld_model.specs.Events.{is_enabled, is_request}
+use Rattle.zworld_model.specs.Events.{is_enabled, is_request, acts}
 use Rattle.zworld_model.proofs.Tests.{both}
 use Rattle.ztraces.specs.declared.trace.Act.{Act}
 use Rattle.ztraces.specs.declared.trace.Act.TheVariants.{Took, Began, Retried, Ordered, Left, Halted}
@@ -58,12 +58,6 @@ module _ {M : Type 0} (machine : Does M) (w : World M) where
   does_unless p input did true is = absurd (cc is)
   does_unless p input did false is = does_so machine w p input did is
 
-  -- a message is acted on
-  takes : (p : Process) (act : Act) (from : Process) (m : MessageOf M) (more : List (MessageOf M)) (did : Effect M) → event_of p act ≡ Some (event.Take from p)
-      → w.links from p ≡ m ∷ more → DoesSo machine w p (Hear from m) did → IsRow p act did
-  takes p act from m more did is front so =
-      delivered machine w p act from m more did is front (lives w p so.part) (does_happen machine w p (Took from Acted) (Hear from m) did so)
-
   -- a server fails
   fails : (s : ℕ) (act : Act) (did : Effect M) → event_of (Server s) act ≡ Some (event.Fail s) → DoesSo machine w (Server s) Stop did → IsRow (Server s) act did
   fails s act did is so =
@@ -91,15 +85,17 @@ module _ {M : Type 0} (machine : Does M) (w : World M) where
   refused order is =
       let none : (is_server (server_of order) && is_none (order_fault w.master order)) ≡ false =
       ap (λ b. is_server (server_of order) && b) (not_none (order_fault w.master order) is) ∙ and_false (is_server (server_of order)) in
-      row_by machine w Master (Ordered order) (event.Order order) (idle_effect (standing_in w Master)) w refl refl (rw none refl) (idles w (Ordered order) Master)
+      row_by machine w Master (Ordered order) (event.Order order) (idle_effect (standing_in w Master)) w refl refl (sym (ap (λ b. if b then acts machine w (event.Order order) else w) none)) (idles w (Ordered order) Master)
 
   -- every row, where its message has come
   happens_so : (p : Process) (act : Act) (took : Option (Stamped M)) (did : Effect M) → row_of machine p (standing_in w p) act took ≡ Some did
       → Arrives w p act took → IsRow p act did
   happens_so p (Took from Acted) (Some m) did row (more, front) =
-      takes p (Took from Acted) from m.1 more did refl front (does_unless p (Hear from m.1) did (is_to_leave p from m.1) row)
+      let so = does_unless p (Hear from m.1) did (is_to_leave p from m.1) row in
+      delivered machine w p (Took from Acted) from m.1 more did refl front (lives w p so.part) (does_happen machine w p (Took from Acted) (Hear from m.1) did so)
   happens_so (Server s) Left (Some m) did row (more, front) =
-      takes (Server s) Left Master m.1 more did refl front (does_if (Server s) (Hear Master m.1) did (is_to_leave (Server s) Master m.1) row)
+      let so = does_if (Server s) (Hear Master m.1) did (is_to_leave (Server s) Master m.1) row in
+      delivered machine w (Server s) Left Master m.1 more did refl front (lives w (Server s) so.part) (does_happen machine w (Server s) Left (Hear Master m.1) did so)
   happens_so (Server s) (Took from Unheard) (Some m) did row (more, front) =
       let is = some_if (may_drop machine (Server s) (standing_in w (Server s)) from m.1) (idle_effect (standing_in w (Server s))) did row in
       subst (IsRow (Server s) (Took from Unheard)) is.1 (drops s from m.1 more front is.0)

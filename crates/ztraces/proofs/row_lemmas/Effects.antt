@@ -142,10 +142,10 @@ module _ {M : Type 0} (machine : Does M) (w : World M) where
       → HappensIn w p act did.left did.posts did.told (does_in machine (record w { links = fronts w.links act p }) p input)
   does_happen p act input did so =
       let taken : World M = record w { links = fronts w.links act p } in
-      let there : HappensIn w p act _ _ _ (did_in taken p (does machine p input (standing_of w p))) =
-      did_happens w p act (does machine p input (standing_of w p)) so.part (does_fit w machine p input so.accepted) in
+      let e : Effect M = does machine p input (standing_of w p) in
       subst (λ (e : Effect M). HappensIn w p act e.left e.posts e.told (does_in machine taken p input)) so.same
-      (subst (λ (s : Standing M). HappensIn w p act _ _ _ (did_in taken p (does machine p input s))) (stands_so (fronts w.links act p) p) there)
+      (subst (λ (s : Standing M). HappensIn w p act e.left e.posts e.told (did_in taken p (does machine p input s))) (stands_so (fronts w.links act p) p)
+      (did_happens w p act e so.part (does_fit w machine p input so.accepted)))
 
   -- who ends needn't take its message
   pub ends : (p : Process) (act other : Act) (did : Effect M) (after : World M) → did.left ≡ Out → HappensIn w p act did.left did.posts did.told after
