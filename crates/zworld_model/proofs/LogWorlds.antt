@@ -22,7 +22,8 @@ use Rattle.zworld_model.specs.declared.event.Event.TheVariants.{Begin, Retry, Ta
 use Rattle.zworld_model.specs.Links.{Links, put, without_front, is_same, messages_to}
 use Rattle.zworld_model.specs.World.{World, at, opening_world}
 use Rattle.zworld_model.specs.Does as given
-use Rattle.zworld_model.specs.Does.{AtClient, Hear, Effect, master_effect, server_effect, stop_effect, client_effect, begin_effect, last_post}
+use Rattle.zworld_model.specs.Does.{AtClient, Hear, Effect, master_effect, server_effect, stop_effect, client_effect, begin_effect, answer_told, last_post}
+use Rattle.zworld_model.specs.declared.history.CallEvent.TheVariants as call_event
 use Rattle.zworld_model.specs.History.{History}
 use Rattle.zworld_model.specs.Events.{front_is, is_request, has_failed, is_enabled, goes_on, did_in, does_in, front_step, acts, happens, run}
 use Rattle.zworld_model.specs.support.LogWorld.{world_with}
@@ -164,7 +165,7 @@ module _ {M N : Type 0} (h : M → N) where
     takes_with w from (Client c) m =
         let did : client.ClientResult (Transfer M) = client.client_step (w.clients c) from m in
         ap (λ did. did_in (world_with h w) (Client c) (client_effect c did)) (client_takes_with h (w.clients c) from m)
-        ∙ client_does_with w c did.0 did.1 _
+        ∙ client_does_with w c did.0 did.1 (answer_told c did.2)
 
     takes_front_with : (w : World M) (from to : Process) (link : List (MessageOf M))
         → front_step e (world_with h w) from to (map (message_with h) link) ≡ world_with h (front_step d w from to link)
@@ -176,7 +177,8 @@ module _ {M N : Type 0} (h : M → N) where
     acts_with : (w : World M) (event : Event) → acts e (world_with h w) event ≡ world_with h (acts d w event)
     acts_with w (Begin c call) =
         let did : ClientView × List (Post M) = client.begin_step (w.clients c) call in
-        ap (λ did. did_in (world_with h w) (Client c) (begin_effect c call did)) (begins_with h (w.clients c) call) ∙ client_does_with w c did.0 did.1 _
+        ap (λ did. did_in (world_with h w) (Client c) (begin_effect c call did)) (begins_with h (w.clients c) call)
+        ∙ client_does_with w c did.0 did.1 (call_event.Begin c did.0.number call ∷ [])
     acts_with w (Retry c) =
         ap (λ posts. did_in (world_with h w) (Client c) (record { left = AtClient (w.clients c); posts = posts; told = [] })) (retries_with h (w.clients c))
         ∙ client_does_with w c (w.clients c) (client.retry_posts (w.clients c)) []

@@ -28,7 +28,8 @@ use Rattle.zworld_model.specs.World.{World, at}
 use Rattle.zprotocol.specs.Places.{is_server}
 use Rattle.zworld_model.specs.History.{History}
 use Rattle.zworld_model.specs.Does as given
-use Rattle.zworld_model.specs.Does.{AtClient, Hear, server_effect, stop_effect}
+use Rattle.zworld_model.specs.declared.history.CallEvent.TheVariants as call_event
+use Rattle.zworld_model.specs.Does.{AtClient, Hear, server_effect, stop_effect, answer_told}
 use Rattle.zworld_model.specs.Events.{is_enabled, did_in, does_in, front_step, acts, happens, run}
 use Rattle.zworld_model.proofs.Effects.{by_choice}
 use Rattle.zworld_model.specs.support.Within.{is_process, SpeaksWithin, GoesWithin, IsViewWithin, IsClientWithin, AreLinksWithin, IsWithin}
@@ -165,7 +166,7 @@ module _ (M : Type 0) (n : ℕ) where
     taken_within w from (Client c) m within sender taker speaks =
         let did : ClientResult (Transfer M) = client_step (w.clients c) from m in
         let good = client_row c (w.clients c) taker (within.callers c) from m did speaks (client_case (w.clients c) from m) in
-        client_acts w c did.0 did.1 _ within taker good.0 good.1
+        client_acts w c did.0 did.1 (answer_told c did.2) within taker good.0 good.1
 
     front_taken : (w : World M) (from to : Process) (link : List (MessageOf M)) → w.links from to ≡ link → IsWithin n w
         → IsWithin n (front_step machine w from to link)
@@ -194,7 +195,7 @@ module _ (M : Type 0) (n : ℕ) where
     unfolding begin_step
     begun_within w c call within is =
         let v : ClientView = record (w.clients c) { number = (w.clients c).number + 1; outstanding = Some ((w.clients c).number + 1, call) } in
-        client_acts w c v _ _ within is
+        client_acts w c v _ (call_event.Begin c v.number call ∷ []) within is
         (record { named_head = (within.callers c).named_head; named_tail = (within.callers c).named_tail; waits_not = waits_any n c v is })
         (outstanding_within M n v v.outstanding (within.callers c).named_head (within.callers c).named_tail)
 

@@ -17,7 +17,8 @@ use Rattle.zworld_model.specs.declared.event.Event.TheVariants.{Begin, Retry, Ta
 use Rattle.zworld_model.specs.Links.{Links, put, without_front}
 use Rattle.zworld_model.specs.World.{World}
 use Rattle.zworld_model.specs.History.{History}
-use Rattle.zworld_model.specs.Does.{AtClient, Hear, server_effect, stop_effect, last_post}
+use Rattle.zworld_model.specs.Does.{AtClient, Hear, server_effect, stop_effect, answer_told, last_post}
+use Rattle.zworld_model.specs.declared.history.CallEvent.TheVariants as call_event
 use Rattle.zworld_model.specs.Events.{is_enabled, did_in, does_in, front_step, acts, happens, run}
 use Rattle.zworld_model.proofs.Effects.{by_choice}
 use Rattle.zorder.proofs.chain_lemmas.links.Links.{put_among, front_among, at_cases, AllPosts, all_none, all_and}
@@ -65,7 +66,7 @@ module _ {M : Type 0} (does : Does M) (V : ServerView M → Type 0) (Q : Message
       })
   takes_all w from (Client c) m q h =
       let did : client.ClientResult (Transfer M) = client.client_step (w.clients c) from m in
-      client_does_all w c did.0 did.1 _ (asked_all did.1 (client_requests (w.clients c) from m)) h
+      client_does_all w c did.0 did.1 (answer_told c did.2) (asked_all did.1 (client_requests (w.clients c) from m)) h
 
   popped_all : (w : World M) (from to : Process) → Everywhere V Q w → Everywhere V Q (record w { links = without_front w.links from to })
   popped_all w from to h = record { views = h.views; under_way = λ p q m a. h.under_way p q m (front_among w.links from to p q m a) }
@@ -77,7 +78,7 @@ module _ {M : Type 0} (does : Does M) (V : ServerView M → Type 0) (Q : Message
   acts_all : (w : World M) (event : Event) → Everywhere V Q w → Everywhere V Q (acts does w event)
   acts_all w (Begin c call) h =
       let did : ClientView × List (Post M) = client.begin_step (w.clients c) call in
-      client_does_all w c did.0 did.1 _ (asked_all did.1 (begin_requests (w.clients c) call)) h
+      client_does_all w c did.0 did.1 (call_event.Begin c did.0.number call ∷ []) (asked_all did.1 (begin_requests (w.clients c) call)) h
   acts_all w (Retry c) h = client_does_all w c (w.clients c) (client.retry_posts (w.clients c)) [] (asked_all (client.retry_posts (w.clients c)) (retry_requests (w.clients c))) h
   acts_all w (Take from to) h = front_all w from to (w.links from to) (h.under_way from to) h
   acts_all w (Ignore from to) h = popped_all w from to h
