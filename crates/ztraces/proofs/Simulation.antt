@@ -11,7 +11,7 @@ use Rattle.zcalls.proofs.Among.{test}
 use Rattle.zprotocol.specs.declared.process.Process.{Process}
 use Rattle.zprotocol.specs.declared.process.Process.TheVariants.{Master, Server, Client}
 use Rattle.zprotocol.specs.server.Machine.{Does}
-use Rattle.zprotocol.specs.server.View.{MessageOf, Post}
+use Rattle.zprotocol.specs.server.View.{Transfer, MessageOf, Post}
 use Rattle.zprotocol.specs.server.Table.{is_retirement, server_step}
 use Rattle.zworld_model.specs.declared.event.Event.{Event}
 use Rattle.zworld_model.specs.declared.outcome.Outcome.{Outcome}
@@ -210,7 +210,7 @@ module _ {M : Type 0} (machine : Does M) where
       by false = refl
   does_told c (Server s) input standing = refl
   does_told c (Client d) (Hear from m) (AtClient v) = answer_of c d (client.client_step v from m).2
-  does_told c (Client d) (given.Begin call) (AtClient v) = ap (λ b. cond b (call_event.Begin d _ call ∷ []) []) (swapped c d)
+  does_told c (Client d) (given.Begin call) (AtClient v) = ap (λ b. cond b (call_event.Begin d (client.begin_step {T = Transfer M} v call).0.number call ∷ []) []) (swapped c d)
   does_told c (Client d) given.Retry (AtClient v) = nothing (c == d)
   does_told c (Client d) input standing = nothing (c == d)
 

@@ -15,11 +15,11 @@ use Rattle.zprotocol.specs.master.support.Cases.{IsMasterRow, Ignores, Reports, 
 use Rattle.zprotocol.proofs.master_lemmas.Cases.{master_case}
 use Rattle.zprotocol.proofs.master_lemmas.Orders.{order_counts}
 use Rattle.zworld_model.specs.History.{History}
-use Rattle.zworld_model.specs.Links.{Links}
+use Rattle.zworld_model.specs.Links.{Links, put}
 use Rattle.zworld_model.specs.World.{World}
 use Rattle.zworld_model.specs.Does as given
 use Rattle.zworld_model.specs.Does.{Standing, AtMaster, AtServer, AtClient, Out, Input, Hear, Obey, Stop, Effect, accepts, does, server_effect, stop_effect}
-use Rattle.zworld_model.specs.Events.{has_failed, standing_of, with_standing, did_in, does_in}
+use Rattle.zworld_model.specs.Events.{has_failed, standing_of, with_standing, goes_on, did_in, does_in}
 use Rattle.ztraces.specs.declared.trace.Act.{Act}
 use Rattle.ztraces.specs.Deeds.{takes_part, standing_in, done}
 use Rattle.ztraces.specs.Traces.{at_process}
@@ -76,36 +76,36 @@ module _ {M : Type 0} (w : World M) where
       by false b h = absurd (cc h)
 
   -- where each process stands, once one stands somewhere else; links and history don't matter to that
-  moved : (links put : Links M) (history : History) (p : Process) (left : Standing M) → takes_part w p ≡ true → Fits p left → (q : Process)
-      → standing_in (record (with_standing (record w { links = links }) p left) { links = put; history = history }) q ≡ at_process p left (standing_in w) q
-  moved links put history Master (AtMaster v) part fits Master = refl
-  moved links put history Master (AtMaster v) part fits (Server t) = refl
-  moved links put history Master (AtMaster v) part fits (Client c) = rw fits refl
-  moved links put history (Server s) (AtServer v) part fits Master = refl
-  moved links put history (Server s) (AtServer v) part fits (Client c) = refl
-  moved links put history (Server s) (AtServer v) part fits (Server t) = elim (test (t == s)) [
+  moved : (links after : Links M) (history : History) (p : Process) (left : Standing M) → takes_part w p ≡ true → Fits p left → (q : Process)
+      → standing_in (record (with_standing (record w { links = links }) p left) { links = after; history = history }) q ≡ at_process p left (standing_in w) q
+  moved links after history Master (AtMaster v) part fits Master = refl
+  moved links after history Master (AtMaster v) part fits (Server t) = refl
+  moved links after history Master (AtMaster v) part fits (Client c) = rw fits refl
+  moved links after history (Server s) (AtServer v) part fits Master = refl
+  moved links after history (Server s) (AtServer v) part fits (Client c) = refl
+  moved links after history (Server s) (AtServer v) part fits (Server t) = elim (test (t == s)) [
     | inl y ↦ rw y (ap (λ b. cond b (AtServer v) Out) (ap (λ n. is_server n && not (w.failed n)) (eqb-true t s y) ∙ part))
     | inr f ↦ rw f refl
   ]
-  moved links put history (Server s) Out part fits Master = refl
-  moved links put history (Server s) Out part fits (Client c) = refl
-  moved links put history (Server s) Out part fits (Server t) = elim (test (t == s)) [
+  moved links after history (Server s) Out part fits Master = refl
+  moved links after history (Server s) Out part fits (Client c) = refl
+  moved links after history (Server s) Out part fits (Server t) = elim (test (t == s)) [
     | inl y ↦ rw y (ap (λ b. cond b (AtServer (w.servers t)) Out) (and_false (is_server t)))
     | inr f ↦ rw f refl
   ]
-  moved links put history (Client c) (AtClient v) part fits Master = refl
-  moved links put history (Client c) (AtClient v) part fits (Server s) = refl
-  moved links put history (Client c) (AtClient v) part fits (Client d) = elim (test (d == c)) [
+  moved links after history (Client c) (AtClient v) part fits Master = refl
+  moved links after history (Client c) (AtClient v) part fits (Server s) = refl
+  moved links after history (Client c) (AtClient v) part fits (Client d) = elim (test (d == c)) [
     | inl y ↦ rw y (ap (λ b. cond b (AtClient v) Out) (ap (λ n. nat_lt n w.master.clients) (eqb-true d c y) ∙ part))
     | inr f ↦ rw f refl
   ]
-  moved links put history p left part fits q = absurd fits
+  moved links after history p left part fits q = absurd fits
 
   -- what a process did, once its message was taken
   did_happens : (p : Process) (act : Act) (did : Effect M) → takes_part w p ≡ true → Fits p did.left
       → HappensIn w p act did.left did.posts did.told (did_in (record w { links = fronts w.links act p }) p did)
   did_happens p act did part fits = record {
-    stands = λ q. moved (fronts w.links act p) _ _ p did.left part fits q;
+    stands = λ q. moved (fronts w.links act p) (put (fronts w.links act p) p did.posts) (goes_on w.history did.told) p did.left part fits q;
     others = λ x y other. put_elsewhere w act p did.posts x y other;
     own = inr (λ x. refl);
     history = goes_on_is w.history did.told;
