@@ -114,7 +114,8 @@ module _ {M : Type 0} (machine : Does M) (w : World M) where
   happens_so (Client c) Retried None did row arrives =
       let so = does_so machine w (Client c) given.Retry did row in
       enabled_row machine w (Client c) Retried (event.Retry c) did refl so.accepted so.accepted (does_happen machine w (Client c) Retried given.Retry did so)
-  happens_so p act took did row arrives = absurd (cc row)
+  happens_so p act (Some m) did row arrives = absurd (cc row)
+  happens_so p act None did row arrives = absurd (cc row)
 
   pub row_happens : (p : Process) (act : Act) (took : Option (Stamped M)) (left : Standing M) (posts : List (Post M)) (told : History)
       → Row machine p (standing_in w p) act took left posts told → Arrives w p act took → IsRowOf machine w p act left posts told
