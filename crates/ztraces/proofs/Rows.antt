@@ -24,6 +24,7 @@ use Rattle.ztraces.specs.declared.trace.Act.{Act}
 use Rattle.ztraces.specs.declared.trace.Act.TheVariants.{Took, Began, Retried, Ordered, Left, Halted}
 use Rattle.ztraces.specs.Deeds.{Stamped, takes_part, standing_in, is_to_leave, may_drop, done, row_of, Row}
 use Rattle.ztraces.specs.Traces.{event_of}
+use Rattle.ztraces.proofs.Deeds.{no_delivery}
 use Rattle.ztraces.proofs.row_lemmas.Happens.{Arrives, IsRowOf, and_false, idles, row_by, enabled_row, delivered}
 use Rattle.ztraces.proofs.row_lemmas.Effects.{some_if, lives, DoesSo, does_so, does_happen, ends}
 
@@ -114,6 +115,7 @@ module _ {M : Type 0} (machine : Does M) (w : World M) where
   happens_so (Client c) Retried None did row arrives =
       let so = does_so machine w (Client c) given.Retry did row in
       enabled_row machine w (Client c) Retried (event.Retry c) did refl so.accepted so.accepted (does_happen machine w (Client c) Retried given.Retry did so)
+  happens_so p (Took from outcome) None did row arrives = absurd (cc (sym (no_delivery machine p (standing_in w p) from outcome) ∙ row))
   happens_so p act (Some m) did row arrives = absurd (cc row)
   happens_so p act None did row arrives = absurd (cc row)
 

@@ -14,8 +14,7 @@ use Rattle.zprotocol.specs.server.Machine.{Does}
 use Rattle.zprotocol.specs.server.View.{Transfer, MessageOf, Post}
 use Rattle.zprotocol.specs.server.Table.{is_retirement, server_step}
 use Rattle.zworld_model.specs.declared.event.Event.{Event}
-use Rattle.zworld_model.specs.declared.outcome.Outcome.{Outcome}
-use Rattle.zworld_model.specs.declared.outcome.Outcome.TheVariants.{Acted, Stopped, Unheard}
+use Rattle.zworld_model.specs.declared.outcome.Outcome.TheVariants.{Acted}
 use Rattle.zprotocol.specs.client.Table as client
 use Rattle.zworld_model.specs.declared.history.CallEvent.TheVariants as call_event
 use Rattle.zworld_model.specs.History.{History}
@@ -28,10 +27,10 @@ use Rattle.ztraces.specs.declared.trace.Act.{Act}
 use Rattle.ztraces.specs.declared.trace.Act.TheVariants.{Took, Began, Retried, Ordered, Left, Halted}
 use Rattle.ztraces.specs.declared.trace.TraceEvent.{TraceEvent}
 use Rattle.ztraces.specs.declared.trace.Traces.{Traces}
-use Rattle.ztraces.specs.Deeds.{Stamped, standing_in, row_of, Row, Deed, stamp_of, GoesBy, trace_by, taken_from, takes, stamped, puts, told_by}
+use Rattle.ztraces.specs.Deeds.{Stamped, standing_in, Row, Deed, stamp_of, GoesBy, trace_by, taken_from, takes, stamped, puts, told_by}
 use Rattle.ztraces.specs.Traces.{event_of, Step, comes_before, at_process, Merges, IsMerge, BeginsMerge, is_step_in_place, step_happens, are_in_place, event_list, events_of, client_of, told_of, trace_of, record_of, client_count, stamps_rise_from, stamps_rise}
 use Rattle.ztraces.specs.Lawful.{AccountFor}
-use Rattle.ztraces.proofs.Deeds.{rises, row_has, out_ends}
+use Rattle.ztraces.proofs.Deeds.{rises, no_delivery, row_has, out_ends}
 use Rattle.ztraces.proofs.Flows.{Flows, flows_out, flows_put, flows_take, puts_from_front}
 use Rattle.zworld_model.proofs.Processes.{same_process, same_itself}
 use Rattle.ztraces.proofs.row_lemmas.Happens.{fronts, Arrives, HappensIn}
@@ -55,13 +54,6 @@ answer_of c d (Some reply) = ap (λ b. cond b (call_event.Answer d reply.0 reply
 first_false : (a b : Bool) → (a || b) ≡ false → a ≡ false
 first_false true b h = absurd (cc h)
 first_false false b h = refl
-
--- a message is taken where it says so
-no_delivery : {M : Type 0} (machine : Does M) (p : Process) (standing : Standing M) (from : Process) (outcome : Outcome)
-    → row_of machine p standing (Took from outcome) None ≡ None
-no_delivery machine p standing from Acted = refl
-no_delivery machine p standing from Stopped = refl
-no_delivery machine p standing from Unheard = refl
 
 module _ {M : Type 0} (machine : Does M) where
   -- a world, and what is left to do of all deeds: each process goes on from where it stands, and each link holds, with what is
