@@ -25,8 +25,7 @@ use Rattle.ztraces.specs.declared.trace.Act.TheVariants.{Took, Began, Retried, O
 use Rattle.ztraces.specs.Deeds.{Stamped, takes_part, standing_in, is_to_leave, may_drop, done, row_of, Row}
 use Rattle.ztraces.specs.Traces.{event_of}
 use Rattle.ztraces.proofs.Deeds.{no_delivery}
-use Rattle.ztraces.proofs.row_lemmas.Happens.{Arrives, IsRowOf, and_false, idles, row_by, enabled_row, delivered}
-use Rattle.ztraces.proofs.row_lemmas.Effects.{some_if, lives, DoesSo, does_so, does_happen, ends}
+use Rattle.ztraces.proofs.Effects.{Arrives, IsRowOf, and_false, idles, row_by, enabled_row, delivered, some_if, lives, DoesSo, does_so, does_happen, ends}
 
 -- a query is a request
 query_is_request : {M : Type 0} (m : MessageOf M) → is_query m ≡ true → is_request m ≡ true

@@ -33,7 +33,7 @@ use Rattle.ztraces.specs.Lawful.{AccountFor}
 use Rattle.ztraces.proofs.Deeds.{rises, no_delivery, row_has, out_ends}
 use Rattle.ztraces.proofs.Flows.{Flows, flows_out, flows_put, flows_take, puts_from_front}
 use Rattle.zworld_model.proofs.Processes.{same_process, same_itself}
-use Rattle.ztraces.proofs.row_lemmas.Happens.{fronts, Arrives, HappensIn}
+use Rattle.ztraces.proofs.Effects.{fronts, Arrives, HappensIn}
 use Rattle.ztraces.proofs.Rows.{row_happens}
 
 swapped : (c d : ℕ) → (d == c) ≡ (c == d)

@@ -1,2 +1,0 @@
-pub mod Happens
-pub mod Effects
