@@ -1,4 +1,4 @@
--- Worlds that are alike have the same events enabled, and stay alike.
+-- A world that keeps what failed servers held does the same as one that lets go of it.
 use Rattle.std.proofs.Common.{◌≡◌, ℕ, Bool, true, false, if◌then◌else◌, List, [], ◌∷◌, ◌++◌, Option, Some, None, refl, sym, ap, subst, ◌∙◌}
 use mathlib.Core.Bool.{true≢false}
 use Rattle.std.specs.Prelude.{◌&&◌, not, ◌==◌, drop}
@@ -6,19 +6,21 @@ use Rattle.zprotocol.specs.declared.message.Message.TheVariants as message
 use Rattle.zprotocol.specs.declared.process.Process.{Process}
 use Rattle.zprotocol.specs.declared.process.Process.TheVariants.{Master, Server, Client}
 use Rattle.zprotocol.specs.server.Machine.{Does}
-use Rattle.zprotocol.specs.server.View.{ServerView, Transfer, MessageOf, Post}
+use Rattle.zprotocol.specs.server.View.{ServerView, Transfer, MessageOf, Post, spare}
 use Rattle.zprotocol.specs.server.Table as server
 use Rattle.zworld_model.specs.declared.event.Event.{Event}
 use Rattle.zworld_model.specs.declared.event.Event.TheVariants.{Begin, Retry, Take, Ignore, Fail, Order}
 use Rattle.zworld_model.specs.Links.{Links, put, without_front, is_same, messages_to}
-use Rattle.zworld_model.specs.World.{World, at}
+use Rattle.zworld_model.specs.World.{World, at, opening_world}
 use Rattle.zworld_model.specs.Does.{AtServer, Hear, Effect, server_effect, stop_effect, last_post, does}
-use Rattle.zworld_model.specs.Events.{front_is, is_request, has_failed, is_enabled, did_in, does_in, front_step, acts, happens, run}
-use Rattle.zworld_model.specs.declared.outcome.Outcome.{Outcome}
-use Rattle.zworld_model.specs.declared.outcome.Outcome.TheVariants.{Acted, Stopped, Unheard}
-use Rattle.zprotocol.specs.server.Memory.{may_be_unheard, may_stop}
-use Rattle.zworld_model.specs.Reading.{is_delivery, is_fitting, reading_by, read}
-use Rattle.zworld_model.specs.Alike.{IsAlike}
+use Rattle.zworld_model.specs.Events.{front_is, is_request, has_failed, is_enabled, did_in, does_in, front_step, acts, let_go, happens, run}
+use Rattle.zworld_model.specs.Keeping.{keeps, run_keeping}
+
+-- worlds that are equal but for views of failed servers, and links into them
+pub record IsAlike {M : Type 0} (v w : World M) : Type 0 where
+  pub rest : w ≡ record v { servers = w.servers; links = w.links }
+  pub servers : (s : ℕ) → v.failed s ≡ false → v.servers s ≡ w.servers s
+  pub links : (from to : Process) → has_failed v to ≡ false → v.links from to ≡ w.links from to
 
 -- the links agree where it matters in the world
 abbrev Agree : {M : Type 0} → World M → Links M → Links M → Type 0
@@ -150,77 +152,58 @@ module _ {M : Type 0} (machine : Does M) (v : World M) (others : ℕ → ServerV
   enabled_alike (Fail s) = refl
   enabled_alike (Order order) = refl
 
-  -- an event that is enabled in both, or in neither
-  happens_as : (event : Event) (b : Bool) → is_enabled v event ≡ b → is_enabled other event ≡ b
-      → IsAlike (happens machine v event) (happens machine other event)
-  happens_as event true here there = rw (here, there) (acts_alike event here)
-  happens_as event false here there = rw (here, there) as_they_are
+-- where a test fails, the other choice
+unless : {A : Type 0} (b : Bool) (x y : A) → b ≡ false → y ≡ (if b then x else y)
+unless b x y is = ap (λ c. if c then x else y) (sym is)
 
-  -- an event
-  happens_alike : (event : Event) → IsAlike (happens machine v event) (happens machine other event)
-  happens_alike event = happens_as event (is_enabled v event) refl (sym (enabled_alike event))
+-- what is let go of doesn't hang on it
+forgets : {A : Type 0} (b : Bool) (none x y : A) → (b ≡ false → x ≡ y) → (if b then none else x) ≡ (if b then none else y)
+forgets true none x y same = refl
+forgets false none x y same = same refl
 
--- worlds that are alike have the same events enabled
-pub have_the_same_enabled : {M : Type 0} (machine : Does M) (v w : World M) (event : Event) → IsAlike v w → is_enabled v event ≡ is_enabled w event
-have_the_same_enabled machine v w event alike =
-    enabled_alike machine v w.servers w.links alike.servers alike.links event ∙ ap (λ u. is_enabled u event) (sym alike.rest)
-
--- and stay alike
-pub stay_alike : {M : Type 0} (machine : Does M) (v w : World M) (events : List Event) → IsAlike v w → IsAlike (run machine v events) (run machine w events)
-stay_alike machine v w [] alike = alike
-stay_alike machine v w (event ∷ events) alike =
-    stay_alike machine (happens machine v event) (happens machine w event) events
-    (subst (λ u. IsAlike (happens machine v event) (happens machine u event)) (sym alike.rest)
-    (happens_alike machine v w.servers w.links alike.servers alike.links event))
-
--- a world is like itself
-pub alike_itself : {M : Type 0} (w : World M) → IsAlike w w
-alike_itself w = record { rest = refl; servers = λ s alive. refl; links = λ from to alive. refl }
-
--- who failed in one failed in the other
-same_failed : {M : Type 0} (u v : World M) → IsAlike u v → (to : Process) → has_failed u to ≡ has_failed v to
-same_failed u v alike to = ap (λ x. has_failed x to) (sym alike.rest)
-
-pub alike_through : {M : Type 0} (u v w : World M) → IsAlike u v → IsAlike v w → IsAlike u w
-alike_through {M} u v w first second = record {
-  rest = second.rest ∙ ap (λ (x : World M). record x { servers = w.servers; links = w.links }) first.rest;
-  servers = λ s alive. first.servers s alive ∙ second.servers s (sym (same_failed u v first (Server s)) ∙ alive);
-  links = λ from to alive. first.links from to alive ∙ second.links from to (sym (same_failed u v first to) ∙ alive);
+go_in : {M : Type 0} (v : World M) (others : ℕ → ServerView M) (links : Links M) → IsAlike v (record v { servers = others; links = links })
+    → let_go v ≡ let_go (record v { servers = others; links = links })
+go_in v others links alike = λ i. record v {
+  servers = λ s. forgets (v.failed s) spare (v.servers s) (others s) (alike.servers s) i;
+  links = λ from to. forgets (has_failed v to) [] (v.links from to) (links from to) (alike.links from to) i;
 }
 
--- an enabled delivery has one front in both
-same_link : {M : Type 0} (v w : World M) → IsAlike v w → (from to : Process) → is_enabled v (Take from to) ≡ true → v.links from to ≡ w.links from to
-same_link v w alike from to enabled = alike.links from to (not_failed _ (has_failed v to) enabled)
+pub alike_let_go : {M : Type 0} (v w : World M) → IsAlike v w → let_go v ≡ let_go w
+alike_let_go v w alike = go_in v w.servers w.links (subst (IsAlike v) alike.rest alike) ∙ ap let_go (sym alike.rest)
 
--- both tests of a delivery
-same_both : (b c x y : Bool) → b ≡ c → (b ≡ true → x ≡ y) → (b && x) ≡ (c && y)
-same_both true true x y same equal = equal refl
-same_both false false x y same equal = refl
-same_both true false x y same equal = absurd (true≢false same)
-same_both false true x y same equal = absurd (true≢false (sym same))
+module _ {M : Type 0} (machine : Does M) (w : World M) where
+  same_views : (s : ℕ) → w.failed s ≡ false → w.servers s ≡ (let_go w).servers s
+  same_views s alive = unless (w.failed s) spare (w.servers s) alive
 
--- a delivery to a server that lives is to the same view
-same_view : {M : Type 0} (v w : World M) → IsAlike v w → (from : Process) (s : ℕ) → is_enabled v (Take from (Server s)) ≡ true → v.servers s ≡ w.servers s
-same_view v w alike from s enabled = alike.servers s (not_failed _ (v.failed s) enabled)
+  same_links : (from to : Process) → has_failed w to ≡ false → w.links from to ≡ (let_go w).links from to
+  same_links from to alive = unless (has_failed w to) [] (w.links from to) alive
 
-delivery_alike : {M : Type 0} (machine : Does M) (v w : World M) (event : Event) (test : ServerView M → Process → MessageOf M → Bool)
-    → IsAlike v w → is_delivery v event test ≡ is_delivery w event test
-delivery_alike machine v w (Take from (Server s)) test alike =
-    same_both _ _ _ _ (have_the_same_enabled machine v w (Take from (Server s)) alike)
-    (λ enabled.
-    ap (λ view. front_is (test view from) (v.links from (Server s))) (same_view v w alike from s enabled)
-    ∙ ap (front_is (test (w.servers s) from)) (same_link v w alike from (Server s) enabled))
-delivery_alike machine v w event test alike = refl
+  pub keeping_enabled : (event : Event) → is_enabled (let_go w) event ≡ is_enabled w event
+  keeping_enabled event = sym (enabled_alike machine w (let_go w).servers (let_go w).links same_views same_links event)
 
--- an event can have the same outcomes in both
-pub outcomes_alike : {M : Type 0} (machine : Does M) (v w : World M) (event : Event) (outcome : Outcome)
-    → IsAlike v w → is_fitting machine v event outcome ≡ is_fitting machine w event outcome
-outcomes_alike machine v w event Acted alike = refl
-outcomes_alike machine v w event Stopped alike = delivery_alike machine v w event (may_stop machine) alike
-outcomes_alike machine v w event Unheard alike = delivery_alike machine v w event (may_be_unheard machine) alike
+  keeping_acts : (event : Event) → is_enabled w event ≡ true → let_go (acts machine (let_go w) event) ≡ let_go (acts machine w event)
+  keeping_acts event enabled =
+      sym (alike_let_go (acts machine w event) (acts machine (let_go w) event) (acts_alike machine w (let_go w).servers (let_go w).links same_views same_links event enabled))
 
--- and reads alike
-pub read_alike : {M : Type 0} (machine : Does M) (v w : World M) (event : Event) (outcome : Outcome)
-    → IsAlike v w → read machine v event outcome ≡ read machine w event outcome
-read_alike machine v w event outcome alike =
-    ap (λ b. if b then reading_by event outcome else event) (outcomes_alike machine v w event outcome alike)
+  -- an event
+  pub keeping_happens : (event : Event) → happens machine (let_go w) event ≡ let_go (keeps machine w event)
+  keeping_happens event = by (is_enabled w event) refl
+    where
+      by : (b : Bool) → is_enabled w event ≡ b → happens machine (let_go w) event ≡ let_go (keeps machine w event)
+      by true is = rw (keeping_enabled event ∙ is, is) (keeping_acts event is)
+      by false is = rw (keeping_enabled event ∙ is, is) refl
+
+-- a run
+pub keeping_runs : {M : Type 0} (machine : Does M) (w : World M) (events : List Event) → run machine (let_go w) events ≡ let_go (run_keeping machine w events)
+keeping_runs machine w [] = refl
+keeping_runs machine w (event ∷ events) =
+    ap (λ u. run machine u events) (keeping_happens machine w event) ∙ keeping_runs machine (keeps machine w event) events
+
+-- an opening holds nothing that is let go of
+pub opening_let_go : {M : Type 0} (machine : Does M) (servers clients : ℕ) → let_go (opening_world machine servers clients) ≡ opening_world machine servers clients
+opening_let_go machine servers clients = λ i. record (opening_world machine servers clients) { links = λ from to. nothing to i }
+  where
+    nothing : (to : Process) → (if has_failed (opening_world machine servers clients) to then [] else []) ≡ []
+    nothing Master = refl
+    nothing (Server s) = refl
+    nothing (Client c) = refl
