@@ -207,3 +207,9 @@ opening_let_go machine servers clients = λ i. record (opening_world machine ser
     nothing Master = refl
     nothing (Server s) = refl
     nothing (Client c) = refl
+
+-- a run from an opening is what is left of the one that keeps
+pub run_lets_go : {M : Type 0} (machine : Does M) (servers clients : ℕ) (events : List Event)
+    → run machine (opening_world machine servers clients) events ≡ let_go (run_keeping machine (opening_world machine servers clients) events)
+run_lets_go machine servers clients events =
+    ap (λ w. run machine w events) (sym (opening_let_go machine servers clients)) ∙ keeping_runs machine (opening_world machine servers clients) events
