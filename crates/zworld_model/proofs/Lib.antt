@@ -10,6 +10,7 @@ pub mod Starts
 pub mod Orders
 pub mod Lives
 pub mod Tables
+pub mod Alike
 pub mod Keeping
 pub mod Retiring
 pub mod Settling

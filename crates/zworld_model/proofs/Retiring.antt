@@ -14,7 +14,8 @@ use Rattle.zworld_model.specs.World.{World}
 use Rattle.zprotocol.specs.Places.{is_server}
 use Rattle.zworld_model.specs.Does.{stop_effect, last_post}
 use Rattle.zworld_model.specs.Events.{has_failed, did_in, happens, is_enabled}
-use Rattle.zworld_model.proofs.Keeping.{IsAlike, alike_let_go}
+use Rattle.zworld_model.specs.support.Alike.{IsAlike}
+use Rattle.zworld_model.proofs.Alike.{alike_let_go}
 use Rattle.zworld_model.proofs.Tests.{both}
 
 -- no more than a test that holds
