@@ -61,6 +61,13 @@ alike_gone w = record {
   links = λ from to alive. ap (λ b. if b then [] else w.links from to) (sym alive);
 }
 
+pub alike_back : {M : Type 0} (w : World M) → IsAlike (let_go w) w
+alike_back w = record {
+  rest = refl;
+  servers = λ s alive. ap (λ b. if b then spare else w.servers s) alive;
+  links = λ from to alive. ap (λ b. if b then [] else w.links from to) alive;
+}
+
 -- a taker of an enabled delivery has not failed
 not_failed : (front failed : Bool) → (front && not failed) ≡ true → failed ≡ false
 not_failed front false enabled = refl
