@@ -13,9 +13,9 @@ use Rattle.zworld_model.specs.History.{History}
 use Rattle.zworld_model.specs.Events.{is_enabled}
 use Rattle.zworld_model.specs.Settle.{deliveries, retry_events, with_tries, is_over, passes, opening_settling, settling_end}
 use Rattle.zworld_model.specs.support.Alike.{IsAlike}
-use Rattle.zworld_model.proofs.Alike.{alike_itself}
+use Rattle.zworld_model.proofs.Alike.{alike_back}
 use Rattle.zworld_model.proofs.Settling.{pass_takes, over_does_nothing}
-use Rattle.zworld.specs.Held.{Held, kept_world}
+use Rattle.zworld.specs.Held.{Held, kept_world, world_of}
 use Rattle.zworld.specs.support.Stepped.{Settles}
 use Rattle.zworld.specs.support.Settling.{TreeSettling, StandsAt, Point, GoesOn, Does, Tries}
 use Rattle.zworld.proofs.Tries.{goes_nowhere, goes_on_with, under}
@@ -130,9 +130,9 @@ module _ (strict : Bool) where
         → Does strict (whole old.master.clients) (record { held = old; left = limit; seen = seen }) (record { held = new; left = left; seen = all })
         → Settles strict old new limit seen all settled
     has_settled settled is (told, given, more, leads, acted) =
-        let opening : History → List Outcome → TreeSettling = λ history rest. opening_settling (kept_world old history) limit (told ++ rest) in
+        let opening : History → List Outcome → TreeSettling = λ history rest. opening_settling (world_of old history) limit (told ++ rest) in
         let opens : (history : History) (rest : List Outcome) → StandsAt old history limit (told ++ rest) (opening history rest) =
-        λ history rest. record { alike = alike_itself (kept_world old history); remaining = refl; coming = refl } in (
+        λ history rest. record { alike = alike_back (kept_world old history); remaining = refl; coming = refl } in (
           told,
           given,
           more,

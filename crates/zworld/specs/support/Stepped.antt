@@ -16,7 +16,7 @@ use Rattle.zworld_model.specs.support.Alike.{IsAlike}
 use Rattle.zworld.specs.declared.did.Did.{Did}
 use Rattle.zworld.specs.declared.did.Did.TheVariants as became
 use Rattle.zworld.specs.declared.did.IdleCause.{IdleCause}
-use Rattle.zworld.specs.Held.{Held, kept_world}
+use Rattle.zworld.specs.Held.{Held, kept_world, world_of}
 use Rattle.zworld.specs.Did.{is_idle, outcome_of, HasCause}
 use Rattle.zworld.specs.Steps.{AreActed}
 
@@ -61,12 +61,12 @@ Goes old new event before after did = GoesBy old new event before.items after.it
 pub record SettlesBy (old new : Held) (limit : ℕ) (settled : Settled) (learnt : List Outcome) (told : History) : Type 0 where
   -- it ended as the definition does, whatever outcomes would follow, and used up none of those
   pub ended : (history : History) (rest : List Outcome)
-      → settled ≡ settling_end (settle kept_tree (kept_world old history) limit (learnt ++ rest))
+      → settled ≡ settling_end (settle kept_tree (world_of old history) limit (learnt ++ rest))
   pub left : (history : History) (rest : List Outcome)
-      → (settle kept_tree (kept_world old history) limit (learnt ++ rest)).outcomes ≡ rest
+      → (settle kept_tree (world_of old history) limit (learnt ++ rest)).outcomes ≡ rest
   -- it leads to what is held
   pub leads : (history : History) (rest : List Outcome)
-      → IsAlike (settle kept_tree (kept_world old history) limit (learnt ++ rest)).world (kept_world new (history ++ told))
+      → IsAlike (settle kept_tree (world_of old history) limit (learnt ++ rest)).world (kept_world new (history ++ told))
 
 -- settling came to this, and the history goes on with the responses that clients received; where it
 -- was strict, no server ran out of memory
