@@ -10,7 +10,7 @@ use Rattle.zworld_model.specs.declared.history.CallEvent.TheVariants.{Answer}
 use Rattle.zworld_model.specs.World.{opening_world}
 use Rattle.zworld_model.specs.Events.{run}
 use Rattle.zlines.specs.Reply.{reply_text}
-use Rattle.zscript.specs.Line.{ScriptState, LineEffect, opening_script, effect_of, answer, after, histories}
+use Rattle.zscript.specs.Line.{ScriptState, LineEffect, opening_script, effect_of, histories}
 
 -- there are events such that the histories of all lines, one after the other, are the history of
 -- their run
