@@ -80,6 +80,18 @@ tail_with h v = ap (λ b. b && is_none v.succ) (by v.machine)
     by None = refl
     by (Some m) = refl
 
+-- a tail of a world that lets go of what failed servers held lives, and is one where that is kept
+lives_as_tail : (w : LogWorld) (x : ℕ) → is_tail (view_with (replay kept_tree) ((let_go w).servers x)) ≡ true
+    → (w.failed x ≡ false) × (is_tail (w.servers x) ≡ true)
+lives_as_tail w x is = by (w.failed x) refl
+  where
+    so : (b : Bool) → w.failed x ≡ b → is_tail (view_with (replay kept_tree) (if b then spare else w.servers x)) ≡ true
+    so b has = sym (ap (λ c. is_tail (view_with (replay kept_tree) (if c then spare else w.servers x))) has) ∙ is
+
+    by : (b : Bool) → w.failed x ≡ b → (w.failed x ≡ false) × (is_tail (w.servers x) ≡ true)
+    by true has = absurd (let no : ◌≡◌ {A = Bool} false true = so true has in cc no)
+    by false lives = (lives, sym (tail_with (replay kept_tree) (w.servers x)) ∙ so false lives)
+
 -- the world over trees
 pub one_tail_answers : OneTailAnswers
 one_tail_answers servers clients events s t =
@@ -87,12 +99,11 @@ one_tail_answers servers clients events s t =
     let world : run kept_tree (opening_world kept_tree servers clients) events ≡ world_with (replay kept_tree) (let_go kept) =
     runs_with (replay kept_tree) (log_stands_for_machine kept_tree) servers clients events
     ∙ ap (world_with (replay kept_tree)) (run_world plain_tree servers clients events) in
-    let still : (x : ℕ) → kept.failed x ≡ false → is_tail (view_with (replay kept_tree) ((let_go kept).servers x)) ≡ is_tail (kept.servers x) =
-    λ x lives.
-    ap (λ b. is_tail (view_with (replay kept_tree) (if b then spare else kept.servers x))) lives ∙ tail_with (replay kept_tree) (kept.servers x) in
-    subst (λ (w : World _). w.failed s ≡ false → w.failed t ≡ false → is_tail (w.servers s) ≡ true → is_tail (w.servers t) ≡ true → s ≡ t) (sym world)
-    (λ s_lives t_lives s_tail t_tail. one_tail (account_of servers clients events) (every_run_is_sound servers clients events) s t s_lives t_lives
-    (sym (still s s_lives) ∙ s_tail) (sym (still t t_lives) ∙ t_tail))
+    subst (λ (w : World _). is_tail (w.servers s) ≡ true → is_tail (w.servers t) ≡ true → s ≡ t) (sym world)
+    (λ s_tail t_tail.
+    let first = lives_as_tail kept s s_tail in
+    let second = lives_as_tail kept t t_tail in
+    one_tail (account_of servers clients events) (every_run_is_sound servers clients events) s t first.0 second.0 first.1 second.1)
 
 -- a live tail holds the committed log
 holds_committed : (t : Account) → IsSound plain_tree t → (x : ℕ) (log : List Entry) → t.world.failed x ≡ false → is_tail (t.world.servers x) ≡ true
