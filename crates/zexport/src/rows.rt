@@ -1,6 +1,6 @@
 //! Worked examples of the definitions. Each function's contract has some; its body does nothing.
 
-ghost use Rattle.std.specs.Prelude.{◌≡◌, [], ◌∷◌, codes, None, Some};
+ghost use Rattle.std.specs.Prelude.{◌≡◌, [], ◌∷◌, ◌++◌, codes, None, Some};
 ghost use Rattle.ztree.specs.Tree.{opening_tree};
 ghost use Rattle.zexport.specs.Counts.{counts_of};
 ghost use Rattle.zexport.specs.Export.{export_lines, export_text, kind_text};
@@ -53,6 +53,15 @@ pub fn trees_are_counted()
 
 /// What is told.
 pub fn numbers_are_told()
-    ensures left_out { left_out_text owned_counts ≡ codes "zk: export: ephemeral nodes left out: 1\nzk: export: sessions left out: 1\nzk: export: versions begin again at 0, zxids too (the last is 40), and ticks (it is 30)\nzk: export: counters of sequential names begin again at 0 (above 0: 1): a name may be taken\n" }
-    ensures stat { stat_text some_stat ≡ codes "nodes: 2\nbytes of data: 2\nsessions: 1\nchanges: 40\nbytes of the journal: 300\nbytes of the snapshot with which it begins: 80\n" }
+    ensures left_out { left_out_text owned_counts
+        ≡ codes "zk: export: ephemeral nodes left out: 1\n"
+        ++ codes "zk: export: sessions left out: 1\n"
+        ++ codes "zk: export: versions begin again at 0, zxids too (the last is 40), "
+        ++ codes "and ticks (it is 30)\n"
+        ++ codes "zk: export: counters of sequential names begin again at 0 "
+        ++ codes "(above 0: 1): a name may be taken\n" }
+    ensures stat { stat_text some_stat
+        ≡ codes "nodes: 2\nbytes of data: 2\nsessions: 1\nchanges: 40\n"
+        ++ codes "bytes of the journal: 300\n"
+        ++ codes "bytes of the snapshot with which it begins: 80\n" }
 {}
