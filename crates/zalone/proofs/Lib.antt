@@ -1,4 +1,3 @@
-mod Past
 pub mod Keeping
 mod Runs
 mod Coming

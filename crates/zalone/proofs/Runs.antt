@@ -26,7 +26,7 @@ use Rattle.zturns.proofs.Settled.{settling_is_silent}
 use Rattle.zalone.specs.declared.chain_order.ChainOrder.{ChainOrder}
 use Rattle.zalone.specs.declared.chain_order.ChainOrder.TheVariants.{Fail, Order}
 use Rattle.zalone.specs.Order.{event_of}
-use Rattle.zalone.proofs.Past.{with_past, run_past}
+use Rattle.zworld_model.proofs.Past.{with_past, run_past}
 
 abbrev pub ServiceWorld : Type 0
 ServiceWorld = World (KeptState Tree)

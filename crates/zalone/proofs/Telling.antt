@@ -31,7 +31,7 @@ use Rattle.zalone.specs.Changes.{Keeps, no_changes, all_taken}
 use Rattle.zalone.specs.Alone.{AloneView, SameCall, Waits, Rests, SettlesIf, GoesOnIf, Begins, AsksIf, Asks, Settles, cleared}
 use Rattle.zalone.specs.Order.{event_of}
 use Rattle.zalone.specs.Told.{HasToldFrom, GoesOnAsked, GoesOnSettled}
-use Rattle.zalone.proofs.Past.{with_past}
+use Rattle.zworld_model.proofs.Past.{with_past}
 use Rattle.zalone.proofs.Keeping.{keeps_taken, none_kept}
 use Rattle.zalone.proofs.Coming.{Stands, shown, told_by, SettledRun, nothing_fresh, Came, came}
 use Rattle.zalone.proofs.Runs.{ServiceWorld, goes_with, call_reads, order_reads, is_order, done_run, settled_run}

@@ -18,7 +18,7 @@ use Rattle.zworld_model.specs.declared.outcome.Outcome.TheVariants.{Acted}
 use Rattle.zworld_model.specs.declared.history.CallEvent.{CallEvent}
 use Rattle.zworld_model.specs.declared.history.CallEvent.TheVariants as call_event
 use Rattle.ztraces.specs.declared.trace.Act.TheVariants.{Took, Began, Retried}
-use Rattle.ztraces.specs.Deeds.{AtClient, ClientTakes, ClientBegins, ClientRetries, answer_told}
+use Rattle.zworld_model.specs.Does.{AtClient, Effect, answer_told}
 use Rattle.zdesks.specs.Desks.{IsEvent}
 use Rattle.zcaller.specs.Steps.{answer_event}
 
@@ -54,16 +54,24 @@ told v c (Client d) other = refl
 pub client_takes : (me : Process) (c last : ℕ) (v : ClientView) (from : Process) (stamp n : ℕ) (m : TreeMessage) (told_now : List CallEvent) → me ≡ Client c → max last stamp < n
     → told_now ≡ answer_told c (client_step v from m).2
     → IsEvent me last (AtClient v) (Some (from, (stamp, m))) (Took from Acted) n (AtClient (client_step v from m).0) (client_step v from m).1 told_now
-client_takes me c last v from stamp n m told_now is e t = record { row = rw is (rw t (ClientTakes c v from (stamp, m))); from = λ p. refl; at = rw is e }
-
-pub client_begins : (me : Process) (c last : ℕ) (v : ClientView) (n : ℕ) (call : Call) → me ≡ Client c → begin_fault v ≡ None → max last 0 < n
-    → IsEvent me last (AtClient v) None (Began call) n (AtClient (begin_step {T = Transfer (KeptState Tree)} v call).0) (begin_step v call).1 (call_event.Begin c (v.number + 1) call ∷ [])
-client_begins me c last v n call is none e = record { row = rw is (ClientBegins c v call none); from = λ p. refl; at = rw is e }
-
-pub client_retries : (me : Process) (c last : ℕ) (v : ClientView) (n : ℕ) → me ≡ Client c → is_some v.outstanding ≡ true → max last 0 < n
-    → IsEvent me last (AtClient v) None Retried n (AtClient v) (retry_posts v) []
-client_retries me c last v n is waits e = record { row = rw is (ClientRetries c v waits); from = λ p. refl; at = rw is e }
+client_takes me c last v from stamp n m told_now is e t = record { row = rw is (rw t refl); from = λ p. refl; at = rw is e }
 
 pub begin_number : (v : ClientView) (call : Call) → (begin_step {T = Transfer (KeptState Tree)} v call).0.number ≡ v.number + 1
 unfolding begin_step
 begin_number v call = refl
+
+pub client_begins : (me : Process) (c last : ℕ) (v : ClientView) (n : ℕ) (call : Call) → me ≡ Client c → begin_fault v ≡ None → max last 0 < n
+    → IsEvent me last (AtClient v) None (Began call) n (AtClient (begin_step {T = Transfer (KeptState Tree)} v call).0) (begin_step v call).1 (call_event.Begin c (v.number + 1) call ∷ [])
+client_begins me c last v n call is none e = record { row = rw is (rw none (ap begun (begin_number v call))); from = λ p. refl; at = rw is e }
+  where
+    begun : ℕ → Option (Effect (KeptState Tree))
+    begun number =
+        Some (record {
+          left = AtClient (begin_step {T = Transfer (KeptState Tree)} v call).0;
+          posts = (begin_step v call).1;
+          told = call_event.Begin c number call ∷ [];
+        })
+
+pub client_retries : (me : Process) (c last : ℕ) (v : ClientView) (n : ℕ) → me ≡ Client c → is_some v.outstanding ≡ true → max last 0 < n
+    → IsEvent me last (AtClient v) None Retried n (AtClient v) (retry_posts v) []
+client_retries me c last v n is waits e = record { row = rw is (rw waits refl); from = λ p. refl; at = rw is e }

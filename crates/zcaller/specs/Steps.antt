@@ -15,7 +15,7 @@ use Rattle.zworld_model.specs.declared.history.CallEvent.{CallEvent}
 use Rattle.zworld_model.specs.declared.history.CallEvent.TheVariants as call_event
 use Rattle.zworld_model.specs.declared.outcome.Outcome.TheVariants.{Acted}
 use Rattle.ztraces.specs.declared.trace.Act.TheVariants as act
-use Rattle.ztraces.specs.Deeds.{answer_told, AtClient}
+use Rattle.zworld_model.specs.Does.{answer_told, AtClient}
 use Rattle.zdesks.specs.declared.desk.Desk.{Desk}
 use Rattle.zdesks.specs.Desks.{IsEntered, pending, SameBooks, Stands, stamp_of_desk, TreeStamped, TreeTaken}
 

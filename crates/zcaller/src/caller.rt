@@ -2,7 +2,7 @@
 
 ghost use Rattle.std.specs.Prelude.{◌≡◌, IfErr, IfOk, OnErr, OnOk, max, true, false};
 ghost use Rattle.zprotocol.specs.declared.process.Process.TheVariants.{Client};
-ghost use Rattle.ztraces.specs.Deeds.{AtClient};
+ghost use Rattle.zworld_model.specs.Does.{AtClient};
 ghost use Rattle.zdesks.specs.Desks.{is_cut_of, is_traced_of, IsAt, pending, process_of, SameDesk};
 ghost use Rattle.zdesks.specs.Desks.{seen_of, self_of, stamp_of_desk, Stands, trace_of};
 ghost use Rattle.zdesks.specs.Endings.{HasEnded, IsCutAsBefore, IsLostAsBefore};

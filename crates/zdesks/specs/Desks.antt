@@ -19,7 +19,8 @@ use Rattle.zworld_model.specs.World.{opening_world}
 use Rattle.ztraces.specs.declared.stamp.TheConstants.{MAX_STAMP}
 use Rattle.ztraces.specs.declared.trace.TraceEvent.{TraceEvent}
 use Rattle.ztraces.specs.declared.trace.Act.{Act}
-use Rattle.ztraces.specs.Deeds.{Deed, Standing, Stamped, standing_in, Row, IsStamped, stamp_of, taken_from, GoesBy, trace_by, takes, puts, stamped, told_by, left_by, last_by}
+use Rattle.ztraces.specs.Deeds.{Deed, Stamped, standing_in, Row, IsStamped, stamp_of, taken_from, GoesBy, trace_by, takes, puts, stamped, told_by, left_by, last_by}
+use Rattle.zworld_model.specs.Does.{Standing}
 use Rattle.zprotocol.specs.Places.{process_at}
 use Rattle.zrings.specs.declared.ends.Tx.{Tx}
 use Rattle.zrings.specs.declared.ends.Rx.{Rx}

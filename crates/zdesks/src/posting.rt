@@ -1,7 +1,7 @@
 //! The last event's messages go onto the channels.
 
 ghost use Rattle.std.specs.Prelude.{◌≡◌, ◌∷◌, [], false, None, IfNone, IfSome, IsTrue};
-ghost use Rattle.ztraces.specs.Deeds.{last_post};
+ghost use Rattle.zworld_model.specs.Does.{last_post};
 ghost use Rattle.zdesks.specs.Desks.{HasPut, is_cut_of, IsSettled, Keeps, pending, SameBooks};
 ghost use Rattle.zdesks.specs.Desks.{SameDesk};
 

@@ -1,7 +1,7 @@
 pub mod Results
-pub mod Rows
-pub mod Bounds
 pub mod Places
-pub mod Fronted
-pub mod FrontedCalls
+pub mod Order
+pub mod Sorted
+pub mod Kept
+pub mod Calls
 pub mod Searches

@@ -1,15 +1,17 @@
--- On results and options.
-use Rattle.std.proofs.Common.{Result, Ok, Err, Option, None, Some, ◌≡◌, false, refl}
-use mathlib.Core.Bool.{true≢false}
-use Rattle.std.specs.Prelude.{is_some}
-use Rattle.std.specs.Result.{OnErr}
+-- On results.
+use Rattle.std.proofs.Common.{◌≡◌, Result, Ok, Err, sym, subst}
+use Rattle.std.specs.Result.{OnOk, OnErr}
 
--- what holds anyway holds where there is an error
-pub on_err : {T E P : Type 0} (r : Result T E) → P → OnErr r P
-on_err (Ok x) holds = tt
-on_err (Err e) holds = holds
+-- what follows where there is a value, and where there is an error
+pub on_ok : {T E P Q : Type 0} (r : Result T E) → OnOk r P → (P → Q) → OnOk r Q
+on_ok (Ok x) fact then = then fact
+on_ok (Err e) fact then = tt
 
--- there is no value
-pub none_is : {T : Type 0} (o : Option T) → is_some o ≡ false → o ≡ None
-none_is (Some x) is = absurd (true≢false is)
-none_is None is = refl
+pub on_err : {T E P Q : Type 0} (r : Result T E) → OnErr r P → (P → Q) → OnErr r Q
+on_err (Ok x) fact then = tt
+on_err (Err e) fact then = then fact
+
+-- what is one or the other
+pub in_either : {T E X : Type 0} (P : X → Type 0) (r : Result T E) (new done same : X) → OnOk r (new ≡ done) → OnErr r (new ≡ same) → P done → P same → P new
+in_either P (Ok x) new done same is not was now = subst P (sym is) was
+in_either P (Err e) new done same is not was now = subst P (sym not) now

@@ -1,8 +1,6 @@
--- The channels as they are kept: a row for each process of what it has sent, and in it a queue for
--- each receiver. Van Renesse and Schneider, "Chain Replication for Supporting High Throughput and
--- Availability" (OSDI 2004), section 3.
+-- The channels as they are kept: a list of those that hold messages.
 use Rattle.std.specs.Borrow.{Bor}
-use Rattle.std.specs.Prelude.{◌≡◌, ℕ, ◌<◌, ◌≤◌, Bool, true, false, not, ◌&&◌, if◌then◌else◌, Option, MatchOption, List, [], ◌∷◌, ◌++◌, drop, get_or}
+use Rattle.std.specs.Prelude.{◌≡◌, ℕ, ◌<◌, ◌≤◌, ◌==◌, Bool, true, false, not, ◌&&◌, if◌then◌else◌, Option, MatchOption, List, [], ◌∷◌, ◌++◌, drop}
 use Rattle.std.specs.List.{list_any}
 use Rattle.zprotocol.specs.declared.limits.TheConstants.{PROCESSES}
 use Rattle.zprotocol.specs.declared.message.Message.{Message}
@@ -14,17 +12,37 @@ use Rattle.zworld_model.specs.Links.{is_same}
 abbrev pub Queues : Type 0 → Type 0
 Queues T = Process → Process → List (Message T)
 
--- rows of queues, seen as the channels that they keep
-unfoldable pub links_of : {T : Type 0} → List (List (List (Message T))) → Queues T
-links_of rows from to = get_or (get_or rows (place_of from) []) (place_of to) []
+-- a channel that holds messages: the places of its sender and receiver, its front, and the others in order
+pub record Channel (T : Type 0) : Type 0 where
+  pub from : ℕ
+  pub to : ℕ
+  pub front : Message T
+  pub others : List (Message T)
+
+-- the channels that hold messages
+abbrev pub Channels : Type 0 → Type 0
+Channels T = List (Channel T)
+
+-- the messages of a channel, the front first
+abbrev pub messages : {T : Type 0} → Channel T → List (Message T)
+messages channel = channel.front ∷ channel.others
+
+-- it is the channel between these places
+abbrev pub is_between : {T : Type 0} → Channel T → (from to : ℕ) → Bool
+is_between channel from to = (channel.from == from) && (channel.to == to)
+
+-- the messages on the channel between these places
+abbrev pub messages_at : {T : Type 0} → Channels T → (from to : ℕ) → List (Message T)
+messages_at [] from to = []
+messages_at (channel ∷ channels) from to = if is_between channel from to then messages channel else messages_at channels from to
+
+-- the channels that are kept, seen as all channels
+unfoldable pub links_of : {T : Type 0} → Channels T → Queues T
+links_of channels from to = messages_at channels (place_of from) (place_of to)
 
 -- channels of which one is replaced
 abbrev pub with_link : {T : Type 0} → Queues T → Process → Process → List (Message T) → Queues T
 with_link links from to queue p q = if is_same p from && is_same q to then queue else links p q
-
--- no channel of the rows holds a message
-abbrev pub IsEmpty : {T : Type 0} → List (List (List (Message T))) → Type 0
-IsEmpty rows = (from to : Process) → links_of rows from to ≡ []
 
 -- channels to one of which a message was appended
 abbrev pub with_last : {T : Type 0} → Queues T → Process → Process → Message T → Queues T
@@ -34,9 +52,9 @@ with_last links from to message = with_link links from to (links from to ++ mess
 abbrev pub without_first : {T : Type 0} → Queues T → Process → Process → Queues T
 without_first links from to = with_link links from to (drop 1 (links from to))
 
--- the rows keep these channels
-abbrev pub Keeps : {T : Type 0} → List (List (List (Message T))) → Queues T → Type 0
-Keeps rows links = (p q : Process) → links_of rows p q ≡ links p q
+-- these channels are kept
+abbrev pub Keeps : {T : Type 0} → Channels T → Queues T → Type 0
+Keeps channels links = (p q : Process) → links_of channels p q ≡ links p q
 
 -- the front of a queue, which was removed; none where it was empty
 abbrev pub IsFrontOf : {X : Type 0} → List X → Option X → Type 0
@@ -51,13 +69,9 @@ abbrev pub holds : {X : Type 0} → List X → Bool
 holds [] = false
 holds (x ∷ xs) = true
 
--- a queue of a row holds something
-abbrev pub sends : {X : Type 0} → List (List X) → Bool
-sends queues = list_any holds queues
-
 -- no message that the process sent is still on a channel
-unfoldable pub is_silent : {T : Type 0} → List (List (List (Message T))) → Process → Bool
-is_silent rows from = not (sends (get_or rows (place_of from) []))
+unfoldable pub is_silent : {T : Type 0} → Channels T → Process → Bool
+is_silent channels from = not (list_any (λ channel. channel.from == place_of from) channels)
 
 -- channels of which those to a process are empty
 abbrev pub without_receiver : {T : Type 0} → Queues T → Process → Queues T

@@ -1,40 +1,38 @@
 //! The channels.
 
-ghost use Rattle.std.specs.Prelude.{◌≡◌, ◌≤◌, true, false, [], IfNone, IfSome, IfOk, None, Some, OnErr, OnOk};
+ghost use Rattle.std.specs.Prelude.{◌≡◌, ◌≤◌, true, false, [], IfNone, IfOk, OnErr, OnOk, vec_len};
+ghost use Rattle.std.specs.List.{filter, insert};
 ghost use Rattle.zprotocol.specs.declared.process.Process.{Process};
 ghost use Rattle.zprotocol.specs.declared.limits.TheConstants.{PROCESSES};
 ghost use Rattle.zlinks.specs.Places.{links_of, with_last, without_first, without_receiver, Keeps};
 ghost use Rattle.zlinks.specs.Places.{is_silent, holds, IsFrontOf, ShowsFront, Between, At};
-ghost use Rattle.zlinks.specs.support.Lone.{is_on, without_to};
+ghost use Rattle.zlinks.specs.support.Order.{is_for_others};
 
-use crate::held::Held;
-use crate::lone::Lone;
-use crate::row::Row;
+use crate::queue::Queue;
+use crate::search::{find, first_from};
 use std::alloc::Global;
 use std::marker::Model;
 use zalloc::Memory;
 use zprotocol::{Message, PROCESSES, Process};
 
-/// The channels between all processes: a row for each sender, with a queue for each receiver, and
-/// which senders' rows are non-empty. Mostly one message is in flight. So a message that is sent
-/// while nothing else is in flight lies by itself, in front of its queue, and needs no queue.
+/// The channels between all processes: the queues of those with messages in flight, sorted by
+/// sender and then by receiver. Mostly there is one, and the list keeps its room. So a message that
+/// is sent and received needs no block.
 #[derive(Drop)]
 pub struct Links<T> {
-    lone: Option<Lone<T>>,
-    rows: Vec<Row<T>>,
-    held: Held,
+    queues: Vec<Queue<T>>,
+    alloc: Global,
 }
 
 impl<T> Model for Links<T> {
-    ghost use Rattle.std.specs.Prelude.{List};
-    ghost use Rattle.zprotocol.specs.declared.message.Message.{Message};
-    ghost use Rattle.zlinks.specs.support.Lone.{with_lone, IsKept};
+    ghost use Rattle.zlinks.specs.Places.{Channels};
+    ghost use Rattle.zlinks.specs.support.Order.{AreSorted};
 
-    ghost Value = { List (List (List (Message T))) };
+    ghost Value = { Channels T };
 
-    ghost view = { λ links. with_lone links.lone links.rows.items };
+    ghost view = { λ links. links.queues.items };
 
-    ghost invariant = { λ links. IsKept links.lone links.rows.items links.held };
+    ghost invariant = { λ links. AreSorted links.queues.items };
 }
 
 impl<T: Drop> Links<T> {
@@ -42,37 +40,23 @@ impl<T: Drop> Links<T> {
     pub fn new(alloc: Global) -> Result<Links<T>, Memory>
         ensures { IfOk result (λ links. (from to : Process) → links_of links from to ≡ []) }
     {
-        let mut rows = Vec::new(alloc);
-        for place in 0..PROCESSES {
-            rows.push(Row::new(alloc)?)?;
-        }
-        Ok(Links {
-            lone: None,
-            rows,
-            held: Held::none(),
-        })
+        let queues = Vec::with_capacity(alloc, 1)?;
+        Ok(Links { queues, alloc })
     }
 
     /// Returns the first place, from `at` on, of a process with messages in flight, or `PROCESSES`.
-    /// It searches nothing where nothing is in flight. The master has place 0; then come the
-    /// servers and the clients, each by number.
+    /// The master has place 0; then come the servers and the clients, each by number.
     pub fn next_sender(&self, at: usize) -> usize
         ensures few { result ≤ PROCESSES }
         ensures ahead { at ≤ PROCESSES → at ≤ result }
         ensures silent { Between at result (λ from. is_silent self.now from ≡ true) }
         ensures sends { At result (λ from. is_silent self.now from ≡ false) }
     {
-        // The lone message's sender, unless it was passed, ends the search among the others.
-        let end = match &self.lone {
-            Some(lone) if at <= lone.from => lone.from,
-            _ => PROCESSES,
-        };
-        for place in at.max(self.held.first)..end.min(self.held.end) {
-            if !self.rows[place].is_silent() {
-                return place;
-            }
+        let first = first_from(&self.queues, at, 0);
+        match self.queues.get(first) {
+            Some(queue) => queue.from(),
+            None => PROCESSES,
         }
-        end
     }
 
     /// Returns the first place, from `at` on, of a process to which `from` has messages in flight,
@@ -84,11 +68,11 @@ impl<T: Drop> Links<T> {
         ensures held { At result (λ to. holds (links_of self.now from.now to) ≡ true) }
     {
         let sender = from.place();
-        let end = match &self.lone {
-            Some(lone) if lone.from == sender && at <= lone.to => lone.to,
+        let first = first_from(&self.queues, sender, at);
+        match self.queues.get(first) {
+            Some(queue) if queue.from() == sender => queue.to(),
             _ => PROCESSES,
-        };
-        self.rows[sender].next_held(at, end)
+        }
     }
 
     /// Appends a message to a channel.
@@ -99,24 +83,13 @@ impl<T: Drop> Links<T> {
     {
         let sender = from.place();
         let receiver = to.place();
-        if self.lone.is_none() && self.held.count == 0 {
-            // (there was none; dropped by name, it costs one small call)
-            drop(
-                self.lone.replace(Lone {
-                    from: sender,
-                    to: receiver,
-                    message,
-                }),
-            );
-            return Ok(());
+        match find(&self.queues, sender, receiver) {
+            Ok(at) => self.queues[at].put(message),
+            Err(at) => {
+                let queue = Queue::new(self.alloc, sender, receiver, message);
+                insert_at(&mut self.queues, at, queue)
+            }
         }
-        let row = &mut self.rows[sender];
-        let was_silent = row.is_silent();
-        row.put(receiver, message)?;
-        if was_silent {
-            self.held.add(sender);
-        }
-        Ok(())
     }
 
     /// Returns the front of a channel, and leaves it there.
@@ -125,10 +98,10 @@ impl<T: Drop> Links<T> {
     {
         let sender = from.place();
         let receiver = to.place();
-        if let Some(front) = front_on(&self.lone, sender, receiver) {
-            return Some(front);
-        }
-        self.rows[sender].front(receiver)
+        let Ok(at) = find(&self.queues, sender, receiver) else {
+            return None;
+        };
+        Some(self.queues[at].front())
     }
 
     /// Removes the front of a channel and returns it.
@@ -139,15 +112,14 @@ impl<T: Drop> Links<T> {
     {
         let sender = from.place();
         let receiver = to.place();
-        if let Some(front) = take_on(&mut self.lone, sender, receiver) {
+        let Ok(at) = find(&self.queues, sender, receiver) else {
+            return None;
+        };
+        if let Some(front) = self.queues[at].next() {
             return Some(front);
         }
-        let row = &mut self.rows[sender];
-        let front = row.next(receiver)?;
-        if row.is_silent() {
-            self.held.remove();
-        }
-        Some(front)
+        let emptied = self.queues.remove(at);
+        Some(emptied.into_front())
     }
 
     /// Drops all messages on channels to a process.
@@ -155,54 +127,28 @@ impl<T: Drop> Links<T> {
         ensures { Keeps self.new (without_receiver (links_of self.old) to.now) }
     {
         let receiver = to.place();
-        clear_to(&mut self.lone, receiver);
-        for sender in 0..PROCESSES {
-            let row = &mut self.rows[sender];
-            if row.clear(receiver) {
-                self.held.remove();
-            }
+        keep_others(&mut self.queues, receiver);
+    }
+}
+
+// Inserts a queue; or drops it, where memory runs out.
+fn insert_at<T: Drop>(queues: &mut Vec<Queue<T>>, at: usize, queue: Queue<T>) -> Result<(), Memory>
+    requires { at ≤ vec_len queues.old }
+    ensures inserted { OnOk result (queues.new.items ≡ insert queues.old.items at queue) }
+    ensures same { OnErr result (queues.new.items ≡ queues.old.items) }
+{
+    match queues.insert(at, queue) {
+        Ok(()) => Ok(()),
+        Err(refused) => {
+            drop(refused);
+            Err(Memory)
         }
     }
 }
 
-// Returns the lone message, if it is on the channel between these places, and leaves it there.
-fn front_on<T: Drop>(slot: &Option<Lone<T>>, from: usize, to: usize) -> Option<&Message<T>>
-    ensures some { IfSome result
-        (λ front. slot.now ≡ Some (record { from = from; to = to; message = front.now })) }
-    ensures none { IfNone result (is_on slot.now from to ≡ false) }
+// Leaves the queues to other receivers.
+fn keep_others<T: Drop>(queues: &mut Vec<Queue<T>>, to: usize)
+    ensures { queues.new.items ≡ filter (is_for_others to) queues.old.items }
 {
-    let Some(lone) = slot else {
-        return None;
-    };
-    if lone.from == from && lone.to == to {
-        return Some(&lone.message);
-    }
-    None
-}
-
-// Removes the lone message and returns it, if it is on the channel between these places.
-fn take_on<T: Drop>(slot: &mut Option<Lone<T>>, from: usize, to: usize) -> Option<Message<T>>
-    ensures some { IfSome result
-        (λ front. slot.old ≡ Some (record { from = from; to = to; message = front })) }
-    ensures taken { IfSome result (λ front. slot.new ≡ None) }
-    ensures none { IfNone result (is_on slot.old from to ≡ false) }
-    ensures same { IfNone result (slot.new ≡ slot.old) }
-{
-    front_on(slot, from, to)?;
-    match slot.take() {
-        Some(Lone { message, .. }) => Some(message),
-        None => None,
-    }
-}
-
-// Drops the lone message, if its receiver is at this place.
-fn clear_to<T: Drop>(slot: &mut Option<Lone<T>>, to: usize)
-    ensures { slot.new ≡ without_to slot.old to }
-{
-    let Some(lone) = slot else {
-        return;
-    };
-    if lone.to == to {
-        drop(slot.take());
-    }
+    queues.retain(|queue| queue.to() != to);
 }

@@ -11,7 +11,7 @@ use Rattle.zprotocol.specs.server.View.{opening_server}
 use Rattle.zprotocol.specs.master.View.{opening_master}
 use Rattle.zprotocol.specs.client.View.{opening_client}
 use Rattle.zprotocol.specs.Places.{is_server}
-use Rattle.ztraces.specs.Deeds.{AtMaster, AtServer, AtClient}
+use Rattle.zworld_model.specs.Does.{AtMaster, AtServer, AtClient}
 use Rattle.zdesks.specs.Desks.{Each, opening_of}
 
 pub master_opening : (last clients : ℕ) → opening_of last clients Master ≡ AtMaster (opening_master last clients)

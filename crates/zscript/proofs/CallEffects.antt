@@ -38,7 +38,7 @@ use mathlib.Core.Bool.{true≢false}
 use Rattle.zworld_model.proofs.Settling.{settling_is_a_run}
 use Rattle.zscript.proofs.AlikeLines.{Like, settling_like, same_history}
 use Rattle.zscript.proofs.Effects.{enabled, not_enabled, idle_alike, tried_on, event_done}
-use Rattle.zscript.proofs.Past.{with_past, run_past}
+use Rattle.zworld_model.proofs.Past.{with_past, run_past}
 use Rattle.zworld.specs.Did.{outcome_of}
 
 -- no server takes part in the begin of a call

@@ -1,5 +1,4 @@
 pub mod LongLine
-pub mod Past
 pub mod OneRun
 pub mod AlikeLines
 pub mod Opening

@@ -24,7 +24,7 @@ use Rattle.zlines.specs.Request.{Read}
 use Rattle.zlines.specs.Line.{line_of}
 use Rattle.zscript.specs.declared.limits.TheConstants.{MAX_EVENTS}
 use Rattle.zscript.specs.Line.{ServiceWorld, ScriptState, LineEffect, opening_script, forgotten, after_try, after_settling, call_effect, not_begun_text, no_effect, call_answered, line_effect, read_effect, effect_of, after, histories}
-use Rattle.zscript.proofs.Past.{with_past, run_past}
+use Rattle.zworld_model.proofs.Past.{with_past, run_past}
 
 -- the settling's world is where its events lead from a world
 abbrev LeadsFrom : ServiceWorld → Settling (KeptState Tree) → Type 0

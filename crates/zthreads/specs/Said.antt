@@ -2,7 +2,7 @@
 use Rattle.std.specs.Prelude.{◌≡◌, false, List, [], ◌∷◌, ◌++◌}
 use Rattle.zprotocol.specs.master.View.{MasterView}
 use Rattle.ztraces.specs.declared.trace.TraceEvent.{TraceEvent}
-use Rattle.ztraces.specs.Deeds.{AtMaster}
+use Rattle.zworld_model.specs.Does.{AtMaster}
 use Rattle.zprotocol.specs.declared.master.order.Order.{Order}
 use Rattle.zconsole.specs.declared.outcome.OrderOutcome.{OrderOutcome}
 use Rattle.zconsole.specs.Outcomes.{order_of}

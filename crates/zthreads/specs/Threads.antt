@@ -12,7 +12,7 @@ use Rattle.zworld_model.specs.declared.outcome.Outcome.{Outcome}
 use Rattle.zworld_model.specs.declared.outcome.Outcome.TheVariants as outcome
 use Rattle.ztraces.specs.declared.trace.Act.{Act}
 use Rattle.ztraces.specs.declared.trace.Act.TheVariants.{Took, Left}
-use Rattle.ztraces.specs.Deeds.{AtMaster, AtServer, Out}
+use Rattle.zworld_model.specs.Does.{AtMaster, AtServer, Out}
 use Rattle.zdesks.specs.declared.desk.Desk.{Desk}
 use Rattle.zdesks.specs.Desks.{IsAt, Stands, TreeStamped, TreeStanding}
 

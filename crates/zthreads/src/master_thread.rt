@@ -5,7 +5,7 @@ ghost use Rattle.std.specs.Prelude.{IfNone, IfSome, IsFalse, IsTrue, OnSome};
 ghost use Rattle.zprotocol.specs.declared.process.Process.TheVariants as process;
 ghost use Rattle.zmaster.specs.declared.limits.TheConstants.{MAX_POSTS};
 ghost use Rattle.zworld_model.specs.declared.outcome.Outcome.TheVariants.{Acted};
-ghost use Rattle.ztraces.specs.Deeds.{AtMaster};
+ghost use Rattle.zworld_model.specs.Does.{AtMaster};
 ghost use Rattle.ztraces.specs.declared.trace.Act.TheVariants.{Ordered, Took};
 ghost use Rattle.zdesks.specs.Desks.{is_cut_of, is_traced_of, IsAt, IsSettled, link_count};
 ghost use Rattle.zdesks.specs.Desks.{process_of, room_of, SameBooks, SameDesk, self_of, Stands};

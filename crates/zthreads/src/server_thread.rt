@@ -2,7 +2,7 @@
 
 ghost use Rattle.std.specs.Prelude.{◌≡◌, ◌<◌, ◌≤◌, IsFalse, IsTrue, None, true, false};
 ghost use Rattle.zwords.specs.declared.limits.TheConstants.{LAST_BIT};
-ghost use Rattle.ztraces.specs.Deeds.{AtServer};
+ghost use Rattle.zworld_model.specs.Does.{AtServer};
 ghost use Rattle.zdesks.specs.Desks.{is_cut_of, is_traced_of, IsAt, IsSettled, link_count};
 ghost use Rattle.zdesks.specs.Desks.{process_of, SameDesk, self_of, trace_of, wires_of};
 ghost use Rattle.zdesks.specs.Waiting.{SeesNothing, SeesSome};

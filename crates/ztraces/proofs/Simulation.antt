@@ -9,29 +9,31 @@ use Rattle.std.proofs.lemmas.Bool.Decides.{nat_tests}
 use Rattle.zcalls.specs.declared.reply.Reply.{Reply}
 use Rattle.zcalls.proofs.Among.{test}
 use Rattle.zprotocol.specs.declared.process.Process.{Process}
-use Rattle.zprotocol.specs.declared.process.Process.TheVariants.{Master, Client}
+use Rattle.zprotocol.specs.declared.process.Process.TheVariants.{Master, Server, Client}
 use Rattle.zprotocol.specs.server.Machine.{Does}
-use Rattle.zprotocol.specs.server.View.{MessageOf, Post}
+use Rattle.zprotocol.specs.server.View.{Transfer, MessageOf, Post}
+use Rattle.zprotocol.specs.server.Table.{is_retirement, server_step}
 use Rattle.zworld_model.specs.declared.event.Event.{Event}
-use Rattle.zworld_model.specs.declared.outcome.Outcome.{Outcome}
 use Rattle.zworld_model.specs.declared.outcome.Outcome.TheVariants.{Acted}
 use Rattle.zprotocol.specs.client.Table as client
 use Rattle.zworld_model.specs.declared.history.CallEvent.TheVariants as call_event
 use Rattle.zworld_model.specs.History.{History}
 use Rattle.zworld_model.specs.Links.{is_same, messages_to, without_front}
 use Rattle.zworld_model.specs.World.{World, opening_world}
+use Rattle.zworld_model.specs.Does as given
+use Rattle.zworld_model.specs.Does.{Standing, AtMaster, AtServer, AtClient, Input, Hear, Obey, Stop, answer_told, server_effect, stop_effect, does}
 use Rattle.zworld_model.specs.Events.{run}
 use Rattle.ztraces.specs.declared.trace.Act.{Act}
 use Rattle.ztraces.specs.declared.trace.Act.TheVariants.{Took, Began, Retried, Ordered, Left, Halted}
 use Rattle.ztraces.specs.declared.trace.TraceEvent.{TraceEvent}
 use Rattle.ztraces.specs.declared.trace.Traces.{Traces}
-use Rattle.ztraces.specs.Deeds.{Stamped, Standing, standing_in, answer_told, Row, MasterTakes, ServerTakes, ClientTakes, ServerIgnores, ServerStops, ServerLeaves, ServerHalts, MasterObeys, MasterRefuses, ClientBegins, ClientRetries, Deed, stamp_of, GoesBy, trace_by, taken_from, takes, stamped, puts, told_by}
+use Rattle.ztraces.specs.Deeds.{Stamped, standing_in, Row, Deed, stamp_of, GoesBy, trace_by, taken_from, takes, stamped, puts, told_by}
 use Rattle.ztraces.specs.Traces.{event_of, Step, comes_before, at_process, Merges, IsMerge, BeginsMerge, is_step_in_place, step_happens, are_in_place, event_list, events_of, client_of, told_of, trace_of, record_of, client_count, stamps_rise_from, stamps_rise}
 use Rattle.ztraces.specs.Lawful.{AccountFor}
-use Rattle.ztraces.proofs.Deeds.{rises, out_ends}
+use Rattle.ztraces.proofs.Deeds.{rises, no_delivery, row_has, out_ends}
 use Rattle.ztraces.proofs.Flows.{Flows, flows_out, flows_put, flows_take, puts_from_front}
 use Rattle.zworld_model.proofs.Processes.{same_process, same_itself}
-use Rattle.ztraces.proofs.row_lemmas.Happens.{fronts, Arrives, HappensIn}
+use Rattle.ztraces.proofs.Effects.{fronts, Arrives, HappensIn}
 use Rattle.ztraces.proofs.Rows.{row_happens}
 
 swapped : (c d : ℕ) → (d == c) ≡ (c == d)
@@ -52,16 +54,6 @@ answer_of c d (Some reply) = ap (λ b. cond b (call_event.Answer d reply.0 reply
 first_false : (a b : Bool) → (a || b) ≡ false → a ≡ false
 first_false true b h = absurd (cc h)
 first_false false b h = refl
-
--- a message is taken where it says so
-no_delivery : {M : Type 0} (machine : Does M) (p : Process) (standing left : Standing M) (from : Process) (outcome : Outcome) (posts : List (Post M)) (told : History)
-    → Row machine p standing (Took from outcome) None left posts told → ⊥
-no_delivery machine p standing left from outcome posts told row = elim row [ ]
-
--- and so is an order to leave
-no_order : {M : Type 0} (machine : Does M) (p : Process) (standing left : Standing M) (posts : List (Post M)) (told : History)
-    → Row machine p standing Left None left posts told → ⊥
-no_order machine p standing left posts told row = elim row [ ]
 
 module _ {M : Type 0} (machine : Does M) where
   -- a world, and what is left to do of all deeds: each process goes on from where it stands, and each link holds, with what is
@@ -122,8 +114,8 @@ module _ {M : Type 0} (machine : Does M) where
         → ((x : Process) → takes x (rest p) ≡ taken_from x act took ++ takes x deeds) → Arrives w p act took × OwnFlow act
     there (Took from outcome) (Some m) row early taken = took_there from m early taken
     there Left (Some m) row early taken = took_there Master m early taken
-    there Left None row early taken = absurd (no_order machine p (standing_in w p) left posts told row)
-    there (Took from outcome) None row early taken = absurd (no_delivery machine p (standing_in w p) left from outcome posts told row)
+    there Left None row early taken = absurd (cc row)
+    there (Took from outcome) None row early taken = absurd (cc (sym (no_delivery machine p (standing_in w p) from outcome) ∙ row))
     there (Began call) took row early taken = (tt, λ x. subst (λ l. Flows (w.links x p) (puts p (rest x)) l) (taken x) (f.links x p))
     there Retried took row early taken = (tt, λ x. subst (λ l. Flows (w.links x p) (puts p (rest x)) l) (taken x) (f.links x p))
     there (Ordered order) took row early taken = (tt, λ x. subst (λ l. Flows (w.links x p) (puts p (rest x)) l) (taken x) (f.links x p))
@@ -187,7 +179,7 @@ module _ {M : Type 0} (machine : Does M) where
       let taken : (x : Process) → takes x (rest p) ≡ taken_from x d.event.act d.took ++ takes x deeds = λ x. ap (takes x) is in
       let early = (rises p (last p) (stamp_of d.took) d.event.stamp goes.1).1 in
       let came = there w last rest f p d.left d.posts d.told d.event.stamp deeds goes.2 put_then next d.event.act d.took goes.0 early taken in
-      let row = row_happens machine w p (standing_in w p) d.event.act d.took d.left d.posts d.told goes.0 refl came.0 in
+      let row = row_happens machine w p d.event.act d.took d.left d.posts d.told goes.0 came.0 in
       record {
         in_place = row.in_place;
         follows = follows w last rest f p d.left d.posts d.told d.event.stamp deeds goes.2 put_then next d.event.act _ row.happens came.1;
@@ -195,19 +187,30 @@ module _ {M : Type 0} (machine : Does M) where
       }
 
   -- a caller sees what its own client tells alone
-  row_told : (c : ℕ) (p : Process) (standing left : Standing M) (act : Act) (took : Option (Stamped M)) (posts : List (Post M)) (told : History)
-      → Row machine p standing act took left posts told → told_of c told ≡ (if is_same (Client c) p then told else [])
-  row_told c _ _ _ _ _ _ _ (MasterTakes v from m) = refl
-  row_told c _ _ _ _ _ _ _ (ServerTakes s v from m no_order) = refl
-  row_told c _ _ _ _ _ _ _ (ClientTakes d v from m) = answer_of c d (client.client_step v from m.1).2
-  row_told c _ _ _ _ _ _ _ (ServerIgnores s v from m query) = refl
-  row_told c _ _ _ _ _ _ _ (ServerStops s v from m grows) = refl
-  row_told c _ _ _ _ _ _ _ (ServerLeaves s v m order) = refl
-  row_told c _ _ _ _ _ _ _ (ServerHalts s v) = refl
-  row_told c _ _ _ _ _ _ _ (MasterObeys v order there none) = refl
-  row_told c _ _ _ _ _ _ _ (MasterRefuses v order fault refuses) = refl
-  row_told c _ _ _ _ _ _ _ (ClientBegins d v call none) = ap (λ b. cond b (call_event.Begin d (v.number + 1) call ∷ []) []) (swapped c d)
-  row_told c _ _ _ _ _ _ _ (ClientRetries d v waits) = nothing (c == d)
+  abbrev IsOwn : ℕ → Process → History → Type 0
+  IsOwn c p told = told_of c told ≡ (if is_same (Client c) p then told else [])
+
+  does_told : (c : ℕ) (p : Process) (input : Input M) (standing : Standing M) → IsOwn c p (does machine p input standing).told
+  does_told c Master (Hear from m) (AtMaster v) = refl
+  does_told c Master (Obey order) (AtMaster v) = refl
+  does_told c Master input standing = refl
+  does_told c (Server s) Stop (AtServer v) = refl
+  does_told c (Server s) (Hear from m) (AtServer v) = by (is_retirement from m)
+    where
+      by : (b : Bool) → told_of c (if b then stop_effect else server_effect (server_step machine v from m)).told ≡ []
+      by true = refl
+      by false = refl
+  does_told c (Server s) input standing = refl
+  does_told c (Client d) (Hear from m) (AtClient v) = answer_of c d (client.client_step v from m).2
+  does_told c (Client d) (given.Begin call) (AtClient v) = ap (λ b. cond b (call_event.Begin d (client.begin_step {T = Transfer M} v call).0.number call ∷ []) []) (swapped c d)
+  does_told c (Client d) given.Retry (AtClient v) = nothing (c == d)
+  does_told c (Client d) input standing = nothing (c == d)
+
+  row_told : (c : ℕ) (p : Process) (standing : Standing M) (act : Act) (took : Option (Stamped M)) (left : Standing M) (posts : List (Post M)) (told : History)
+      → Row machine p standing act took left posts told → IsOwn c p told
+  row_told c p standing act took left posts told row =
+      row_has machine p standing (λ did. IsOwn c p did.told) (λ input is. does_told c p input standing) (λ from m is. nothing (is_same (Client c) p))
+      (λ order is. nothing (is_same (Client c) p)) (record { left = left; posts = posts; told = told }) act took row
 
   -- a run of one event and more
   run_step : (w : World M) (e : Option Event) (events : List Event) → run machine w (event_list e ++ events) ≡ run machine (step_happens machine w e) events
@@ -265,7 +268,7 @@ module _ {M : Type 0} (machine : Does M) where
 
       told : (c : ℕ) → told_of c d.told ++ told_by (left_then (Client c)) ≡ told_by (rest (Client c))
       told c =
-          ap (λ h. h ++ told_by (left_then (Client c))) (row_told c p (standing_in w p) d.left d.event.act d.took d.posts d.told row.0)
+          ap (λ h. h ++ told_by (left_then (Client c))) (row_told c p (standing_in w p) d.event.act d.took d.left d.posts d.told row.0)
           ∙ elim (test (is_same (Client c) p)) [
             | inl t ↦ rw t (sym (ap (λ z. told_by (rest z)) (same_process (Client c) p t) ∙ ap told_by front))
             | inr n ↦ rw n refl

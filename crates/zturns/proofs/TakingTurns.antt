@@ -9,7 +9,7 @@ use Rattle.zcalls.proofs.Among.{test}
 use Rattle.zprotocol.specs.declared.process.Process.{Process}
 use Rattle.zprotocol.specs.declared.process.Process.TheVariants.{Master, Server, Client}
 use Rattle.zprotocol.specs.server.Machine.{Does}
-use Rattle.zprotocol.specs.server.Table.{is_retirement}
+use Rattle.zprotocol.specs.server.Table.{is_retirement, server_step}
 use Rattle.zprotocol.specs.server.View.{ServerView, Transfer, MessageOf}
 use Rattle.zprotocol.specs.master.View.{MasterView}
 use Rattle.zprotocol.specs.master.Table.{master_step, order_step}
@@ -25,7 +25,9 @@ use Rattle.zworld_model.specs.declared.event.Event.TheVariants.{Begin, Retry, Ta
 use Rattle.zworld_model.specs.declared.history.CallEvent.TheVariants as call_event
 use Rattle.zworld_model.specs.Links.{Links, without_front}
 use Rattle.zworld_model.specs.World.{World, at, opening_world}
-use Rattle.zworld_model.specs.Events.{is_enabled, client_took, process_step, front_step, acts, happens, run}
+use Rattle.zworld_model.specs.Does.{Hear, client_effect, server_effect, stop_effect}
+use Rattle.zworld_model.specs.Events.{is_enabled, did_in, does_in, front_step, acts, happens, run}
+use Rattle.zworld_model.proofs.Effects.{by_choice}
 use Rattle.zworld_model.proofs.Tests.{both}
 use Rattle.zorder.proofs.chain_lemmas.links.Links.{at_cases}
 use Rattle.zturns.specs.Turns.{Log}
@@ -132,18 +134,18 @@ module _ {M : Type 0} (machine : Does M) (log : Log) (waiting : Option Call) whe
 
   -- a client takes a message
   client_goes : (w : World M) (c : ℕ) (from : Process) (m : MessageOf M) (r : ClientResult (Transfer M)) → client.IsClientRow (w.clients c) from m r
-      → TakesTurns w log waiting → Goes (client_took w c r)
+      → TakesTurns w log waiting → Goes (did_in w (Client c) (client_effect c r))
   client_goes w c _ _ _ (client.Ignores from m) is = inl (client_kept log waiting w c (w.clients c) _ refl refl is)
   client_goes w c _ _ _ (client.Answers s number call reply waits) is = answered w number call reply _ c log waiting waits is
   client_goes w c _ _ _ (client.Configures epoch head tail later) is =
       inl (client_kept log waiting w c (client.with_config (w.clients c) epoch head tail) _ refl refl is)
 
   -- any process does
-  process_goes : (w : World M) (from to : Process) (m : MessageOf M) → TakesTurns w log waiting → Goes (process_step machine w from to m)
+  process_goes : (w : World M) (from to : Process) (m : MessageOf M) → TakesTurns w log waiting → Goes (does_in machine w to (Hear from m))
   process_goes w from Master m is =
       inl (mastered log waiting w (master_step w.master from m).0 _ (row_keeps w.master from m (master_step w.master from m) (master_case w.master from m)) is)
   process_goes w from (Server s) m is =
-      chosen Goes (is_retirement from m) _ _ (inl (kept log waiting w w.servers _ _ is)) (inl (kept log waiting w _ w.failed _ is))
+      by_choice Goes (is_retirement from m) w (Server s) stop_effect (server_effect (server_step machine (w.servers s) from m)) (inl (kept log waiting w w.servers _ _ is)) (inl (kept log waiting w _ w.failed _ is))
   process_goes w from (Client c) m is = client_goes w c from m (client_step (w.clients c) from m) (client_case (w.clients c) from m) is
 
   front_goes : (w : World M) (from to : Process) (link : List (MessageOf M)) → TakesTurns w log waiting → Goes (front_step machine w from to link)

@@ -22,8 +22,8 @@ use Rattle.zserver.specs.declared.taken.Taken.{Taken}
 use Rattle.zprotocol.specs.client.Table.{ClientResult, client_step, answer_row, config_row, is_waiting_for, begin_fault, begin_step}
 use Rattle.zworld_model.specs.Settle.{retry_events}
 use Rattle.zlinks.specs.Places.{links_of}
-use Rattle.zlinks.specs.support.Rows.{passing, share}
-use Rattle.zlinks.proofs.Rows.{passing-set, passing_at, fails_at}
+use Rattle.zworld.specs.support.Counts.{passing, share}
+use Rattle.zworld.proofs.Counts.{passing-set, passing_at, fails_at}
 use Rattle.zworld.specs.Held.{MemberView, Held, bystander, is_gone, member_at, owes, last_words, nobody, world_of}
 use Rattle.zworld.specs.support.Members.{HasTaken, waits}
 use Rattle.zworld.specs.support.Posting.{is_lost}

@@ -17,7 +17,8 @@ use Rattle.zworld_model.specs.History.{History}
 use Rattle.zworld_model.specs.Links.{is_same, messages_to, without_front}
 use Rattle.zworld_model.specs.World.{World}
 use Rattle.zprotocol.specs.Places.{is_server}
-use Rattle.zworld_model.specs.Events.{is_request, has_failed, is_enabled, happens, acts, front_step, process_step}
+use Rattle.zworld_model.specs.Does.{Hear}
+use Rattle.zworld_model.specs.Events.{is_request, has_failed, is_enabled, happens, acts, front_step, does_in}
 use Rattle.zworld_model.specs.Reading.{is_fitting, read}
 use Rattle.zworld_model.specs.Alike.{IsAlike}
 use Rattle.zworld_model.proofs.Alike.{alike_itself, alike_through}
@@ -49,7 +50,7 @@ module _ (old : Held) (from to : Process) (front : MessageOf (KeptState Tree)) (
       done_stepped old new (event.Take from to) told delivery_enabled
       (λ history.
       subst (λ link. IsAlike (front_step kept_tree (world_of old history) from to link) (world_of new (history ++ told))) (sym there)
-      (subst (λ w. IsAlike (process_step kept_tree w from to front) (world_of new (history ++ told))) (popped history) (given history)))
+      (subst (λ w. IsAlike (does_in kept_tree w to (Hear from front)) (world_of new (history ++ told))) (popped history) (given history)))
 
 -- what is enabled isn't idle
 not_idle : (b : Bool) → b ≡ true → false ≡ not b

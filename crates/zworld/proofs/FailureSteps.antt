@@ -23,44 +23,45 @@ use Rattle.zworld_model.specs.History.{History}
 use Rattle.zworld_model.specs.Links.{Links, is_same, put}
 use Rattle.zworld_model.specs.World.{at}
 use Rattle.zprotocol.specs.Places.{is_server}
-use Rattle.zworld_model.specs.Events.{has_failed, master_does, acts}
+use Rattle.zworld_model.specs.Does.{master_effect}
+use Rattle.zworld_model.specs.Events.{has_failed, did_in, acts}
 use Rattle.zworld_model.specs.Alike.{IsAlike}
 use Rattle.zworld.specs.declared.did.Did.TheVariants as became
 use Rattle.zworld.specs.declared.did.IdleCause.TheVariants as cause
-use Rattle.zworld.specs.Held.{Held, MemberView, bystander, gone_member, is_gone, owes, view_of, member_at, world_of}
+use Rattle.zworld.specs.Held.{Held, HeldChannels, MemberView, bystander, gone_member, is_gone, owes, view_of, member_at, world_of}
 use Rattle.zworld.specs.support.Stepped.{HasStepped}
-use Rattle.zworld.specs.support.Posting.{Rows, IsPosted, is_lost}
+use Rattle.zworld.specs.support.Posting.{IsPosted, is_lost}
 use Rattle.zserver.specs.Server.{TreeView}
 use Rattle.zworld.proofs.Alike.{alike_by, member_set}
 use Rattle.zworld.proofs.Posting.{all_links, lost_is, master_words, posted, words_to_server, words_to_client}
 use Rattle.zworld.proofs.Steps.{idle_stepped, done_stepped}
 
 -- the master's new view, and what it puts
-pub master_alike : (held : Held) (did : MasterView × List (Post (KeptState Tree))) (rows : Rows) (history : History)
-    → IsPosted held.members held.links Master did.1 rows
-    → IsAlike (master_does (world_of held history) did) (world_of (record held { master = did.0; links = rows }) history)
-master_alike held did rows history done =
-    alike_by (master_does (world_of held history) did) (world_of (record held { master = did.0; links = rows }) history) refl refl
+pub master_alike : (held : Held) (did : MasterView × List (Post (KeptState Tree))) (channels : HeldChannels) (history : History)
+    → IsPosted held.members held.links Master did.1 channels
+    → IsAlike (did_in (world_of held history) Master (master_effect did)) (world_of (record held { master = did.0; links = channels }) history)
+master_alike held did channels history done =
+    alike_by (did_in (world_of held history) Master (master_effect did)) (world_of (record held { master = did.0; links = channels }) history) refl refl
     (λ c. refl) (λ s. refl) (λ s alive. refl)
-    (λ from to alive. posted held.members held.links rows Master did.1 (master_words held.members) done from to (sym (lost_is held history to) ∙ alive))
+    (λ from to alive. posted held.members held.links channels Master did.1 (master_words held.members) done from to (sym (lost_is held history to) ∙ alive))
 
 -- a number of a server
 pub is_server_number : (s : ℕ) → 0 < s → s ≤ MAX_SERVERS → is_server s ≡ true
 is_server_number s some few = rw (lt-ltb 0 s some, le-leb s MAX_SERVERS few) refl
 
 -- the master obeys an order
-pub obeyed : (held : Held) (order : Order) (view : MasterView) (posts : List (Post (KeptState Tree))) (rows : Rows) → is_server (server_of order) ≡ true
+pub obeyed : (held : Held) (order : Order) (view : MasterView) (posts : List (Post (KeptState Tree))) (channels : HeldChannels) → is_server (server_of order) ≡ true
     → order_fault held.master order ≡ None
     → view ≡ (order_step {T = Transfer (KeptState Tree)} held.master order).0 → posts ≡ (order_step {T = Transfer (KeptState Tree)} held.master order).1
-    → IsPosted held.members held.links Master posts rows
-    → HasStepped held (record held { master = view; links = rows }) (event.Order order) became.Done []
-obeyed held order view posts rows one free is puts done =
+    → IsPosted held.members held.links Master posts channels
+    → HasStepped held (record held { master = view; links = channels }) (event.Order order) became.Done []
+obeyed held order view posts channels one free is puts done =
     let did : MasterView × List (Post (KeptState Tree)) = order_step held.master order in
-    done_stepped held (record held { master = view; links = rows }) (event.Order order) [] (rw (one, free) refl)
+    done_stepped held (record held { master = view; links = channels }) (event.Order order) [] (rw (one, free) refl)
     (λ history.
-    subst (λ (h : History). IsAlike (master_does (world_of held history) did) (world_of (record held { master = view; links = rows }) h)) (sym (append-nil history))
-    (subst (λ (v : MasterView). IsAlike (master_does (world_of held history) did) (world_of (record held { master = v; links = rows }) history)) (sym is)
-    (master_alike held did rows history (subst (λ (ps : List (Post (KeptState Tree))). IsPosted held.members held.links Master ps rows) puts done))))
+    subst (λ (h : History). IsAlike (did_in (world_of held history) Master (master_effect did)) (world_of (record held { master = view; links = channels }) h)) (sym (append-nil history))
+    (subst (λ (v : MasterView). IsAlike (did_in (world_of held history) Master (master_effect did)) (world_of (record held { master = v; links = channels }) history)) (sym is)
+    (master_alike held did channels history (subst (λ (ps : List (Post (KeptState Tree))). IsPosted held.members held.links Master ps channels) puts done))))
 
 -- or is refused
 pub not_obeyed : (held : Held) (order : Order) (fault : OrderFault) → order_fault held.master order ≡ Some fault
@@ -71,9 +72,9 @@ not_obeyed held order fault refused = idle_stepped held (event.Order order) (cau
     and_false true = refl
     and_false false = refl
 
--- what is held once a server has failed, with these rows
-abbrev pub with_gone : Held → ℕ → Rows → Held
-with_gone held place rows = record held { members = set held.members place gone_member; links = rows }
+-- what is held once a server has failed, with these channels
+abbrev pub with_gone : Held → ℕ → HeldChannels → Held
+with_gone held place channels = record held { members = set held.members place gone_member; links = channels }
 
 -- one that lives owes nothing
 pub owes_nothing : (m : MemberView) → is_gone m ≡ false → owes m ≡ false
@@ -92,8 +93,8 @@ nothing_more : {X : Type 0} (b : Bool) (xs : List X) → (if b then (xs ++ []) +
 nothing_more true xs = append-nil (xs ++ [])
 nothing_more false xs = refl
 
-module _ (held : Held) (s place : ℕ) (rows : Rows) (is : s ≡ place + 1) (inside : place < length held.members) (lives : is_gone (member_at held.members s) ≡ false)
-    (cleared : (p q : Process) → links_of rows p q ≡ without_receiver (links_of held.links) (Server s) p q) where
+module _ (held : Held) (s place : ℕ) (channels : HeldChannels) (is : s ≡ place + 1) (inside : place < length held.members) (lives : is_gone (member_at held.members s) ≡ false)
+    (cleared : (p q : Process) → links_of channels p q ≡ without_receiver (links_of held.links) (Server s) p q) where
   abbrev old_links : Links (KeptState Tree)
   old_links = all_links held.members held.links
 
@@ -104,10 +105,10 @@ module _ (held : Held) (s place : ℕ) (rows : Rows) (is : s ≡ place + 1) (ins
   new_members = set held.members place gone_member
 
   -- what is from a server to the master
-  to_master : (t : ℕ) → with_word (Server t) Master ≡ all_links new_members rows (Server t) Master
+  to_master : (t : ℕ) → with_word (Server t) Master ≡ all_links new_members channels (Server t) Master
   to_master t =
       let member : member_at new_members t ≡ (if t == s then gone_member else member_at held.members t) = member_set held.members s place gone_member is inside t in
-      let queue : links_of rows (Server t) Master ≡ links_of held.links (Server t) Master = cleared (Server t) Master in
+      let queue : links_of channels (Server t) Master ≡ links_of held.links (Server t) Master = cleared (Server t) Master in
       elim (test (t == s)) [
         | inl here ↦
             let e : t ≡ s = eqb-true t s here in
@@ -120,19 +121,19 @@ module _ (held : Held) (s place : ℕ) (rows : Rows) (is : s ≡ place + 1) (ins
       ]
 
   -- what is to a server that lives
-  to_server : (from : Process) (t : ℕ) → (t == s) ≡ false → with_word from (Server t) ≡ all_links new_members rows from (Server t)
+  to_server : (from : Process) (t : ℕ) → (t == s) ≡ false → with_word from (Server t) ≡ all_links new_members channels from (Server t)
   to_server from t other =
-      let queue : links_of rows from (Server t) ≡ links_of held.links from (Server t) =
+      let queue : links_of channels from (Server t) ≡ links_of held.links from (Server t) =
       cleared from (Server t) ∙ ap (λ b. if b then [] else links_of held.links from (Server t)) other in
       rw (queue, words_to_server held.members from t, words_to_server new_members from t) (nothing_more (is_same from (Server s)) (links_of held.links from (Server t)))
 
   -- and to a client
-  to_client : (from : Process) (c : ℕ) → with_word from (Client c) ≡ all_links new_members rows from (Client c)
+  to_client : (from : Process) (c : ℕ) → with_word from (Client c) ≡ all_links new_members channels from (Client c)
   to_client from c =
       rw (cleared from (Client c), words_to_client held.members from c, words_to_client new_members from c)
       (nothing_more (is_same from (Server s)) (links_of held.links from (Client c)))
 
-  links_then : (from to : Process) → (to_alive : is_lost new_members to ≡ false) → with_word from to ≡ all_links new_members rows from to
+  links_then : (from to : Process) → (to_alive : is_lost new_members to ≡ false) → with_word from to ≡ all_links new_members channels from to
   links_then Master Master alive = rw (cleared Master Master) refl
   links_then (Server t) Master alive = to_master t
   links_then (Client c) Master alive = rw (cleared (Client c) Master) refl
@@ -161,15 +162,15 @@ module _ (held : Held) (s place : ℕ) (rows : Rows) (is : s ≡ place + 1) (ins
   lost_then history (Client c) = refl
 
   -- a server fails
-  pub failed_alike : (history : History) → IsAlike (acts kept_tree (world_of held history) (event.Fail s)) (world_of (with_gone held place rows) history)
+  pub failed_alike : (history : History) → IsAlike (acts kept_tree (world_of held history) (event.Fail s)) (world_of (with_gone held place channels) history)
   failed_alike history =
-      alike_by (acts kept_tree (world_of held history) (event.Fail s)) (world_of (with_gone held place rows) history) refl refl
+      alike_by (acts kept_tree (world_of held history) (event.Fail s)) (world_of (with_gone held place channels) history) refl refl
       (λ c. refl) failed_then views_then (λ from to alive. links_then from to (sym (lost_then history to) ∙ alive))
 
-  pub failed : is_server s ≡ true → HasStepped held (with_gone held place rows) (event.Fail s) became.Done []
+  pub failed : is_server s ≡ true → HasStepped held (with_gone held place channels) (event.Fail s) became.Done []
   failed one =
-      done_stepped held (with_gone held place rows) (event.Fail s) [] (rw (one, lives) refl)
-      (λ history. subst (λ (h : History). IsAlike (acts kept_tree (world_of held history) (event.Fail s)) (world_of (with_gone held place rows) h)) (sym (append-nil history))
+      done_stepped held (with_gone held place channels) (event.Fail s) [] (rw (one, lives) refl)
+      (λ history. subst (λ (h : History). IsAlike (acts kept_tree (world_of held history) (event.Fail s)) (world_of (with_gone held place channels) h)) (sym (append-nil history))
       (failed_alike history))
 
 -- one that has failed doesn't fail again
@@ -181,24 +182,24 @@ not_failed held s gone = idle_stepped held (event.Fail s) cause.Nothing (rw gone
     and_false false = refl
 
 -- a server failed, by what its member says
-pub fail_done : (old held : Held) (s place : ℕ) (was member : MemberView) (rows : Rows) (gone : Bool)
+pub fail_done : (old held : Held) (s place : ℕ) (was member : MemberView) (channels : HeldChannels) (gone : Bool)
     → held ≡ old → s ≡ place + 1 → place < length held.members → was ≡ get_or held.members place was → gone ≡ is_gone was → gone ≡ false → member ≡ gone_member
-    → ((p q : Process) → links_of rows p q ≡ without_receiver (links_of held.links) (Server s) p q) → s ≤ MAX_SERVERS
-    → HasStepped old (record held { members = set held.members place member; links = rows }) (event.Fail s) became.Done []
-fail_done old held s place was member rows gone same is inside read asked not is_it cleared few =
+    → ((p q : Process) → links_of channels p q ≡ without_receiver (links_of held.links) (Server s) p q) → s ≤ MAX_SERVERS
+    → HasStepped old (record held { members = set held.members place member; links = channels }) (event.Fail s) became.Done []
+fail_done old held s place was member channels gone same is inside read asked not is_it cleared few =
     let here : member_at held.members s ≡ was =
     ap (λ n. member_at held.members n) (is ∙ add-one place) ∙ get_or_default held.members place bystander was inside ∙ sym read in
-    subst (λ (o : Held). HasStepped o (record held { members = set held.members place member; links = rows }) (event.Fail s) became.Done []) same
-    (subst (λ (m : MemberView). HasStepped held (record held { members = set held.members place m; links = rows }) (event.Fail s) became.Done []) (sym is_it)
-    (failed held s place rows is inside (ap is_gone here ∙ sym asked ∙ not) cleared (is_server_number s (omega (arith, is)) few)))
+    subst (λ (o : Held). HasStepped o (record held { members = set held.members place member; links = channels }) (event.Fail s) became.Done []) same
+    (subst (λ (m : MemberView). HasStepped held (record held { members = set held.members place m; links = channels }) (event.Fail s) became.Done []) (sym is_it)
+    (failed held s place channels is inside (ap is_gone here ∙ sym asked ∙ not) cleared (is_server_number s (omega (arith, is)) few)))
 
 -- the master obeyed an order, by what it says
-pub order_done : (old held : Held) (order : Order) (view : MasterView) (before after : List (Post (KeptState Tree))) (now : List MemberView) (rows : Rows)
+pub order_done : (old held : Held) (order : Order) (view : MasterView) (before after : List (Post (KeptState Tree))) (now : List MemberView) (channels : HeldChannels)
     → held ≡ old → is_server (server_of order) ≡ true → order_fault held.master order ≡ None
     → view ≡ (order_step {T = Transfer (KeptState Tree)} held.master order).0 → before ≡ []
-    → after ≡ before ++ (order_step {T = Transfer (KeptState Tree)} held.master order).1 → now ≡ held.members → IsPosted now held.links Master after rows
-    → HasStepped old (record held { master = view; links = rows }) (event.Order order) became.Done []
-order_done old held order view before after now rows same one free is silent puts value done =
-    subst (λ (o : Held). HasStepped o (record held { master = view; links = rows }) (event.Order order) became.Done []) same
-    (obeyed held order view after rows one free is (puts ∙ ap (λ ps. ps ++ (order_step {T = Transfer (KeptState Tree)} held.master order).1) silent)
-    (subst (λ (ms : List MemberView). IsPosted ms held.links Master after rows) value done))
+    → after ≡ before ++ (order_step {T = Transfer (KeptState Tree)} held.master order).1 → now ≡ held.members → IsPosted now held.links Master after channels
+    → HasStepped old (record held { master = view; links = channels }) (event.Order order) became.Done []
+order_done old held order view before after now channels same one free is silent puts value done =
+    subst (λ (o : Held). HasStepped o (record held { master = view; links = channels }) (event.Order order) became.Done []) same
+    (obeyed held order view after channels one free is (puts ∙ ap (λ ps. ps ++ (order_step {T = Transfer (KeptState Tree)} held.master order).1) silent)
+    (subst (λ (ms : List MemberView). IsPosted ms held.links Master after channels) value done))

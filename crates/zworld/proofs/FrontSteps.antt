@@ -18,25 +18,25 @@ use Rattle.zworld_model.specs.Alike.{IsAlike}
 use Rattle.zworld_model.proofs.Alike.{alike_itself}
 use Rattle.zworld.specs.declared.did.Did.TheVariants as became
 use Rattle.zlinks.specs.Places.{links_of, with_link}
-use Rattle.zworld.specs.Held.{Held, MemberView, nobody, owes, member_at, last_words, world_of}
+use Rattle.zworld.specs.Held.{Held, HeldChannels, MemberView, nobody, owes, member_at, last_words, world_of}
 use Rattle.zworld.specs.support.Stepped.{HasStepped}
-use Rattle.zworld.specs.support.Posting.{Rows, is_lost}
+use Rattle.zworld.specs.support.Posting.{is_lost}
 use Rattle.zworld.specs.support.Fronts.{without, HasPopped}
 use Rattle.zworld.proofs.Alike.{member_set}
 use Rattle.zworld.proofs.Posting.{all_links, lost_is, world_popped}
 use Rattle.zworld.proofs.Steps.{done_stepped}
 use Rattle.zworld.proofs.GivenSteps.{member_was}
 
--- a front that was taken from the rows
-pub popped_some : (old held : Held) (rows : Rows) (from to : Process) (m : MessageOf (KeptState Tree)) → held ≡ old
+-- a front that was taken from the channels
+pub popped_some : (old held : Held) (channels : HeldChannels) (from to : Process) (m : MessageOf (KeptState Tree)) → held ≡ old
     → links_of held.links from to ≡ m ∷ drop 1 (links_of held.links from to)
-    → ((p q : Process) → links_of rows p q ≡ with_link (links_of held.links) from to (drop 1 (links_of held.links from to)) p q)
-    → HasPopped old from to (Some m) (record held { links = rows })
-popped_some old held rows from to m same some rest =
-    subst (λ (o : Held). HasPopped o from to (Some m) (record held { links = rows })) same (
+    → ((p q : Process) → links_of channels p q ≡ with_link (links_of held.links) from to (drop 1 (links_of held.links from to)) p q)
+    → HasPopped old from to (Some m) (record held { links = channels })
+popped_some old held channels from to m same some rest =
+    subst (λ (o : Held). HasPopped o from to (Some m) (record held { links = channels })) same (
       drop 1 (links_of held.links from to) ++ last_words held.members from to,
       ap (λ queue. queue ++ last_words held.members from to) some,
-      world_popped held rows from to m some rest,
+      world_popped held channels from to m some rest,
     )
 
 -- a request is ignored
@@ -110,10 +110,10 @@ module _ (held : Held) (s place : ℕ) (was member : MemberView) (is : s ≡ pla
   told_front : (world_of held []).links (Server s) Master ≡ message.Gone ∷ []
   told_front = rw (empty, ap owes here_was ∙ owed) refl
 
-  pub told_popped : (old : Held) (rows : Rows) → held ≡ old → rows ≡ held.links → HasPopped old (Server s) Master (Some message.Gone) (record held { members = told_members; links = rows })
-  told_popped old rows same kept =
-      subst (λ (o : Held). HasPopped o (Server s) Master (Some message.Gone) (record held { members = told_members; links = rows })) same
-      (subst (λ (ls : Rows). HasPopped held (Server s) Master (Some message.Gone) (record held { members = told_members; links = ls })) (sym kept)
+  pub told_popped : (old : Held) (channels : HeldChannels) → held ≡ old → channels ≡ held.links → HasPopped old (Server s) Master (Some message.Gone) (record held { members = told_members; links = channels })
+  told_popped old channels same kept =
+      subst (λ (o : Held). HasPopped o (Server s) Master (Some message.Gone) (record held { members = told_members; links = channels })) same
+      (subst (λ (ls : HeldChannels). HasPopped held (Server s) Master (Some message.Gone) (record held { members = told_members; links = ls })) (sym kept)
       ([], told_front, told_world))
 
 -- last words are no request
@@ -135,14 +135,14 @@ request_front [] words none request = absurd (true≢false (sym request ∙ none
 request_front (m ∷ queue) words none request = (m, refl)
 
 -- a request is ignored
-pub request_ignored : (old held : Held) (rows : Rows) (from to : Process) (asked : Bool) → held ≡ old
+pub request_ignored : (old held : Held) (channels : HeldChannels) (from to : Process) (asked : Bool) → held ≡ old
     → asked ≡ front_is is_request ((world_of old []).links from to) → asked ≡ true → is_lost old.members to ≡ false
-    → ((p q : Process) → links_of rows p q ≡ with_link (links_of held.links) from to (drop 1 (links_of held.links from to)) p q)
-    → HasStepped old (record held { links = rows }) (event.Ignore from to) became.Done []
-request_ignored old held rows from to asked same is so alive rest =
+    → ((p q : Process) → links_of channels p q ≡ with_link (links_of held.links) from to (drop 1 (links_of held.links from to)) p q)
+    → HasStepped old (record held { links = channels }) (event.Ignore from to) became.Done []
+request_ignored old held channels from to asked same is so alive rest =
     let request : front_is is_request ((world_of held []).links from to) ≡ true =
     ap (λ (h : Held). front_is is_request ((world_of h []).links from to)) same ∙ sym is ∙ so in
     let front = request_front (links_of held.links from to) (last_words held.members from to) (no_request held.members from to) request in
-    subst (λ (o : Held). HasStepped o (record held { links = rows }) (event.Ignore from to) became.Done []) same
-    (ignored held (record held { links = rows }) from to request (ap (λ (h : Held). is_lost h.members to) same ∙ alive)
-    (world_popped held rows from to front.0 front.1 rest))
+    subst (λ (o : Held). HasStepped o (record held { links = channels }) (event.Ignore from to) became.Done []) same
+    (ignored held (record held { links = channels }) from to request (ap (λ (h : Held). is_lost h.members to) same ∙ alive)
+    (world_popped held channels from to front.0 front.1 rest))

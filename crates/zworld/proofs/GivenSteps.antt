@@ -27,11 +27,12 @@ use Rattle.zworld_model.specs.History.{History}
 use Rattle.zworld_model.specs.Links.{is_same, messages_to}
 use Rattle.zworld_model.specs.World.{at}
 use Rattle.zprotocol.specs.Places.{is_server}
-use Rattle.zworld_model.specs.Events.{has_failed, acts, process_step, server_does, server_stops, client_does, with_answer}
+use Rattle.zworld_model.specs.Does.{Hear, server_effect, stop_effect, answer_told}
+use Rattle.zworld_model.specs.Events.{has_failed, acts, did_in, does_in}
 use Rattle.zworld_model.specs.Alike.{IsAlike}
 use Rattle.zlinks.specs.Places.{links_of, without_receiver}
-use Rattle.zworld.specs.Held.{Held, MemberView, bystander, gone_member, nobody, is_gone, owes, view_of, member_at, last_words, world_of}
-use Rattle.zworld.specs.support.Posting.{Rows, IsPosted, is_lost}
+use Rattle.zworld.specs.Held.{Held, HeldChannels, MemberView, bystander, gone_member, nobody, is_gone, owes, view_of, member_at, last_words, world_of}
+use Rattle.zworld.specs.support.Posting.{IsPosted, is_lost}
 use Rattle.zworld.specs.support.Fronts.{IsGiven, IsGivenToServer, did_of, answered_number, answers_of}
 use Rattle.zworld.specs.support.Members.{HasTaken}
 use Rattle.zworld.proofs.Alike.{alike_by, member_set}
@@ -42,19 +43,19 @@ use Rattle.zworld.proofs.CallSteps.{with_client, client_alike}
 use Rattle.zworld.proofs.FailureSteps.{master_alike, owes_nothing, failed_alike}
 
 -- the master acts on a message
-pub given_to_master : (held : Held) (from : Process) (m : MessageOf (KeptState Tree)) (rows : Rows)
-    → IsPosted held.members held.links Master (master_step held.master from m).1 rows
-    → IsGiven held from Master m [] (record held { master = (master_step held.master from m).0; links = rows })
-given_to_master held from m rows done history =
-    subst (λ (h : History). IsAlike (process_step kept_tree (world_of held history) from Master m)
-    (world_of (record held { master = (master_step held.master from m).0; links = rows }) h)) (sym (append-nil history))
-    (master_alike held (master_step held.master from m) rows history done)
+pub given_to_master : (held : Held) (from : Process) (m : MessageOf (KeptState Tree)) (channels : HeldChannels)
+    → IsPosted held.members held.links Master (master_step held.master from m).1 channels
+    → IsGiven held from Master m [] (record held { master = (master_step held.master from m).0; links = channels })
+given_to_master held from m channels done history =
+    subst (λ (h : History). IsAlike (does_in kept_tree (world_of held history) Master (Hear from m))
+    (world_of (record held { master = (master_step held.master from m).0; links = channels }) h)) (sym (append-nil history))
+    (master_alike held (master_step held.master from m) channels history done)
 
 -- a server acts on a message
-module _ (held : Held) (from : Process) (s place : ℕ) (m : MessageOf (KeptState Tree)) (member : MemberView) (view : TreeView) (rows : Rows)
+module _ (held : Held) (from : Process) (s place : ℕ) (m : MessageOf (KeptState Tree)) (member : MemberView) (view : TreeView) (channels : HeldChannels)
     (is : s ≡ place + 1) (inside : place < length held.members) (had : (member_at held.members s).view ≡ Some view)
     (has : member.view ≡ Some (server_step kept_tree view from m).0) (serves : is_retirement from m ≡ false)
-    (done : IsPosted (set held.members place member) held.links (Server s) (server_step kept_tree view from m).1 rows) where
+    (done : IsPosted (set held.members place member) held.links (Server s) (server_step kept_tree view from m).1 channels) where
   abbrev members_then : List MemberView
   members_then = set held.members place member
 
@@ -117,21 +118,21 @@ module _ (held : Held) (from : Process) (s place : ℕ) (m : MessageOf (KeptStat
   ]
 
   server_alike : (history : History)
-      → IsAlike (server_does (world_of held history) s did) (world_of (record held { members = members_then; links = rows }) history)
+      → IsAlike (did_in (world_of held history) (Server s) (server_effect did)) (world_of (record held { members = members_then; links = channels }) history)
   server_alike history =
-      alike_by (server_does (world_of held history) s did) (world_of (record held { members = members_then; links = rows }) history) refl refl
+      alike_by (did_in (world_of held history) (Server s) (server_effect did)) (world_of (record held { members = members_then; links = channels }) history) refl refl
       (λ c. refl) gone_then (λ t alive. views_then t)
       (λ p q alive.
       ap (λ words. if is_same p (Server s) then (links_of held.links p q ++ words) ++ messages_to q did.1 else links_of held.links p q ++ words) (same_words p q)
-      ∙ posted members_then held.links rows (Server s) did.1 no_words done p q (sym (lost_same history q) ∙ alive))
+      ∙ posted members_then held.links channels (Server s) did.1 no_words done p q (sym (lost_same history q) ∙ alive))
 
-  pub given_to_server : IsGiven held from (Server s) m [] (record held { members = members_then; links = rows })
+  pub given_to_server : IsGiven held from (Server s) m [] (record held { members = members_then; links = channels })
   given_to_server history =
-      let new : Held = record held { members = members_then; links = rows } in
-      subst (λ (h : History). IsAlike (process_step kept_tree (world_of held history) from (Server s) m) (world_of new h)) (sym (append-nil history))
-      (subst (λ b. IsAlike (if b then server_stops (world_of held history) s else server_does (world_of held history) s (server_step kept_tree (view_of (member_at held.members s)) from m))
+      let new : Held = record held { members = members_then; links = channels } in
+      subst (λ (h : History). IsAlike (does_in kept_tree (world_of held history) (Server s) (Hear from m)) (world_of new h)) (sym (append-nil history))
+      (subst (λ b. IsAlike (did_in (world_of held history) (Server s) (if b then stop_effect else server_effect (server_step kept_tree (view_of (member_at held.members s)) from m)))
       (world_of new history)) (sym serves)
-      (subst (λ (v : TreeView). IsAlike (server_does (world_of held history) s (server_step kept_tree v from m)) (world_of new history)) (sym view_was)
+      (subst (λ (v : TreeView). IsAlike (did_in (world_of held history) (Server s) (server_effect (server_step kept_tree v from m))) (world_of new history)) (sym view_was)
       (server_alike history)))
 
 -- the reply that a client hands out is that of the message, with its number
@@ -152,32 +153,20 @@ handed_out v from m = inl refl
 
 -- the answers that are told of what a client hands out
 abbrev pub IsTold : ℕ → Option (ℕ × Reply) → History → Type 0
-IsTold c None seen = seen ≡ []
-IsTold c (Some reply) seen = seen ≡ call_event.Answer c reply.0 reply.1 ∷ []
+IsTold c handed seen = seen ≡ answer_told c handed
 
 -- a client acts on a message
-module _ (held : Held) (c : ℕ) (view : ClientView) (posts : List (Post (KeptState Tree))) (rows : Rows) (inside : c < length held.clients)
-    (done : IsPosted held.members held.links (Client c) posts rows) where
-  client_gave : (handed : Option (ℕ × Reply)) (seen : History) (history : History) → IsTold c handed seen
-      → IsAlike (with_answer (client_does (world_of held history) c view posts) c handed) (world_of (with_client held c view rows) (history ++ seen))
-  client_gave None seen history told =
-      subst (λ (given : History). IsAlike (client_does (world_of held history) c view posts) (world_of (with_client held c view rows) (history ++ given))) (sym told)
-      (subst (λ (h : History). IsAlike (client_does (world_of held history) c view posts) (world_of (with_client held c view rows) h)) (sym (append-nil history))
-      (client_alike held c view posts rows history history inside done))
-  client_gave (Some reply) seen history told =
-      subst (λ (given : History). IsAlike (with_answer (client_does (world_of held history) c view posts) c (Some reply)) (world_of (with_client held c view rows) (history ++ given))) (sym told)
-      (client_alike held c view posts rows history (history ++ call_event.Answer c reply.0 reply.1 ∷ []) inside done)
-
-pub given_to_client : (held : Held) (from : Process) (c : ℕ) (m : MessageOf (KeptState Tree)) (view : ClientView) (rows : Rows) (seen : History)
+pub given_to_client : (held : Held) (from : Process) (c : ℕ) (m : MessageOf (KeptState Tree)) (view : ClientView) (channels : HeldChannels) (seen : History)
     → c < length held.clients
     → view ≡ (client_step (get_or held.clients c nobody) from m).0
-    → IsPosted held.members held.links (Client c) (client_step (get_or held.clients c nobody) from m).1 rows
+    → IsPosted held.members held.links (Client c) (client_step (get_or held.clients c nobody) from m).1 channels
     → IsTold c (client_step (get_or held.clients c nobody) from m).2 seen
-    → IsGiven held from (Client c) m seen (with_client held c view rows)
-given_to_client held from c m view rows seen inside is done told history =
+    → IsGiven held from (Client c) m seen (with_client held c view channels)
+given_to_client held from c m view channels seen inside is done told history =
     let did : ClientResult (Transfer (KeptState Tree)) = client_step (get_or held.clients c nobody) from m in
-    subst (λ (v : ClientView). IsAlike (process_step kept_tree (world_of held history) from (Client c) m) (world_of (with_client held c v rows) (history ++ seen))) (sym is)
-    (client_gave held c did.0 did.1 rows inside done did.2 seen history told)
+    subst (λ (v : ClientView). IsAlike (does_in kept_tree (world_of held history) (Client c) (Hear from m)) (world_of (with_client held c v channels) (history ++ seen))) (sym is)
+    (subst (λ (given : History). IsAlike (does_in kept_tree (world_of held history) (Client c) (Hear from m)) (world_of (with_client held c did.0 channels) (history ++ given))) (sym told)
+    (client_alike held c did.0 did.1 channels history (answer_told c did.2) inside done))
 
 -- the member at a place
 pub member_was : (members : List MemberView) (s place : ℕ) (was : MemberView) → s ≡ place + 1 → place < length members → was ≡ get_or members place was
@@ -202,22 +191,22 @@ when_known from m was member before after taken known is =
     subst (λ (t : Taken). (view : TreeView) → was.view ≡ Some view → HasTaken was view from m (Ok t) member before after) is
 
 -- a server that acted, by what its member says
-pub acted_given : (old held : Held) (from : Process) (s place : ℕ) (m : MessageOf (KeptState Tree)) (was member : MemberView) (before after : List (Post (KeptState Tree))) (now : List MemberView) (rows : Rows)
+pub acted_given : (old held : Held) (from : Process) (s place : ℕ) (m : MessageOf (KeptState Tree)) (was member : MemberView) (before after : List (Post (KeptState Tree))) (now : List MemberView) (channels : HeldChannels)
     → held ≡ old → s ≡ place + 1 → place < length held.members → was ≡ get_or held.members place was → is_lost old.members (Server s) ≡ false → before ≡ []
     → ((view : TreeView) → was.view ≡ Some view → HasTaken was view from m (Ok Acted) member before after)
-    → now ≡ set held.members place member → IsPosted now held.links (Server s) after rows
-    → IsGiven old from (Server s) m [] (record held { members = set held.members place member; links = rows })
-acted_given old held from s place m was member before after now rows same is inside read alive silent took written done =
+    → now ≡ set held.members place member → IsPosted now held.links (Server s) after channels
+    → IsGiven old from (Server s) m [] (record held { members = set held.members place member; links = channels })
+acted_given old held from s place m was member before after now channels same is inside read alive silent took written done =
     let here = member_was held.members s place was is inside read in
     let lives : is_gone was ≡ false = ap is_gone (sym here) ∙ ap (λ (h : Held). is_gone (member_at h.members s)) same ∙ alive in
     let view = has_view was lives in
     let had = took view.0 view.1 in
     let puts : after ≡ (server_step kept_tree view.0 from m).1 = had.1 ∙ ap (λ ps. ps ++ (server_step kept_tree view.0 from m).1) silent in
-    let posts : IsPosted (set held.members place member) held.links (Server s) (server_step kept_tree view.0 from m).1 rows =
-    subst (λ (ps : List (Post (KeptState Tree))). IsPosted (set held.members place member) held.links (Server s) ps rows) puts
-    (subst (λ (ms : List MemberView). IsPosted ms held.links (Server s) after rows) written done) in
-    subst (λ (o : Held). IsGiven o from (Server s) m [] (record held { members = set held.members place member; links = rows })) same
-    (given_to_server held from s place m member view.0 rows is inside (ap (λ (x : MemberView). x.view) here ∙ view.1) (ap (λ (x : MemberView). x.view) had.0) had.3 posts)
+    let posts : IsPosted (set held.members place member) held.links (Server s) (server_step kept_tree view.0 from m).1 channels =
+    subst (λ (ps : List (Post (KeptState Tree))). IsPosted (set held.members place member) held.links (Server s) ps channels) puts
+    (subst (λ (ms : List MemberView). IsPosted ms held.links (Server s) after channels) written done) in
+    subst (λ (o : Held). IsGiven o from (Server s) m [] (record held { members = set held.members place member; links = channels })) same
+    (given_to_server held from s place m member view.0 channels is inside (ap (λ (x : MemberView). x.view) here ∙ view.1) (ap (λ (x : MemberView). x.view) had.0) had.3 posts)
 
 -- a test that a member's view passes is passed by the world's view of that server
 wants_there : (old held : Held) (s : ℕ) (view : TreeView) (test : TreeView → Bool) → held ≡ old → (member_at held.members s).view ≡ Some view
@@ -263,13 +252,13 @@ ended_put old held from s place m was member before after why same is inside rea
     had.2 ∙ silent
 
 -- a server that stopped for want of memory
-stopped_given : (old held : Held) (from : Process) (s place : ℕ) (m : MessageOf (KeptState Tree)) (was member : MemberView) (before after : List (Post (KeptState Tree))) (rows : Rows)
+stopped_given : (old held : Held) (from : Process) (s place : ℕ) (m : MessageOf (KeptState Tree)) (was member : MemberView) (before after : List (Post (KeptState Tree))) (channels : HeldChannels)
     → held ≡ old → s ≡ place + 1 → place < length held.members → was ≡ get_or held.members place was → is_lost old.members (Server s) ≡ false
     → ((view : TreeView) → was.view ≡ Some view → HasTaken was view from m (Err Memory) member before after)
-    → ((p q : Process) → links_of rows p q ≡ without_receiver (links_of held.links) (Server s) p q)
+    → ((p q : Process) → links_of channels p q ≡ without_receiver (links_of held.links) (Server s) p q)
     → is_server s ≡ true
-    → (is_server s ≡ true) × (may_stop kept_tree ((world_of old []).servers s) from m ≡ true) × ((history : History) → IsAlike (acts kept_tree (world_of old history) (event.Fail s)) (world_of (record held { members = set held.members place member; links = rows }) history))
-stopped_given old held from s place m was member before after rows same is inside read alive took cleared one =
+    → (is_server s ≡ true) × (may_stop kept_tree ((world_of old []).servers s) from m ≡ true) × ((history : History) → IsAlike (acts kept_tree (world_of old history) (event.Fail s)) (world_of (record held { members = set held.members place member; links = channels }) history))
+stopped_given old held from s place m was member before after channels same is inside read alive took cleared one =
     let here = member_was held.members s place was is inside read in
     let lives : is_gone was ≡ false = ap is_gone (sym here) ∙ ap (λ (h : Held). is_gone (member_at h.members s)) same ∙ alive in
     let view = has_view was lives in
@@ -277,41 +266,41 @@ stopped_given old held from s place m was member before after rows same is insid
       one,
       wants_there old held s view.0 (λ v. may_stop kept_tree v from m) same (ap (λ (x : MemberView). x.view) here ∙ view.1) had.1,
       λ history.
-          subst (λ (o : Held). IsAlike (acts kept_tree (world_of o history) (event.Fail s)) (world_of (record held { members = set held.members place member; links = rows }) history)) same
-          (subst (λ (x : MemberView). IsAlike (acts kept_tree (world_of held history) (event.Fail s)) (world_of (record held { members = set held.members place x; links = rows }) history)) (sym had.0)
-          (failed_alike held s place rows is inside (ap is_gone here ∙ lives) cleared history)),
+          subst (λ (o : Held). IsAlike (acts kept_tree (world_of o history) (event.Fail s)) (world_of (record held { members = set held.members place member; links = channels }) history)) same
+          (subst (λ (x : MemberView). IsAlike (acts kept_tree (world_of held history) (event.Fail s)) (world_of (record held { members = set held.members place x; links = channels }) history)) (sym had.0)
+          (failed_alike held s place channels is inside (ap is_gone here ∙ lives) cleared history)),
     )
 
 -- a server that took the order to leave
-left_given : (old held : Held) (from : Process) (s place : ℕ) (m : MessageOf (KeptState Tree)) (was member : MemberView) (before after : List (Post (KeptState Tree))) (rows : Rows)
+left_given : (old held : Held) (from : Process) (s place : ℕ) (m : MessageOf (KeptState Tree)) (was member : MemberView) (before after : List (Post (KeptState Tree))) (channels : HeldChannels)
     → held ≡ old → s ≡ place + 1 → place < length held.members → was ≡ get_or held.members place was → is_lost old.members (Server s) ≡ false
     → ((view : TreeView) → was.view ≡ Some view → HasTaken was view from m (Err Retired) member before after)
-    → ((p q : Process) → links_of rows p q ≡ without_receiver (links_of held.links) (Server s) p q)
-    → IsGiven old from (Server s) m [] (record held { members = set held.members place member; links = rows })
-left_given old held from s place m was member before after rows same is inside read alive took cleared history =
+    → ((p q : Process) → links_of channels p q ≡ without_receiver (links_of held.links) (Server s) p q)
+    → IsGiven old from (Server s) m [] (record held { members = set held.members place member; links = channels })
+left_given old held from s place m was member before after channels same is inside read alive took cleared history =
     let here = member_was held.members s place was is inside read in
     let lives : is_gone was ≡ false = ap is_gone (sym here) ∙ ap (λ (h : Held). is_gone (member_at h.members s)) same ∙ alive in
     let view = has_view was lives in
     let had = took view.0 view.1 in
-    let new : MemberView → Held = λ x. record held { members = set held.members place x; links = rows } in
-    subst (λ (h : History). IsAlike (process_step kept_tree (world_of old history) from (Server s) m) (world_of (new member) h)) (sym (append-nil history))
-    (subst (λ (o : Held). IsAlike (process_step kept_tree (world_of o history) from (Server s) m) (world_of (new member) history)) same
-    (subst (λ (x : MemberView). IsAlike (process_step kept_tree (world_of held history) from (Server s) m) (world_of (new x) history)) (sym had.0)
-    (subst (λ b. IsAlike (if b then server_stops (world_of held history) s else server_does (world_of held history) s (server_step kept_tree (view_of (member_at held.members s)) from m))
+    let new : MemberView → Held = λ x. record held { members = set held.members place x; links = channels } in
+    subst (λ (h : History). IsAlike (does_in kept_tree (world_of old history) (Server s) (Hear from m)) (world_of (new member) h)) (sym (append-nil history))
+    (subst (λ (o : Held). IsAlike (does_in kept_tree (world_of o history) (Server s) (Hear from m)) (world_of (new member) history)) same
+    (subst (λ (x : MemberView). IsAlike (does_in kept_tree (world_of held history) (Server s) (Hear from m)) (world_of (new x) history)) (sym had.0)
+    (subst (λ b. IsAlike (did_in (world_of held history) (Server s) (if b then stop_effect else server_effect (server_step kept_tree (view_of (member_at held.members s)) from m)))
     (world_of (new gone_member) history)) (sym had.1)
-    (failed_alike held s place rows is inside (ap is_gone here ∙ lives) cleared history))))
+    (failed_alike held s place channels is inside (ap is_gone here ∙ lives) cleared history))))
 
 -- a server that has stopped, for the one or the other
-pub ended_given : (old held : Held) (from : Process) (s place : ℕ) (m : MessageOf (KeptState Tree)) (was member : MemberView) (before after : List (Post (KeptState Tree))) (rows : Rows) (why : Stopped)
+pub ended_given : (old held : Held) (from : Process) (s place : ℕ) (m : MessageOf (KeptState Tree)) (was member : MemberView) (before after : List (Post (KeptState Tree))) (channels : HeldChannels) (why : Stopped)
     → held ≡ old → s ≡ place + 1 → place < length held.members → was ≡ get_or held.members place was → is_lost old.members (Server s) ≡ false
     → ((view : TreeView) → was.view ≡ Some view → HasTaken was view from m (Err why) member before after)
-    → ((p q : Process) → links_of rows p q ≡ without_receiver (links_of held.links) (Server s) p q)
+    → ((p q : Process) → links_of channels p q ≡ without_receiver (links_of held.links) (Server s) p q)
     → is_server s ≡ true
-    → IsGivenToServer old from s m (record held { members = set held.members place member; links = rows }) (did_of why)
-ended_given old held from s place m was member before after rows Memory same is inside read alive took cleared one =
-    stopped_given old held from s place m was member before after rows same is inside read alive took cleared one
-ended_given old held from s place m was member before after rows Retired same is inside read alive took cleared one =
-    left_given old held from s place m was member before after rows same is inside read alive took cleared
+    → IsGivenToServer old from s m (record held { members = set held.members place member; links = channels }) (did_of why)
+ended_given old held from s place m was member before after channels Memory same is inside read alive took cleared one =
+    stopped_given old held from s place m was member before after channels same is inside read alive took cleared one
+ended_given old held from s place m was member before after channels Retired same is inside read alive took cleared one =
+    left_given old held from s place m was member before after channels same is inside read alive took cleared
 
 -- what is told of what a client hands out
 told_of : (c : ℕ) (m : MessageOf (KeptState Tree)) (handed : Option (ℕ × Reply)) → IsHandedOut m handed
@@ -324,13 +313,13 @@ told_of c m handed (inl none) = rw none (nothing (answered_number m))
 told_of c m handed (inr some) = rw (some.2, some.3) refl
 
 -- a client that acted
-pub client_given : (old held : Held) (from : Process) (c : ℕ) (m : MessageOf (KeptState Tree)) (was view : ClientView) (before after : List (Post (KeptState Tree))) (number : Option ℕ) (reply : Option Reply) (rows : Rows)
+pub client_given : (old held : Held) (from : Process) (c : ℕ) (m : MessageOf (KeptState Tree)) (was view : ClientView) (before after : List (Post (KeptState Tree))) (number : Option ℕ) (reply : Option Reply) (channels : HeldChannels)
     → held ≡ old → c < length held.clients → was ≡ get_or held.clients c was → before ≡ []
     → view ≡ (client_step was from m).0 → after ≡ before ++ (client_step was from m).1
     → reply ≡ option_map (λ given. given.1) (client_step {T = Transfer (KeptState Tree)} was from m).2 → number ≡ answered_number m
-    → IsPosted held.members held.links (Client c) after rows
-    → IsGiven old from (Client c) m ((answers_of c number reply)) (with_client held c view rows)
-client_given old held from c m was view before after number reply rows same inside read silent is puts replied numbered done =
+    → IsPosted held.members held.links (Client c) after channels
+    → IsGiven old from (Client c) m ((answers_of c number reply)) (with_client held c view channels)
+client_given old held from c m was view before after number reply channels same inside read silent is puts replied numbered done =
     let here : get_or held.clients c nobody ≡ was = get_or_default held.clients c nobody was inside ∙ sym read in
     let step : ClientView → ClientResult (Transfer (KeptState Tree)) = λ v. client_step v from m in
     let told : IsTold c (step (get_or held.clients c nobody)).2 (answers_of c number reply) =
@@ -338,7 +327,7 @@ client_given old held from c m was view before after number reply rows same insi
     (subst (λ (r : Option Reply). IsTold c (step was).2 (answers_of c number r)) (sym replied)
     (subst (λ (n : Option ℕ). IsTold c (step was).2 (answers_of c n (option_map (λ given. given.1) (step was).2))) (sym numbered)
     (told_of c m (step was).2 (handed_out was from m)))) in
-    subst (λ (o : Held). IsGiven o from (Client c) m ((answers_of c number reply)) (with_client held c view rows)) same
-    (given_to_client held from c m view rows (answers_of c number reply) inside (is ∙ ap (λ v. (step v).0) (sym here))
-    (subst (λ (ps : List (Post (KeptState Tree))). IsPosted held.members held.links (Client c) ps rows)
+    subst (λ (o : Held). IsGiven o from (Client c) m ((answers_of c number reply)) (with_client held c view channels)) same
+    (given_to_client held from c m view channels (answers_of c number reply) inside (is ∙ ap (λ v. (step v).0) (sym here))
+    (subst (λ (ps : List (Post (KeptState Tree))). IsPosted held.members held.links (Client c) ps channels)
     (puts ∙ ap (λ ps. ps ++ (step was).1) silent ∙ ap (λ v. (step v).1) (sym here)) done) told)

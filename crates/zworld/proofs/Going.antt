@@ -276,11 +276,6 @@ same_world (Ok did) old new before after event restored forgotten is_broken is g
     λ idle. let same = unchanged old new before after event did goes idle in rw (same.0, same.1, is) refl
 same_world (Err memory) old new before after event restored forgotten is_broken is goes = tt
 
--- what holds in any case holds where a call was refused
-pub on_err : {A E : Type 0} {Q : Type 0} (r : Result A E) → Q → OnErr r Q
-on_err (Ok x) q = tt
-on_err (Err e) q = q
-
 -- whether an event can want memory doesn't hang on the history
 pub can_anyway : (held : Held) (history : History) (event : Event) → can_want_memory (world_of held history) event ≡ can_want_memory (world_of held []) event
 can_anyway held history (Fail s) = refl

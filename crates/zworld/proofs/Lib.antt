@@ -11,6 +11,7 @@ pub mod OpeningViews
 pub mod Results
 pub mod TakeSteps
 pub mod Tries
+pub mod Counts
 pub mod Counting
 pub mod Skips
 pub mod Passes

@@ -14,8 +14,8 @@ use Rattle.zworld_model.proofs.Processes.{same_process}
 use Rattle.zworld_model.specs.Links.{Links, is_same, messages_to, put, without_front}
 use Rattle.zworld_model.specs.Events.{has_failed}
 use Rattle.zworld_model.specs.History.{History}
-use Rattle.zworld.specs.Held.{Held, MemberView, last_words, world_of}
-use Rattle.zworld.specs.support.Posting.{is_lost, Rows, IsPosted}
+use Rattle.zworld.specs.Held.{Held, HeldChannels, MemberView, last_words, world_of}
+use Rattle.zworld.specs.support.Posting.{is_lost, IsPosted}
 use Rattle.zworld.specs.support.Fronts.{without}
 
 -- who has failed in the world
@@ -43,11 +43,11 @@ words_to_client members (Server t) c = refl
 words_to_client members (Client d) c = refl
 
 -- the links of a world that is held
-abbrev pub all_links : List MemberView → Rows → Links (KeptState Tree)
-all_links members rows from to = links_of rows from to ++ last_words members from to
+abbrev pub all_links : List MemberView → HeldChannels → Links (KeptState Tree)
+all_links members channels from to = links_of channels from to ++ last_words members from to
 
--- what was put on rows was put on these
-pub posted : (members : List MemberView) (old new : Rows) (sender : Process) (posts : List (Post (KeptState Tree)))
+-- what was put on channels was put on these
+pub posted : (members : List MemberView) (old new : HeldChannels) (sender : Process) (posts : List (Post (KeptState Tree)))
     → ((to : Process) → last_words members sender to ≡ []) → IsPosted members old sender posts new
     → (from to : Process) → is_lost members to ≡ false → put (all_links members old) sender posts from to ≡ all_links members new from to
 posted members old new sender posts silent done from to alive = elim (test (is_same from sender)) [
@@ -67,8 +67,8 @@ drop_front : {X : Type 0} (xs ys : List X) (x : X) → xs ≡ x ∷ drop 1 xs �
 drop_front [] ys x some = let never : ⊥ = cc in absurd never
 drop_front (z ∷ xs) ys x some = refl
 
--- a front that was taken from the rows was taken from these
-pub popped : (members : List MemberView) (old new : Rows) (taker giver : Process) (front : MessageOf (KeptState Tree))
+-- a front that was taken from the channels was taken from these
+pub popped : (members : List MemberView) (old new : HeldChannels) (taker giver : Process) (front : MessageOf (KeptState Tree))
     → links_of old giver taker ≡ front ∷ drop 1 (links_of old giver taker)
     → ((p q : Process) → links_of new p q ≡ with_link (links_of old) giver taker (drop 1 (links_of old giver taker)) p q)
     → (p q : Process) → all_links members new p q ≡ without_front (all_links members old) giver taker p q
@@ -91,13 +91,13 @@ popped members old new taker giver front some rest p q = elim (test (is_same p g
     both_true false b is = absurd (true≢false (sym is))
 
 -- so the world is without it
-pub world_popped : (old : Held) (rows : Rows) (giver taker : Process) (front : MessageOf (KeptState Tree))
+pub world_popped : (old : Held) (channels : HeldChannels) (giver taker : Process) (front : MessageOf (KeptState Tree))
     → links_of old.links giver taker ≡ front ∷ drop 1 (links_of old.links giver taker)
-    → ((p q : Process) → links_of rows p q ≡ with_link (links_of old.links) giver taker (drop 1 (links_of old.links giver taker)) p q)
-    → (history : History) → world_of (record old { links = rows }) history ≡ without (world_of old history) giver taker
-world_popped old rows giver taker front some rest history =
-    let links : ◌≡◌ {A = Links (KeptState Tree)} (all_links old.members rows) (without_front (all_links old.members old.links) giver taker) =
-    fun_ext (λ p. fun_ext (λ q. popped old.members old.links rows taker giver front some rest p q)) in
+    → ((p q : Process) → links_of channels p q ≡ with_link (links_of old.links) giver taker (drop 1 (links_of old.links giver taker)) p q)
+    → (history : History) → world_of (record old { links = channels }) history ≡ without (world_of old history) giver taker
+world_popped old channels giver taker front some rest history =
+    let links : ◌≡◌ {A = Links (KeptState Tree)} (all_links old.members channels) (without_front (all_links old.members old.links) giver taker) =
+    fun_ext (λ p. fun_ext (λ q. popped old.members old.links channels taker giver front some rest p q)) in
     ap (λ (ls : Links (KeptState Tree)). record (world_of old history) { links = ls }) links
 
 -- a message to a server that has failed makes no difference to the others

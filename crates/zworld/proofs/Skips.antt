@@ -12,7 +12,8 @@ use Rattle.zprotocol.specs.Places.{place_of, process_at}
 use Rattle.zprotocol.proofs.Places.{place_of-process_at}
 use Rattle.zworld_model.specs.Settle.{processes}
 use Rattle.zlinks.specs.Places.{links_of, is_silent, Between}
-use Rattle.zlinks.proofs.Places.{silent_links, server_place}
+use Rattle.zlinks.proofs.Places.{server_place}
+use Rattle.zlinks.proofs.Searches.{silent_links}
 use Rattle.zworld.specs.Held.{MemberView, Held, SendsNothing, member_at, owes, last_words, world_of}
 use Rattle.zworld.specs.support.Settling.{Point, Tries, takes, takes_from}
 use Rattle.zworld.proofs.Tries.{silent_tries, empty_try, one_more_receiver, one_more_sender}

@@ -7,10 +7,10 @@ use Rattle.zcalls.specs.Kept.{KeptState}
 use Rattle.zprotocol.specs.declared.message.Message.TheVariants as message
 use Rattle.zprotocol.specs.declared.process.Process.{Process}
 use Rattle.zprotocol.specs.declared.process.Process.TheVariants.{Master, Server}
-use Rattle.zprotocol.specs.server.View.{ServerView, MessageOf, spare}
+use Rattle.zprotocol.specs.server.View.{ServerView, Transfer, spare}
 use Rattle.zprotocol.specs.client.View.{ClientView}
 use Rattle.zprotocol.specs.master.View.{MasterView}
-use Rattle.zlinks.specs.Places.{links_of}
+use Rattle.zlinks.specs.Places.{Channels, links_of}
 use Rattle.zworld_model.specs.History.{History}
 use Rattle.zworld_model.specs.Links.{Links}
 use Rattle.zworld_model.specs.World.{World}
@@ -21,13 +21,17 @@ pub record MemberView : Type 0 where
   pub view : Option (ServerView (KeptState Tree))
   pub owes_gone : Bool
 
+-- the channels that hold messages
+abbrev pub HeldChannels : Type 0
+HeldChannels = Channels (Transfer (KeptState Tree))
+
 -- all processes and channels: the servers from 1 on, the clients from 0 on, the master, and the
 -- messages in flight except Gone
 pub record Held : Type 0 where
   pub members : List MemberView
   pub clients : List ClientView
   pub master : MasterView
-  pub links : List (List (List (MessageOf (KeptState Tree))))
+  pub links : HeldChannels
 
 -- a running server with this view
 abbrev pub running : ServerView (KeptState Tree) → MemberView

@@ -1,4 +1,5 @@
 pub mod Codes
+pub mod Counts
 pub mod Members
 pub mod Posting
 pub mod Fronts

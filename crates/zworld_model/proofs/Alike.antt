@@ -2,19 +2,18 @@
 use Rattle.std.proofs.Common.{◌≡◌, ℕ, Bool, true, false, if◌then◌else◌, List, [], ◌∷◌, ◌++◌, Option, Some, None, refl, sym, ap, subst, ◌∙◌}
 use mathlib.Core.Bool.{true≢false}
 use Rattle.std.specs.Prelude.{◌&&◌, not, ◌==◌, drop}
-use Rattle.zcalls.specs.declared.reply.Reply.{Reply}
 use Rattle.zprotocol.specs.declared.message.Message.TheVariants as message
 use Rattle.zprotocol.specs.declared.process.Process.{Process}
 use Rattle.zprotocol.specs.declared.process.Process.TheVariants.{Master, Server, Client}
 use Rattle.zprotocol.specs.server.Machine.{Does}
 use Rattle.zprotocol.specs.server.View.{ServerView, Transfer, MessageOf, Post}
 use Rattle.zprotocol.specs.server.Table as server
-use Rattle.zprotocol.specs.client.Table as client
 use Rattle.zworld_model.specs.declared.event.Event.{Event}
 use Rattle.zworld_model.specs.declared.event.Event.TheVariants.{Begin, Retry, Take, Ignore, Fail, Order}
 use Rattle.zworld_model.specs.Links.{Links, put, without_front, is_same, messages_to}
 use Rattle.zworld_model.specs.World.{World, at}
-use Rattle.zworld_model.specs.Events.{front_is, is_request, has_failed, is_enabled, with_answer, server_does, server_stops, client_does, process_step, front_step, acts, happens, run}
+use Rattle.zworld_model.specs.Does.{AtServer, Hear, Effect, server_effect, stop_effect, last_post, does}
+use Rattle.zworld_model.specs.Events.{front_is, is_request, has_failed, is_enabled, did_in, does_in, front_step, acts, happens, run}
 use Rattle.zworld_model.specs.declared.outcome.Outcome.{Outcome}
 use Rattle.zworld_model.specs.declared.outcome.Outcome.TheVariants.{Acted, Stopped, Unheard}
 use Rattle.zprotocol.specs.server.Memory.{may_be_unheard, may_stop}
@@ -34,15 +33,6 @@ put_agrees v links others sender posts agree from to alive = ap (λ link. if is_
 front_agrees : {M : Type 0} (v : World M) (links others : Links M) (sender taker : Process)
     → Agree v links others → Agree v (without_front links sender taker) (without_front others sender taker)
 front_agrees v links others sender taker agree from to alive = ap (λ link. if is_same from sender && is_same to taker then drop 1 link else link) (agree from to alive)
-
--- an answer that is told keeps worlds alike
-answered_alike : {M : Type 0} (v w : World M) (c : ℕ) (reply : Option (ℕ × Reply)) → IsAlike v w → IsAlike (with_answer v c reply) (with_answer w c reply)
-answered_alike v w c None alike = alike
-answered_alike v w c (Some reply) alike = record {
-  rest = ap (λ u. with_answer u c (Some reply)) alike.rest;
-  servers = alike.servers;
-  links = alike.links;
-}
 
 -- a taker of an enabled delivery has not failed
 not_failed : (front failed : Bool) → (front && not failed) ≡ true → failed ≡ false
@@ -74,7 +64,7 @@ module _ {M : Type 0} (machine : Does M) (v : World M) (others : ℕ → ServerV
 
   -- a server's new view and what it puts
   server_does_alike : (from : Process) (s : ℕ) (did : ServerView M × List (Post M))
-      → IsAlike (server_does (popped from (Server s)) s did) (server_does (other_popped from (Server s)) s did)
+      → IsAlike (did_in (popped from (Server s)) (Server s) (server_effect did)) (did_in (other_popped from (Server s)) (Server s) (server_effect did))
   server_does_alike from s did = record {
     rest = refl;
     servers = λ t alive. ap (λ view. if t == s then did.0 else view) (same_views t alive);
@@ -94,39 +84,40 @@ module _ {M : Type 0} (machine : Does M) (v : World M) (others : ℕ → ServerV
 
   -- a server that stops, in worlds whose links agree too
   stops_alike : (s : ℕ) (one another : Links M) → Agree v one another
-      → IsAlike (server_stops (record v { links = one }) s) (server_stops (record other { links = another }) s)
+      → IsAlike (did_in (record v { links = one }) (Server s) stop_effect) (did_in (record other { links = another }) (Server s) stop_effect)
   stops_alike s one another same = record {
     rest = refl;
     servers = λ t alive. same_views t (was_alive s t (t == s) refl alive);
-    links = λ from to alive. put_agrees v one another (Server s) ((Master, message.Gone) ∷ []) same from to (none_failed s to alive);
+    links = λ from to alive. put_agrees v one another (Server s) last_post same from to (none_failed s to alive);
   }
 
   -- worlds that are alike, by one choice in both
-  chosen_alike : (b : Bool) (x y x' y' : World M) → IsAlike x x' → IsAlike y y' → IsAlike (if b then x else y) (if b then x' else y')
-  chosen_alike true x y x' y' first second = first
-  chosen_alike false x y x' y' first second = second
+  chosen_alike : (b : Bool) (x y : World M) (p : Process) (d e : Effect M) → IsAlike (did_in x p d) (did_in y p d) → IsAlike (did_in x p e) (did_in y p e)
+      → IsAlike (did_in x p (if b then d else e)) (did_in y p (if b then d else e))
+  chosen_alike true x y p d e first second = first
+  chosen_alike false x y p d e first second = second
 
   -- what a taker that has not failed does
   takes_alike : (from to : Process) (message : MessageOf M) → has_failed v to ≡ false
-      → IsAlike (process_step machine (popped from to) from to message) (process_step machine (other_popped from to) from to message)
+      → IsAlike (does_in machine (popped from to) to (Hear from message)) (does_in machine (other_popped from to) to (Hear from message))
   takes_alike from Master message alive = record {
     rest = refl;
     servers = same_views;
     links = put_agrees v _ _ Master _ (front_agrees v _ _ from Master agree);
   }
   takes_alike from (Server s) message alive =
-      let did : ServerView M → ServerView M × List (Post M) = λ view. server.server_step machine view from message in
       let first : World M = popped from (Server s) in
       let second : World M = other_popped from (Server s) in
-      chosen_alike (server.is_retirement from message) (server_stops first s) (server_does first s (did (v.servers s))) (server_stops second s)
-      (server_does second s (did (others s)))
-      (stops_alike s _ _ (front_agrees v _ _ from (Server s) agree))
-      (subst (λ view. IsAlike (server_does first s (did (v.servers s))) (server_does second s (did view))) (same_views s alive)
-      (server_does_alike from s (did (v.servers s))))
-  takes_alike from (Client c) message alive =
-      let took : client.ClientResult (Transfer M) = client.client_step (v.clients c) from message in
-      answered_alike (client_does (popped from (Client c)) c took.0 took.1) (client_does (other_popped from (Client c)) c took.0 took.1) c took.2
-      (record { rest = refl; servers = same_views; links = put_agrees v _ _ (Client c) _ (front_agrees v _ _ from (Client c) agree) })
+      let did : ServerView M × List (Post M) = server.server_step machine (v.servers s) from message in
+      subst (λ view. IsAlike (does_in machine first (Server s) (Hear from message)) (did_in second (Server s) (does machine (Server s) (Hear from message) (AtServer view))))
+      (same_views s alive)
+      (chosen_alike (server.is_retirement from message) first second (Server s) stop_effect (server_effect did)
+      (stops_alike s _ _ (front_agrees v _ _ from (Server s) agree)) (server_does_alike from s did))
+  takes_alike from (Client c) message alive = record {
+    rest = refl;
+    servers = same_views;
+    links = put_agrees v _ _ (Client c) _ (front_agrees v _ _ from (Client c) agree);
+  }
 
   -- the worlds as they are
   as_they_are : IsAlike v other

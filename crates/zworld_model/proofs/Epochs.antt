@@ -1,9 +1,8 @@
 -- In every run from an opening the master keeps its bounds, so it gives few epochs.
-use Rattle.std.proofs.Common.{◌≡◌, ℕ, ◌+◌, ◌<◌, ◌≤◌, Bool, true, false, if◌then◌else◌, List, [], ◌∷◌, Option, Some, None, length, refl, sym, inl, inr, arith}
+use Rattle.std.proofs.Common.{◌≡◌, ℕ, ◌+◌, ◌<◌, ◌≤◌, true, false, List, [], ◌∷◌, Option, Some, None, length, refl, sym, inl, inr, arith}
 use mathlib.Core.Bool.{true≢false}
 use Rattle.std.specs.Prelude.{is_none}
 use Rattle.std.specs.List.{AllByRecursion}
-use Rattle.zcalls.specs.declared.reply.Reply.{Reply}
 use Rattle.zcalls.proofs.Among.{test}
 use Rattle.zprotocol.specs.declared.limits.TheConstants.{MAX_SERVERS}
 use Rattle.zprotocol.specs.declared.process.Process.{Process}
@@ -15,41 +14,30 @@ use Rattle.zprotocol.specs.master.Laws.{IsRisingFrom, IsBounded}
 use Rattle.zprotocol.specs.master.Order.{server_of}
 use Rattle.zprotocol.specs.master.Table.{order_fault}
 use Rattle.zprotocol.proofs.master_lemmas.Bounds.{opening_is_bounded, messages_keep, orders_keep}
-use Rattle.zprotocol.specs.client.Table.{ClientResult, client_step}
 use Rattle.zworld_model.specs.declared.event.Event.{Event}
 use Rattle.zworld_model.specs.declared.event.Event.TheVariants.{Begin, Retry, Take, Ignore, Fail, Order}
 use Rattle.zworld_model.specs.Links.{without_front}
 use Rattle.zworld_model.specs.World.{World, opening_world}
 use Rattle.zprotocol.specs.Places.{is_server}
-use Rattle.zworld_model.specs.Events.{is_enabled, process_step, front_step, acts, happens, run, with_answer, server_does, server_stops, client_does}
+use Rattle.zworld_model.specs.Does.{Hear, server_effect, stop_effect}
+use Rattle.zworld_model.specs.Events.{is_enabled, does_in, front_step, acts, happens, run}
+use Rattle.zworld_model.proofs.Effects.{by_choice}
 use Rattle.zworld_model.specs.Laws.{world_after, EpochsAreFew}
 use Rattle.zworld_model.specs.support.Within.{IsServer}
 use Rattle.zworld_model.proofs.Tests.{both}
 use Rattle.zworld_model.proofs.Visited.{at_least_one, at_most, after_within}
-
--- an answer that is told is nothing to the master
-answer_keeps : {M : Type 0} (w : World M) (c : ℕ) (reply : Option (ℕ × Reply)) → IsBounded w.master → IsBounded (with_answer w c reply).master
-answer_keeps w c None bounded = bounded
-answer_keeps w c (Some reply) bounded = bounded
 
 -- no fault
 is_none_of : {A : Type 0} (o : Option A) → is_none o ≡ true → o ≡ None
 is_none_of None none = refl
 is_none_of (Some x) none = absurd (true≢false (sym none))
 
--- nor is a server's choice
-chosen_keeps : {M : Type 0} (b : Bool) (x y : World M) → IsBounded x.master → IsBounded y.master → IsBounded (if b then x else y).master
-chosen_keeps true x y first second = first
-chosen_keeps false x y first second = second
-
 module _ {M : Type 0} (machine : Does M) where
-  taken_keeps : (w : World M) (from to : Process) (m : MessageOf M) → IsBounded w.master → IsBounded (process_step machine w from to m).master
+  taken_keeps : (w : World M) (from to : Process) (m : MessageOf M) → IsBounded w.master → IsBounded (does_in machine w to (Hear from m)).master
   taken_keeps w from Master m bounded = messages_keep w.master from m bounded
   taken_keeps w from (Server s) m bounded =
-      chosen_keeps (is_retirement from m) (server_stops w s) (server_does w s (server_step machine (w.servers s) from m)) bounded bounded
-  taken_keeps w from (Client c) m bounded =
-      let did : ClientResult (Transfer M) = client_step (w.clients c) from m in
-      answer_keeps (client_does w c did.0 did.1) c did.2 bounded
+      by_choice (λ (x : World M). IsBounded x.master) (is_retirement from m) w (Server s) stop_effect (server_effect (server_step machine (w.servers s) from m)) bounded bounded
+  taken_keeps w from (Client c) m bounded = bounded
 
   front_keeps : (w : World M) (from to : Process) (link : List (MessageOf M)) → IsBounded w.master → IsBounded (front_step machine w from to link).master
   front_keeps w from to [] bounded = bounded

@@ -1,5 +1,7 @@
 pub mod Among
+pub mod Effects
 pub mod Processes
+pub mod Past
 pub mod OrderRows
 pub mod RunOrder
 pub mod FirstCalls

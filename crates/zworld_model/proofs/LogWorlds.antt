@@ -3,7 +3,6 @@ use Rattle.std.proofs.Common.{◌≡◌, ℕ, ◌+◌, ◌-◌, Bool, true, fals
 use Rattle.std.proofs.Common.{Option, Some, None, refl, sym, ap, ◌∙◌}
 use Rattle.std.proofs.lemmas.List.{map-append, drop-map}
 use Rattle.std.specs.Prelude.{◌&&◌, not, ◌==◌, drop, nat_lt}
-use Rattle.zcalls.specs.declared.reply.Reply.{Reply}
 use Rattle.zprotocol.specs.declared.message.Message.TheVariants as message
 use Rattle.zprotocol.specs.declared.process.Process.{Process}
 use Rattle.zprotocol.specs.declared.process.Process.TheVariants.{Master, Server, Client}
@@ -20,11 +19,13 @@ use Rattle.zprotocol.specs.client.Table as client
 use Rattle.zprotocol.proofs.client_lemmas.Projection.{begins_with, retries_with, table_with as client_takes_with}
 use Rattle.zworld_model.specs.declared.event.Event.{Event}
 use Rattle.zworld_model.specs.declared.event.Event.TheVariants.{Begin, Retry, Take, Ignore, Fail, Order}
-use Rattle.zworld_model.specs.declared.history.CallEvent.TheVariants as call_event
 use Rattle.zworld_model.specs.Links.{Links, put, without_front, is_same, messages_to}
 use Rattle.zworld_model.specs.World.{World, at, opening_world}
-use Rattle.zworld_model.specs.Events.{front_is, is_request, has_failed, is_enabled, process_step, front_step, acts, happens, run}
-use Rattle.zworld_model.specs.Events.{server_does, server_stops, master_does, client_does, with_answer, client_took, client_began}
+use Rattle.zworld_model.specs.Does as given
+use Rattle.zworld_model.specs.Does.{AtClient, Hear, Effect, master_effect, server_effect, stop_effect, client_effect, begin_effect, answer_told, last_post}
+use Rattle.zworld_model.specs.declared.history.CallEvent.TheVariants as call_event
+use Rattle.zworld_model.specs.History.{History}
+use Rattle.zworld_model.specs.Events.{front_is, is_request, has_failed, is_enabled, goes_on, did_in, does_in, front_step, acts, happens, run}
 use Rattle.zworld_model.specs.support.LogWorld.{world_with}
 
 module _ {M N : Type 0} (h : M → N) where
@@ -72,26 +73,28 @@ module _ {M N : Type 0} (h : M → N) where
   at_if true new old = refl
   at_if false new old = refl
 
-  server_does_with : (w : World M) (s : ℕ) (did : server.ServerResult M) → server_does (world_with h w) s (server_result_with h did) ≡ world_with h (server_does w s did)
+  server_does_with : (w : World M) (s : ℕ) (did : server.ServerResult M)
+      → did_in (world_with h w) (Server s) (server_effect (server_result_with h did)) ≡ world_with h (did_in w (Server s) (server_effect did))
   server_does_with w s did = λ i. record (world_with h w) {
     servers = λ t. at_if (t == s) did.0 (w.servers t) i;
     links = λ from to. put_with w.links (Server s) did.1 from to i;
   }
 
-  master_does_with : (w : World M) (did : master.MasterResult (Transfer M)) → master_does (world_with h w) (master_with h did) ≡ world_with h (master_does w did)
+  master_does_with : (w : World M) (did : master.MasterResult (Transfer M))
+      → did_in (world_with h w) Master (master_effect (master_with h did)) ≡ world_with h (did_in w Master (master_effect did))
   master_does_with w did = λ i. record (world_with h w) { master = did.0; links = λ from to. put_with w.links Master did.1 from to i }
 
-  client_does_with : (w : World M) (c : ℕ) (view : ClientView) (posts : List (Post M))
-      → client_does (world_with h w) c view (posts_with h posts) ≡ world_with h (client_does w c view posts)
-  client_does_with w c view posts = λ i. record (world_with h w) { clients = at c view w.clients; links = λ from to. put_with w.links (Client c) posts from to i }
+  client_does_with : (w : World M) (c : ℕ) (view : ClientView) (posts : List (Post M)) (told : History)
+      → did_in (world_with h w) (Client c) (record { left = AtClient view; posts = posts_with h posts; told = told })
+      ≡ world_with h (did_in w (Client c) (record { left = AtClient view; posts = posts; told = told }))
+  client_does_with w c view posts told = λ i. record (world_with h w) {
+    clients = at c view w.clients;
+    links = λ from to. put_with w.links (Client c) posts from to i;
+    history = goes_on w.history told;
+  }
 
-  stops_with : (w : World M) (s : ℕ) → server_stops (world_with h w) s ≡ world_with h (server_stops w s)
-  stops_with w s =
-      λ i. record (world_with h w) { failed = at s true w.failed; links = λ from to. put_with w.links (Server s) ((Master, message.Gone) ∷ []) from to i }
-
-  answered_with : (w : World M) (c : ℕ) (reply : Option (ℕ × Reply)) → with_answer (world_with h w) c reply ≡ world_with h (with_answer w c reply)
-  answered_with w c None = refl
-  answered_with w c (Some reply) = refl
+  stops_with : (w : World M) (s : ℕ) → did_in (world_with h w) (Server s) stop_effect ≡ world_with h (did_in w (Server s) stop_effect)
+  stops_with w s = λ i. record (world_with h w) { failed = at s true w.failed; links = λ from to. put_with w.links (Server s) last_post from to i }
 
   -- the front of a link passes the same tests
   request_with : (m : MessageOf M) → is_request (message_with h m) ≡ is_request m
@@ -138,45 +141,52 @@ module _ {M N : Type 0} (h : M → N) where
   retirement_with Master message.Retire = refl
   retirement_with from m = refl
 
-  -- a choice between two worlds
-  chosen_with : (b : Bool) (x y : World M) (x' y' : World N) → x' ≡ world_with h x → y' ≡ world_with h y
-      → (if b then x' else y') ≡ world_with h (if b then x else y)
-  chosen_with true x y x' y' first second = first
-  chosen_with false x y x' y' first second = second
+  -- a choice between two effects
+  chosen_with : (b : Bool) (w : World M) (p : Process) (x y : Effect M) (x' y' : Effect N) → did_in (world_with h w) p x' ≡ world_with h (did_in w p x)
+      → did_in (world_with h w) p y' ≡ world_with h (did_in w p y)
+      → did_in (world_with h w) p (if b then x' else y') ≡ world_with h (did_in w p (if b then x else y))
+  chosen_with true w p x y x' y' first second = first
+  chosen_with false w p x y x' y' first second = second
 
   module _ {d : Does M} {e : Does N} (same : IsHomomorphism d e h) where
     -- a message is taken
-    takes_with : (w : World M) (from to : Process) (m : MessageOf M) → process_step e (world_with h w) from to (message_with h m) ≡ world_with h (process_step d w from to m)
-    takes_with w from Master m = ap (master_does (world_with h w)) (master_takes_with h w.master from m) ∙ master_does_with w (master.master_step w.master from m)
+    takes_with : (w : World M) (from to : Process) (m : MessageOf M)
+        → does_in e (world_with h w) to (Hear from (message_with h m)) ≡ world_with h (does_in d w to (Hear from m))
+    takes_with w from Master m =
+        ap (λ did. did_in (world_with h w) Master (master_effect did)) (master_takes_with h w.master from m)
+        ∙ master_does_with w (master.master_step w.master from m)
     takes_with w from (Server s) m =
         rw (retirement_with from m)
-        (chosen_with (server.is_retirement from m) (server_stops w s) (server_does w s (server.server_step d (w.servers s) from m))
-        (server_stops (world_with h w) s) (server_does (world_with h w) s (server.server_step e (view_with h (w.servers s)) from (message_with h m)))
+        (chosen_with (server.is_retirement from m) w (Server s) stop_effect (server_effect (server.server_step d (w.servers s) from m))
+        stop_effect (server_effect (server.server_step e (view_with h (w.servers s)) from (message_with h m)))
         (stops_with w s)
-        (ap (server_does (world_with h w) s) (table_with h same (w.servers s) from m) ∙ server_does_with w s (server.server_step d (w.servers s) from m)))
+        (ap (λ did. did_in (world_with h w) (Server s) (server_effect did)) (table_with h same (w.servers s) from m)
+        ∙ server_does_with w s (server.server_step d (w.servers s) from m)))
     takes_with w from (Client c) m =
         let did : client.ClientResult (Transfer M) = client.client_step (w.clients c) from m in
-        ap (client_took (world_with h w) c) (client_takes_with h (w.clients c) from m)
-        ∙ ap (λ u. with_answer u c did.2) (client_does_with w c did.0 did.1) ∙ answered_with (client_does w c did.0 did.1) c did.2
+        ap (λ did. did_in (world_with h w) (Client c) (client_effect c did)) (client_takes_with h (w.clients c) from m)
+        ∙ client_does_with w c did.0 did.1 (answer_told c did.2)
 
     takes_front_with : (w : World M) (from to : Process) (link : List (MessageOf M))
         → front_step e (world_with h w) from to (map (message_with h) link) ≡ world_with h (front_step d w from to link)
     takes_front_with w from to [] = refl
     takes_front_with w from to (m ∷ more) =
-        ap (λ u. process_step e u from to (message_with h m)) (popped_with w from to) ∙ takes_with (record w { links = without_front w.links from to }) from to m
+        ap (λ u. does_in e u to (Hear from (message_with h m))) (popped_with w from to) ∙ takes_with (record w { links = without_front w.links from to }) from to m
 
     -- what an event does
     acts_with : (w : World M) (event : Event) → acts e (world_with h w) event ≡ world_with h (acts d w event)
     acts_with w (Begin c call) =
         let did : ClientView × List (Post M) = client.begin_step (w.clients c) call in
-        ap (client_began (world_with h w) c call) (begins_with h (w.clients c) call)
-        ∙ ap (λ (u : World N). record u { history = w.history ++ call_event.Begin c did.0.number call ∷ [] }) (client_does_with w c did.0 did.1)
+        ap (λ did. did_in (world_with h w) (Client c) (begin_effect c call did)) (begins_with h (w.clients c) call)
+        ∙ client_does_with w c did.0 did.1 (call_event.Begin c did.0.number call ∷ [])
     acts_with w (Retry c) =
-        ap (client_does (world_with h w) c (w.clients c)) (retries_with h (w.clients c)) ∙ client_does_with w c (w.clients c) (client.retry_posts (w.clients c))
+        ap (λ posts. did_in (world_with h w) (Client c) (record { left = AtClient (w.clients c); posts = posts; told = [] })) (retries_with h (w.clients c))
+        ∙ client_does_with w c (w.clients c) (client.retry_posts (w.clients c)) []
     acts_with w (Take from to) = takes_front_with w from to (w.links from to)
     acts_with w (Ignore from to) = popped_with w from to
     acts_with w (Fail s) = stops_with w s
-    acts_with w (Order order) = ap (master_does (world_with h w)) (orders_with h w.master order) ∙ master_does_with w (master.order_step w.master order)
+    acts_with w (Order order) =
+        ap (λ did. did_in (world_with h w) Master (master_effect did)) (orders_with h w.master order) ∙ master_does_with w (master.order_step w.master order)
 
     -- where it can happen
     happens_if : (b : Bool) (w acted : World M) (acted' : World N) → acted' ≡ world_with h acted

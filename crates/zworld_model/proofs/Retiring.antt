@@ -12,7 +12,8 @@ use Rattle.zworld_model.specs.declared.event.Event.TheVariants.{Take, Fail}
 use Rattle.zworld_model.specs.Links.{is_same, messages_to, without_front}
 use Rattle.zworld_model.specs.World.{World}
 use Rattle.zprotocol.specs.Places.{is_server}
-use Rattle.zworld_model.specs.Events.{has_failed, server_stops, happens, is_enabled}
+use Rattle.zworld_model.specs.Does.{stop_effect, last_post}
+use Rattle.zworld_model.specs.Events.{has_failed, did_in, happens, is_enabled}
 use Rattle.zworld_model.specs.Alike.{IsAlike}
 use Rattle.zworld_model.proofs.Tests.{both}
 
@@ -27,7 +28,7 @@ module _ {M : Type 0} (machine : Does M) (w : World M) (s : ℕ) (more : List (M
   taken = record w { links = without_front w.links Master (Server s) }
 
   -- who hasn't failed is another one
-  another : (to : Process) → has_failed (server_stops w s) to ≡ false → is_same to (Server s) ≡ false
+  another : (to : Process) → has_failed (did_in w (Server s) stop_effect) to ≡ false → is_same to (Server s) ≡ false
   another Master alive = refl
   another (Client c) alive = refl
   another (Server t) alive = elim (test (t == s)) [
@@ -40,12 +41,12 @@ module _ {M : Type 0} (machine : Does M) (w : World M) (s : ℕ) (more : List (M
   same_elsewhere from to other = elim (test (is_same from Master)) [ inl is ↦ rw (is, other) refl | inr not ↦ rw not refl ]
 
   -- who stops with the order under way, and who has taken it
-  stopped_alike : IsAlike (server_stops w s) (server_stops taken s)
+  stopped_alike : IsAlike (did_in w (Server s) stop_effect) (did_in taken (Server s) stop_effect)
   stopped_alike = record {
     rest = refl;
     servers = λ t alive. refl;
     links = λ from to alive.
-        ap (λ link. if is_same from (Server s) then link ++ messages_to to ((Master, message.Gone) ∷ []) else link)
+        ap (λ link. if is_same from (Server s) then link ++ messages_to to last_post else link)
         (same_elsewhere from to (another to alive));
   }
 

@@ -11,7 +11,8 @@ use Rattle.zworld_model.specs.declared.event.Event.{Event}
 use Rattle.zworld_model.specs.declared.event.Event.TheVariants.{Begin, Retry, Take, Ignore, Fail, Order}
 use Rattle.zworld_model.specs.Links.{without_front}
 use Rattle.zworld_model.specs.World.{World}
-use Rattle.zworld_model.specs.Events.{is_enabled, process_step, front_step, server_stops, server_does, acts, happens, run}
+use Rattle.zworld_model.specs.Does.{Hear, server_effect, stop_effect}
+use Rattle.zworld_model.specs.Events.{is_enabled, did_in, does_in, front_step, acts, happens, run}
 use Rattle.zworld_model.specs.FromTree.{EventsForgetTheStart, RunsForgetTheStart}
 
 module _ {M : Type 0} (does : Does M) (start : M) where
@@ -19,10 +20,10 @@ module _ {M : Type 0} (does : Does M) (start : M) where
   abbrev other : Does M
   other = record does { start = start }
 
-  same_step : (w : World M) (from to : Process) (m : MessageOf M) → process_step other w from to m ≡ process_step does w from to m
+  same_step : (w : World M) (from to : Process) (m : MessageOf M) → does_in other w to (Hear from m) ≡ does_in does w to (Hear from m)
   same_step w from Master m = refl
   same_step w from (Server s) m =
-      ap (λ did. if is_retirement from m then server_stops w s else server_does w s did) (same_table does start (w.servers s) from m)
+      ap (λ did. did_in w (Server s) (if is_retirement from m then stop_effect else server_effect did)) (same_table does start (w.servers s) from m)
   same_step w from (Client c) m = refl
 
   same_front : (w : World M) (from to : Process) (link : List (MessageOf M)) → front_step other w from to link ≡ front_step does w from to link

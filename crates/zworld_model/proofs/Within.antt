@@ -4,7 +4,6 @@ use mathlib.Core.Bool.{true≢false}
 use Rattle.std.specs.Prelude.{◌&&◌, not, drop, is_some}
 use Rattle.std.specs.List.{AllByRecursion}
 use Rattle.zcalls.specs.declared.call.Call.{Call}
-use Rattle.zcalls.specs.declared.reply.Reply.{Reply}
 use Rattle.zcalls.specs.Lists.{Among}
 use Rattle.zcalls.proofs.Among.{test, among_cases}
 use Rattle.zprotocol.specs.declared.message.Message.TheVariants as message
@@ -27,7 +26,12 @@ use Rattle.zworld_model.specs.declared.event.Event.TheVariants.{Begin, Retry, Ta
 use Rattle.zworld_model.specs.Links.{Links, put, without_front, is_same, messages_to}
 use Rattle.zworld_model.specs.World.{World, at}
 use Rattle.zprotocol.specs.Places.{is_server}
-use Rattle.zworld_model.specs.Events.{is_enabled, process_step, front_step, acts, happens, run, with_answer, server_does, server_stops, client_does}
+use Rattle.zworld_model.specs.History.{History}
+use Rattle.zworld_model.specs.Does as given
+use Rattle.zworld_model.specs.declared.history.CallEvent.TheVariants as call_event
+use Rattle.zworld_model.specs.Does.{AtClient, Hear, server_effect, stop_effect, answer_told}
+use Rattle.zworld_model.specs.Events.{is_enabled, did_in, does_in, front_step, acts, happens, run}
+use Rattle.zworld_model.proofs.Effects.{by_choice}
 use Rattle.zworld_model.specs.support.Within.{is_process, SpeaksWithin, GoesWithin, IsViewWithin, IsClientWithin, AreLinksWithin, IsWithin}
 use Rattle.zworld_model.proofs.Processes.{same_process}
 use Rattle.zworld_model.proofs.Tests.{both}
@@ -115,9 +119,9 @@ module _ (M : Type 0) (n : ℕ) where
   }
 
   -- a client acts
-  client_acts : (w : World M) (c : ℕ) (view : ClientView) (posts : List (Post M)) → IsWithin n w → nat_lt c n ≡ true → IsClientWithin n c view
-      → AllByRecursion (GoesWithin n) posts → IsWithin n (client_does w c view posts)
-  client_acts w c view posts within is good all = record {
+  client_acts : (w : World M) (c : ℕ) (view : ClientView) (posts : List (Post M)) (told : History) → IsWithin n w → nat_lt c n ≡ true
+      → IsClientWithin n c view → AllByRecursion (GoesWithin n) posts → IsWithin n (did_in w (Client c) (record { left = AtClient view; posts = posts; told = told }))
+  client_acts w c view posts told within is good all = record {
     counted = within.counted;
     chain = within.chain;
     used = within.used;
@@ -125,12 +129,6 @@ module _ (M : Type 0) (n : ℕ) where
     callers = each_at (IsClientWithin n) c view w.clients good within.callers;
     sent = put_within w.links (Client c) posts within.sent is all;
   }
-
-  -- an answer that is told
-  answer_told : (w : World M) (c : ℕ) (reply : Option (ℕ × Reply)) → IsWithin n w → IsWithin n (with_answer w c reply)
-  answer_told w c None within = within
-  answer_told w c (Some reply) within =
-      record { counted = within.counted; chain = within.chain; used = within.used; views = within.views; callers = within.callers; sent = within.sent }
 
   -- a client's row
   client_row : (c : ℕ) (v : ClientView) → nat_lt c n ≡ true → IsClientWithin n c v → (from : Process) (m : MessageOf M) (r : ClientResult (Transfer M))
@@ -144,7 +142,7 @@ module _ (M : Type 0) (n : ℕ) where
   )
 
   -- a server that stops
-  stops_within : (w : World M) (s : ℕ) → IsWithin n w → is_server s ≡ true → IsWithin n (server_stops w s)
+  stops_within : (w : World M) (s : ℕ) → IsWithin n w → is_server s ≡ true → IsWithin n (did_in w (Server s) stop_effect)
   stops_within w s within is = record {
     counted = within.counted;
     chain = within.chain;
@@ -154,26 +152,21 @@ module _ (M : Type 0) (n : ℕ) where
     sent = put_within w.links (Server s) ((Master, message.Gone) ∷ []) within.sent is ((refl, tt), tt);
   }
 
-  -- a choice between two worlds
-  chosen_within : (b : Bool) (x y : World M) → IsWithin n x → IsWithin n y → IsWithin n (if b then x else y)
-  chosen_within true x y first second = first
-  chosen_within false x y first second = second
-
   module _ (machine : Does M) where
     -- a process takes a message
     taken_within : (w : World M) (from to : Process) (m : MessageOf M) → IsWithin n w → is_process n from ≡ true → is_process n to ≡ true → SpeaksWithin n m
-        → IsWithin n (process_step machine w from to m)
+        → IsWithin n (does_in machine w to (Hear from m))
     taken_within w from Master m within sender taker speaks =
         master_acts w (master_step w.master from m) within
         (master_within M n w.master (record { counted = within.counted; chain = within.chain; used = within.used }) from m (master_step w.master from m) sender (master_case w.master from m))
     taken_within w from (Server s) m within sender taker speaks =
-        chosen_within (is_retirement from m) (server_stops w s) (server_does w s (server_step machine (w.servers s) from m)) (stops_within w s within taker)
+        by_choice (IsWithin n) (is_retirement from m) w (Server s) stop_effect (server_effect (server_step machine (w.servers s) from m)) (stops_within w s within taker)
         (server_acts w s (server_step machine (w.servers s) from m) within taker
         (row_within M n machine (w.servers s) (within.views s) from m (server_step machine (w.servers s) from m) sender speaks (server_case machine (w.servers s) from m)))
     taken_within w from (Client c) m within sender taker speaks =
         let did : ClientResult (Transfer M) = client_step (w.clients c) from m in
         let good = client_row c (w.clients c) taker (within.callers c) from m did speaks (client_case (w.clients c) from m) in
-        answer_told (client_does w c did.0 did.1) c did.2 (client_acts w c did.0 did.1 within taker good.0 good.1)
+        client_acts w c did.0 did.1 (answer_told c did.2) within taker good.0 good.1
 
     front_taken : (w : World M) (from to : Process) (link : List (MessageOf M)) → w.links from to ≡ link → IsWithin n w
         → IsWithin n (front_step machine w from to link)
@@ -198,26 +191,24 @@ module _ (M : Type 0) (n : ℕ) where
     ]
 
     -- what a client puts at a call and at a retry
-    begun_within : (w : World M) (c : ℕ) (call : Call) → IsWithin n w → nat_lt c n ≡ true → IsWithin n (client_does w c (begin_step {T = Transfer M} (w.clients c) call).0 (begin_step (w.clients c) call).1)
+    begun_within : (w : World M) (c : ℕ) (call : Call) → IsWithin n w → nat_lt c n ≡ true → IsWithin n (does_in machine w (Client c) (given.Begin call))
     unfolding begin_step
     begun_within w c call within is =
         let v : ClientView = record (w.clients c) { number = (w.clients c).number + 1; outstanding = Some ((w.clients c).number + 1, call) } in
-        client_acts w c v _ within is
+        client_acts w c v _ (call_event.Begin c v.number call ∷ []) within is
         (record { named_head = (within.callers c).named_head; named_tail = (within.callers c).named_tail; waits_not = waits_any n c v is })
         (outstanding_within M n v v.outstanding (within.callers c).named_head (within.callers c).named_tail)
 
-    retried_within : (w : World M) (c : ℕ) → IsWithin n w → nat_lt c n ≡ true → IsWithin n (client_does w c (w.clients c) (retry_posts (w.clients c)))
+    retried_within : (w : World M) (c : ℕ) → IsWithin n w → nat_lt c n ≡ true → IsWithin n (does_in machine w (Client c) given.Retry)
     unfolding retry_posts
     retried_within w c within is =
-        client_acts w c (w.clients c) _ within is (within.callers c)
+        client_acts w c (w.clients c) _ [] within is (within.callers c)
         (outstanding_within M n (w.clients c) (w.clients c).outstanding (within.callers c).named_head (within.callers c).named_tail)
 
     -- what an enabled event does
     acts_within : (w : World M) (event : Event) → IsWithin n w → is_enabled w event ≡ true → IsWithin n (acts machine w event)
     acts_within w (Begin c call) within enabled =
-        let is : nat_lt c n ≡ true = sym (ap (λ k. nat_lt c k) within.counted) ∙ (both (nat_lt c w.master.clients) _ enabled).0 in
-        let did = begun_within w c call within is in
-        record { counted = did.counted; chain = did.chain; used = did.used; views = did.views; callers = did.callers; sent = did.sent }
+        begun_within w c call within (sym (ap (λ k. nat_lt c k) within.counted) ∙ (both (nat_lt c w.master.clients) _ enabled).0)
     acts_within w (Retry c) within enabled = retried_within w c within (waits_within c (w.clients c) (within.callers c) enabled)
     acts_within w (Take from to) within enabled = front_taken w from to (w.links from to) refl within
     acts_within w (Ignore from to) within enabled = record {

@@ -6,6 +6,7 @@ pub mod Lives
 pub mod Links
 pub mod World
 pub mod Orders
+pub mod Does
 pub mod Events
 pub mod Reading
 pub mod Settle

@@ -4,6 +4,7 @@ pub mod Within
 pub mod Counter
 pub mod OrderRows
 pub mod RunRows
+pub mod StepRows
 pub mod RepairRows
 pub mod JoinRows
 pub mod SettleRows

@@ -8,3 +8,4 @@ mod retirements;
 mod runs;
 mod scenarios;
 mod settling;
+mod steps;

@@ -16,7 +16,8 @@ use Rattle.zprotocol.specs.client.Table as client
 use Rattle.zworld_model.specs.declared.history.CallEvent.{CallEvent}
 use Rattle.zworld_model.specs.declared.history.CallEvent.TheVariants.{Begin, Answer}
 use Rattle.zworld_model.specs.History.{History, HasBegun}
-use Rattle.zworld_model.specs.Events.{client_took}
+use Rattle.zworld_model.specs.Does.{client_effect}
+use Rattle.zworld_model.specs.Events.{did_in}
 use Rattle.zorder.specs.legal.Items.{IsGiven, IsSameEvent}
 use Rattle.zorder.proofs.legal_lemmas.lists.Members.{among_left, among_last}
 use Rattle.zorder.proofs.legal_lemmas.lists.Distinct.{no_two_last}
@@ -94,7 +95,7 @@ module _ {P : Type 0} (plain : Plain P) (t : Account) (s : IsSound plain t) (c n
 -- what a client does with a message
 module _ {P : Type 0} (plain : Plain P) (t : Account) (s : IsSound plain t) (c : ℕ) where
   abbrev after : client.ClientResult (Transfer (List Entry)) → Account
-  after did = record t { world = client_took t.world c did }
+  after did = record t { world = did_in t.world (Client c) (client_effect c did) }
 
   unchanged : IsSound plain (after (client.no_effect (t.world.clients c)))
   unchanged = client_sound plain t s c (t.world.clients c) [] t.world.history (again_calls plain t s c (t.world.clients c) refl refl []) (λ post a. absurd a)

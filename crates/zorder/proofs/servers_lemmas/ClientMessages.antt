@@ -15,7 +15,8 @@ use Rattle.zprotocol.proofs.server_lemmas.Cases.{server_case}
 use Rattle.zprotocol.specs.master.View.{members}
 use Rattle.zworld_model.specs.declared.event.Event.TheVariants.{Take}
 use Rattle.zworld_model.specs.Links.{without_front}
-use Rattle.zworld_model.specs.Events.{process_step}
+use Rattle.zworld_model.specs.Does.{Hear}
+use Rattle.zworld_model.specs.Events.{does_in}
 use Rattle.zorder.specs.legal.Prefix.{IsPrefix}
 use Rattle.zorder.specs.legal.Items.{Item, new_items}
 use Rattle.zorder.proofs.legal_lemmas.lists.Tests.{left_of}
@@ -180,19 +181,19 @@ module _ {P : Type 0} (plain : Plain P) (t : Account) (s : IsSound plain t) (c y
     abbrev popped : LogWorld
     popped = record w { links = without_front w.links (Client c) (Server y) }
 
-    is_account : account_with_puts (account_with_view plain t (Client c) y taken.0) y taken.1 ≡ account_by plain t (Take (Client c) (Server y)) (process_step (log_machine plain) popped (Client c) (Server y) m)
+    is_account : account_with_puts (account_with_view plain t (Client c) y taken.0) y taken.1 ≡ account_by plain t (Take (Client c) (Server y)) (does_in (log_machine plain) popped (Server y) (Hear (Client c) m))
     is_account =
         puts_at_once (account_with_view plain t (Client c) y taken.0) y taken.1
         ∙ (λ i.
         let committed : List Entry = committed_after (tail_log (sym (at_same y taken.0 w.servers) i)) t.committed in
         record {
-          world = process_step (log_machine plain) popped (Client c) (Server y) m;
+          world = does_in (log_machine plain) popped (Server y) (Hear (Client c) m);
           committed = committed;
           items = t.items ++ (sym silent i ++ new_items plain (length w.history) t.committed committed);
         })
 
     -- the event, where no query is answered
-    pub take_from_client : IsSoundAfter plain t (account_by plain t (Take (Client c) (Server y)) (process_step (log_machine plain) popped (Client c) (Server y) m))
+    pub take_from_client : IsSoundAfter plain t (account_by plain t (Take (Client c) (Server y)) (does_in (log_machine plain) popped (Server y) (Hear (Client c) m)))
     take_from_client = after_puts plain t (account_with_view plain t (Client c) y taken.0) _ y taken.1 is_account
         (row_puts (Client c) m taken row refl refl justified (view_step_sound plain t s (Client c) refl y taken.0 good_view shows alive))
         (view_step_begins plain t s (Client c) refl y taken.0 good_view shows alive)

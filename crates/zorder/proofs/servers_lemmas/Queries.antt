@@ -19,7 +19,8 @@ use Rattle.zworld_model.specs.declared.event.Event.TheVariants.{Take}
 use Rattle.zworld_model.specs.History.{HasBegun}
 use Rattle.zworld_model.specs.Links.{without_front}
 use Rattle.zworld_model.specs.World.{at}
-use Rattle.zworld_model.specs.Events.{process_step, server_does}
+use Rattle.zworld_model.specs.Does.{Hear, server_effect}
+use Rattle.zworld_model.specs.Events.{did_in, does_in}
 use Rattle.zworld_model.specs.PlainTree.{service_of}
 use Rattle.zorder.specs.legal.Items.{Item, updates_of, Replays, AreBegunInTime, all_at_time, new_items}
 use Rattle.zorder.specs.legal.Prefix.{IsPrefix}
@@ -151,13 +152,13 @@ module _ {P : Type 0} (plain : Plain P) (t : Account) (s : IsSound plain t) (c y
       ap (new_items plain (length w.history) t.committed) same_committed
       ∙ ap (λ es. all_at_time (length w.history) (acts_from plain.update (after_log plain t.committed) es)) (drop-length t.committed)
 
-  is_account : account_with_put asked_account y (Client c) (message.Answer number reply) ≡ account_by plain t (Take (Client c) (Server y)) (process_step (log_machine plain) popped (Client c) (Server y) m)
+  is_account : account_with_put asked_account y (Client c) (message.Answer number reply) ≡ account_by plain t (Take (Client c) (Server y)) (does_in (log_machine plain) popped (Server y) (Hear (Client c) m))
   is_account = λ i. record {
-    world = server_does popped y (sym does i);
+    world = did_in popped (Server y) (server_effect (sym does i));
     committed = sym same_committed i;
     items = t.items ++ (sym is_asked i ++ sym nothing_new i);
   }
 
   -- the event
-  pub take_query : IsSoundAfter plain t (account_by plain t (Take (Client c) (Server y)) (process_step (log_machine plain) popped (Client c) (Server y) m))
+  pub take_query : IsSoundAfter plain t (account_by plain t (Take (Client c) (Server y)) (does_in (log_machine plain) popped (Server y) (Hear (Client c) m)))
   take_query = (subst (IsSound plain) is_account answered_sound, subst (IsPrefix t.committed) (sym same_committed) (prefix_same t.committed))

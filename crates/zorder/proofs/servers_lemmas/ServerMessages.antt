@@ -20,7 +20,8 @@ use Rattle.zprotocol.proofs.server_lemmas.Cases.{server_case}
 use Rattle.zworld_model.specs.declared.event.Event.TheVariants.{Take}
 use Rattle.zworld_model.specs.History.{HasBegun}
 use Rattle.zworld_model.specs.Links.{without_front}
-use Rattle.zworld_model.specs.Events.{process_step}
+use Rattle.zworld_model.specs.Does.{Hear}
+use Rattle.zworld_model.specs.Events.{does_in}
 use Rattle.zorder.specs.legal.Items.{Item, IsGiven, new_items}
 use Rattle.zorder.proofs.legal_lemmas.acts.NewItems.{update_among}
 use Rattle.zorder.specs.chain.Flow.{log_machine, LogWorld, LogMessage, length_of}
@@ -110,18 +111,18 @@ module _ {P : Type 0} (plain : Plain P) (t : Account) (s : IsSound plain t) (p y
   abbrev popped : LogWorld
   popped = record w { links = without_front w.links (Server p) (Server y) }
 
-  is_account : account_with_puts (account_with_view plain t (Server p) y taken.0) y taken.1 ≡ account_by plain t (Take (Server p) (Server y)) (process_step (log_machine plain) popped (Server p) (Server y) m)
+  is_account : account_with_puts (account_with_view plain t (Server p) y taken.0) y taken.1 ≡ account_by plain t (Take (Server p) (Server y)) (does_in (log_machine plain) popped (Server y) (Hear (Server p) m))
   is_account =
       puts_at_once (account_with_view plain t (Server p) y taken.0) y taken.1
       ∙ (λ i.
       let committed : List Entry = committed_after (tail_log (sym (at_same y taken.0 w.servers) i)) t.committed in
       record {
-        world = process_step (log_machine plain) popped (Server p) (Server y) m;
+        world = does_in (log_machine plain) popped (Server y) (Hear (Server p) m);
         committed = committed;
         items = t.items ++ new_items plain (length w.history) t.committed committed;
       })
 
   -- the event
-  pub take_from_server : IsSoundAfter plain t (account_by plain t (Take (Server p) (Server y)) (process_step (log_machine plain) popped (Server p) (Server y) m))
+  pub take_from_server : IsSoundAfter plain t (account_by plain t (Take (Server p) (Server y)) (does_in (log_machine plain) popped (Server y) (Hear (Server p) m)))
   take_from_server = after_puts plain t (account_with_view plain t (Server p) y taken.0) _ y taken.1 is_account all_puts
       (view_step_begins plain t s (Server p) refl y taken.0 (good_view plain t s p y m rest link exact) (good_first_log plain t s p y m rest link exact) alive)

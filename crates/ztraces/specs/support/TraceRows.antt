@@ -23,7 +23,8 @@ use Rattle.ztraces.specs.declared.trace.Trace.{Trace}
 use Rattle.ztraces.specs.declared.trace.ClientTrace.{ClientTrace}
 use Rattle.ztraces.specs.declared.trace.Traces.{Traces}
 use Rattle.ztraces.specs.Traces.{Step, events_of, at_process, are_in_place}
-use Rattle.ztraces.specs.Deeds.{Deed, GoesBy, Row, Standing, Stamped, AtServer, AtClient, Out, last_post}
+use Rattle.ztraces.specs.Deeds.{Deed, GoesBy, Row, Stamped}
+use Rattle.zworld_model.specs.Does.{Standing, AtServer, AtClient, Out, last_post}
 
 -- the processes, the two calls, and the initial state
 abbrev pub s1 : Process

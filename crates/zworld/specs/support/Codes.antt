@@ -2,9 +2,6 @@
 -- apart by them.
 use Rattle.std.specs.Prelude.{Bool, Option, List, refl}
 use Rattle.std.specs.Coded.{Coded, code_by, coded×, coded_bool, coded_list, coded_option}
-use Rattle.ztree.specs.Tree.{Tree}
-use Rattle.zcalls.specs.Kept.{KeptState}
-use Rattle.zprotocol.specs.server.View.{MessageOf}
 use Rattle.zprotocol.specs.client.View.{ClientView}
 use Rattle.zprotocol.specs.master.View.{MasterView}
 use Rattle.zclient.specs.contracts.client_core.ClientCore as client
@@ -15,7 +12,7 @@ use Rattle.zserver.specs.support.Codes.{coded_view}
 use Rattle.zserver.specs.Server.{TreeView}
 use Rattle.zworld_model.specs.contracts.history.CallEvent as call_event
 use Rattle.zworld_model.specs.History.{History}
-use Rattle.zworld.specs.Held.{MemberView, Held}
+use Rattle.zworld.specs.Held.{MemberView, HeldChannels, Held}
 use Rattle.zworld.specs.Steps.{WorldView}
 
 -- how a member is stored
@@ -25,7 +22,7 @@ coded_member = code_by (Option TreeView × Bool) (coded× (coded_option coded_vi
 -- how what is held is stored
 abbrev pub coded_held : Coded Held
 coded_held =
-    code_by (List MemberView × (List ClientView × (MasterView × List (List (List (MessageOf (KeptState Tree)))))))
+    code_by (List MemberView × (List ClientView × (MasterView × HeldChannels)))
     (coded× (coded_list coded_member) (coded× (coded_list client.the_row.coded) (coded× master.the_row.coded (links.the_row snapshot.the_row).coded)))
     (λ h. (h.members, (h.clients, (h.master, h.links))))
     (λ p. record { members = p.0; clients = p.1.0; master = p.1.1.0; links = p.1.1.1 }) (λ _. refl)

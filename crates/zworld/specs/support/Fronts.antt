@@ -14,7 +14,8 @@ use Rattle.zworld_model.specs.History.{History}
 use Rattle.zworld_model.specs.Links.{without_front}
 use Rattle.zworld_model.specs.World.{World}
 use Rattle.zprotocol.specs.Places.{is_server}
-use Rattle.zworld_model.specs.Events.{process_step, acts}
+use Rattle.zworld_model.specs.Does.{Hear}
+use Rattle.zworld_model.specs.Events.{does_in, acts}
 use Rattle.zworld_model.specs.Alike.{IsAlike}
 use Rattle.zcalls.specs.declared.reply.Reply.{Reply}
 use Rattle.zserver.specs.declared.stopped.Stopped.{Stopped}
@@ -49,7 +50,7 @@ HasPopped old from to (Some message) new =
 -- the receiver acted on a message, and the history goes on with this
 abbrev pub IsGiven : Held → Process → Process → MessageOf (KeptState Tree) → History → Held → Type 0
 IsGiven old from to message told new =
-    (history : History) → IsAlike (process_step kept_tree (world_of old history) from to message) (world_of new (history ++ told))
+    (history : History) → IsAlike (does_in kept_tree (world_of old history) to (Hear from message)) (world_of new (history ++ told))
 
 -- a client received a message and acted on it, and the history goes on with what it handed out
 abbrev pub HasHeard : Held → Held → Process → ℕ → MessageOf (KeptState Tree) → (before after : Seen) → Type 0

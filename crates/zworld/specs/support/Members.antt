@@ -16,7 +16,7 @@ use Rattle.zserver.specs.declared.taken.Taken.TheVariants.{Unheard}
 use Rattle.zserver.specs.Server.{taken_result, StopsAt}
 use Rattle.zworld.specs.declared.life.Life.{Life}
 use Rattle.zworld.specs.declared.life.Life.TheVariants.{Running, Owing, Gone}
-use Rattle.zlinks.specs.support.Rows.{passing}
+use Rattle.zworld.specs.support.Counts.{passing}
 use Rattle.zworld.specs.Held.{MemberView, gone_member, owes}
 
 -- the member that a server is by its life

@@ -6,7 +6,7 @@ use Rattle.zworld_model.specs.declared.history.CallEvent.{CallEvent}
 use Rattle.ztraces.specs.declared.trace.Act.{Act}
 use Rattle.ztraces.specs.declared.trace.Act.TheVariants.{Began}
 use Rattle.zworld_model.specs.declared.history.CallEvent.TheVariants as call_event
-use Rattle.ztraces.specs.Deeds.{AtClient}
+use Rattle.zworld_model.specs.Does.{AtClient}
 use Rattle.zprotocol.specs.client.View.{ClientView}
 use Rattle.zprotocol.specs.client.Table.{begin_step}
 use Rattle.zdesks.specs.Desks.{Stands, IsEvent, pending, TreePost}

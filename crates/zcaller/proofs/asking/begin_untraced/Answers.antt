@@ -5,7 +5,7 @@ use Rattle.zcalls.specs.Kept.{KeptState}
 use Rattle.zprotocol.specs.server.View.{Transfer}
 use Rattle.ztraces.specs.declared.trace.Act.TheVariants.{Began}
 use Rattle.zworld_model.specs.declared.history.CallEvent.TheVariants as call_event
-use Rattle.ztraces.specs.Deeds.{AtClient}
+use Rattle.zworld_model.specs.Does.{AtClient}
 use Rattle.zprotocol.specs.client.View.{ClientView}
 use Rattle.zprotocol.specs.client.Table.{begin_step}
 use Rattle.zdesks.specs.Desks.{Stands, pending, TreePost}

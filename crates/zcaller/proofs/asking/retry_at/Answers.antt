@@ -1,5 +1,5 @@
 use Rattle.std.proofs.Common.{◌≡◌, ◌<◌, ◌++◌, [], List, refl, sym, ◌∙◌, subst, ap, option_to_list}
-use Rattle.ztraces.specs.Deeds.{AtClient}
+use Rattle.zworld_model.specs.Does.{AtClient}
 use Rattle.zprotocol.specs.client.Table.{retry_posts}
 use Rattle.zdesks.specs.Desks.{Stands, pending, TreePost}
 use Rattle.zdesks.proofs.Entered.{is_entered}

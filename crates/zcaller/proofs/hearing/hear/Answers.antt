@@ -2,7 +2,7 @@ use Rattle.std.proofs.Common.{◌≡◌, ◌<◌, ◌++◌, List, Option, Some, 
 use Rattle.std.specs.Option.{option_map}
 use Rattle.zcalls.specs.declared.reply.Reply.{Reply}
 use Rattle.ztraces.specs.declared.trace.Act.{Act}
-use Rattle.ztraces.specs.Deeds.{AtClient, answer_told}
+use Rattle.zworld_model.specs.Does.{AtClient, answer_told}
 use Rattle.zprotocol.specs.client.View.{ClientView}
 use Rattle.zprotocol.specs.client.Table.{client_step}
 use Rattle.zdesks.specs.Desks.{Stands, IsEvent, pending, TreePost}

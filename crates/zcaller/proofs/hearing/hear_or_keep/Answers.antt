@@ -1,6 +1,6 @@
 use Rattle.std.proofs.Common.{[], List, Some, sym, ◌∙◌, subst, ap, refl, inl, inr}
 use Rattle.zprotocol.specs.client.View.{ClientView}
-use Rattle.ztraces.specs.Deeds.{AtClient}
+use Rattle.zworld_model.specs.Does.{AtClient}
 use Rattle.zdesks.specs.Desks.{Stands, pending, TreePost, TreeTaken}
 use Rattle.zcaller.proofs.hearing.hear_or_keep.Goals as goal
 

@@ -1,6 +1,6 @@
 use Rattle.std.proofs.Common.{◌≡◌, ◌<◌, ◌++◌, List, Some, None, refl, sym, ◌∙◌, subst, ap}
 use mathlib.Core.Bool.{true≢false}
-use Rattle.ztraces.specs.Deeds.{AtClient, answer_told}
+use Rattle.zworld_model.specs.Does.{AtClient, answer_told}
 use Rattle.zprotocol.specs.client.View.{ClientView}
 use Rattle.zprotocol.specs.client.Table.{client_step}
 use Rattle.zdesks.specs.Desks.{Stands, pending, TreePost}

@@ -2,9 +2,10 @@
 use Rattle.std.proofs.Common.{◌≡◌, ℕ, true, false, refl}
 use Rattle.zcalls.specs.Kept.{Plain}
 use Rattle.zprotocol.specs.declared.message.Message.TheVariants as message
-use Rattle.zprotocol.specs.declared.process.Process.TheVariants.{Master}
+use Rattle.zprotocol.specs.declared.process.Process.TheVariants.{Master, Server}
 use Rattle.zworld_model.specs.World.{at}
-use Rattle.zworld_model.specs.Events.{server_stops}
+use Rattle.zworld_model.specs.Does.{stop_effect}
+use Rattle.zworld_model.specs.Events.{did_in}
 use Rattle.zorder.specs.chain.Flow.{LogWorld}
 use Rattle.zorder.specs.chain.Chain.{IsMember}
 use Rattle.zorder.specs.chain.Account.{Account}
@@ -48,5 +49,5 @@ module _ {P : Type 0} (plain : Plain P) (t : Account) (s : IsSound plain t) (x :
   }
 
   -- and its last word is put
-  pub stop_sound : IsSound plain (record t { world = server_stops t.world x })
+  pub stop_sound : IsSound plain (record t { world = did_in t.world (Server x) stop_effect })
   stop_sound = put_unread plain (record t { world = failed }) x Master message.Gone (unread_foreign message.Gone tt) (at_same x true t.world.failed) fail_sound

@@ -1,7 +1,6 @@
 -- What each server's view and each message has on its own: it holds of every run where the server table keeps it and all
 -- orders and requests have it.
-use Rattle.std.proofs.Common.{ℕ, Bool, true, false, if◌then◌else◌, List, [], ◌∷◌, Option, Some, None, refl, inl, inr}
-use Rattle.zcalls.specs.declared.reply.Reply.{Reply}
+use Rattle.std.proofs.Common.{ℕ, List, [], ◌∷◌, refl, inl, inr}
 use Rattle.zcalls.specs.Lists.{Among}
 use Rattle.zcalls.proofs.Among.{test}
 use Rattle.zprotocol.specs.declared.message.Message.TheVariants as message
@@ -17,7 +16,11 @@ use Rattle.zworld_model.specs.declared.event.Event.{Event}
 use Rattle.zworld_model.specs.declared.event.Event.TheVariants.{Begin, Retry, Take, Ignore, Fail, Order}
 use Rattle.zworld_model.specs.Links.{Links, put, without_front}
 use Rattle.zworld_model.specs.World.{World}
-use Rattle.zworld_model.specs.Events.{is_enabled, server_does, server_stops, client_does, with_answer, process_step, front_step, acts, happens, run}
+use Rattle.zworld_model.specs.History.{History}
+use Rattle.zworld_model.specs.Does.{AtClient, Hear, server_effect, stop_effect, answer_told, last_post}
+use Rattle.zworld_model.specs.declared.history.CallEvent.TheVariants as call_event
+use Rattle.zworld_model.specs.Events.{is_enabled, did_in, does_in, front_step, acts, happens, run}
+use Rattle.zworld_model.proofs.Effects.{by_choice}
 use Rattle.zorder.proofs.chain_lemmas.links.Links.{put_among, front_among, at_cases, AllPosts, all_none, all_and}
 use Rattle.zorder.proofs.chain_lemmas.tables.OtherPosts.{IsOrder, IsRequest, master_orders, order_orders, begin_requests, retry_requests, client_requests}
 
@@ -36,8 +39,9 @@ module _ {M : Type 0} (does : Does M) (V : ServerView M → Type 0) (Q : Message
   put_all links sender posts new old from to m a = elim (put_among links sender posts from to m a) [ inl b ↦ old from to m b | inr p ↦ new (to, m) p.1 ]
 
   -- a client does something
-  client_does_all : (w : World M) (c : ℕ) (view : ClientView) (posts : List (Post M)) → AllPosts Q posts → Everywhere V Q w → Everywhere V Q (client_does w c view posts)
-  client_does_all w c view posts new h = record { views = h.views; under_way = put_all w.links (Client c) posts new h.under_way }
+  client_does_all : (w : World M) (c : ℕ) (view : ClientView) (posts : List (Post M)) (told : History) → AllPosts Q posts → Everywhere V Q w
+      → Everywhere V Q (did_in w (Client c) (record { left = AtClient view; posts = posts; told = told }))
+  client_does_all w c view posts told new h = record { views = h.views; under_way = put_all w.links (Client c) posts new h.under_way }
 
   asked_all : (posts : List (Post M)) → AllPosts IsRequest posts → AllPosts Q posts
   asked_all posts h post a = requests post.1 (h post a)
@@ -45,33 +49,24 @@ module _ {M : Type 0} (does : Does M) (V : ServerView M → Type 0) (Q : Message
   ordered_all : (posts : List (Post M)) → AllPosts IsOrder posts → AllPosts Q posts
   ordered_all posts h post a = orders post.1 (h post a)
 
-  answered_all : (w : World M) (c : ℕ) (reply : Option (ℕ × Reply)) → Everywhere V Q w → Everywhere V Q (with_answer w c reply)
-  answered_all w c None h = h
-  answered_all w c (Some reply) h = record { views = h.views; under_way = h.under_way }
-
   -- a server stops
-  stops_all : (w : World M) (s : ℕ) → Everywhere V Q w → Everywhere V Q (server_stops w s)
-  stops_all w s h = record { views = h.views; under_way = put_all w.links (Server s) ((Master, message.Gone) ∷ []) (all_and Q (Master, message.Gone) [] gone (all_none Q)) h.under_way }
-
-  -- a choice between two worlds
-  chosen_all : (b : Bool) (x y : World M) → Everywhere V Q x → Everywhere V Q y → Everywhere V Q (if b then x else y)
-  chosen_all true x y first second = first
-  chosen_all false x y first second = second
+  stops_all : (w : World M) (s : ℕ) → Everywhere V Q w → Everywhere V Q (did_in w (Server s) stop_effect)
+  stops_all w s h = record { views = h.views; under_way = put_all w.links (Server s) last_post (all_and Q (Master, message.Gone) [] gone (all_none Q)) h.under_way }
 
   -- a message is taken
-  takes_all : (w : World M) (from to : Process) (m : MessageOf M) → Q m → Everywhere V Q w → Everywhere V Q (process_step does w from to m)
+  takes_all : (w : World M) (from to : Process) (m : MessageOf M) → Q m → Everywhere V Q w → Everywhere V Q (does_in does w to (Hear from m))
   takes_all w from Master m q h =
       record { views = h.views; under_way = put_all w.links Master (master.master_step w.master from m).1 (ordered_all _ (master_orders w.master from m)) h.under_way }
   takes_all w from (Server s) m q h =
       let row = rows (w.servers s) from m (h.views s) q in
-      chosen_all (server.is_retirement from m) (server_stops w s) (server_does w s (server.server_step does (w.servers s) from m)) (stops_all w s h)
+      by_choice (Everywhere V Q) (server.is_retirement from m) w (Server s) stop_effect (server_effect (server.server_step does (w.servers s) from m)) (stops_all w s h)
       (record {
         views = λ t. at_cases V s (server.server_step does (w.servers s) from m).0 w.servers t (λ e. row.0) (λ f. h.views t);
         under_way = put_all w.links (Server s) (server.server_step does (w.servers s) from m).1 row.1 h.under_way;
       })
   takes_all w from (Client c) m q h =
       let did : client.ClientResult (Transfer M) = client.client_step (w.clients c) from m in
-      answered_all (client_does w c did.0 did.1) c did.2 (client_does_all w c did.0 did.1 (asked_all did.1 (client_requests (w.clients c) from m)) h)
+      client_does_all w c did.0 did.1 (answer_told c did.2) (asked_all did.1 (client_requests (w.clients c) from m)) h
 
   popped_all : (w : World M) (from to : Process) → Everywhere V Q w → Everywhere V Q (record w { links = without_front w.links from to })
   popped_all w from to h = record { views = h.views; under_way = λ p q m a. h.under_way p q m (front_among w.links from to p q m a) }
@@ -83,9 +78,8 @@ module _ {M : Type 0} (does : Does M) (V : ServerView M → Type 0) (Q : Message
   acts_all : (w : World M) (event : Event) → Everywhere V Q w → Everywhere V Q (acts does w event)
   acts_all w (Begin c call) h =
       let did : ClientView × List (Post M) = client.begin_step (w.clients c) call in
-      let after = client_does_all w c did.0 did.1 (asked_all did.1 (begin_requests (w.clients c) call)) h in
-      record { views = after.views; under_way = after.under_way }
-  acts_all w (Retry c) h = client_does_all w c (w.clients c) (client.retry_posts (w.clients c)) (asked_all (client.retry_posts (w.clients c)) (retry_requests (w.clients c))) h
+      client_does_all w c did.0 did.1 (call_event.Begin c did.0.number call ∷ []) (asked_all did.1 (begin_requests (w.clients c) call)) h
+  acts_all w (Retry c) h = client_does_all w c (w.clients c) (client.retry_posts (w.clients c)) [] (asked_all (client.retry_posts (w.clients c)) (retry_requests (w.clients c))) h
   acts_all w (Take from to) h = front_all w from to (w.links from to) (h.under_way from to) h
   acts_all w (Ignore from to) h = popped_all w from to h
   acts_all w (Fail s) h = stops_all w s h

@@ -14,7 +14,8 @@ use Rattle.zprotocol.proofs.server_lemmas.Fields.{view_of}
 use Rattle.zprotocol.specs.master.View.{members}
 use Rattle.zworld_model.specs.declared.event.Event.TheVariants.{Take}
 use Rattle.zworld_model.specs.Links.{without_front}
-use Rattle.zworld_model.specs.Events.{process_step}
+use Rattle.zworld_model.specs.Does.{Hear}
+use Rattle.zworld_model.specs.Events.{does_in}
 use Rattle.zorder.specs.legal.Prefix.{IsPrefix}
 use Rattle.zorder.proofs.legal_lemmas.lists.Places.{before_second}
 use Rattle.zorder.proofs.legal_lemmas.lists.Prefixes.{prefix_same}
@@ -200,7 +201,7 @@ module _ {P : Type 0} (plain : Plain P) (t : Account) (s : IsSound plain t) (y e
 
   -- the event
   pub take_whole_order : IsSoundAfter plain t (account_by plain t (Take Master (Server y))
-      (process_step (log_machine plain) (record t.world { links = without_front t.world.links Master (Server y) }) Master (Server y) order))
+      (does_in (log_machine plain) (record t.world { links = without_front t.world.links Master (Server y) }) (Server y) (Hear Master order)))
   take_whole_order = after_turn plain t s y order rest link alive
       (led, (Server z, message.Snapshot epoch (record { last = (t.world.servers y).last; machine = own })) ∷ []) handed good_hand
       (put_whole plain led_account (turn_sound plain t s y order rest link alive led good_hand) y (member plain t s y order rest link alive led good_hand) own

@@ -13,7 +13,8 @@ use Rattle.zprotocol.specs.server.Table as server
 use Rattle.zprotocol.specs.server.support.Cases.{acks_all}
 use Rattle.zworld_model.specs.declared.event.Event.TheVariants.{Take}
 use Rattle.zworld_model.specs.Links.{without_front}
-use Rattle.zworld_model.specs.Events.{process_step, server_does}
+use Rattle.zworld_model.specs.Does.{Hear, server_effect}
+use Rattle.zworld_model.specs.Events.{did_in, does_in}
 use Rattle.zorder.specs.legal.Items.{Item, new_items}
 use Rattle.zorder.proofs.legal_lemmas.lists.Prefixes.{prefix_same}
 use Rattle.zorder.specs.chain.Flow.{log_machine, LogWorld, LogMessage, Log, or_else, log_at, final_log_by, final_log, first_snapshot_by, first_log}
@@ -84,21 +85,21 @@ module _ {P : Type 0} (plain : Plain P) (t : Account) (s : IsSound plain t) (y :
   taken = server.server_step (log_machine plain) (t.world.servers y) Master m
 
   account_of : (r : ServerResult (List Entry)) → server.server_step (log_machine plain) (t.world.servers y) Master m ≡ r
-      → account_with_puts (account_with_view plain t Master y r.0) y r.1 ≡ account_by plain t (Take Master (Server y)) (server_does popped y taken)
+      → account_with_puts (account_with_view plain t Master y r.0) y r.1 ≡ account_by plain t (Take Master (Server y)) (did_in popped (Server y) (server_effect taken))
   account_of r is =
       ap (λ (x : ServerResult (List Entry)). account_with_puts (account_with_view plain t Master y x.0) y x.1) (sym is)
       ∙ puts_at_once (account_with_view plain t Master y taken.0) y taken.1
       ∙ (λ i.
       let committed : List Entry = committed_after (tail_log (sym (at_same y taken.0 w.servers) i)) t.committed in
       record {
-        world = server_does popped y taken;
+        world = did_in popped (Server y) (server_effect taken);
         committed = committed;
         items = t.items ++ new_items plain (length w.history) t.committed committed;
       })
 
   -- the whole event, from the view and what is put
   pub after_turn : (r : ServerResult (List Entry)) → server.server_step (log_machine plain) (t.world.servers y) Master m ≡ r → IsGoodTurn t.world y r.0 rest
-      → IsSound plain (account_with_puts (account_with_view plain t Master y r.0) y r.1) → IsSoundAfter plain t (account_by plain t (Take Master (Server y)) (server_does popped y taken))
+      → IsSound plain (account_with_puts (account_with_view plain t Master y r.0) y r.1) → IsSoundAfter plain t (account_by plain t (Take Master (Server y)) (did_in popped (Server y) (server_effect taken)))
   after_turn r is good sound =
       after_puts plain t (account_with_view plain t Master y r.0) _ y r.1 (account_of r is) sound (turn_begins plain t s y m rest link alive r.0 good)
 
@@ -140,7 +141,7 @@ module _ {P : Type 0} (plain : Plain P) (t : Account) (s : IsSound plain t) (y e
 
   -- the event
   pub take_tail_order : IsSoundAfter plain t (account_by plain t (Take Master (Server y))
-      (process_step (log_machine plain) (record t.world { links = without_front t.world.links Master (Server y) }) Master (Server y) (message.BecomeTail epoch)))
+      (does_in (log_machine plain) (record t.world { links = without_front t.world.links Master (Server y) }) (Server y) (Hear Master (message.BecomeTail epoch))))
   take_tail_order = after_turn plain t s y (message.BecomeTail epoch) rest link alive (ended, acks_all (t.world.servers y)) end_taken good_end
       (puts_unread plain (account_with_view plain t Master y ended) y (acks_all (t.world.servers y)) (acks_by (t.world.servers y).machine)
       (turn_sound plain t s y (message.BecomeTail epoch) rest link alive ended good_end))
@@ -172,7 +173,7 @@ module _ {P : Type 0} (plain : Plain P) (t : Account) (s : IsSound plain t) (y e
 
   -- the event
   pub take_head_order : IsSoundAfter plain t (account_by plain t (Take Master (Server y))
-      (process_step (log_machine plain) (record t.world { links = without_front t.world.links Master (Server y) }) Master (Server y) (message.BecomeHead epoch)))
+      (does_in (log_machine plain) (record t.world { links = without_front t.world.links Master (Server y) }) (Server y) (Hear Master (message.BecomeHead epoch))))
   take_head_order = after_turn plain t s y (message.BecomeHead epoch) rest link alive (led, []) head_taken good_head
       (turn_sound plain t s y (message.BecomeHead epoch) rest link alive led good_head)
 
@@ -223,7 +224,7 @@ module _ {P : Type 0} (plain : Plain P) (t : Account) (s : IsSound plain t) (y e
 
   -- the event
   pub take_pred_order : IsSoundAfter plain t (account_by plain t (Take Master (Server y))
-      (process_step (log_machine plain) (record t.world { links = without_front t.world.links Master (Server y) }) Master (Server y) (message.NewPred epoch p)))
+      (does_in (log_machine plain) (record t.world { links = without_front t.world.links Master (Server y) }) (Server y) (Hear Master (message.NewPred epoch p))))
   take_pred_order = after_turn plain t s y (message.NewPred epoch p) rest link alive
       (turned, (Master, message.Have epoch (last_number (t.world.servers y))) ∷ []) pred_taken good_turn
       (puts_unread plain (account_with_view plain t Master y turned) y ((Master, message.Have epoch (last_number (t.world.servers y))) ∷ []) have_justified

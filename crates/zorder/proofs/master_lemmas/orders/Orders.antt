@@ -10,7 +10,8 @@ use Rattle.zprotocol.specs.server.Table.{new_succ_row}
 use Rattle.zprotocol.proofs.server_lemmas.Fields.{view_of}
 use Rattle.zworld_model.specs.declared.event.Event.TheVariants.{Take}
 use Rattle.zworld_model.specs.Links.{without_front}
-use Rattle.zworld_model.specs.Events.{server_does, server_stops, front_step}
+use Rattle.zworld_model.specs.Does.{server_effect, stop_effect}
+use Rattle.zworld_model.specs.Events.{did_in, front_step}
 use Rattle.zorder.proofs.legal_lemmas.lists.Prefixes.{prefix_same}
 use Rattle.zorder.specs.chain.Flow.{log_machine, LogMessage, Log, or_else, log_at}
 use Rattle.zorder.specs.chain.Chain.{Place, IsPast, LeadsTo, is_fresh, turn_of}
@@ -56,16 +57,16 @@ module _ {P : Type 0} (plain : Plain P) (t : Account) (s : IsSound plain t) (y :
   -- the event
   pub take_ignored : turn_of m ≡ None → server.server_step (log_machine plain) (t.world.servers y) Master m ≡ (t.world.servers y, [])
       → IsSoundAfter plain t (account_by plain t (Take Master (Server y))
-      (server_does (record t.world { links = without_front t.world.links Master (Server y) }) y (server.server_step (log_machine plain) (t.world.servers y) Master m)))
+      (did_in (record t.world { links = without_front t.world.links Master (Server y) }) (Server y) (server_effect (server.server_step (log_machine plain) (t.world.servers y) Master m))))
   take_ignored turn is = after_turn plain t s y m rest link alive (old, []) is (good_same turn)
       (turn_sound plain t s y m rest link alive old (good_same turn))
 
   -- an order to retire: the server ignores it, and stops
   pub take_retirement : turn_of m ≡ None
-      → IsSoundAfter plain t (account_by plain t (Take Master (Server y)) (server_stops (record t.world { links = without_front t.world.links Master (Server y) }) y))
+      → IsSoundAfter plain t (account_by plain t (Take Master (Server y)) (did_in (record t.world { links = without_front t.world.links Master (Server y) }) (Server y) stop_effect))
   take_retirement turn = (
     subst (λ (servers : ℕ → ServerView (List Entry)). IsSound plain (record (account_with_view plain t Master y old) {
-      world = record (server_stops (record t.world { links = without_front t.world.links Master (Server y) }) y) { servers = servers };
+      world = record (did_in (record t.world { links = without_front t.world.links Master (Server y) }) (Server y) stop_effect) { servers = servers };
     }))
         (at_itself y t.world.servers)
         (stop_sound plain (account_with_view plain t Master y old) (turn_sound plain t s y m rest link alive old (good_same turn)) y),

@@ -11,7 +11,8 @@ use Rattle.zprotocol.specs.server.Table as server
 use Rattle.zprotocol.proofs.server_lemmas.Fields.{view_of}
 use Rattle.zworld_model.specs.declared.event.Event.TheVariants.{Take}
 use Rattle.zworld_model.specs.Links.{without_front}
-use Rattle.zworld_model.specs.Events.{process_step}
+use Rattle.zworld_model.specs.Does.{Hear}
+use Rattle.zworld_model.specs.Events.{does_in}
 use Rattle.zorder.specs.legal.Prefix.{IsEntry}
 use Rattle.zorder.specs.legal.Items.{AllBegun}
 use Rattle.zorder.proofs.legal_lemmas.lists.Members.{among_mid}
@@ -68,7 +69,7 @@ module _ {P : Type 0} (plain : Plain P) (t : Account) (s : IsSound plain t) (y e
 
   -- the event
   pub take_succ_order : IsSoundAfter plain t (account_by plain t (Take Master (Server y))
-      (process_step (log_machine plain) (record t.world { links = without_front t.world.links Master (Server y) }) Master (Server y) m))
+      (does_in (log_machine plain) (record t.world { links = without_front t.world.links Master (Server y) }) (Server y) (Hear Master m)))
   take_succ_order = after_turn plain t s y m rest link alive (led, map (forward_post (z, epoch)) (entries_above n (t.world.servers y).sent)) followed good_follow
       (sends plain (account_with_view plain t Master y led) y (member plain t s y m rest link alive led good_follow) own
       (ap (λ (u : ServerView (List Entry)). u.machine) (at_same y led t.world.servers) ∙ has) (s.begun y own has) (z, epoch)

@@ -19,7 +19,8 @@ use Rattle.zprotocol.specs.server.Table.{ServerResult, if_initialised, is_neighb
 use Rattle.zworld_model.specs.declared.event.Event.TheVariants.{Take}
 use Rattle.zworld_model.specs.Links.{Links, is_same, without_front}
 use Rattle.zworld_model.specs.World.{opening_world}
-use Rattle.zworld_model.specs.Events.{server_does}
+use Rattle.zworld_model.specs.Does.{server_effect}
+use Rattle.zworld_model.specs.Events.{did_in}
 use Rattle.zorder.specs.legal.Prefix.{IsPrefix}
 use Rattle.zorder.specs.legal.Items.{updates_of}
 use Rattle.zorder.specs.chain.Flow.{LogWorld, LogMessage, Log, log_machine}
@@ -52,7 +53,7 @@ two_members first second links =
 
 -- the world after a server receives a message with this result
 abbrev pub taken_world : LogWorld → Process → ℕ → ServerResult (List Entry) → LogWorld
-taken_world w from s result = server_does (record w { links = without_front w.links from (Server s) }) s result
+taken_world w from s result = did_in (record w { links = without_front w.links from (Server s) }) (Server s) (server_effect result)
 
 -- the same with the account beside the world, from this committed log on
 abbrev pub taken_account : LogWorld → List Entry → Process → ℕ → ServerResult (List Entry) → Account

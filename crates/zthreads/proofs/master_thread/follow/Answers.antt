@@ -1,5 +1,5 @@
 use Rattle.std.proofs.Common.{◌≡◌, ◌++◌, [], List, None, sym, ◌∙◌, subst, ap}
-use Rattle.ztraces.specs.Deeds.{AtMaster}
+use Rattle.zworld_model.specs.Does.{AtMaster}
 use Rattle.zprotocol.specs.master.View.{MasterView}
 use Rattle.zprotocol.specs.master.Table.{order_step}
 use Rattle.zprotocol.specs.server.View.{Transfer}

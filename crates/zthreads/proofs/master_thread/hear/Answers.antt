@@ -1,6 +1,6 @@
 use Rattle.std.proofs.Common.{◌≡◌, ◌++◌, [], List, Some, None, sym, ◌∙◌, subst, ap, max}
 use Rattle.ztraces.specs.declared.trace.Act.{Act}
-use Rattle.ztraces.specs.Deeds.{AtMaster}
+use Rattle.zworld_model.specs.Does.{AtMaster}
 use Rattle.zprotocol.specs.master.View.{MasterView}
 use Rattle.zprotocol.specs.master.Table.{master_step}
 use Rattle.zdesks.specs.Desks.{Stands, IsEvent, pending, TreePost}

@@ -1,7 +1,7 @@
 use Rattle.std.proofs.Common.{◌≡◌, ◌++◌, [], List, Some, None, sym, ◌∙◌, subst, ap, max, inl, inr}
 use Rattle.ztraces.specs.declared.trace.Act.{Act}
 use Rattle.ztraces.specs.declared.trace.Act.TheVariants.{Took}
-use Rattle.ztraces.specs.Deeds.{AtServer, Out, last_post}
+use Rattle.zworld_model.specs.Does.{AtServer, Out, last_post}
 use Rattle.zserver.specs.Server.{taken_result, TreeView, StopsAt}
 use Rattle.zdesks.specs.Desks.{Stands, IsEvent, pending, TreePost}
 use Rattle.zthreads.specs.Threads.{outcome_of}

@@ -1,5 +1,5 @@
 use Rattle.std.proofs.Common.{[], List, sym, ◌∙◌, subst}
-use Rattle.ztraces.specs.Deeds.{AtClient}
+use Rattle.zworld_model.specs.Does.{AtClient}
 use Rattle.zdesks.specs.Desks.{Stands, IsSettled, pending, TreePost}
 use Rattle.zdesks.proofs.Pending.{nothing_waits, pending_same}
 use Rattle.zcaller.proofs.caller.Caller.begin.Goals as goal

@@ -1,46 +1,48 @@
-use Rattle.std.proofs.Common.{◌≡◌, ◌<◌, ◌≤◌, [], get_or, refl, ap, sym, subst, ◌∙◌, arith}
-use Rattle.zprotocol.specs.Places.{place_of}
-use Rattle.zlinks.specs.Places.{holds}
-use Rattle.zlinks.proofs.Places.{row_at}
-use Rattle.zlinks.specs.support.Lone.{receiver_bound}
-use Rattle.zlinks.proofs.Searches.{receiver_ends, receiver_passed, receiver_elsewhere, receiver_few, receiver_ahead, empty_before, receiver_there}
+use Rattle.std.proofs.Common.{◌≡◌, ◌<◌, ◌≤◌, [], length, get_or, sym, subst, ◌∙◌, arith}
+use Rattle.zprotocol.specs.declared.limits.TheConstants.{PROCESSES}
+use Rattle.zlinks.specs.Places.{links_of, Between}
+use Rattle.zlinks.specs.support.Order.{AreSorted, IsFirstFrom}
+use Rattle.zlinks.proofs.Searches.{found_from, rest_from, none_from, receivers_until, receiver_there}
 use Rattle.zlinks.proofs.links.Links.next_receiver.Goals as goal
-use Rattle.zlinks.proofs.links.Links.next_receiver.Given.{Over}
-use Rattle.zlinks.proofs.links.Links.next_receiver.Goals.{in-Some, in_default-2, in_default-3, in_default}
 
--- where the search ends
-ends : (g : Over) (c : goal.After-next_held g) → c.match-self.end ≡ receiver_bound c.self.inside.lone c.place-sender.result c.args.at
-ends g c =
-    let slot = c.self.inside.lone in let from = c.place-sender.result in let at = c.args.at in
-    elim c.match-self.branch [
-      | in-Some w ↦ w.end-is ∙ receiver_ends slot w.in-Some.lone at w.in-Some.is from w.if-lone-sender.true w.if-at-lone.true
-      | in_default-2 w ↦ w.end-is ∙ receiver_passed slot w.in-Some.lone at w.in-Some.is from w.if-lone-sender.true w.if-at-lone.false
-      | in_default-3 w ↦ w.end-is ∙ receiver_elsewhere slot w.in-Some.lone at w.in-Some.is from w.if-lone-sender.false
-      | in_default w ↦ w.end-is ∙ ap (λ s. receiver_bound s from at) (sym w.in_default.is)
-    ]
+pub returns-in-Some : goal.returns-in-Some
+returns-in-Some g c =
+    let channels = c.args.self.now in let queue = c.in-Some.queue.now in let at = c.args.at in let count = c.first_from-first.result in
+    let from = c.place-sender.result in
+    let sorted = subst (λ cs. AreSorted cs) c.self.view_is c.self.invariant in
+    let first = subst (λ cs. IsFirstFrom cs from at count) (c.deref.ensures.value ∙ c.self.view_is) c.first_from-first.ensures in
+    let within = subst (λ cs. count < length cs) (c.deref-2.ensures.value ∙ c.self.view_is) c.in-Some.ensures.lookup.3.0 in
+    let read = subst (λ cs. queue ≡ get_or cs count queue) (c.deref-2.ensures.value ∙ c.self.view_is) c.in-Some.ensures.lookup.1 in
+    let here : queue.from ≡ from = sym c.from.ensures.place ∙ c.if-from-sender.true in
+    let reached = found_from channels from at count first queue within read in
+    record {
+      few = omega (arith, c.to.ensures.small);
+      ahead = λ _. subst (λ n. at ≤ n) (sym c.to.ensures.place) (reached.1 (omega (arith, here)));
+      empty = subst (λ n. Between at n (λ to. links_of channels c.args.from.now to ≡ [])) (sym c.to.ensures.place)
+          (receivers_until channels c.args.from.now from at count queue.to c.place-sender.ensures.place first
+          (rest_from channels from at count first queue within read sorted from queue.to (omega (arith, here), λ _. omega arith)));
+      held = λ to is small. receiver_there channels c.args.from.now to count queue within read (here ∙ c.place-sender.ensures.place) (sym (is ∙ c.to.ensures.place));
+    }
 
-pub returns-clause-few : goal.returns-clause-few
-returns-clause-few g c =
-    omega (arith, c.next_held.ensures.few, ends g c, receiver_few c.self.inside.lone c.place-sender.result c.args.at c.self.invariant.1)
+-- the sender that was found comes later
+pub returns-in_default-clause-empty : goal.returns-in_default-clause-empty
+returns-in_default-clause-empty g c =
+    let channels = c.args.self.now in let queue = c.in-Some.queue.now in let at = c.args.at in let count = c.first_from-first.result in
+    let from = c.place-sender.result in
+    let sorted = subst (λ cs. AreSorted cs) c.self.view_is c.self.invariant in
+    let first = subst (λ cs. IsFirstFrom cs from at count) (c.deref.ensures.value ∙ c.self.view_is) c.first_from-first.ensures in
+    let within = subst (λ cs. count < length cs) (c.deref-2.ensures.value ∙ c.self.view_is) c.in-Some.ensures.lookup.3.0 in
+    let read = subst (λ cs. queue ≡ get_or cs count queue) (c.deref-2.ensures.value ∙ c.self.view_is) c.in-Some.ensures.lookup.1 in
+    let reached = found_from channels from at count first queue within read in
+    receivers_until channels c.args.from.now from at count PROCESSES c.place-sender.ensures.place first
+    (rest_from channels from at count first queue within read sorted from PROCESSES
+    (reached.0, λ back. absurd (c.if-from-sender.false (c.from.ensures.place ∙ (let same : queue.from ≡ from = omega (arith, reached.0, back) in same)))))
 
-pub returns-clause-ahead : goal.returns-clause-ahead
-returns-clause-ahead g c few =
-    c.next_held.ensures.ahead
-    (subst (λ n. c.args.at ≤ n) (sym (ends g c)) (receiver_ahead c.self.inside.lone c.place-sender.result c.args.at few))
-
-pub returns-clause-empty : goal.returns-clause-empty
-returns-clause-empty g c =
-    let rows = c.self.inside.rows.items in
-    empty_before rows c.args.self.now c.self.inside.lone c.args.from.now c.place-sender.result c.args.at c.next_held.result c.self.view_is c.place-sender.ensures.place
-    (subst (λ n. c.next_held.result ≤ n) (ends g c) c.next_held.ensures.few)
-    (λ to behind before. row_at rows rows c.args.from.now to c.place-sender.result (place_of to) c.index.result.now refl c.place-sender.ensures.place refl
-    c.place-sender.ensures.small c.self.invariant.0.wide c.index.ensures ∙ c.next_held.ensures.empty (place_of to) behind before)
-
-pub returns-clause-held : goal.returns-clause-held
-returns-clause-held g c =
-    let rows = c.self.inside.rows.items in
-    receiver_there rows c.args.self.now c.self.inside.lone c.args.from.now c.place-sender.result c.args.at c.next_held.result c.self.view_is c.place-sender.ensures.place
-    (subst (λ n. c.next_held.result ≤ n) (ends g c) c.next_held.ensures.few)
-    (λ less to there small. ap holds (row_at rows rows c.args.from.now to c.place-sender.result (place_of to) c.index.result.now refl c.place-sender.ensures.place refl
-    c.place-sender.ensures.small c.self.invariant.0.wide c.index.ensures ∙ ap (λ n. get_or c.index.result.now n []) there)
-    ∙ c.next_held.ensures.held (subst (λ n. c.next_held.result < n) (sym (ends g c)) less))
+-- and here there is none
+pub returns-in_default-2-clause-empty : goal.returns-in_default-2-clause-empty
+returns-in_default-2-clause-empty g c =
+    let channels = c.args.self.now in let at = c.args.at in let count = c.first_from-first.result in let from = c.place-sender.result in
+    let first = subst (λ cs. IsFirstFrom cs from at count) (c.deref.ensures.value ∙ c.self.view_is) c.first_from-first.ensures in
+    let none : length c.deref-2.result.now ≤ count = c.in_default.in-None-own.ensures.3 in
+    let all = subst (λ cs. length cs ≤ count) (c.deref-2.ensures.value ∙ c.self.view_is) none in
+    receivers_until channels c.args.from.now from at count PROCESSES c.place-sender.ensures.place first (none_from channels from at count first all from PROCESSES)

@@ -1,5 +1,5 @@
 use Rattle.std.proofs.Common.{sym, ap, ◌∙◌, subst}
-use Rattle.ztraces.specs.Deeds.{AtClient}
+use Rattle.zworld_model.specs.Does.{AtClient}
 use Rattle.zdesks.specs.Desks.{IsAt, TreeStanding}
 use Rattle.zrun.proofs.Openings.{client_opening}
 use Rattle.zrun.proofs.opening.Opening.caller.Goals as goal

@@ -1,5 +1,5 @@
 use Rattle.std.proofs.Common.{◌++◌, [], List, None, sym, ◌∙◌, subst, option_to_list}
-use Rattle.ztraces.specs.Deeds.{AtMaster}
+use Rattle.zworld_model.specs.Does.{AtMaster}
 use Rattle.zdesks.specs.Desks.{Stands, IsSettled, TreePost}
 use Rattle.zdesks.proofs.Pending.{nothing_waits}
 use Rattle.zthreads.proofs.master_thread.MasterThread.follow.Goals as goal

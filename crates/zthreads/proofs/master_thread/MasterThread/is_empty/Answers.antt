@@ -1,5 +1,5 @@
 use Rattle.std.proofs.Common.{sym, ◌∙◌, subst, None}
-use Rattle.ztraces.specs.Deeds.{AtMaster}
+use Rattle.zworld_model.specs.Does.{AtMaster}
 use Rattle.zdesks.specs.Desks.{Stands, pending}
 use Rattle.zdesks.proofs.Pending.{pending_same}
 use Rattle.zthreads.proofs.master_thread.MasterThread.is_empty.Goals as goal

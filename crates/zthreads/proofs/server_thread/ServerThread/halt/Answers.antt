@@ -1,6 +1,6 @@
 use Rattle.std.proofs.Common.{◌≡◌, [], List, None, sym, ◌∙◌, subst, ap}
 use Rattle.zdesks.specs.Desks.{Stands, IsAt, IsSettled, pending, TreePost}
-use Rattle.ztraces.specs.Deeds.{AtServer, Out, last_post}
+use Rattle.zworld_model.specs.Does.{AtServer, Out, last_post}
 use Rattle.zthreads.specs.Threads.{server_standing}
 use Rattle.zdesks.proofs.Pending.{is_next_idle, nothing_waits}
 use Rattle.zthreads.proofs.Rows.{server_halts}

@@ -1,6 +1,6 @@
 use Rattle.std.proofs.Common.{[], List, None, sym, ◌∙◌, subst}
 use Rattle.zdesks.specs.Desks.{Stands, IsAt, IsSettled, pending, TreePost}
-use Rattle.ztraces.specs.Deeds.{AtServer}
+use Rattle.zworld_model.specs.Does.{AtServer}
 use Rattle.zthreads.specs.Threads.{server_standing}
 use Rattle.zdesks.proofs.Pending.{nothing_waits, pending_same}
 use Rattle.zthreads.proofs.server_thread.ServerThread.turn.Goals as goal

@@ -1,7 +1,7 @@
 use Rattle.std.proofs.Common.{◌<◌, [], ◌∷◌, ◌++◌, length, length-set, sym, ap, subst, ◌∙◌, append-nil, arith}
 use Rattle.std.proofs.lemmas.Bool.{ltb-true}
 use Rattle.zcalls.specs.declared.call.Call.{Call}
-use Rattle.zlinks.proofs.Rows.{passing_le}
+use Rattle.zworld.proofs.Counts.{passing_le}
 use Rattle.zworld_model.specs.declared.history.CallEvent.TheVariants as call_event
 use Rattle.zworld_model.proofs.Tests.{both}
 use Rattle.zworld.specs.Held.{Held}

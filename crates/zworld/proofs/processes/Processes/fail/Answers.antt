@@ -1,5 +1,5 @@
 use Rattle.std.proofs.Common.{◌≡◌, ◌<◌, ◌-◌, ◌+◌, length, length-set, sym, ap, ◌∙◌, arith}
-use Rattle.zlinks.proofs.Rows.{passing_le}
+use Rattle.zworld.proofs.Counts.{passing_le}
 use Rattle.zworld.specs.Held.{owes}
 use Rattle.zworld.proofs.Counting.{one_more}
 use Rattle.zworld.proofs.FailureSteps.{fail_done, owes_nothing}

@@ -3,7 +3,7 @@ use Rattle.std.specs.Prelude.{is_some}
 use Rattle.ztree.specs.declared.limits.TheConstants.{MAX_CLIENTS}
 use Rattle.zprotocol.specs.declared.limits.TheConstants.{MAX_SERVERS}
 use Rattle.zprotocol.specs.declared.process.Process.TheVariants.{Client}
-use Rattle.zlinks.specs.support.Rows.{passing, share}
+use Rattle.zworld.specs.support.Counts.{passing, share}
 use Rattle.zworld.specs.declared.processes.Processes.TheInside.{Inside}
 use Rattle.zworld.specs.Held.{MemberView, owes}
 use Rattle.zworld.specs.support.Members.{waits}

@@ -1,6 +1,6 @@
 use Rattle.std.proofs.Common.{◌≡◌, ◌<◌, ◌-◌, ◌+◌, length, length-set, ◌∙◌, arith}
 use Rattle.zserver.specs.declared.taken.Taken.TheVariants.{Acted, Unheard}
-use Rattle.zlinks.proofs.Rows.{passing_le}
+use Rattle.zworld.proofs.Counts.{passing_le}
 use Rattle.zworld.specs.Held.{owes}
 use Rattle.zworld.proofs.Counting.{as_many, one_more, owed_nothing, owes_as_before, owes_then}
 use Rattle.zworld.proofs.FailureSteps.{is_server_number}

@@ -1,5 +1,5 @@
 use Rattle.std.proofs.Common.{◌<◌, sym, ◌∙◌, arith}
-use Rattle.zlinks.proofs.Places.{silent_links}
+use Rattle.zlinks.proofs.Searches.{silent_links}
 use Rattle.zworld.proofs.Counting.{paid_link}
 use Rattle.zworld.proofs.Skips.{silent_place}
 use Rattle.zworld.proofs.processes.Processes.next_sender.Goals as goal

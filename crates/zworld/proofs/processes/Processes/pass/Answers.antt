@@ -6,7 +6,7 @@ use Rattle.zworld_model.specs.Settle.{processes}
 use Rattle.zworld.specs.support.Settling.{Point, Tries, takes, takes_from}
 use Rattle.zworld.proofs.Counting.{paid_link}
 use Rattle.zworld.proofs.Needs.{can_run_out, could_at_first, short_is_enabled, still_or_could, tried_or_could}
-use Rattle.zlinks.proofs.Results.{on_err}
+use Rattle.zworld.proofs.Results.{on_err}
 use Rattle.zworld.proofs.Skips.{length-processes, listed_as, empty_link, receivers_to, senders_to}
 use Rattle.zworld.proofs.Tries.{acted_where, goes_nowhere, one_more_receiver, one_more_sender, spent_receivers, spent_senders, stepped_tries}
 use Rattle.zworld.proofs.processes.Processes.pass.Goals as goal

@@ -1,5 +1,5 @@
 use Rattle.std.proofs.Common.{inl, refl}
-use Rattle.zlinks.proofs.Results.{on_err}
+use Rattle.zworld.proofs.Results.{on_err}
 use Rattle.zworld_model.specs.Settle.{deliveries}
 use Rattle.zworld.proofs.Needs.{could_at_first, still_or_could}
 use Rattle.zworld.proofs.Passes.{first_pass, next_pass, last_pass, all_passes}

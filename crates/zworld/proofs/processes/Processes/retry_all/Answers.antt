@@ -3,7 +3,7 @@ use Rattle.zworld_model.specs.declared.event.Event.TheVariants.{Retry}
 use Rattle.zworld_model.specs.Settle.{retry_events}
 use Rattle.zworld.specs.support.Settling.{Point, Tries}
 use Rattle.zworld.proofs.Needs.{can_run_out, could_at_first, still_or_could, tried_or_could}
-use Rattle.zlinks.proofs.Results.{on_err}
+use Rattle.zworld.proofs.Results.{on_err}
 use Rattle.zworld.proofs.Tries.{goes_nowhere, one_more_retry, retried_acted, spent_retries, stepped_tries}
 use Rattle.zworld.proofs.processes.Processes.retry_all.Goals as goal
 

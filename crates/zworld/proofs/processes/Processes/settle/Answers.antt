@@ -1,5 +1,5 @@
 use Rattle.std.proofs.Common.{◌≡◌, ◌<◌, inl, sym, ap, subst, ◌∙◌, arith}
-use Rattle.zlinks.specs.support.Rows.{passing}
+use Rattle.zworld.specs.support.Counts.{passing}
 use Rattle.zworld_model.specs.declared.settled.Settled.TheVariants.{Limit, Quiet}
 use Rattle.zworld_model.specs.Settle.{retry_events}
 use Rattle.zworld.specs.Held.{Held}
@@ -9,7 +9,7 @@ use Rattle.zworld.proofs.Counting.{no_retries}
 use Rattle.zworld.proofs.Needs.{could_at_first, still_or_could}
 use Rattle.zworld.proofs.Passes.{settles, ended_at_limit, ended_quiet}
 use Rattle.zworld.proofs.Tries.{strict_tries}
-use Rattle.zlinks.proofs.Results.{on_err}
+use Rattle.zworld.proofs.Results.{on_err}
 use Rattle.zworld.proofs.processes.Processes.settle.Goals as goal
 use Rattle.zworld.proofs.processes.Processes.settle.Goals.{Joined-self-gt0, then-self-gt0+in_ok-left-2, else-self-gt0}
 

@@ -2,8 +2,9 @@ use Rattle.std.proofs.Common.{subst, sym, ap, ◌∙◌, [], ◌∷◌, ◌++◌
 use Rattle.std.proofs.lemmas.List.{append-nil, nil_from_length}
 use Rattle.zworld_model.proofs.Alike.{alike_itself}
 use Rattle.zworld.specs.Steps.{WorldView, IsExplainedFromStart, HasRun, world_in}
-use Rattle.zworld.proofs.Going.{past_is_explained, lead_more, has_run, has_begun_to_run, on_err}
+use Rattle.zworld.proofs.Going.{past_is_explained, lead_more, has_run, has_begun_to_run}
 use Rattle.zworld.proofs.Needs.{has_run_out}
+use Rattle.zworld.proofs.Results.{on_err}
 use Rattle.zworld.proofs.world.World.run.Goals as goal
 
 pub returns-then-self-clause-explained : goal.returns-then-self-clause-explained

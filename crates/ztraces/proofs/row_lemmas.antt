@@ -1,4 +1,0 @@
-pub mod Happens
-pub mod MasterRows
-pub mod ServerRows
-pub mod ClientRows
