@@ -6,7 +6,7 @@ They choose the order of proofs and tell how much is left. No verdict rests on t
 ONE_JOB = {
     "zpath": 117, "ztree": 34, "zcalls": 88, "zslots": 49, "znodes": 108, "zsessions": 55,
     "zstore": 116, "zops": 158, "zprotocol": 43, "zclient": 64, "zmaster": 82, "zserver": 186,
-    "zworld_model": 34, "zlinks": 105, "zworld": 349, "zorder": 26, "zlines": 225, "zdevices": 31,
+    "zworld_model": 34, "zlinks": 105, "zworld": 349, "zlinear": 26, "zlines": 225, "zdevices": 31,
     "zscript": 241, "zcli": 40, "zcommand": 96, "ztraces": 41, "zaudit": 180, "zwords": 44,
     "zrings": 37, "zmesh": 60, "zconsole": 41, "zdesks": 143, "zthreads": 173, "zcaller": 160,
     "zgather": 137, "zrun": 700, "zrace": 250, "zracing": 100, "zforms": 45, "zjute": 240,
@@ -18,7 +18,7 @@ ONE_JOB = {
 ONE_THREAD = {
     "zpath": 14, "ztree": 9, "zcalls": 15, "zslots": 10, "znodes": 18, "zsessions": 13,
     "zstore": 25, "zops": 32, "zprotocol": 11, "zclient": 18, "zmaster": 17, "zserver": 39,
-    "zworld_model": 13, "zlinks": 18, "zworld": 82, "zorder": 10, "zlines": 21, "zdevices": 10,
+    "zworld_model": 13, "zlinks": 18, "zworld": 82, "zlinear": 10, "zlines": 21, "zdevices": 10,
     "zscript": 95, "zcli": 10, "zcommand": 78,
 }
 # The last proof of a program, and its build, which use one core.

@@ -16,7 +16,7 @@ use Rattle.zworld_model.specs.LegalOrder.{IsLegalOrder}
 use Rattle.zworld_model.specs.PlainTree.{service_of, serve}
 use Rattle.zworld_model.specs.FromTree.{CanStart, IsExplainedFrom, world_after_from}
 use Rattle.zworld_model.proofs.Lives.{plain_replies}
-use Rattle.zorder.proofs.Headline.{every_history_from_is_explained}
+use Rattle.zlinear.proofs.Headline.{every_history_from_is_explained}
 use Rattle.zturns.specs.Turns.{Log, calls_of, history_of, served, tree_after}
 use Rattle.zturns.specs.FromTree.{IsOneTreesFrom, whole, TurnsAreTakenFrom, EveryLogFromIsOneTrees, LivesAreOneTrees, LivesAreOneTreesFrom, LivesLeaveOneTree, TreesCanStartAgain}
 use Rattle.zturns.proofs.Orders.{IsOrderFrom, in_turn}

@@ -11,7 +11,7 @@ use Rattle.zworld_model.specs.History.{History}
 use Rattle.zworld_model.specs.LegalOrder.{IsLegalOrder}
 use Rattle.zworld_model.specs.PlainTree.{service_of, IsExplained}
 use Rattle.zworld_model.specs.Laws.{world_after}
-use Rattle.zorder.proofs.Headline.{every_history_is_explained}
+use Rattle.zlinear.proofs.Headline.{every_history_is_explained}
 use Rattle.zturns.specs.Turns.{Log, history_of, IsOneTrees}
 use Rattle.zturns.specs.Laws.{EveryLogIsOneTrees, LegalOrdersAreInTurn, TurnsAreTaken}
 use Rattle.zturns.proofs.Orders.{IsOrderFrom, in_turn}

@@ -29,7 +29,7 @@ use Rattle.zworld_model.specs.Does.{Hear, client_effect, server_effect, stop_eff
 use Rattle.zworld_model.specs.Events.{is_enabled, did_in, does_in, front_step, acts, happens, run}
 use Rattle.zworld_model.proofs.Effects.{by_choice}
 use Rattle.zworld_model.proofs.Tests.{both}
-use Rattle.zorder.proofs.chain_lemmas.links.Links.{at_cases}
+use Rattle.zlinear.proofs.chain_lemmas.links.Links.{at_cases}
 use Rattle.zturns.specs.Turns.{Log}
 use Rattle.zturns.specs.World.{begun, numbered, TakesTurns, GoesOn}
 use Rattle.zturns.proofs.Histories.{begun_last, answered_last}

@@ -21,7 +21,7 @@ use Rattle.zworld_model.specs.FromTree.{CanStart, IsExplainedFrom, opening_world
 use Rattle.zworld_model.proofs.FirstCallsFrom.{opening_can_start}
 use Rattle.zworld_model.proofs.Starts.{runs_forget_the_start}
 use Rattle.zworld_model.proofs.Alike.{stay_alike, alike_itself, alike_through, read_alike}
-use Rattle.zorder.proofs.Headline.{every_history_from_is_explained}
+use Rattle.zlinear.proofs.Headline.{every_history_from_is_explained}
 use Rattle.zworld.specs.declared.did.Did.{Did}
 use Rattle.zworld.specs.declared.did.Did.TheVariants as deed
 use Rattle.zworld.specs.Held.{Held, world_of}

@@ -67,7 +67,7 @@ server_effect did = record { left = AtServer did.0; posts = did.1; told = [] }
 abbrev pub last_post : {M : Type 0} → List (Post M)
 last_post = (Master, message.Gone) ∷ []
 
--- a server stops for good. What it had sent is still delivered; zorder/specs/Cuts.antt has the runs
+-- a server stops for good. What it had sent is still delivered; zlinear/specs/Cuts.antt has the runs
 -- in which any end of it is lost
 abbrev pub stop_effect : {M : Type 0} → Effect M
 stop_effect = record { left = Out; posts = last_post; told = [] }

@@ -2,7 +2,7 @@
 -- last, and the front is delivered. So a channel neither loses nor repeats messages, and keeps
 -- their order. Van Renesse and Schneider, "Chain Replication for Supporting High Throughput and
 -- Availability" (OSDI 2004), section 3. Runs in which channels lose their ends are in
--- zorder/specs/Cuts.antt.
+-- zlinear/specs/Cuts.antt.
 use Rattle.std.specs.Prelude.{Bool, true, false, ◌&&◌, ◌==◌, if◌then◌else◌, List, [], ◌∷◌, ◌++◌, drop}
 use Rattle.zprotocol.specs.declared.process.Process.{Process}
 use Rattle.zprotocol.specs.declared.process.Process.TheVariants.{Master, Server, Client}

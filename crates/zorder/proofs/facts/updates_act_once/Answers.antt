@@ -1,5 +1,0 @@
-use Rattle.zorder.proofs.Tails.{updates_act_once}
-use Rattle.zorder.proofs.facts.updates_act_once.Goals as goal
-
-pub returns : goal.returns
-returns c = updates_act_once

@@ -1,5 +1,0 @@
-use Rattle.zorder.proofs.Headline.{every_history_with_losses_is_explained}
-use Rattle.zorder.proofs.laws.every_history_with_losses_is_explained.Goals as goal
-
-pub returns : goal.returns
-returns c = every_history_with_losses_is_explained

@@ -1,5 +1,0 @@
-use Rattle.zorder.proofs.legal_lemmas.order.PlainTree.{items_explain}
-use Rattle.zorder.proofs.legal.laws.items_explain.Goals as goal
-
-pub returns : goal.returns
-returns c = items_explain
