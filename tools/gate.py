@@ -33,8 +33,7 @@ LITTLE = "tools/says-little.txt"
 BEFORE = 8
 # What the tests behind the gate run: what users run, and programs that are tests.
 PROGRAMS = (
-    "zk", "zk_race", "zk_data", "zk_serve", "zstates_drill", "zmemory_tests",
-    "zmemory_world_tests", "zmemory_start_tests", "zmemory_kept_tests",
+    "zk", "zk_race", "zk_data", "zk_serve", "zstates_drill", "zmemory_tests", "zmemory_kept_tests",
 )
 
 

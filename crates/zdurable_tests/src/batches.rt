@@ -5,8 +5,8 @@ ghost use Rattle.zdurable.specs.Durable.{IsSound};
 use std::alloc::Global;
 use zdurable::Durable;
 use zjournal::Device;
-use zliterals::server;
 use zscript::{SliceSource, VecSink, play};
+use ztesting::server;
 
 /// The batches, in the order in which they are put.
 pub const BATCHES: [&str; 6] = [

@@ -8,7 +8,7 @@ use crate::opened::{count_in, text_of_first};
 use std::alloc::Global;
 use zdurable::Durable;
 use zjournal::{Device, MemoryFile};
-use zliterals::server;
+use ztesting::server;
 
 // What a script tells of a batch that stands behind the ones before it.
 fn told_of(alloc: Global, at: usize) -> Option<Vec<u8>> {

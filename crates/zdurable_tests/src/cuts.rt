@@ -5,7 +5,7 @@ use crate::opened::{count_in, goes_on, probe_behind, text_of_first};
 use std::alloc::Global;
 use zdurable::Durable;
 use zjournal::MemoryFile;
-use zliterals::server;
+use ztesting::server;
 
 // Whether a power cut that left these bytes leaves what was told, and at most one batch more; the
 // service goes on from there. How many batches it left.

@@ -7,7 +7,7 @@ use crate::opened::count_in;
 use std::alloc::Global;
 use zdurable::{CommitFault, Durable, OpenFault};
 use zjournal::{Device, MemoryFile, OpenError};
-use zliterals::server;
+use ztesting::server;
 
 // Whether the file has the batches that were told, or these and one more.
 fn has(alloc: Global, file: &MemoryFile, told: usize) -> bool {

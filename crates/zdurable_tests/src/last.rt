@@ -3,7 +3,7 @@
 use std::alloc::Global;
 use zdurable::Durable;
 use zjournal::{MemoryFile, read_text};
-use zliterals::server;
+use ztesting::server;
 
 // The lines, what is told of them, and what is kept of them, over two servers.
 const CASES: [(&str, &str, &str); 4] = [

@@ -6,7 +6,7 @@ use crate::batches::{BATCHES, PROBE, count_of, script_answers};
 use std::alloc::Global;
 use zdurable::Durable;
 use zjournal::{Device, MemoryFile, read_text};
-use zliterals::server;
+use ztesting::server;
 
 /// How many batches a file with these bytes stands for.
 pub fn count_in(alloc: Global, bytes: &[u8]) -> Option<usize> {

@@ -10,7 +10,7 @@ use std::sync::Wait;
 use std::thread::Threads;
 use zcli::{WordsFault, refuse};
 use zdevices::{Sink, WriterSink};
-use zracing::race_command;
+use zrace::race_command;
 
 fn main(rt: HostRuntime) -> ExitCode {
     let mut sink = WriterSink::new(rt.stdout());

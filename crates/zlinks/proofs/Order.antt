@@ -74,11 +74,13 @@ module _ {T : Type 0} (channel : Channel T) (from to : ℕ) where
 
   -- one that stands from these places on, but not at them, is behind them
   pub behind_from : IsFrom channel from to → is_between channel from to ≡ false → IsBehind channel from to
-  behind_from is other =
-      (is.0, λ back. elim (test (nat_lt to channel.to)) [
-        | inl less ↦ grind (arith, nat_tests, less)
-        | inr not ↦
-            let same : channel.from ≡ from = omega (arith, is.0, back) in
-            let here : channel.to ≡ to = grind (arith, nat_tests, not, is.1 back) in
-            absurd (true≢false (sym (places_between same here) ∙ other))
-      ])
+  behind_from is other = (
+    is.0,
+    λ back. elim (test (nat_lt to channel.to)) [
+      | inl less ↦ grind (arith, nat_tests, less)
+      | inr not ↦
+          let same : channel.from ≡ from = omega (arith, is.0, back) in
+          let here : channel.to ≡ to = grind (arith, nat_tests, not, is.1 back) in
+          absurd (true≢false (sym (places_between same here) ∙ other))
+    ],
+  )

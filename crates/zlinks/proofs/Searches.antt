@@ -75,7 +75,7 @@ module _ {T : Type 0} where
     empty_until bound others n behind before =
         ap (λ cs. messages_at cs from n) (sym (take-append-drop count channels))
         ∙ behind_others (take count channels) (drop count channels) from n
-            (each (λ c is. before_elsewhere c from n (is.0, λ back. omega (arith, is.1 back, behind))) (take count channels) first.before)
+        (each (λ c is. before_elsewhere c from n (is.0, λ back. omega (arith, is.1 back, behind))) (take count channels) first.before)
         ∙ not_among (drop count channels) from n (each (λ c is. behind_elsewhere c from n (is.0, λ back. omega (arith, is.1 back, before))) (drop count channels) others)
 
   -- and nothing from the senders

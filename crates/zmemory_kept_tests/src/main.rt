@@ -11,7 +11,7 @@ mod stating;
 use services::{change_is_kept, service_is_opened, service_is_shortened};
 use stating::{chain_is_begun, entry_is_applied, snapshot_is_written, text_is_read};
 use std::io;
-use zstories::{tell, tell_end};
+use ztesting::{tell, tell_end};
 
 fn main(rt: HostRuntime) -> io::Result<()> {
     tell(

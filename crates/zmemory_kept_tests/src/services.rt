@@ -8,7 +8,7 @@ use crate::states::Stage;
 use std::alloc::Global;
 use zjournal::{Device, OpenError};
 use zkept::{CommitFault, InputFault, Kept, OpenFault, ServerId, TickLength};
-use zstories::Ended;
+use ztesting::Ended;
 
 // A tick has so many milliseconds.
 const TICK: u32 = 1000;

@@ -5,7 +5,7 @@ use std::alloc::Global;
 use zalloc::Memory;
 use zcalls::{Kind, Lifetime, Reply, Update};
 use zstates::{ReadFault, State};
-use zstories::Ended;
+use ztesting::Ended;
 
 /// Reads a state from its text: a snapshot, and an entry behind it.
 pub(crate) fn text_is_read(alloc: Global) -> Ended {

@@ -9,7 +9,7 @@ use zalloc::Memory;
 use zcalls::{Entry, Query, Update};
 use zops::Machine;
 use zpath::Path;
-use zstories::Ended;
+use ztesting::Ended;
 
 /// Applies a create, whose path is made where it is applied.
 pub(crate) fn create_is_applied(alloc: Global) -> Ended {

@@ -6,7 +6,7 @@ use zalloc::Memory;
 use zcalls::{Query, Reply};
 use zops::Machine;
 use zpath::Path;
-use zstories::Ended;
+use ztesting::Ended;
 
 /// Asks it for the names beneath the root.
 pub(crate) fn children_are_told(alloc: Global) -> Ended {

@@ -6,9 +6,8 @@ use std::alloc::Global;
 use zalloc::Memory;
 use zcalls::{Call, Query, Update};
 use zclient::{BeginFault, ClientCore};
-use zliterals::{epoch, server};
 use zprotocol::{Message, Out, Process};
-use zstories::Ended;
+use ztesting::{Ended, epoch, server};
 
 // What a client sends: no Snapshot is among it.
 type Outbox = Out<()>;

@@ -3,10 +3,9 @@
 use crate::story::{Word, hears, hears_at};
 use crate::taking::{acts, takes};
 use std::alloc::Global;
-use zliterals::{epoch, server};
 use zprotocol::{Message, Out, Process};
 use zserver::{Server, Snapshot};
-use zstories::Ended;
+use ztesting::{Ended, epoch, server};
 
 /// A spare server whose predecessor is server 1 receives what that one hands over.
 pub(crate) fn snapshot_is_taken(alloc: Global) -> Ended {

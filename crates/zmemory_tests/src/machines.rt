@@ -4,8 +4,8 @@ use crate::values::{create, create_timed, multi};
 use std::alloc::Global;
 use zalloc::Memory;
 use zcalls::{Entry, Reply, Update};
-use zliterals::{call_number, client};
 use zops::{MAX_APPLIED, Machine};
+use ztesting::{call_number, client};
 
 /// Returns a machine at which client 1's first call made `/a`.
 pub(crate) fn machine(alloc: Global) -> Result<Machine, Memory> {

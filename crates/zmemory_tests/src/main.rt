@@ -1,27 +1,43 @@
-//! What holds after a refused allocation, in the parts of a server and of a client. Each story is
-//! one call. Where one of its allocations is refused, the answer is the refusal that is named for
-//! it, and what holds then is what its clauses say. Where none is refused, all are done: the calls
-//! succeed where there is memory. `bench/refusals` refuses each allocation in turn, one a run.
+//! What holds after a refused allocation: in the parts of a server and of a client, in a world, in a
+//! script that is played, and where a cluster starts and is joined.
+//!
+//! Each story is one call. Where one of its allocations is refused, the answer is the refusal that
+//! is named for it, or a server stops, and what holds then is what its clauses say. Where none is
+//! refused, all are done: the calls succeed where there is memory. `bench/refusals` refuses each
+//! allocation in turn, one a run.
 #![tactic(auto)]
 
 mod applying;
 mod asking;
+mod beginning;
 mod calling;
 mod joining;
 mod machines;
 mod marking;
+mod ordering;
 mod parsing;
+mod playing;
 mod restoring;
+mod running;
 mod serving;
 mod sharing;
+mod starting;
 mod stories;
 mod story;
 mod taking;
 mod values;
+mod worlds;
 
+use starting::cluster_starts;
 use std::io;
-use stories::tell_all;
+use stories::tell_parts;
+use worlds::tell_worlds;
+use ztesting::{tell, tell_end};
 
 fn main(rt: HostRuntime) -> io::Result<()> {
-    tell_all(&rt, rt.alloc())
+    tell_parts(&rt, rt.alloc())?;
+    tell_worlds(&rt, rt.alloc())?;
+    let started = cluster_starts(rt, rt.alloc());
+    tell(&rt, "a cluster starts and is joined", started)?;
+    tell_end(&rt, rt.alloc())
 }

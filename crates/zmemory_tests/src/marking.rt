@@ -5,7 +5,7 @@ ghost use Rattle.std.specs.Prelude.{◌≡◌, IsSome};
 use std::alloc::Global;
 use zalloc::Memory;
 use zstore::Store;
-use zstories::Ended;
+use ztesting::Ended;
 
 // Room for undoing this many steps.
 const STEPS: usize = 12;

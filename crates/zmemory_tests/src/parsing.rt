@@ -2,7 +2,7 @@
 
 use std::alloc::Global;
 use zpath::{Path, PathFault};
-use zstories::Ended;
+use ztesting::Ended;
 
 /// Reads a path of three names.
 pub(crate) fn path_is_parsed(alloc: Global) -> Ended {

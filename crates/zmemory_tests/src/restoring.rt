@@ -8,7 +8,7 @@ use std::alloc::Global;
 use zalloc::Memory;
 use zops::Machine;
 use zsnapshots::{Loading, RowFault, Writing};
-use zstories::Ended;
+use ztesting::Ended;
 
 // A header, the root, `/a`, and the reply to its create.
 const ROWS: usize = 4;

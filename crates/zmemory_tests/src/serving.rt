@@ -7,11 +7,10 @@ use crate::taking::{acts, has_put};
 use std::alloc::Global;
 use zalloc::Memory;
 use zcalls::Query;
-use zliterals::{call_number, client};
 use zpath::Path;
 use zprotocol::{Message, Out, Process};
 use zserver::{Server, Snapshot, Stopped, Taken};
-use zstories::Ended;
+use ztesting::{Ended, call_number, client};
 
 /// A query at a tail.
 pub(crate) fn query_is_taken(alloc: Global) -> Ended {

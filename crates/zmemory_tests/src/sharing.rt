@@ -3,7 +3,7 @@
 use crate::values::two_bytes;
 use std::alloc::Global;
 use zalloc::Memory;
-use zstories::Ended;
+use ztesting::Ended;
 
 /// Makes data of two bytes.
 pub(crate) fn data_is_made(alloc: Global) -> Ended {

@@ -1,4 +1,4 @@
-//! The stories, by name.
+//! The stories of the parts of a server and of a client, by name.
 
 use crate::applying::{
     create_is_applied, multi_is_applied, open_is_applied, removal_is_applied, retry_is_applied,
@@ -15,7 +15,7 @@ use crate::story::{Taking, Word, told};
 use std::alloc::Global;
 use std::io;
 use std::io::Print;
-use zstories::{Ended, tell, tell_end};
+use ztesting::{Ended, tell};
 
 // What may be refused memory.
 #[derive(Clone, Copy)]
@@ -99,12 +99,12 @@ const STORIES: &[(&str, Story)] = &[
     ("a client asks again", Story::Retry),
 ];
 
-/// Tells all stories, one after the other, and that they have ended.
-pub(crate) fn tell_all(rt: &impl Print, alloc: Global) -> io::Result<()> {
+/// Tells these stories, one after the other.
+pub(crate) fn tell_parts(rt: &impl Print, alloc: Global) -> io::Result<()> {
     for (name, story) in STORIES {
         tell(rt, name, ended(alloc, *story))?;
     }
-    tell_end(rt, alloc)
+    Ok(())
 }
 
 fn ended(alloc: Global, story: Story) -> Ended {

@@ -6,10 +6,9 @@ use crate::values::create;
 use std::alloc::Global;
 use zalloc::Memory;
 use zcalls::{SharedEntry, Update};
-use zliterals::{call_number, client, epoch, log_number, server};
 use zprotocol::{Message, Out, Process, ServerId};
 use zserver::{Server, Snapshot};
-use zstories::Ended;
+use ztesting::{Ended, call_number, client, epoch, log_number, server};
 
 /// A server receives a message: its predecessor and its successor in the initial chain (0 for
 /// none), what it received before, and the message.

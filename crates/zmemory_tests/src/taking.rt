@@ -1,10 +1,9 @@
 //! A server receives a message: it acts, or it has stopped for good and sent nothing.
 
 use std::alloc::Global;
-use zliterals::epoch;
 use zprotocol::{Message, Out, Process};
 use zserver::{Server, Snapshot, Stopped, Taken};
-use zstories::Ended;
+use ztesting::{Ended, epoch};
 
 /// Hands a server a message, with nothing sent before; returns whether it acted.
 pub(crate) fn acts(

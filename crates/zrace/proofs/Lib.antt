@@ -2,3 +2,6 @@ pub mod Kept
 pub mod Seen
 pub mod Verdicts
 pub mod Lines
+pub mod Asked
+pub mod Faults
+pub mod Written

@@ -4,3 +4,6 @@ pub mod Ranges
 pub mod Text
 pub mod Seen
 pub mod Races
+pub mod Asked
+pub mod Run
+pub mod support

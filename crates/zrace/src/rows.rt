@@ -1,10 +1,31 @@
 //! Worked rows of the definitions: each clause is one, and the bodies do nothing.
 
-ghost use Rattle.std.specs.Prelude.{◌≡◌};
+ghost use Rattle.std.specs.Prelude.{◌≡◌, [], ◌∷◌, codes, Some};
+ghost use Rattle.zrace.specs.Asked.{IsRaceOf};
+ghost use Rattle.zrace.specs.declared.plan.Race.{Race};
 ghost use Rattle.zrace.specs.declared.plan.TheConstants.{MAX_RACERS, MAX_ROUNDS};
+ghost use Rattle.zrace.specs.support.Rows.{text_numbers};
 
 /// The limits, as numbers.
 pub fn limits_are_numbers()
     ensures racers { MAX_RACERS ≡ 31 }
     ensures rounds { MAX_ROUNDS ≡ 1000 }
+{}
+
+/// Words of the program, and the four numbers that they give: servers, clients, rounds, and the
+/// server to be halted.
+pub fn words_give_four_numbers()
+    ensures none { text_numbers (codes "zk race") ≡ Some (3 ∷ 4 ∷ 100 ∷ 0 ∷ []) }
+    ensures one { text_numbers (codes "zk race --halt 2") ≡ Some (3 ∷ 4 ∷ 100 ∷ 2 ∷ []) }
+    ensures swapped { text_numbers (codes "zk race --halt 5 --rounds=7 --clients 31 --servers 16")
+        ≡ Some (16 ∷ 31 ∷ 7 ∷ 5 ∷ []) }
+{}
+
+/// Numbers that no race has. A server outside the chain is not halted, nor is the only one.
+pub fn numbers_are_in_their_ranges()
+    ensures seventeen_servers { (r : Race) → IsRaceOf (Some (17 ∷ 4 ∷ 100 ∷ 0 ∷ [])) r → ⊥ }
+    ensures no_client { (r : Race) → IsRaceOf (Some (3 ∷ 0 ∷ 100 ∷ 0 ∷ [])) r → ⊥ }
+    ensures rounds { (r : Race) → IsRaceOf (Some (3 ∷ 4 ∷ 1001 ∷ 0 ∷ [])) r → ⊥ }
+    ensures halted { (r : Race) → IsRaceOf (Some (2 ∷ 4 ∷ 100 ∷ 3 ∷ [])) r → ⊥ }
+    ensures only_one { (r : Race) → IsRaceOf (Some (1 ∷ 4 ∷ 100 ∷ 1 ∷ [])) r → ⊥ }
 {}

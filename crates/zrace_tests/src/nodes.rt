@@ -2,8 +2,8 @@
 
 use std::test::Fail;
 use zaudit::audit;
-use zliterals::server;
 use zrace::{Finish, Race, run};
+use ztesting::server;
 use ztraces::{Act, Trace, Traces};
 
 const ROUNDS: u16 = 40;

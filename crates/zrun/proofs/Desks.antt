@@ -6,18 +6,18 @@ use mathlib.Core.Option.{some-injective, some-ne-none}
 use Rattle.zprotocol.specs.declared.process.Process.TheVariants.{Server, Client}
 use Rattle.zworld_model.proofs.Processes.{same_process}
 use Rattle.zprotocol.specs.Places.{process_at}
-use Rattle.zgather.proofs.Elements.{element_right}
-use Rattle.zgather.proofs.Stands.{client_here, server_here}
-use Rattle.zthreads.specs.Owned.{server_desk}
-use Rattle.zcaller.specs.Callers.{caller_desk}
+use Rattle.zrun.proofs.Elements.{element_right}
+use Rattle.zrun.proofs.Stands.{client_here, server_here}
+use Rattle.zhost.specs.Owned.{server_desk}
+use Rattle.zhost.specs.Callers.{caller_desk}
 use Rattle.zrun.specs.declared.posts.ClientPost.{ClientPost}
 use Rattle.zrun.specs.declared.posts.ServerPost.{ServerPost}
 use Rattle.zrun.specs.Origins.{client_desks, Run}
 use Rattle.zrun.specs.Posts.{post_desks}
-use Rattle.zrings.specs.Ends.{Ring}
-use Rattle.zmesh.specs.Woven.{in_rings, IsWoven, out_rings}
-use Rattle.zdesks.specs.declared.desk.Desk.{Desk}
-use Rattle.zdesks.specs.Desks.{IsDeskOf}
+use Rattle.zshared.specs.Rings.{Ring}
+use Rattle.zshared.specs.Woven.{in_rings, IsWoven, out_rings}
+use Rattle.zhost.specs.declared.desk.Desk.{Desk}
+use Rattle.zhost.specs.Desks.{IsDeskOf}
 use Rattle.zrun.specs.declared.opening.Ends.{Ends}
 use Rattle.zrun.specs.declared.supply.Supply.{Supply}
 use Rattle.zrun.specs.Openings.{HasEnds, in_rings_in, out_rings_in}

@@ -10,19 +10,19 @@ use Rattle.zprotocol.specs.declared.process.Process.TheVariants.{Client}
 use Rattle.ztraces.specs.declared.trace.ClientTrace.{ClientTrace}
 use Rattle.ztraces.specs.declared.trace.Traces.{Traces}
 use Rattle.zprotocol.specs.Places.{process_at}
-use Rattle.zrings.specs.Ends.{Ring, ring_of_rx, ring_of_tx}
-use Rattle.zmesh.specs.Woven.{IsWoven}
-use Rattle.zmesh.proofs.Said.{within}
-use Rattle.zdesks.specs.declared.desk.Desk.{Desk}
-use Rattle.zdesks.specs.declared.desk.Ending.{Ending}
-use Rattle.zdesks.specs.Desks.{Each, IsDeskOf, SameDesk, Self, self_of}
-use Rattle.zdesks.specs.Endings.{HasEnded, LeavesNothing, SameWires}
-use Rattle.zdesks.proofs.Endings.{neither, same_self_of}
-use Rattle.zgather.specs.Left.{AreWired, by_place, client_trace_of, is_left_cut, is_left_lost, self_at}
-use Rattle.zgather.proofs.Elements.{element, element_map, element_or}
-use Rattle.zgather.proofs.Stands.{client_at, same_at}
+use Rattle.zshared.specs.Rings.{Ring, ring_of_rx, ring_of_tx}
+use Rattle.zshared.specs.Woven.{IsWoven}
+use Rattle.zshared.proofs.Said.{within}
+use Rattle.zhost.specs.declared.desk.Desk.{Desk}
+use Rattle.zhost.specs.declared.desk.Ending.{Ending}
+use Rattle.zhost.specs.Desks.{Each, IsDeskOf, SameDesk, Self, self_of}
+use Rattle.zhost.specs.Endings.{HasEnded, LeavesNothing, SameWires}
+use Rattle.zhost.proofs.Endings.{neither, same_self_of}
+use Rattle.zrun.specs.Left.{AreWired, by_place, client_trace_of, is_left_cut, is_left_lost, self_at}
+use Rattle.zrun.proofs.Elements.{element, element_map, element_or}
+use Rattle.zrun.proofs.Stands.{client_at, same_at}
 use Rattle.zrun.specs.declared.client.Client as client
-use Rattle.zcaller.specs.Callers.{caller_desk, caller_id}
+use Rattle.zhost.specs.Callers.{caller_desk, caller_id}
 use Rattle.zrun.specs.declared.posts.ClientPost.{ClientPost}
 use Rattle.zrun.specs.Origins.{client_desks, desk_wiring, Run}
 use Rattle.zrun.specs.Clients.{AreIn, client_desk, client_wiring, IsLeftIn}

@@ -6,3 +6,7 @@ pub mod Pairs
 pub mod Places
 pub mod Left
 mod Calls
+pub mod Elements
+pub mod Stands
+pub mod Accounts
+pub mod Whole

@@ -12,7 +12,7 @@ use Rattle.zprotocol.specs.master.View.{opening_master}
 use Rattle.zprotocol.specs.client.View.{opening_client}
 use Rattle.zprotocol.specs.Places.{is_server}
 use Rattle.zworld_model.specs.Does.{AtMaster, AtServer, AtClient}
-use Rattle.zdesks.specs.Desks.{Each, opening_of}
+use Rattle.zhost.specs.Desks.{Each, opening_of}
 
 pub master_opening : (last clients : ℕ) → opening_of last clients Master ≡ AtMaster (opening_master last clients)
 unfolding opening_of

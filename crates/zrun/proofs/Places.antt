@@ -4,12 +4,12 @@ use Rattle.std.specs.Prelude.{IfSome}
 use Rattle.std.proofs.lemmas.List.{length-map}
 use mathlib.Core.Option.{some, some-injective, some-ne-none}
 use lib.ListN.{get_elem?}
-use Rattle.zcaller.specs.Callers.{caller_desk, caller_id}
-use Rattle.zdesks.specs.declared.desk.Desk.{Desk}
-use Rattle.zdesks.specs.Desks.{Each}
-use Rattle.zmesh.proofs.Said.{within}
+use Rattle.zhost.specs.Callers.{caller_desk, caller_id}
+use Rattle.zhost.specs.declared.desk.Desk.{Desk}
+use Rattle.zhost.specs.Desks.{Each}
+use Rattle.zshared.proofs.Said.{within}
 use Rattle.atomic_table.proofs.Lists.{at_set}
-use Rattle.zgather.proofs.Elements.{element_map, element_right}
+use Rattle.zrun.proofs.Elements.{element_map, element_right}
 use Rattle.zrun.specs.declared.posts.ClientPost.{ClientPost}
 use Rattle.zrun.specs.Origins.{client_desks, desk_wiring, IsOneOf, Run}
 use Rattle.zrun.specs.declared.client.Client as client

@@ -13,3 +13,5 @@ pub mod Asked
 pub mod Untraced
 pub mod Ticks
 pub mod Tickers
+pub mod Left
+pub mod Gone

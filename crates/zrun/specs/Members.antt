@@ -4,7 +4,7 @@ use Rattle.zprotocol.specs.declared.process.Process.TheVariants as process
 use Rattle.ztraces.specs.declared.trace.ClientTrace.{ClientTrace}
 use Rattle.ztraces.specs.declared.trace.Traces.{Traces}
 use Rattle.ztraces.specs.Traces.{record_of, trace_of}
-use Rattle.zdesks.specs.Desks as desk
+use Rattle.zhost.specs.Desks as desk
 use Rattle.zrun.specs.declared.client.Client.{Client}
 use Rattle.zrun.specs.declared.clients.Clients.{Clients}
 use Rattle.zrun.specs.Origins.{Run}

@@ -3,10 +3,10 @@ use Rattle.std.specs.Prelude.{◌≡◌, ℕ, Bool, List, map}
 use mathlib.Core.Option.{some}
 use lib.ListN.{get_elem?}
 use Rattle.zprotocol.specs.declared.process.Process.{Process}
-use Rattle.zrings.specs.Ends.{Ring}
-use Rattle.zdesks.specs.declared.desk.Desk.{Desk}
-use Rattle.zdesks.specs.Desks.{is_traced_of, link_count, process_of}
-use Rattle.zcaller.specs.Callers.{caller_desk}
+use Rattle.zshared.specs.Rings.{Ring}
+use Rattle.zhost.specs.declared.desk.Desk.{Desk}
+use Rattle.zhost.specs.Desks.{is_traced_of, link_count, process_of}
+use Rattle.zhost.specs.Callers.{caller_desk}
 use Rattle.zrun.specs.declared.posts.ClientPost.{ClientPost}
 use Rattle.zrun.specs.Runs.{in_rings_of, out_rings_of}
 

@@ -1,12 +1,12 @@
 -- The endpoints of a run, by place, and what they left.
 use Rattle.std.specs.Prelude.{◌≡◌, ◌⊎◌, ℕ, ◌+◌, Bool, true, false, List, [], ◌∷◌, length, map}
 use Rattle.zprotocol.specs.Places.{process_at}
-use Rattle.zrings.specs.Ends.{Ring, ring_of_rx, ring_of_tx}
-use Rattle.zmesh.specs.Woven.{IsWoven}
-use Rattle.zdesks.specs.declared.desk.Desk.{Desk}
-use Rattle.zdesks.specs.declared.desk.Ending.{Ending}
-use Rattle.zdesks.specs.Desks.{Each, IsDeskOf, is_traced_of, self_of, wires_of}
-use Rattle.zdesks.specs.Endings.{HasEnded, LeavesNothing, SameWires}
+use Rattle.zshared.specs.Rings.{Ring, ring_of_rx, ring_of_tx}
+use Rattle.zshared.specs.Woven.{IsWoven}
+use Rattle.zhost.specs.declared.desk.Desk.{Desk}
+use Rattle.zhost.specs.declared.desk.Ending.{Ending}
+use Rattle.zhost.specs.Desks.{Each, IsDeskOf, is_traced_of, self_of, wires_of}
+use Rattle.zhost.specs.Endings.{HasEnded, LeavesNothing, SameWires}
 
 -- the rings on which a process sends, and those from which it receives
 abbrev pub out_rings_of : Desk → List Ring

@@ -1,9 +1,9 @@
 -- What a clause says of a cluster that keeps no traces.
 use Rattle.std.specs.Prelude.{ℕ, false, List}
-use Rattle.zdesks.specs.declared.desk.Ending.{Ending}
-use Rattle.zdesks.specs.Desks.{Each}
-use Rattle.zdesks.specs.Endings.{LeavesNothing, SameWires}
-use Rattle.zgather.specs.Gone.{HasGone}
+use Rattle.zhost.specs.declared.desk.Ending.{Ending}
+use Rattle.zhost.specs.Desks.{Each}
+use Rattle.zhost.specs.Endings.{LeavesNothing, SameWires}
+use Rattle.zrun.specs.Gone.{HasGone}
 use Rattle.zrun.specs.declared.untraced.Untraced.{Untraced}
 use Rattle.zrun.specs.Clusters.{client_count, cluster_desks, cluster_run, last_server}
 use Rattle.zrun.specs.Origins.{Run}

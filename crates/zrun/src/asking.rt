@@ -1,7 +1,7 @@
 //! A call whose reply is waited for by a clock.
 
 ghost use Rattle.std.specs.Prelude.{IfErr, IfOk};
-ghost use Rattle.zcaller.specs.Callers.{SameLearnt};
+ghost use Rattle.zhost.specs.Callers.{SameLearnt};
 ghost use Rattle.zrun.specs.Asked.{AskedWithinInVain, AskedWithinUntil};
 ghost use Rattle.zrun.specs.Asked.{InsistedWithinInVain, InsistedWithinUntil};
 ghost use Rattle.zrun.specs.Clients.{BeganNothing, caller_of, SameClient};

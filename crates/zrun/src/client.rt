@@ -2,9 +2,9 @@
 
 ghost use Rattle.std.specs.Prelude.{◌≡◌, IfErr, IfOk, OnErr, OnOk, Some, max};
 ghost use Rattle.std.specs.Arc.{arc_value};
-ghost use Rattle.zwords.specs.HaltSeats.{IsSeatOf, Knows};
-ghost use Rattle.zcaller.specs.Callers.{Began, caller_stamp, caller_view, IsUncut, MayRefuse};
-ghost use Rattle.zcaller.specs.Callers.{Retried, SameCaller, SameLearnt, Turned};
+ghost use Rattle.zshared.specs.HaltSeats.{IsSeatOf, Knows};
+ghost use Rattle.zhost.specs.Callers.{Began, caller_stamp, caller_view, IsUncut, MayRefuse};
+ghost use Rattle.zhost.specs.Callers.{Retried, SameCaller, SameLearnt, Turned};
 
 use crate::faults::Unanswered;
 use crate::patience::Patience;
@@ -13,12 +13,12 @@ use std::sync::Arc;
 use std::thread;
 use zalloc::Memory;
 use zbells::Bells;
-use zcaller::Caller;
 use zcalls::{Call, CallNumber, ClientId, Reply};
 use zclient::BeginFault;
+use zhost::Caller;
 use zprotocol::{Process, ServerId};
+use zshared::halts::{Halt, HaltSeat};
 use ztraces::Stamp;
-use zwords::halts::{Halt, HaltSeat};
 
 /// A client of one run, which it stays through all calls. None of its calls blocks.
 #[derive(Drop)]

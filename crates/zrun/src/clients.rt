@@ -1,8 +1,8 @@
 //! The clients of a run, by number.
 
 ghost use Rattle.std.specs.Prelude.{◌≡◌, ◌≢◌, ◌<◌, ℕ, IfOk, IfSome, None, Some, length};
-ghost use Rattle.zcaller.specs.Callers.{caller_id};
-ghost use Rattle.zdesks.specs.Desks.{Each};
+ghost use Rattle.zhost.specs.Callers.{caller_id};
+ghost use Rattle.zhost.specs.Desks.{Each};
 ghost use Rattle.zrun.specs.Clients.{AreIn, BelongsTo, IsClientOf, number_of};
 
 use crate::client::Client;

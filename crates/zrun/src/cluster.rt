@@ -4,11 +4,12 @@ ghost use Rattle.std.specs.Prelude.{◌≡◌, false, IfOk, length};
 ghost use Rattle.zprotocol.specs.declared.limits.TheConstants.{MAX_SERVERS};
 ghost use Rattle.ztraces.specs.Audit.{is_any_cut};
 ghost use Rattle.ztraces.specs.Lawful.{AreLawful};
-ghost use Rattle.zgather.specs.Left.{by_place};
+ghost use Rattle.zrun.specs.Left.{by_place};
 ghost use Rattle.zrun.specs.Handles.{given_desks};
 ghost use Rattle.zrun.specs.Openings.{IsRunFrom};
 
 use crate::clients::Clients;
+use crate::gathering::gather;
 use crate::joining::{end_clients, join_servers};
 use crate::opening::Opening;
 use crate::posts::ClientPost;
@@ -18,11 +19,9 @@ use std::alloc::Global;
 use std::snapshot::Snapshot;
 use std::thread::{PromisedHandle, Threads};
 use zalloc::Memory;
-use zconsole::ends::{Console, Inbox};
-use zdesks::Ending;
-use zgather::gather;
+use zhost::{Ending, MasterThread, ServerThread};
 use zprotocol::{MAX_SERVERS, ServerId};
-use zthreads::{MasterThread, ServerThread};
+use zshared::console::{Console, Inbox};
 use ztraces::Traces;
 
 /// The threads of a run.

@@ -8,8 +8,8 @@ use thiserror::Error;
 use zalloc::Memory;
 use zcalls::{DataFault, Refusal, Reply};
 use zclient::BeginFault;
-use zconsole::ends::Closed;
 use zpath::PathFault;
+use zshared::console::Closed;
 
 /// Any fault of a program that uses a cluster. Each fault on the way turns into it, so `?` serves.
 /// A reply that isn't the one that was wanted turns into it, too.

@@ -15,8 +15,7 @@ use crate::promises::SameServer;
 use std::alloc::Global;
 use std::thread::{PromisedHandle, Threads};
 use zalloc::Memory;
-use zdesks::Ending;
-use zthreads::ServerThread;
+use zhost::{Ending, ServerThread};
 use ztraces::Trace;
 
 /// Joins the servers' threads. Returns what they left, the first one first.

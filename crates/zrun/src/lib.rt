@@ -1,8 +1,10 @@
 //! The service in threads.
 //!
 //! A cluster has a thread for each server and one for the master. Its clients are owned by their
-//! callers' threads. When it is joined it returns the traces of all processes, for the audit. One
-//! that is started untraced keeps none, and may run for good.
+//! callers' threads. When it is joined it returns the traces of all processes, for the audit. With
+//! both ends of each channel in one thread, the channels can tell that what was received is a
+//! prefix of what was sent: then the traces are lawful. A cluster that is started untraced keeps
+//! none, and may run for good.
 //!
 //! What its callers name stands here: calls and replies, paths and data, numbers, and one `Fault`.
 #![tactic(auto)]
@@ -14,7 +16,10 @@ mod cluster;
 mod fault;
 mod faults;
 mod gates;
+mod gathering;
 mod joining;
+mod keeping;
+mod knowing;
 mod opening;
 mod patience;
 mod posts;
@@ -43,9 +48,9 @@ pub use zcalls::{
     PartReply, Query, Refusal, Reply, SessionId, SetData, Stat, Ttl, Update,
 };
 pub use zclient::BeginFault;
-pub use zconsole::ends::{Closed, Console};
-pub use zconsole::outcome::OrderOutcome;
+pub use zhost::{Gate, Open};
 pub use zpath::{Path, PathFault};
 pub use zprotocol::{JoinFault, Order, OrderFault, RetireFault, ServerId};
-pub use zthreads::{Gate, Open};
+pub use zshared::console::{Closed, Console};
+pub use zshared::outcome::OrderOutcome;
 pub use ztraces::Stamp;

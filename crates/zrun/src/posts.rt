@@ -17,11 +17,10 @@ use std::snapshot::Snapshot;
 use std::time::Duration;
 use zalloc::Memory;
 use zbells::Bells;
-use zcaller::Caller;
 use zcalls::ClientId;
-use zconsole::ends::{Console, Inbox};
+use zhost::{Caller, MasterThread, ServerThread};
 use zprotocol::{MAX_SERVERS, ServerId};
-use zthreads::{MasterThread, ServerThread};
+use zshared::console::{Console, Inbox};
 
 /// What a server's thread is started with.
 #[derive(Drop)]

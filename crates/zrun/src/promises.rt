@@ -1,8 +1,8 @@
 //! What threads promise of what they hand back.
 
 ghost use Rattle.std.specs.Prelude.{◌≡◌};
-ghost use Rattle.zdesks.specs.Desks.{SameDesk};
-ghost use Rattle.zthreads.specs.Owned.{master_desk, server_desk};
+ghost use Rattle.zhost.specs.Desks.{SameDesk};
+ghost use Rattle.zhost.specs.Owned.{master_desk, server_desk};
 ghost use Rattle.zrun.specs.Clients.{SameClient};
 ghost use Rattle.zrun.specs.Ticks.{CountsTicks};
 
@@ -10,8 +10,8 @@ use crate::client::Client;
 use crate::ticks::Ticks;
 use std::snapshot::Snapshot;
 use std::thread::Promise;
-use zconsole::ends::Inbox;
-use zthreads::{MasterThread, ServerThread};
+use zhost::{MasterThread, ServerThread};
+use zshared::console::Inbox;
 
 /// The server that comes back has the endpoint of the one that went.
 #[derive(Drop)]

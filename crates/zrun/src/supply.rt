@@ -2,19 +2,19 @@
 
 ghost use Rattle.std.specs.Prelude.{◌≡◌, ◌<◌, ◌+◌, IfOk, OnOk, length, All};
 ghost use Rattle.std.specs.Arc.{arc_value};
-ghost use Rattle.zwords.specs.HaltSeats.{IsSeatOf};
-ghost use Rattle.zmesh.specs.Woven.{AreBlankIns, AreBlankOuts, AreWide};
+ghost use Rattle.zshared.specs.HaltSeats.{IsSeatOf};
+ghost use Rattle.zshared.specs.Woven.{AreBlankIns, AreBlankOuts, AreWide};
 
 use crate::opening::Ends;
 use std::alloc::Global;
 use std::sync::Arc;
 use zalloc::Memory;
 use zbells::Bells;
-use zconsole::ends::{Console, Inbox};
-use zdesks::Stamped;
-use zmesh::{Mesh, weave};
-use zrings::ends::{Rx, Tx};
-use zwords::halts::{Halt, HaltSeat};
+use zhost::Stamped;
+use zshared::console::{Console, Inbox};
+use zshared::halts::{Halt, HaltSeat};
+use zshared::rings::{Rx, Tx};
+use zshared::{Mesh, weave};
 
 /// A seat at the run's halt word, and the bells of those who look at it.
 #[derive(Drop)]

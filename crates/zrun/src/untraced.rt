@@ -9,6 +9,7 @@ ghost use Rattle.zrun.specs.Members.{clients_run, HasAll};
 use crate::clients::Clients;
 use crate::cluster::Cluster;
 use crate::faults::StartFault;
+use crate::knowing::is_known;
 use crate::opening::Opening;
 use std::alloc::Global;
 use std::sync::Wait;
@@ -16,10 +17,9 @@ use std::thread::Threads;
 use std::time::Duration;
 use zalloc::Memory;
 use zbells::SLEEP_MILLIS;
-use zconsole::ends::Console;
-use zgather::is_known;
+use zhost::Gate;
 use zprotocol::ServerId;
-use zthreads::Gate;
+use zshared::console::Console;
 
 /// The threads of a run that keeps no traces. What it takes of memory doesn't grow with the number
 /// of calls.

@@ -16,9 +16,9 @@ use std::thread;
 use std::thread::{Parker, Threads};
 use std::time::{Duration, Instant};
 use zaudit::audit;
-use zliterals::{client, server};
 use zprotocol::ServerId;
 use zrun::{Client, Clients, Cluster, open_gates};
+use ztesting::{client, server};
 
 // Starts a cluster of two clients whose threads sleep for a minute, and waits until they do.
 fn start_asleep<R: Threads + Wait + Copy + Send + 'static>(

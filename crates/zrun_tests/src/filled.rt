@@ -11,8 +11,8 @@ use std::alloc::Global;
 use std::test::Fail;
 use std::thread;
 use zaudit::audit;
-use zliterals::{client, server};
 use zrun::{Client, Clients};
+use ztesting::{client, server};
 
 // A call is sent so many times in all: a ring has room for 64 messages.
 const SENT: u32 = 150;

@@ -10,8 +10,8 @@ use std::alloc::Global;
 use std::test::Fail;
 use std::thread;
 use zaudit::audit;
-use zliterals::{client, server};
 use zrun::{Client, Clients, Unanswered};
+use ztesting::{client, server};
 use ztraces::{Act, Trace};
 
 // What an answer takes is far below; one that never comes is waited for so long.

@@ -12,8 +12,8 @@ use std::test::Fail;
 use std::thread;
 use zaudit::audit;
 use zcalls::Reply;
-use zliterals::{client, server};
 use zrun::{Client, Clients};
+use ztesting::{client, server};
 
 /// Takes turns until a gate has seen the message that it looks for, a hundred million at most.
 pub fn turn_until(client: &mut Client, meeting: &Meeting)

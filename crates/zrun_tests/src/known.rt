@@ -8,9 +8,9 @@ use crate::halts::halt_and_hear;
 use crate::runs::start_plain;
 use std::test::Fail;
 use zaudit::audit;
-use zliterals::{client, server};
 use zprotocol::ServerId;
 use zrun::{Client, Clients};
+use ztesting::{client, server};
 
 // Returns whether it knows these ends of the chain.
 fn knows(client: &Client, head: ServerId, tail: ServerId) -> bool {

@@ -1,11 +1,16 @@
-//! Tests of the service in threads: threads that meet, a server that joins late, one that leaves,
-//! halted servers, a ring that is full, turns that are all taken, stamps that are learnt, a client
-//! that is not put back, what the master says to orders, what a client knows of the chain, a
-//! ticker, and what the audit says of the traces of a cluster that was joined.
+//! Tests of the service in threads: what threads share, threads that meet, a server that joins late,
+//! one that leaves, halted servers, a ring that is full, turns that are all taken, stamps that are
+//! learnt, a client that is not put back, what the master says to orders, what a client knows of
+//! the chain, and a ticker. Beside them stands what the audit says of the traces of a cluster that
+//! was joined, and of traces as they are and with one thing wrong.
 #![tactic(auto)]
 
 #[cfg(test)]
 mod apart;
+#[cfg(test)]
+mod audit_stories;
+#[cfg(test)]
+mod audits;
 #[cfg(test)]
 mod bells;
 #[cfg(test)]
@@ -14,6 +19,8 @@ mod calls;
 mod filled;
 #[cfg(test)]
 mod gates;
+#[cfg(test)]
+mod halt_bits;
 #[cfg(test)]
 mod halts;
 #[cfg(test)]
@@ -31,12 +38,18 @@ mod orders;
 #[cfg(test)]
 mod retries;
 #[cfg(test)]
+mod rings;
+#[cfg(test)]
 mod runs;
 #[cfg(test)]
 mod stamps;
 #[cfg(test)]
 mod tickers;
 #[cfg(test)]
+mod tickets;
+#[cfg(test)]
 mod traces;
 #[cfg(test)]
 mod turns;
+#[cfg(test)]
+mod wrong_traces;

@@ -11,8 +11,8 @@ use std::alloc::Global;
 use std::test::Fail;
 use std::thread::Threads;
 use zaudit::audit;
-use zliterals::{client, server};
 use zrun::Clients;
+use ztesting::{client, server};
 
 // Three clients call at one time, each on a thread of its own: whether all are answered.
 fn call_at_once<R: Threads>(rt: &R, alloc: Global, clients: &mut Clients) -> Option<bool>

@@ -2,8 +2,8 @@
 
 use std::test::Fail;
 use zaudit::{AuditFault, audit};
-use zliterals::{client, server};
 use zrun::{Cluster, open_gates};
+use ztesting::{client, server};
 
 #[test]
 fn a_missing_client_is_told(rt: HostRuntime) -> Result<(), Fail> {

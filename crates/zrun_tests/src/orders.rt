@@ -7,8 +7,8 @@ use std::sync::Wait;
 use std::test::Fail;
 use std::thread;
 use zaudit::audit;
-use zliterals::server;
 use zrun::{Console, Order, OrderFault, OrderOutcome};
+use ztesting::server;
 
 // The ring has places for 64 outcomes, and the channel for 32 orders.
 const MANY: u8 = 200;

@@ -10,8 +10,8 @@ use crate::runs;
 use std::alloc::Global;
 use std::test::Fail;
 use zaudit::audit;
-use zliterals::{client, server};
 use zrun::{Client, Clients, Patience, Unanswered};
+use ztesting::{client, server};
 use ztraces::{Act, Trace};
 
 // How often a call is sent again that has no reply.

@@ -10,8 +10,8 @@ use std::alloc::Global;
 use std::test::Fail;
 use zaudit::audit;
 use zcalls::Call;
-use zliterals::{client, server};
 use zrun::{Client, Clients};
+use ztesting::{client, server};
 use zworld_model::CallEvent;
 
 // The place of the answer to the client's call, and that where it begins one.

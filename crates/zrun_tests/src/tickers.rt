@@ -12,10 +12,10 @@ use std::test::Fail;
 use std::thread::{Parker, Threads};
 use std::time::Duration;
 use zaudit::audit;
-use zliterals::{client, server};
 use zrun::{
     Call, Client, Clients, Data, Kind, Lifetime, Path, Reply, SessionId, Ticker, Ticks, Unanswered,
 };
+use ztesting::{client, server};
 
 // Opens a session that lives for two ticks, unless it is renewed.
 fn open(client: &mut Client) -> Option<SessionId>

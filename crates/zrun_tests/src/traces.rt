@@ -12,9 +12,9 @@ use std::test::Fail;
 use std::thread::Threads;
 use zaudit::{AuditFault, audit};
 use zcalls::Reply;
-use zliterals::{call_number, client, server};
 use zprotocol::MAX_SERVERS;
 use zrun::{Client, Clients};
+use ztesting::{call_number, client, server};
 use ztraces::Traces;
 use zworld_model::CallEvent;
 

@@ -11,8 +11,8 @@ use std::sync::Wait;
 use std::test::Fail;
 use std::thread::Threads;
 use zaudit::audit;
-use zliterals::{client, server};
 use zrun::{Client, Clients, Patience, Unanswered};
+use ztesting::{client, server};
 use ztraces::{Act, Trace, Traces};
 
 // So many answers too many lie in the client's ring, which has room for 64.

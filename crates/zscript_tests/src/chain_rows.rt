@@ -3,8 +3,8 @@
 //! the program plays.
 
 use crate::playing::{Row, plays_rows};
-use zliterals::server;
 use zscript::ServerId;
+use ztesting::server;
 
 const OVER_ONE: &[Row] = &[
     // A request is lost, and sent again where the world settles.

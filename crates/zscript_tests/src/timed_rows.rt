@@ -1,8 +1,8 @@
 //! Worked scripts of nodes with a time to live.
 
 use crate::playing::{Row, plays_rows};
-use zliterals::server;
 use zscript::ServerId;
+use ztesting::server;
 
 // No server fails and none joins: the answer of each row is the same over one server and over
 // three.

@@ -6,9 +6,9 @@ use crate::values::Given;
 use std::alloc::Global;
 use std::process::Abort;
 use zcalls::Update;
-use zliterals::{call_number, client, server};
 use zprotocol::{Epoch, Message, Out, Process};
 use zserver::{Server, Snapshot};
+use ztesting::{call_number, client, server};
 
 // A spare server joins behind server 1 in epoch 1.
 const JOINS: Rows = &[

@@ -4,10 +4,10 @@ use crate::joining::handed_over;
 use std::alloc::Global;
 use std::process::Abort;
 use zcalls::{CallNumber, Entry, Query, SharedEntry, Update};
-use zliterals::client;
 use zpath::Path;
 use zprotocol::{Epoch, LogNumber, Message, Process, ServerId};
 use zserver::Snapshot;
+use ztesting::client;
 
 /// A message that a server is given.
 pub(crate) enum Given {

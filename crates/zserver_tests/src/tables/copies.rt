@@ -6,8 +6,8 @@ use zcalls::{
     Check, Create, Data, Delete, Entry, Expected, Kind, Lifetime, Multi, Names, Part, PartReply,
     Query, Replies, Reply, SetData, SharedEntry, Update,
 };
-use zliterals::{call_number, client};
 use zpath::{Name, Path};
+use ztesting::{call_number, client};
 
 #[test]
 fn copies_calls(rt: HostRuntime) {

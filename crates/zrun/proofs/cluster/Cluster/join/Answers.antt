@@ -4,8 +4,8 @@ use Rattle.std.proofs.lemmas.Result.{IfOk-weaker}
 use Rattle.ztree.specs.declared.limits.TheConstants.{MAX_CLIENTS}
 use Rattle.zprotocol.specs.declared.limits.TheConstants.{MAX_SERVERS}
 use Rattle.ztraces.specs.declared.trace.Traces.{Traces}
-use Rattle.zdesks.specs.declared.desk.Ending.{Ending}
-use Rattle.zgather.specs.Left.{AreLeft, by_place, client_trace_of}
+use Rattle.zhost.specs.declared.desk.Ending.{Ending}
+use Rattle.zrun.specs.Left.{AreLeft, by_place, client_trace_of}
 use Rattle.zrun.specs.Members.{AreTold}
 use Rattle.zrun.specs.Clusters.{client_count, cluster_desks}
 use Rattle.zrun.proofs.Leavings.{clients_told, wired_is}

@@ -1,7 +1,7 @@
 use Rattle.std.proofs.Common.{◌≡◌, ◌<◌, true, false, length, sym, ap, subst, ◌∙◌}
 use Rattle.std.specs.Prelude.{Result, Ok, Err, IfOk}
-use Rattle.zgather.specs.Gone.{GoesIfLeft}
-use Rattle.zgather.specs.Left.{by_place, is_left_lost}
+use Rattle.zrun.specs.Gone.{GoesIfLeft}
+use Rattle.zrun.specs.Left.{by_place, is_left_lost}
 use Rattle.zrun.specs.Clusters.{cluster_desks}
 use Rattle.zrun.specs.Members.{HasAll}
 use Rattle.zrun.specs.Untraced.{RanLawfully, untraced_count}

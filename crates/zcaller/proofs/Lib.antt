@@ -1,3 +1,0 @@
-pub mod Books
-pub mod Rows
-pub mod Results

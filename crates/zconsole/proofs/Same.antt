@@ -1,7 +1,0 @@
--- An end after more calls.
-use Rattle.std.proofs.Common.{◌∙◌}
-use Rattle.zconsole.specs.declared.ends.Inbox.{Inbox}
-use Rattle.zconsole.specs.Ends.{IsSameInbox}
-
-pub same_inbox : (a b c : Inbox) → IsSameInbox a b → IsSameInbox b c → IsSameInbox a c
-same_inbox a b c first second = (second.0 ∙ first.0, second.1 ∙ first.1)

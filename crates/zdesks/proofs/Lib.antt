@@ -1,6 +1,0 @@
-pub mod Deeds
-pub mod Endings
-pub mod Pending
-pub mod Wires
-pub mod Waiting
-pub mod Entered

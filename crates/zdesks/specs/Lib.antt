@@ -1,4 +1,0 @@
-pub mod Desks
-pub mod Endings
-pub mod Waiting
-pub mod Untraced

@@ -1,4 +1,0 @@
-pub mod Elements
-pub mod Stands
-pub mod Accounts
-pub mod Whole

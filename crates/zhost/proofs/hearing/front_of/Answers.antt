@@ -1,0 +1,15 @@
+use Rattle.std.proofs.Common.{◌≡◌, ◌∙◌, None, sym, subst}
+use Rattle.zhost.specs.Desks.{Stands, TreeTaken}
+use Rattle.zhost.proofs.Results.{none_if}
+use Rattle.zhost.proofs.hearing.front_of.Goals as goal
+
+pub returns-then-is_some-clause-taken : goal.returns-then-is_some-clause-taken
+returns-then-is_some-clause-taken c s waits h = subst (λ (f : TreeTaken). Stands c.args.desk.now s f waits) (sym c.take.ensures.value) h
+
+pub returns-clause-taken : goal.returns-clause-taken
+returns-clause-taken c s waits h =
+    let none : c.args.front.now ≡ None = none_if c.args.front.now (sym c.is_some.ensures ∙ c.if-is_some.false) in
+    c.look.ensures.taken s waits (subst (λ (f : TreeTaken). Stands c.args.desk.now s f waits) none h)
+
+pub returns-clause-front : goal.returns-clause-front
+returns-clause-front c = none_if c.args.front.now (sym c.is_some.ensures ∙ c.if-is_some.false)

@@ -1,0 +1,76 @@
+-- What a clause says of a client with its desk.
+use Rattle.std.specs.Prelude.{◌≡◌, ◌⊎◌, ◌<◌, ℕ, Bool, true, false, Option, Some, max, is_some}
+use Rattle.zcalls.specs.declared.call.Call.{Call}
+use Rattle.zcalls.specs.declared.reply.Reply.{Reply}
+use Rattle.zprotocol.specs.declared.client.begin_fault.BeginFault.{BeginFault}
+use Rattle.zprotocol.specs.declared.client.begin_fault.BeginFault.TheVariants.{Memory}
+use Rattle.zprotocol.specs.client.Table.{begin_fault}
+use Rattle.zprotocol.specs.client.View.{ClientView}
+use Rattle.zprotocol.specs.declared.process.Process.{Process}
+use Rattle.ztraces.specs.Stamps.{next_stamp}
+use Rattle.zhost.specs.declared.desk.Desk.{Desk}
+use Rattle.zhost.specs.Desks.{IsCutForNeed, IsLostForNeed, SameBooks, TreeStamped, is_cut_of, stamp_of_desk}
+use Rattle.zhost.specs.Steps.{Begins, Heard, HeardNothing, SendsAgain}
+use Rattle.zhost.specs.declared.caller.Caller.{Caller}
+
+-- its number, desk and view, and the last stamp that it knows
+abbrev pub caller_id : Caller → ℕ
+caller_id c = c.id
+
+abbrev pub caller_desk : Caller → Desk
+caller_desk c = c.desk
+
+abbrev pub caller_view : Caller → ClientView
+caller_view c = c.core
+
+abbrev pub caller_stamp : Caller → ℕ
+caller_stamp c = max (stamp_of_desk c.desk) c.learnt
+
+-- the last stamp that it was told of
+abbrev pub learnt_of : Caller → ℕ
+learnt_of c = c.learnt
+
+-- it was told of no other stamp, and forgot none
+abbrev pub SameLearnt : Caller → Caller → Type 0
+SameLearnt a b = learnt_of b ≡ learnt_of a
+
+-- nothing was done
+abbrev pub SameCaller : Caller → Caller → Type 0
+SameCaller a b = SameBooks a.desk b.desk × (b.core ≡ a.core)
+
+-- the event is later than all that it knew, unless the trace is cut
+abbrev pub IsLater : Caller → Caller → Type 0
+IsLater a b = is_cut_of b.desk ≡ false → caller_stamp a < stamp_of_desk b.desk
+
+-- the event has the stamp behind all that it knew
+abbrev pub IsNext : Caller → Caller → Type 0
+IsNext a b = stamp_of_desk b.desk ≡ next_stamp (caller_stamp a)
+
+-- why a call isn't begun, by the first test that holds; or want of memory, where the client waits for no call
+abbrev pub MayRefuse : ClientView → BeginFault → Type 0
+MayRefuse v Memory = is_some v.outstanding ≡ false
+MayRefuse v fault = begin_fault v ≡ Some fault
+
+-- it began the call with that number
+abbrev pub Began : Caller → Caller → Call → ℕ → Type 0
+Began a b call number = Begins a.id a.desk a.core b.desk b.core call number × IsNext a b × IsLater a b
+
+-- it sent its call once more, or had none to send
+abbrev pub Retried : Caller → Caller → Bool → Type 0
+Retried a b true = SendsAgain a.desk a.core b.desk b.core × IsNext a b × IsLater a b
+Retried a b false = (is_some a.core.outstanding ≡ false) × SameCaller a b
+
+-- it took its turn: it heard a message, with the stamp behind that of the message and all that it knew, or nothing
+abbrev pub Turned : Caller → Caller → Option Reply → Type 0
+Turned a b reply =
+    HeardNothing a.desk a.core b.desk b.core reply
+    ⊎ ((from : Process) × (m : TreeStamped) × Heard a.id a.desk a.core b.desk b.core from m reply
+    × (stamp_of_desk b.desk ≡ next_stamp (max (stamp_of_desk a.desk) (max a.learnt m.0))))
+
+-- its trace isn't cut without need
+abbrev pub IsUncut : Caller → Caller → Type 0
+IsUncut a b = IsCutForNeed a.desk b.desk (stamp_of_desk b.desk)
+
+-- what it does isn't lost before the last timestamp
+abbrev pub IsUnlost : Caller → Caller → Type 0
+IsUnlost a b = IsLostForNeed a.desk b.desk (stamp_of_desk b.desk)

@@ -1,0 +1,11 @@
+pub mod Desks
+pub mod Endings
+pub mod Waiting
+pub mod Untraced
+pub mod Threads
+pub mod Owned
+pub mod Acts
+pub mod Outcomes
+pub mod Said
+pub mod Callers
+pub mod Steps

@@ -1,0 +1,217 @@
+//! What a caller's thread owns.
+
+ghost use Rattle.std.specs.Prelude.{◌≡◌, IfErr, IfOk, OnErr, OnOk, max, true, false};
+ghost use Rattle.zprotocol.specs.declared.process.Process.TheVariants.{Client};
+ghost use Rattle.zworld_model.specs.Does.{AtClient};
+ghost use Rattle.zhost.specs.Desks.{is_cut_of, is_traced_of, IsAt, pending, process_of, SameDesk};
+ghost use Rattle.zhost.specs.Desks.{seen_of, self_of, stamp_of_desk, Stands, trace_of};
+ghost use Rattle.zhost.specs.Endings.{HasEnded, IsCutAsBefore, IsLostAsBefore};
+ghost use Rattle.zhost.specs.Endings.{LeavesNothing, SameWires};
+
+use crate::asking::{begin_at, retry_at};
+use crate::hearing::{front_of, hear_or_keep};
+use crate::{Desk, Ending, Stamped};
+use std::alloc::Global;
+use zalloc::Memory;
+use zcalls::{Call, CallNumber, ClientId, Reply};
+use zclient::{BeginFault, ClientCore};
+use zprotocol::{Process, ServerId};
+use ztraces::Stamp;
+
+/// A client with its desk. It went by the client table from its opening view, through its trace if
+/// it keeps one.
+#[derive(Drop)]
+pub struct Caller {
+    pub(crate) alloc: Global,
+    pub(crate) id: ClientId,
+    pub(crate) desk: Desk,
+    pub(crate) core: ClientCore,
+    // the last stamp that it was told of
+    pub(crate) learnt: Stamp,
+    // a message that was taken, and counts as still in its ring: no memory was found for it
+    pub(crate) front: Option<(Process, Stamped)>,
+    // the link that it took from last
+    pub(crate) link: usize,
+    ghost is_client: { desk.me ≡ Client id },
+    ghost at: { Stands desk (AtClient core) front (pending desk) },
+}
+
+impl Caller {
+    ghost use Rattle.zhost.specs.Callers.{Began, IsUncut, IsUnlost, Retried, SameCaller, Turned};
+    ghost use Rattle.zhost.specs.Callers.{caller_desk, caller_id, caller_stamp, caller_view};
+    ghost use Rattle.zhost.specs.Callers.{learnt_of, MayRefuse, SameLearnt};
+
+    /// The client with a desk that has done nothing.
+    pub fn new(alloc: Global, id: ClientId, desk: Desk, core: ClientCore) -> Caller
+        requires me { process_of desk ≡ Client id }
+        requires at { IsAt desk (AtClient core) }
+        ensures desk { caller_desk result ≡ desk }
+        ensures view { caller_view result ≡ core }
+        ensures stamp { caller_stamp result ≡ max (stamp_of_desk desk) 0 }
+    {
+        Caller {
+            alloc,
+            id,
+            desk,
+            core,
+            learnt: Stamp::zero(),
+            front: None,
+            link: 0,
+        }
+    }
+
+    /// Its number.
+    pub fn id(&self) -> ClientId
+        ensures { result ≡ caller_id self.now }
+    {
+        let Caller { id, .. } = self;
+        *id
+    }
+
+    /// The head of the chain, as the master last told it.
+    pub fn head(&self) -> Option<ServerId>
+        ensures { result ≡ (caller_view self.now).head }
+    {
+        self.core.head()
+    }
+
+    /// The tail of the chain, as the master last told it.
+    pub fn tail(&self) -> Option<ServerId>
+        ensures { result ≡ (caller_view self.now).tail }
+    {
+        self.core.tail()
+    }
+
+    /// The last stamp of its events, or a later one that it was told of.
+    pub fn stamp(&self) -> Stamp
+        ensures { result ≡ caller_stamp self.now }
+    {
+        self.desk.stamp().later(self.learnt)
+    }
+
+    /// From now on its events have later stamps than this one. No later call forgets that.
+    pub fn learn(&mut self, stamp: Stamp)
+        ensures stamp { caller_stamp self.new ≡ max (caller_stamp self.old) stamp }
+        ensures learnt { learnt_of self.new ≡ max (learnt_of self.old) stamp }
+        ensures same { SameCaller self.old self.new }
+        ensures desk { caller_desk self.new ≡ caller_desk self.old }
+    {
+        self.learnt = self.learnt.later(stamp);
+    }
+
+    /// Invokes a call, and returns its number. Busy where a call is outstanding, Exhausted where no
+    /// numbers are left, Memory where there is none: then nothing is begun.
+    #[tactic(auto, unfolding(zprotocol::specs::client::Table::begin_fault))]
+    pub fn begin(&mut self, call: Call) -> Result<CallNumber, BeginFault>
+        ensures same { SameDesk (caller_desk self.old) (caller_desk self.new) }
+        ensures began { IfOk result (Began self.old self.new call) }
+        ensures fault { IfErr result (MayRefuse (caller_view self.old)) }
+        ensures refused { OnErr result (SameCaller self.old self.new) }
+        ensures whole { OnOk result (IsUncut self.old self.new) }
+        ensures unlost { OnOk result (IsUnlost self.old self.new) }
+        ensures learnt { SameLearnt self.old self.new }
+    {
+        if self.core.outstanding().is_some() {
+            drop(call);
+            return Err(BeginFault::Busy);
+        }
+        if !self.desk.settle() {
+            drop(call);
+            return Err(BeginFault::Memory);
+        }
+        if !self.desk.reserve() {
+            drop(call);
+            return Err(BeginFault::Memory);
+        }
+        let next = self.desk.next_stamp(self.learnt);
+        begin_at(
+            self.alloc,
+            self.id,
+            &mut self.desk,
+            &mut self.core,
+            call,
+            next,
+        )
+    }
+
+    /// Sends the outstanding call once more. False where there is none.
+    pub fn retry(&mut self) -> Result<bool, Memory>
+        ensures same { SameDesk (caller_desk self.old) (caller_desk self.new) }
+        ensures retried { IfOk result (Retried self.old self.new) }
+        ensures refused { OnErr result (SameCaller self.old self.new) }
+        ensures whole { OnOk result (IsUncut self.old self.new) }
+        ensures unlost { OnOk result (IsUnlost self.old self.new) }
+        ensures learnt { SameLearnt self.old self.new }
+    {
+        if self.core.outstanding().is_none() {
+            return Ok(false);
+        }
+        if !self.desk.settle() {
+            return Err(Memory);
+        }
+        if !self.desk.reserve() {
+            return Err(Memory);
+        }
+        let again = self.desk.next_stamp(self.learnt);
+        retry_at(&mut self.desk, &self.core, again)
+    }
+
+    /// Moves what waits into the rings and receives at most one message. Returns the reply of the
+    /// outstanding call, if the message brings it. A message for which there is no memory counts as
+    /// still in its ring, and comes first at the next turn.
+    pub fn turn(&mut self) -> Option<Reply>
+        ensures same { SameDesk (caller_desk self.old) (caller_desk self.new) }
+        ensures turned { Turned self.old self.new result }
+        ensures whole { IsUncut self.old self.new }
+        ensures unlost { IsUnlost self.old self.new }
+        ensures learnt { SameLearnt self.old self.new }
+    {
+        if !self.desk.settle() {
+            return None;
+        }
+        self.desk.flush();
+        if !self.desk.reserve() {
+            return None;
+        }
+        let Some((from, stamped)) = front_of(&mut self.desk, &mut self.link, &mut self.front) else {
+            return None;
+        };
+        let (stamp, message) = stamped;
+        let next = self.desk.next_stamp(self.learnt.later(stamp));
+        hear_or_keep(
+            self.alloc,
+            self.id,
+            &mut self.desk,
+            &mut self.core,
+            &mut self.front,
+            from,
+            stamp,
+            message,
+            next,
+        )
+    }
+
+    /// What it leaves, with its number.
+    pub fn into_ending(self) -> (ClientId, Ending)
+        ensures id { result.0 ≡ caller_id self }
+        ensures ended { HasEnded (self_of (caller_desk self)) result.1 }
+        ensures wires { SameWires (caller_desk self) result.1 }
+        ensures trace { result.1.trace.events.items ≡ trace_of (caller_desk self) }
+        ensures seen { result.1.seen.items ≡ seen_of (caller_desk self) }
+        ensures cut { is_cut_of (caller_desk self) ≡ true → result.1.trace.is_cut ≡ true }
+        ensures whole { IsCutAsBefore (caller_desk self) result.1 }
+        ensures kept { IsLostAsBefore (caller_desk self) result.1 }
+        ensures untraced { is_traced_of (caller_desk self) ≡ false → LeavesNothing result.1 }
+    {
+        let Caller {
+            id,
+            desk,
+            core,
+            front,
+            ..
+        } = self;
+        drop(core);
+        drop(front);
+        (id, desk.into_ending())
+    }
+}

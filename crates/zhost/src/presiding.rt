@@ -1,0 +1,149 @@
+//! The body of the master's thread.
+
+ghost use Rattle.std.specs.Prelude.{◌≡◌, ◌≤◌, ◌++◌, [], length, List, map, None, Option};
+ghost use Rattle.std.specs.Prelude.{option_to_list};
+ghost use Rattle.zshared.specs.HaltSeats.{IsSeatOf};
+ghost use Rattle.zshared.specs.Console.{IsSameInbox, said, taken_of};
+ghost use Rattle.zshared.specs.Outcomes.{AreSaid, order_of};
+ghost use Rattle.zprotocol.specs.declared.master.order.Order.{Order};
+ghost use Rattle.zshared.specs.declared.outcome.OrderOutcome.{OrderOutcome};
+ghost use Rattle.zhost.specs.Desks.{SameDesk};
+ghost use Rattle.zhost.specs.Acts.{HasFollowed};
+ghost use Rattle.zhost.specs.Outcomes.{unfollowed, unsaid};
+ghost use Rattle.zhost.specs.Said.{GoesOn, spoken, WereSaid};
+ghost use Rattle.zhost.specs.Owned.{master_desk};
+
+use crate::idle::Idle;
+use crate::master_thread::MasterThread;
+use crate::owed::Owed;
+use std::sync::Wait;
+use zprotocol::Order;
+use zshared::console::Inbox;
+use zshared::halts::{Halt, HaltSeat};
+
+/// Goes over the links in turn, and takes the console's orders, until bit 0 is set. It sends what
+/// waits, and looks at the bit, once a round and before each message. Of a link without a message
+/// it only asks whether it has one. It follows the orders in turn, each once, and says what became
+/// of each. What there is no memory for is tried again, before another order is received.
+pub fn preside<R: Wait>(
+    rt: &R,
+    mut chief: MasterThread,
+    mut inbox: Inbox,
+    halt: &Halt,
+    mut seat: HaltSeat,
+) -> (MasterThread, Inbox)
+    requires own { IsSeatOf halt.now seat }
+    ensures desk { SameDesk (master_desk chief) (master_desk result.0) }
+    ensures inbox { IsSameInbox inbox result.1 }
+    ensures orders { HasFollowed (master_desk chief) (taken_of inbox) None
+        → (waiting : Option Order)
+        × HasFollowed (master_desk result.0) (taken_of result.1) waiting }
+    ensures outcomes { AreSaid inbox []
+        → (unsaid : List Order) × (length unsaid ≤ 1) × AreSaid result.1 unsaid }
+    ensures said { HasFollowed (master_desk chief) (taken_of inbox) None → AreSaid inbox []
+        → WereSaid (master_desk chief) [] (said inbox)
+        → WereSaid (master_desk result.0) [] (said result.1) }
+{
+    let mut idle = Idle::new();
+    let mut owed = Owed::Nothing;
+    for _ in rt.forever() {
+        idle.begin_round(&chief.desk);
+        let Some(has_heard) = go_round(&mut chief, halt, &mut seat) else {
+            return (chief, inbox);
+        };
+        inbox.flush();
+        owed = next_order(rt, &mut inbox, owed);
+        let has_owed = owed.is_some();
+        owed = obey(&mut chief, owed);
+        owed = say(&mut inbox, owed);
+        let is_busy = has_heard | (has_owed & !owed.is_some());
+        idle.end_round(rt, &chief.desk, is_busy);
+    }
+    unreachable!()
+}
+
+// Goes over the links once. Whether a message was received; None where bit 0 is set.
+fn go_round(chief: &mut MasterThread, halt: &Halt, seat: &mut HaltSeat) -> Option<bool>
+    requires own { IsSeatOf halt.now seat.old }
+    ensures own { IsSeatOf halt.now seat.new }
+    ensures desk { SameDesk (master_desk chief.old) (master_desk chief.new) }
+    ensures orders { (received : List Order) (waiting : Option Order)
+        → HasFollowed (master_desk chief.old) received waiting
+        → HasFollowed (master_desk chief.new) received waiting }
+    ensures goes { GoesOn (master_desk chief.old) (master_desk chief.new) }
+{
+    chief.flush();
+    if halt.is_set(seat, 0) {
+        return None;
+    }
+    let links = chief.links();
+    let mut is_busy = false;
+    for link in 0..links {
+        if chief.is_empty(link) {
+            continue;
+        }
+        chief.flush();
+        let look = halt.look(seat);
+        if look.has(0) {
+            return None;
+        }
+        is_busy |= chief.turn(link, look);
+    }
+    Some(is_busy)
+}
+
+// Receives an order, unless something is owed for the last one.
+fn next_order<R: Wait>(rt: &R, inbox: &mut Inbox, owed: Owed) -> Owed
+    ensures ends { IsSameInbox inbox.old inbox.new }
+    ensures taken { (before : List Order)
+        → taken_of inbox.old ≡ before ++ option_to_list (unfollowed owed)
+        → taken_of inbox.new ≡ before ++ option_to_list (unfollowed result) }
+    ensures said { AreSaid inbox.old (unsaid owed) → AreSaid inbox.new (unsaid result) }
+    ensures words { spoken (said inbox.new) result ≡ spoken (said inbox.old) owed }
+{
+    match owed {
+        Owed::Nothing => match inbox.take(rt) {
+            Some(order) => Owed::Deed(order),
+            None => Owed::Nothing,
+        },
+        _ => owed,
+    }
+}
+
+// Follows the order that waits. Where there is no memory it waits on.
+fn obey(chief: &mut MasterThread, owed: Owed) -> Owed
+    ensures same { SameDesk (master_desk chief.old) (master_desk chief.new) }
+    ensures followed { (received : List Order)
+        → HasFollowed (master_desk chief.old) received (unfollowed owed)
+        → HasFollowed (master_desk chief.new) received (unfollowed result) }
+    ensures unsaid { unsaid result ≡ unsaid owed }
+    ensures said { (before : List OrderOutcome)
+        → HasFollowed (master_desk chief.old) (map order_of before ++ unsaid owed) (unfollowed owed)
+        → WereSaid (master_desk chief.old) [] (spoken before owed)
+        → WereSaid (master_desk chief.new) [] (spoken before result) }
+{
+    let Owed::Deed(order) = owed else {
+        return owed;
+    };
+    match chief.follow(&order) {
+        Some(outcome) => Owed::Word(outcome),
+        None => Owed::Deed(order),
+    }
+}
+
+// Says the outcome that waits. Where there is no memory it waits on.
+fn say(inbox: &mut Inbox, owed: Owed) -> Owed
+    ensures ends { IsSameInbox inbox.old inbox.new }
+    ensures taken { taken_of inbox.new ≡ taken_of inbox.old }
+    ensures followed { unfollowed result ≡ unfollowed owed }
+    ensures said { AreSaid inbox.old (unsaid owed) → AreSaid inbox.new (unsaid result) }
+    ensures words { spoken (said inbox.new) result ≡ spoken (said inbox.old) owed }
+{
+    let Owed::Word(outcome) = owed else {
+        return owed;
+    };
+    match inbox.say(outcome) {
+        Ok(()) => Owed::Nothing,
+        Err(outcome) => Owed::Word(outcome),
+    }
+}

@@ -1,0 +1,7 @@
+use Rattle.std.proofs.Common.{refl}
+use Rattle.zcli.proofs.OnWords.{asked_on_literals}
+use Rattle.zrace.proofs.rows.words_give_four_numbers.Goals as goal
+
+pub returns : goal.returns
+unfolding asked_on_literals
+returns c = record { none = refl; one = refl; swapped = refl }

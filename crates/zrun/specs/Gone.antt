@@ -1,0 +1,28 @@
+-- What the processes of a run did, told by what they left, with or without traces.
+use Rattle.std.specs.Prelude.{◌≡◌, ℕ, true, false, List, length}
+use Rattle.zprotocol.specs.declared.process.Process.{Process}
+use Rattle.zprotocol.specs.server.Machine.{kept_tree}
+use Rattle.zprotocol.specs.Places.{process_at}
+use Rattle.ztraces.specs.Deeds.{GoesBy, puts, takes}
+use Rattle.ztraces.specs.Lawful.{Begins}
+use Rattle.zhost.specs.declared.desk.Ending.{Ending}
+use Rattle.zhost.specs.Desks.{Each, opening_of, TreeDeed}
+use Rattle.zhost.specs.Endings.{AccountsAtEnd}
+use Rattle.zrun.specs.Left.{AreLeft, self_at}
+
+-- the steps (deeds) of all processes account for what they left
+pub record Went (last clients : ℕ) (endings : List Ending) (deeds : Process → List TreeDeed) : Type 0 where
+  -- each process goes by its table from the initial state
+  pub goes : (p : Process) → GoesBy kept_tree p (opening_of last clients p) 0 (deeds p)
+  -- what was received from each channel is a prefix of what was sent there
+  pub linked : (from to : Process) → Begins (takes from (deeds to)) (puts to (deeds from))
+  -- the steps of each sent and received what its ends of the channels say
+  pub left : Each (λ i e. AccountsAtEnd (self_at last clients i) e (deeds (process_at i))) endings
+
+-- there are such steps
+abbrev pub HasGone : ℕ → ℕ → List Ending → Type 0
+HasGone last clients endings = (deeds : Process → List TreeDeed) × Went last clients endings deeds
+
+-- there are, if each is what the process of its place left
+abbrev pub GoesIfLeft : List Ending → ℕ → Type 0
+GoesIfLeft endings clients = (last : ℕ) → AreLeft last clients endings → ∥ HasGone last clients endings ∥₁

@@ -1,0 +1,203 @@
+//! The two ends of the console's channel.
+
+ghost use Rattle.std.specs.Prelude.{◌≡◌, true, List, [], ◌∷◌, ◌++◌, map, option_to_list};
+ghost use Rattle.std.specs.Prelude.{IfErr, IfOk, IsTrue, OnErr, OnOk};
+ghost use Rattle.crossbeam_channel.specs.Claims.{view, IsSeatAt};
+ghost use Rattle.crossbeam_channel.specs.Ends.{receives_on, sends_on};
+
+use crate::outcome::OrderOutcome;
+use crate::rings::{Rx, Tx, link, told};
+use crate::rule::{Fifo, Law, Log, Puts, Roles, Takes};
+use crossbeam_channel::{Pass, RuledReceiver, RuledSender, bounded_with};
+use std::alloc::Global;
+use std::sync::Wait;
+use thiserror::Error;
+use zalloc::Memory;
+use zbells::Bells;
+use zprotocol::{Order, Process, ServerId};
+
+/// How many orders the channel has room for.
+pub const ROOM: usize = 32;
+
+/// Why an order was not sent: the master's thread has ended.
+#[derive(Clone, Copy, Debug, Drop, PartialEq, Eq, Error)]
+#[error("Closed")]
+pub struct Closed;
+
+/// The sending end, from which servers are ordered to join and to leave.
+#[derive(Drop)]
+pub struct Console {
+    pub(crate) to: RuledSender<Order, Log, Fifo>,
+    pub(crate) pass: Pass<Order, Log>,
+    // that of the master's thread is rung
+    pub(crate) bells: Bells,
+    pub(crate) outcomes: Rx<OrderOutcome>,
+    ghost seat: { IsSeatAt (sends_on to) pass },
+    ghost puts: { (view pass).puts ≡ true },
+}
+
+/// The receiving end, where the master's thread receives the orders, and says what became of them.
+#[derive(Drop)]
+pub struct Inbox {
+    pub(crate) from: RuledReceiver<Order, Log, Fifo>,
+    pub(crate) pass: Pass<Order, Log>,
+    pub(crate) outcomes: Tx<OrderOutcome>,
+    ghost seat: { IsSeatAt (receives_on from) pass },
+    ghost takes: { (view pass).takes ≡ true },
+}
+
+impl Console {
+    ghost use Rattle.zshared.specs.declared.console.TheConstants.{ROOM};
+    ghost use Rattle.zprotocol.specs.declared.master.order.Order.{Order};
+    ghost use Rattle.zprotocol.specs.declared.master.order.Order.TheVariants.{Join, Retire};
+    ghost use Rattle.zshared.specs.declared.outcome.OrderOutcome.{OrderOutcome};
+    ghost use Rattle.zshared.specs.Console.{AreEnds, heard, IsSameConsole, ordered, room_of, said};
+    ghost use Rattle.zshared.specs.Console.{taken_of};
+    ghost use Rattle.zshared.specs.Outcomes.{AreSaid, order_of};
+
+    /// Returns the two ends of an empty channel with room for `ROOM` orders. The only error is out
+    /// of memory.
+    pub fn open(alloc: Global, bells: Bells) -> Result<(Console, Inbox), Memory>
+        ensures ends { IfOk result (λ r. AreEnds r.0 r.1) }
+        ensures empty { IfOk result (λ r. (ordered r.0 ≡ []) × (taken_of r.1 ≡ [])) }
+        ensures silent { IfOk result (λ r. (heard r.0 ≡ []) × (said r.1 ≡ [])) }
+        ensures room { IfOk result (λ r. room_of r.0 ≡ ROOM) }
+    {
+        let (sayer, hearer) = link(alloc)?;
+        let (to, from, mut pass) = bounded_with::<Order, Log, Fifo, Global>(alloc, ROOM)?;
+        let other = to.another::<Roles>(&mut pass);
+        Ok((
+            Console {
+                to,
+                pass,
+                bells,
+                outcomes: hearer,
+            },
+            Inbox {
+                from,
+                pass: other,
+                outcomes: sayer,
+            },
+        ))
+    }
+
+    /// Orders that a server join. Blocks until there is room. At `Err` nothing was sent.
+    pub fn join<R: Wait>(&mut self, rt: &R, server: ServerId) -> Result<(), Closed>
+        ensures ok { OnOk result
+            (ordered self.new ≡ ordered self.old ++ Join server ∷ []) }
+        ensures err { OnErr result (ordered self.new ≡ ordered self.old) }
+        ensures heard { heard self.new ≡ heard self.old }
+        ensures ends { IsSameConsole self.old self.new }
+    {
+        self.put(rt, Order::Join(server))
+    }
+
+    /// Orders that a server leave. Blocks until there is room. At `Err` nothing was sent.
+    pub fn retire<R: Wait>(&mut self, rt: &R, server: ServerId) -> Result<(), Closed>
+        ensures ok { OnOk result
+            (ordered self.new ≡ ordered self.old ++ Retire server ∷ []) }
+        ensures err { OnErr result (ordered self.new ≡ ordered self.old) }
+        ensures heard { heard self.new ≡ heard self.old }
+        ensures ends { IsSameConsole self.old self.new }
+    {
+        self.put(rt, Order::Retire(server))
+    }
+
+    /// Returns what the master said to the first order whose outcome wasn't returned yet. None if
+    /// it has said nothing to that yet. It doesn't wait.
+    ///
+    /// Each order has one outcome, and none is lost. Those that nobody asks for are kept, a few
+    /// bytes each.
+    pub fn outcome(&mut self) -> Option<OrderOutcome>
+        ensures heard { heard self.new ≡ heard self.old ++ option_to_list result }
+        ensures ordered { ordered self.new ≡ ordered self.old }
+        ensures ends { IsSameConsole self.old self.new }
+    {
+        let outcome = self.outcomes.take();
+        if outcome.is_some() {
+            // There is room for one more.
+            self.bells.ring(Process::Master.place());
+        }
+        outcome
+    }
+
+    // Sends an order, and wakes the master's thread.
+    fn put<R: Wait>(&mut self, rt: &R, order: Order) -> Result<(), Closed>
+        ensures ok { OnOk result (ordered self.new ≡ ordered self.old ++ order ∷ []) }
+        ensures err { OnErr result (ordered self.new ≡ ordered self.old) }
+        ensures heard { heard self.new ≡ heard self.old }
+        ensures ends { IsSameConsole self.old self.new }
+    {
+        match self.to.send_as::<Puts, R>(rt, &mut self.pass, order) {
+            Ok(()) => {
+                self.bells.ring(Process::Master.place());
+                Ok(())
+            }
+            Err(_) => Err(Closed),
+        }
+    }
+
+    /// With both ends in one thread again: what was received is a prefix of what was ordered. Where
+    /// it returns true, what was heard is a prefix of what was said. So if each order had its
+    /// outcome said in turn, the outcomes that were heard are those of the first orders, in order.
+    pub fn told(self, inbox: Inbox) -> bool
+        requires { AreEnds self inbox }
+        ensures orders { (left : List Order) × (ordered self ≡ taken_of inbox ++ left) }
+        ensures outcomes { IsTrue result
+            → (left : List OrderOutcome) × (said inbox ≡ heard self ++ left) }
+        ensures in_turn { IsTrue result → (unsaid : List Order) → AreSaid inbox unsaid
+            → (left : List Order) × (ordered self ≡ map order_of (heard self) ++ left) }
+    {
+        let Console {
+            to,
+            mut pass,
+            mut outcomes,
+            ..
+        } = self;
+        let Inbox {
+            from: _,
+            pass: other,
+            outcomes: mut sayer,
+        } = inbox;
+        to.absorb::<Roles>(&mut pass, other);
+        to.learn_as::<Law>(&mut pass);
+        let Some(_) = told(&mut sayer, &mut outcomes) else {
+            return false;
+        };
+        true
+    }
+}
+
+impl Inbox {
+    ghost use Rattle.zshared.specs.Console.{IsFlushed, IsSameInbox, said, taken_of};
+
+    /// Receives the oldest order, if there is one. It doesn't wait for one.
+    pub fn take<R: Wait>(&mut self, rt: &R) -> Option<Order>
+        ensures taken { taken_of self.new ≡ taken_of self.old ++ option_to_list result }
+        ensures said { said self.new ≡ said self.old }
+        ensures ends { IsSameInbox self.old self.new }
+    {
+        self.from.try_recv_as::<Takes, R>(rt, &mut self.pass).ok()
+    }
+
+    /// Says what became of an order. Hands it back if there is no memory. It doesn't wait for the
+    /// console to hear it.
+    pub fn say(&mut self, outcome: OrderOutcome) -> Result<(), OrderOutcome>
+        ensures ok { OnOk result (said self.new ≡ said self.old ++ outcome ∷ []) }
+        ensures err { IfErr result (λ back. (back ≡ outcome) × (said self.new ≡ said self.old)) }
+        ensures taken { taken_of self.new ≡ taken_of self.old }
+        ensures ends { IsSameInbox self.old self.new }
+    {
+        self.outcomes.put(outcome)
+    }
+
+    /// Moves what was said into the ring, while that has room. What still waits found none.
+    pub fn flush(&mut self)
+        ensures flushed { IsFlushed self.new }
+        ensures said { said self.new ≡ said self.old }
+        ensures taken { taken_of self.new ≡ taken_of self.old }
+        ensures ends { IsSameInbox self.old self.new }
+    {
+        let _ = self.outcomes.flush();
+    }
+}

@@ -1,6 +1,0 @@
-use Rattle.std.proofs.Common.{◌≡◌}
-use Rattle.zrings.specs.Ends.{ring_of_tx}
-use Rattle.zwords_tests.proofs.rings.put_all.Given as goal
-
-abbrev pub invariant-loop-number : goal.invariant-loop-number
-invariant-loop-number l = ring_of_tx l.tx ≡ ring_of_tx l.fn.tx
