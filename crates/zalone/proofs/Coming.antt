@@ -17,7 +17,6 @@ use Rattle.zworld_model.specs.declared.event.Event.{Event}
 use Rattle.zworld_model.specs.declared.history.CallEvent.TheVariants.{Begin, Answer}
 use Rattle.zworld_model.specs.PlainTree.{serve}
 use Rattle.zworld_model.specs.Events.{run}
-use Rattle.zworld_model.specs.Alike.{IsAlike}
 use Rattle.zworld_model.specs.FromTree.{world_after_from}
 use Rattle.zworld.specs.Held.{world_of}
 use Rattle.zworld.specs.Steps.{WorldView, world_in}
@@ -64,18 +63,18 @@ served_fits : (t : Tree) (call : Call) → Fits (serve t 0 call).1
 served_fits t (Update update) = replies_fit.0 t 0 update
 served_fits t (Query query) = replies_fit.1 t query
 
--- a world of a client is like a run, behind what was forgotten
+-- a world of a client is that of a run, behind what was forgotten
 abbrev pub Stands : ServiceWorld → Log → WorldView → Type 0
-Stands whole before w = IsAlike whole (world_of w.held (history_of before None ++ w.history))
+Stands whole before w = whole ≡ world_of w.held (history_of before None ++ w.history)
 
 -- the history that the world shows, behind what was forgotten, is that of the log
 pub shown : (whole : ServiceWorld) (before log : Log) (waiting : Option Call) (w : WorldView) → Stands whole before w → TakesTurns whole log waiting
     → history_of before None ++ w.history ≡ history_of log waiting
-shown whole before log waiting w stands turns = ap (λ (u : ServiceWorld). u.history) stands.rest ∙ turns.told
+shown whole before log waiting w stands turns = ap (λ (u : ServiceWorld). u.history) (sym stands) ∙ turns.told
 
 -- what a settling did is a run in which no call began
 abbrev pub SettledRun : WorldView → WorldView → Type 0
-SettledRun old new = (events : List Event) × AllByRecursion NoCall events × IsAlike (run kept_tree (world_in old) events) (world_in new)
+SettledRun old new = (events : List Event) × AllByRecursion NoCall events × (run kept_tree (world_in old) events ≡ world_in new)
 
 -- no call waits
 pub nothing_fresh : (before log : Log) (call : Call) → None ≡ Some call → before ≡ log

@@ -1,5 +1,5 @@
 -- What the world of the one client does is a run, behind what it has forgotten.
-use Rattle.std.proofs.Common.{◌≡◌, ℕ, List, [], ◌∷◌, ◌++◌, refl, ap, subst}
+use Rattle.std.proofs.Common.{◌≡◌, ℕ, List, [], ◌∷◌, ◌++◌, refl, sym, ap, subst, ◌∙◌}
 use Rattle.std.specs.List.{AllByRecursion}
 use Rattle.ztree.specs.Tree.{Tree}
 use Rattle.zcalls.specs.Kept.{KeptState}
@@ -15,8 +15,6 @@ use Rattle.zworld_model.specs.World.{World}
 use Rattle.zworld_model.specs.Events.{happens, run}
 use Rattle.zworld_model.specs.Reading.{read}
 use Rattle.zworld_model.specs.Settle.{settle}
-use Rattle.zworld_model.specs.Alike.{IsAlike}
-use Rattle.zworld_model.proofs.Alike.{stay_alike, alike_through}
 use Rattle.zworld_model.proofs.Settling.{settling_is_a_run}
 use Rattle.zworld.specs.declared.did.Did.{Did}
 use Rattle.zworld.specs.Did.{outcome_of}
@@ -36,17 +34,11 @@ pub run_append : (w : ServiceWorld) (events more : List Event) → run kept_tree
 run_append w [] more = refl
 run_append w (event ∷ events) more = run_append (happens kept_tree w event) events more
 
--- worlds that are alike are so with one past
-past_alike : (past : History) (v w : ServiceWorld) → IsAlike v w → IsAlike (with_past past v) (with_past past w)
-past_alike past v w alike = record { rest = ap (with_past past) alike.rest; servers = alike.servers; links = alike.links }
-
--- a world that is like another one with its past stays so
-pub goes_with : (past : History) (whole v w : ServiceWorld) (events : List Event) → IsAlike whole (with_past past v) → IsAlike (run kept_tree v events) w
-    → IsAlike (run kept_tree whole events) (with_past past w)
-goes_with past whole v w events stands alike =
-    alike_through _ _ _
-    (subst (IsAlike (run kept_tree whole events)) (run_past kept_tree past v events) (stay_alike kept_tree whole (with_past past v) events stands))
-    (past_alike past (run kept_tree v events) w alike)
+-- a world that is another one with its past stays so
+pub goes_with : (past : History) (whole v w : ServiceWorld) (events : List Event) → whole ≡ with_past past v → run kept_tree v events ≡ w
+    → run kept_tree whole events ≡ with_past past w
+goes_with past whole v w events stands led =
+    ap (λ (u : ServiceWorld). run kept_tree u events) stands ∙ run_past kept_tree past v events ∙ ap (with_past past) led
 
 -- calls and orders read as they are
 pub call_reads : (w : ServiceWorld) (client : ℕ) (call : Call) (outcome : Outcome) → read kept_tree w (Begin client call) outcome ≡ Begin client call
@@ -65,16 +57,16 @@ is_order (Order order) = tt
 
 -- an event that reads as it is was a run
 pub done_run : (v w : ServiceWorld) (event : Event) (did : Did) → ((outcome : Outcome) → read kept_tree v event outcome ≡ event) → HasHappened v event did w
-    → IsAlike (run kept_tree v (event ∷ [])) w
-done_run v w event did reads has = subst (λ e. IsAlike (happens kept_tree v e) w) (reads (outcome_of did)) has.leads
+    → run kept_tree v (event ∷ []) ≡ w
+done_run v w event did reads has = subst (λ e. happens kept_tree v e ≡ w) (reads (outcome_of did)) has.leads
 
 -- and so was a settling, in which no call began
 pub settled_run : (v w : ServiceWorld) (limit : ℕ) (settled : Settled) → HasSettled v limit settled w
-    → (events : List Event) × AllByRecursion NoCall events × IsAlike (run kept_tree v events) w
+    → (events : List Event) × AllByRecursion NoCall events × (run kept_tree v events ≡ w)
 settled_run v w limit settled has =
     let outcomes = has.0 ++ [] in
     let did = settle kept_tree v limit outcomes in (
       did.events,
       settling_is_silent kept_tree v limit outcomes,
-      subst (λ u. IsAlike u w) (settling_is_a_run kept_tree v limit outcomes) (has.1 []).2,
+      sym (settling_is_a_run kept_tree v limit outcomes) ∙ (has.1 []).2,
     )

@@ -12,9 +12,7 @@ use Rattle.zworld_model.specs.declared.event.Event.{Event}
 use Rattle.zworld_model.specs.declared.event.Event.TheVariants as event
 use Rattle.zworld_model.specs.History.{History}
 use Rattle.zworld_model.specs.Events.{is_enabled, happens, run}
-use Rattle.zworld_model.specs.Alike.{IsAlike}
 use Rattle.zworld_model.specs.FromTree.{opening_world_from, world_after_from}
-use Rattle.zworld_model.proofs.Alike.{alike_itself, have_the_same_enabled}
 use Rattle.zworld.specs.declared.did.Did.{Did}
 use Rattle.zworld.specs.Held.{world_of}
 use Rattle.zworld.specs.Did.{is_idle}
@@ -31,7 +29,6 @@ use Rattle.zalone.specs.Changes.{Keeps, no_changes, all_taken}
 use Rattle.zalone.specs.Alone.{AloneView, SameCall, Waits, Rests, SettlesIf, GoesOnIf, Begins, AsksIf, Asks, Settles, cleared}
 use Rattle.zalone.specs.Order.{event_of}
 use Rattle.zalone.specs.Told.{HasToldFrom, GoesOnAsked, GoesOnSettled}
-use Rattle.zworld_model.proofs.Past.{with_past}
 use Rattle.zalone.proofs.Keeping.{keeps_taken, none_kept}
 use Rattle.zalone.proofs.Coming.{Stands, shown, told_by, SettledRun, nothing_fresh, Came, came}
 use Rattle.zalone.proofs.Runs.{ServiceWorld, goes_with, call_reads, order_reads, is_order, done_run, settled_run}
@@ -67,7 +64,7 @@ module _ (t : Tree) where
     -- the world forgets what it had, which is the history of the log
     forgot : Stands before log (cleared old.world)
     forgot =
-        subst (λ (past : History). IsAlike before (world_of old.world.held past))
+        subst (λ (past : History). before ≡ world_of old.world.held past)
         (shown before h.before log None old.world h.stands h.turns ∙ sym (append-nil (history_of log None))) h.stands
 
     there : Stands (run kept_tree before begin) log began
@@ -77,7 +74,7 @@ module _ (t : Tree) where
 
     enabled : is_enabled before (event.Begin 0 call) ≡ not (is_idle did)
     enabled =
-        have_the_same_enabled kept_tree before (with_past (history_of log None) (world_in (cleared old.world))) (event.Begin 0 call) forgot
+        ap (λ (w : ServiceWorld). is_enabled w (event.Begin 0 call)) forgot
         ∙ sym (turned (is_enabled (world_in (cleared old.world)) (event.Begin 0 call)) (is_idle did) has.idle)
 
     -- the call couldn't begin
@@ -165,7 +162,7 @@ opening_told_from t lawful bounded v servers world known waits b made = record {
   events = [];
   turns = opening_turns (kept_tree_from t) servers;
   before = [];
-  stands = subst (IsAlike (opening_world_from t servers 1)) (sym world) (alike_itself (opening_world_from t servers 1));
+  stands = sym world;
   fresh = nothing_fresh [] [];
   waits = waits;
   known = known;

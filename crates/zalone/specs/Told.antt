@@ -8,7 +8,6 @@ use Rattle.zcalls.specs.declared.limits.TheConstants.{MAX_CALL_NUMBER}
 use Rattle.zcalls.specs.declared.call.Call.{Call}
 use Rattle.zcalls.specs.declared.reply.Reply.{Reply}
 use Rattle.zworld_model.specs.declared.event.Event.{Event}
-use Rattle.zworld_model.specs.Alike.{IsAlike}
 use Rattle.zworld_model.specs.FromTree.{world_after_from}
 use Rattle.zworld.specs.Held.{world_of}
 use Rattle.zknown.specs.Known.{known_of}
@@ -28,7 +27,7 @@ pub record HasToldFrom (t : Tree) (v : AloneView) (log : Log) (waiting : Option 
   pub turns : TakesTurns (world_after_from t servers 1 events) log waiting
   -- of the history the world has forgotten that of an earlier log: all but the last call
   pub before : Log
-  pub stands : IsAlike (world_after_from t servers 1 events) (world_of v.world.held (history_of before None ++ v.world.history))
+  pub stands : world_after_from t servers 1 events ≡ world_of v.world.held (history_of before None ++ v.world.history)
   pub fresh : (call : Call) → waiting ≡ Some call → before ≡ log
   pub waits : v.is_waiting ≡ is_some waiting
   -- and what it knows is that of the tree that the calls of the log leave

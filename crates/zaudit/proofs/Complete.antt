@@ -1,5 +1,5 @@
 -- Of lawful traces that aren't cut nothing but want of memory is found.
-use Rattle.std.proofs.Common.{◌≡◌, ℕ, true, false, refl, sym, ap, ◌∙◌, subst}
+use Rattle.std.proofs.Common.{◌≡◌, ℕ, true, false, refl, sym, ap, ◌∙◌}
 use Rattle.std.specs.Prelude.{Result, Ok, Err, IfOk}
 use mathlib.Core.Logic.{∥∥₁_elim}
 use mathlib.Core.HLevel.{⊥_prop}
@@ -7,11 +7,7 @@ use Rattle.zalloc.specs.declared.memory.Memory as zpath_memory
 use Rattle.zprotocol.specs.server.Machine.{kept_tree}
 use Rattle.zworld.specs.Steps.{WorldView, world_in}
 use Rattle.ztraces.specs.Traces.{client_count}
-use Rattle.ztree.specs.Tree.{Tree}
-use Rattle.zcalls.specs.Kept.{KeptState}
-use Rattle.zworld_model.specs.World.{World, opening_world}
-use Rattle.zworld_model.specs.Alike.{IsAlike}
-use Rattle.zworld_model.proofs.Alike.{alike_itself}
+use Rattle.zworld_model.specs.World.{opening_world}
 use Rattle.ztraces.specs.declared.trace.Traces.{Traces}
 use Rattle.ztraces.specs.Lawful.{AreLawful}
 use Rattle.ztraces.specs.Audit.{opening_of, is_any_cut, IsDisordered, IsMismatched}
@@ -28,10 +24,7 @@ only_memory t Disorder cut disorder mismatch lawful whole = absurd (∥∥₁_el
 only_memory t Mismatch cut disorder mismatch lawful whole = absurd (∥∥₁_elim lawful ⊥_prop (λ l. lawful_not_mismatched t l (mismatch refl)))
 only_memory t Memory cut disorder mismatch lawful whole = refl
 
-pub alike_where_same : (v w : World (KeptState Tree)) → w ≡ v → IsAlike v w
-alike_where_same v w same = subst (IsAlike v) (sym same) (alike_itself v)
-
-pub opened_alike : (t : Traces) (n : ℕ) → n ≡ client_count t → (r : Result WorldView zpath_memory.Memory) → IfOk r (λ w. world_in w ≡ opening_world kept_tree t.last n)
-    → IfOk r (λ w. IsAlike (opening_of t) (world_in w))
-opened_alike t n count (Ok w) same = alike_where_same (opening_of t) (world_in w) (same ∙ ap (opening_world kept_tree t.last) count)
-opened_alike t n count (Err memory) same = tt
+pub opened_so : (t : Traces) (n : ℕ) → n ≡ client_count t → (r : Result WorldView zpath_memory.Memory) → IfOk r (λ w. world_in w ≡ opening_world kept_tree t.last n)
+    → IfOk r (λ w. opening_of t ≡ world_in w)
+opened_so t n count (Ok w) same = sym (same ∙ ap (opening_world kept_tree t.last) count)
+opened_so t n count (Err memory) same = tt

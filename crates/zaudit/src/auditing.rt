@@ -1,7 +1,6 @@
 //! The audit of a run.
 
 ghost use Rattle.std.specs.Prelude.{◌≡◌, true, false, Err, IfOk, IfErr, IsOkUnless};
-ghost use Rattle.zworld_model.specs.Alike.{IsAlike};
 ghost use Rattle.zworld_model.specs.PlainTree.{IsExplained};
 ghost use Rattle.zworld.specs.Steps.{world_in};
 ghost use Rattle.ztraces.specs.Lawful.{AreLawful};
@@ -21,7 +20,7 @@ use zworld_model::CallEvent;
 
 // Returns the initial world of the run.
 fn opened(alloc: Global, traces: &Traces) -> Result<World, zalloc::Memory>
-    ensures opening { IfOk result (λ world. IsAlike (opening_of traces.now) (world_in world)) }
+    ensures opening { IfOk result (λ world. opening_of traces.now ≡ world_in world) }
     ensures whole { IfOk result (λ world. world.has_forgotten ≡ false) }
 {
     World::new(alloc, traces.last, traces.clients.len() as u8)

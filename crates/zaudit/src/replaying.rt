@@ -4,7 +4,6 @@ ghost use Rattle.std.specs.Prelude.{◌≡◌, ◌⊎◌, ◌≤◌, true, false
 ghost use Rattle.std.specs.BinaryHeap.{heap_items, IsHeap};
 ghost use Rattle.zprotocol.specs.declared.limits.TheConstants.{PROCESSES};
 ghost use Rattle.zworld.specs.Steps.{world_in};
-ghost use Rattle.zworld_model.specs.Alike.{IsAlike};
 ghost use Rattle.ztraces.specs.Audit.{opening_of};
 ghost use Rattle.ztraces.specs.support.Places.{place_count, HasReplayed, IsAllRead, IsReplayFault};
 ghost use Rattle.zaudit.specs.support.Heads.{head_cmp, HoldsAll};
@@ -74,7 +73,7 @@ fn replay_rest(
 
 /// Replays all events, by their timestamps.
 pub(crate) fn replay(alloc: Global, traces: &Traces, world: &mut World) -> Result<(), AuditFault>
-    requires opening { IsAlike (opening_of traces.now) (world_in world.old) }
+    requires opening { opening_of traces.now ≡ world_in world.old }
     ensures replayed { OnOk result (HasReplayedAll traces.now world.new) }
     ensures past { world.new.has_forgotten ≡ world.old.has_forgotten }
     ensures disorder { IfErr result (λ fault. fault ≡ Disorder → IsReplayFault traces.now) }

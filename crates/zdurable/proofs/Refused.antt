@@ -1,29 +1,11 @@
 -- Lines that are refused: an empty line is played in their place, and it changes nothing.
 use Rattle.std.proofs.Common.{◌≡◌, ℕ, Bool, true, false, if◌then◌else◌, List, [], ◌∷◌, ◌++◌, refl, sym, ap, ◌∙◌, append_assoc}
-use Rattle.zprotocol.specs.declared.process.Process.{Process}
-use Rattle.zprotocol.specs.declared.process.Process.TheVariants.{Master, Server, Client}
-use Rattle.zworld_model.specs.Events.{has_failed}
 use Rattle.zlines.specs.Line.{line_of}
 use Rattle.zscript.specs.Line.{ServiceWorld, ScriptState, script_state, forgotten, effect_of, after}
 use Rattle.zscript.specs.support.Lines.{IsPart}
-use Rattle.zscript.proofs.AlikeLines.{forgotten_alike}
-use Rattle.zworld_model.specs.History.{History}
 use Rattle.zdurable.specs.Refused.{is_refused, played_as, played_lines, told_line, told_lines}
 use Rattle.zdurable.specs.Played.{after_lines}
 use Rattle.zdurable.proofs.Lines.{ArePart}
-
--- what was forgotten once is forgotten
-same_failed : (w : ServiceWorld) (to : Process) → has_failed (forgotten w) to ≡ has_failed w to
-same_failed w Master = refl
-same_failed w (Server s) = refl
-same_failed w (Client c) = refl
-
-forgotten-again : (w : ServiceWorld) → w.history ≡ [] → forgotten (forgotten w) ≡ forgotten w
-forgotten-again w none = forgotten_alike (forgotten w) w (record {
-  rest = ap (λ (h : History). record w { history = h }) none;
-  servers = λ s alive. rw alive refl;
-  links = λ from to alive. rw (sym (same_failed w to) ∙ alive) refl;
-})
 
 -- an empty line does nothing
 pub after-empty : (s : ScriptState) → after s [] ≡ script_state (forgotten s.world) s.outcomes
@@ -31,7 +13,7 @@ unfolding after effect_of line_of
 after-empty s = refl
 
 pub after-refused : (w : ServiceWorld) → w.history ≡ [] → after (script_state (forgotten w) []) [] ≡ script_state (forgotten w) []
-after-refused w none = after-empty (script_state (forgotten w) []) ∙ ap (λ v. script_state v []) (forgotten-again w none)
+after-refused w none = after-empty (script_state (forgotten w) [])
 
 -- the lines that are played have no LF
 pub played-part : (lines : List (List ℕ)) (s : ScriptState) → ArePart lines → ArePart (played_lines s lines)

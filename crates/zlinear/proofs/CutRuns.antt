@@ -1,5 +1,5 @@
 -- Every history has a legal order, also where links lose their ends.
-use Rattle.std.proofs.Common.{◌≡◌, ℕ, zero, suc, List, [], ◌∷◌, map, take, refl, sym, ap, ◌∙◌, subst}
+use Rattle.std.proofs.Common.{◌≡◌, ℕ, zero, suc, Bool, true, false, if◌then◌else◌, List, [], ◌∷◌, map, take, refl, sym, ap, ◌∙◌, subst}
 use Rattle.ztree.specs.Tree.{opening_tree}
 use Rattle.zcalls.specs.Kept.{Plain}
 use Rattle.zprotocol.specs.declared.process.Process.{Process}
@@ -9,7 +9,8 @@ use Rattle.zprotocol.specs.server.support.Homomorphism.{IsHomomorphism, message_
 use Rattle.zprotocol.proofs.server_lemmas.Projection.{log_stands_for_machine}
 use Rattle.zworld_model.specs.declared.event.Event.{Event}
 use Rattle.zworld_model.specs.World.{World, opening_world}
-use Rattle.zworld_model.specs.Events.{happens}
+use Rattle.zworld_model.specs.Events.{has_failed, let_go, happens}
+use Rattle.zworld_model.proofs.Keeping.{keeping_happens, opening_let_go}
 use Rattle.zworld_model.specs.FromTree.{IsExplainedFrom, opening_world_from}
 use Rattle.zworld_model.proofs.FirstCallsFrom.{opening_can_start}
 use Rattle.zworld_model.specs.support.LogWorld.{world_with}
@@ -21,10 +22,27 @@ use Rattle.zlinear.specs.chain.Account.{Account, next_account, opening_account}
 use Rattle.zlinear.specs.chain.Sound.{IsSound}
 use Rattle.zlinear.specs.FromTree.{EveryHistoryFromWithCutsIsExplained}
 use Rattle.zlinear.specs.Cuts.{Stays, cut_links, cut, run_with_cuts, EveryHistoryWithCutsIsExplained}
-use Rattle.zlinear.proofs.chain_lemmas.tables.Lasts.{lasts}
+use Rattle.zlinear.proofs.chain_lemmas.tables.Lasts.{lasts_kept}
 use Rattle.zlinear.proofs.chain_lemmas.steps.Opening.{opening_sound}
 use Rattle.zlinear.proofs.chain_lemmas.steps.Cuts.{cut_sound, cut_lasts}
-use Rattle.zlinear.proofs.Runs.{account_world, each_event, lasts_next}
+use Rattle.zlinear.proofs.Runs.{next_world, each_event, lasts_next}
+
+-- what is let go of can be cut before or after
+taken_none : {A : Type 0} (n : ℕ) → take {A = A} n [] ≡ []
+taken_none zero = refl
+taken_none (suc n) = refl
+
+taken_if : {A : Type 0} (n : ℕ) (b : Bool) (xs : List A) → take n (if b then [] else xs) ≡ (if b then [] else take n xs)
+taken_if n true xs = taken_none n
+taken_if n false xs = refl
+
+cut_go : {M : Type 0} (stays : Stays) (w : World M) → cut stays (let_go w) ≡ let_go (cut stays w)
+cut_go stays w = λ i. record (let_go w) { links = λ from to. links from to i }
+  where
+    links : (from to : Process) → cut_links stays (let_go w).links from to ≡ (if has_failed w to then [] else cut_links stays w.links from to)
+    links Master to = refl
+    links (Server s) to = taken_if (stays (Server s) to) (has_failed w to) (w.links (Server s) to)
+    links (Client c) to = taken_if (stays (Client c) to) (has_failed w to) (w.links (Client c) to)
 
 -- the account of a run with cuts
 abbrev cut_account : Account → Stays → Account
@@ -35,12 +53,15 @@ module _ {P : Type 0} (plain : Plain P) where
   accounts_after t [] = t
   accounts_after t (step ∷ more) = accounts_after (next_account plain (cut_account t step.0) step.1) more
 
-  -- its world is that of the run
-  account_worlds : (t : Account) (steps : List (Stays × Event)) → (accounts_after t steps).world ≡ run_with_cuts (log_machine plain) t.world steps
+  -- the world of the run is what is left of its world
+  account_worlds : (t : Account) (steps : List (Stays × Event)) → run_with_cuts (log_machine plain) (let_go t.world) steps ≡ let_go (accounts_after t steps).world
   account_worlds t [] = refl
   account_worlds t (step ∷ more) =
-      account_worlds (next_account plain (cut_account t step.0) step.1) more
-      ∙ ap (λ w. run_with_cuts (log_machine plain) w more) (account_world plain (cut_account t step.0) (step.1 ∷ []))
+      let cut_off = cut_account t step.0 in
+      ap (λ u. run_with_cuts (log_machine plain) (happens (log_machine plain) u step.1) more) (cut_go step.0 t.world)
+      ∙ ap (λ u. run_with_cuts (log_machine plain) u more)
+      (keeping_happens (log_machine plain) (cut step.0 t.world) step.1 ∙ ap let_go (sym (next_world plain cut_off step.1)))
+      ∙ account_worlds (next_account plain cut_off step.1) more
 
   -- it is sound
   runs_sound_with_cuts : (t : Account) → LastsAreLengths t.world → IsSound plain t → (steps : List (Stays × Event)) → IsSound plain (accounts_after t steps)
@@ -81,12 +102,15 @@ every_history_from_with_cuts_is_explained t can servers clients steps =
     let plain = plain_from t in
     let machine = kept_tree_from t in
     let account = opening_account plain servers clients in
-    let s = runs_sound_with_cuts plain account (lasts plain servers clients []) (opening_sound plain servers clients) steps in
+    let s = runs_sound_with_cuts plain account (lasts_kept plain servers clients []) (opening_sound plain servers clients) steps in
     let explained = items_explain_from t can _ _ _ s.acted s.replays s.rising s.in_time s.answered s.once in
     let mapped = ap (λ u. run_with_cuts machine u steps) (opening_with (replay machine) (log_stands_for_machine machine) servers clients)
     ∙ runs_with_cuts (replay machine) (log_stands_for_machine machine) (opening_world (log_machine plain) servers clients) steps in
+    let logs = log_machine plain in
+    let runs : run_with_cuts logs (opening_world logs servers clients) steps ≡ let_go (accounts_after plain account steps).world =
+    ap (λ w. run_with_cuts logs w steps) (sym (opening_let_go logs servers clients)) ∙ account_worlds plain account steps in
     let same : (accounts_after plain account steps).world.history ≡ (run_with_cuts machine (opening_world_from t servers clients) steps).history =
-    ap (λ (w : LogWorld). w.history) (account_worlds plain account steps) ∙ sym (ap (λ (w : World _). w.history) mapped) in
+    sym (ap (λ (w : LogWorld). w.history) runs) ∙ sym (ap (λ (w : World _). w.history) mapped) in
     subst (IsExplainedFrom t) same explained
 
 -- from the initial tree

@@ -5,7 +5,10 @@ use Rattle.zcalls.specs.PlainTree.{plain_tree}
 use Rattle.zprotocol.specs.declared.process.Process.TheVariants.{Master, Server, Client}
 use Rattle.zworld_model.specs.declared.event.Event.{Event}
 use Rattle.zworld_model.specs.declared.event.Event.TheVariants.{Begin, Retry, Take, Ignore, Fail, Order}
-use Rattle.zworld_model.specs.Events.{is_enabled, acts, run}
+use Rattle.zworld_model.specs.World.{opening_world}
+use Rattle.zworld_model.specs.Events.{is_enabled, acts, let_go, run}
+use Rattle.zworld_model.specs.Keeping.{keeps, run_keeping}
+use Rattle.zworld_model.proofs.Keeping.{run_lets_go}
 use Rattle.zlinear.specs.legal.Prefix.{IsPrefix}
 use Rattle.zlinear.proofs.legal_lemmas.lists.Prefixes.{prefix_same, prefix_of}
 use Rattle.zlinear.specs.chain.Flow.{log_machine}
@@ -13,7 +16,7 @@ use Rattle.zlinear.specs.chain.Last.{LastsAreLengths}
 use Rattle.zlinear.specs.chain.Account.{Account, account_by, next_account, account_after, opening_account}
 use Rattle.zlinear.specs.chain.Sound.{IsSound, IsSoundAfter}
 use Rattle.zlinear.specs.chain.Events.{KeepsSoundOver}
-use Rattle.zlinear.proofs.chain_lemmas.tables.Lasts.{lasts, lasts_happen}
+use Rattle.zlinear.proofs.chain_lemmas.tables.Lasts.{lasts_kept, lasts_keep}
 use Rattle.zlinear.proofs.chain_lemmas.steps.Opening.{opening_sound}
 use Rattle.zlinear.proofs.chain_lemmas.steps.Drops.{requests_are_lost}
 use Rattle.zlinear.proofs.servers_lemmas.Events.{servers_hear_servers, servers_hear_clients}
@@ -27,14 +30,22 @@ account_world_if : (b : Bool) (t u : Account) → (if b then t else u).world ≡
 account_world_if true t u = refl
 account_world_if false t u = refl
 
--- the world of an account is that of the run
+-- the world of an account keeps what failed servers held
+pub next_world : {P : Type 0} (plain : Plain P) (t : Account) (event : Event) → (next_account plain t event).world ≡ keeps (log_machine plain) t.world event
+next_world plain t event = account_world_if (is_enabled t.world event) (account_by plain t event (acts (log_machine plain) t.world event)) t
+
 pub account_world : {P : Type 0} (plain : Plain P) (t : Account) (events : List Event)
-    → (account_after plain t events).world ≡ run (log_machine plain) t.world events
+    → (account_after plain t events).world ≡ run_keeping (log_machine plain) t.world events
 account_world plain t [] = refl
 account_world plain t (event ∷ events) =
-    account_world plain (next_account plain t event) events
-    ∙ ap (λ w. run (log_machine plain) w events)
-    (account_world_if (is_enabled t.world event) (account_by plain t event (acts (log_machine plain) t.world event)) t)
+    account_world plain (next_account plain t event) events ∙ ap (λ w. run_keeping (log_machine plain) w events) (next_world plain t event)
+
+-- the world of the run is what is left of it
+pub run_world : {P : Type 0} (plain : Plain P) (servers clients : ℕ) (events : List Event)
+    → run (log_machine plain) (opening_world (log_machine plain) servers clients) events
+    ≡ let_go (account_after plain (opening_account plain servers clients) events).world
+run_world plain servers clients events =
+    run_lets_go (log_machine plain) servers clients events ∙ ap let_go (sym (account_world plain (opening_account plain servers clients) events))
 
 module _ {P : Type 0} (plain : Plain P) where
   -- each event
@@ -52,8 +63,7 @@ module _ {P : Type 0} (plain : Plain P) where
 
   pub lasts_next : (t : Account) (event : Event) → LastsAreLengths t.world → LastsAreLengths (next_account plain t event).world
   lasts_next t event exact =
-      subst LastsAreLengths (sym (account_world_if (is_enabled t.world event) (account_by plain t event (acts (log_machine plain) t.world event)) t))
-      (lasts_happen plain t.world event exact)
+      subst LastsAreLengths (sym (next_world plain t event)) (lasts_keep plain t.world event exact)
 
   -- each list of events
   runs_sound : (t : Account) → LastsAreLengths t.world → IsSound plain t → (events : List Event) → IsSoundAfter plain t (account_after plain t events)
@@ -66,7 +76,7 @@ module _ {P : Type 0} (plain : Plain P) where
   -- from the opening
   pub run_is_sound : (servers clients : ℕ) (events : List Event) → IsSound plain (account_after plain (opening_account plain servers clients) events)
   run_is_sound servers clients events =
-      (runs_sound (opening_account plain servers clients) (lasts plain servers clients []) (opening_sound plain servers clients) events).0
+      (runs_sound (opening_account plain servers clients) (lasts_kept plain servers clients []) (opening_sound plain servers clients) events).0
 
 -- over the plain tree
 pub every_run_is_sound : EveryRunIsSound
@@ -81,6 +91,6 @@ account_more t (event ∷ events) more = account_more (next_account plain_tree t
 pub committed_stays : CommittedStays
 committed_stays servers clients events more =
     let t = account_of servers clients events in
-    let exact = subst LastsAreLengths (sym (account_world plain_tree (opening_account plain_tree servers clients) events)) (lasts plain_tree servers clients events) in
+    let exact = subst LastsAreLengths (sym (account_world plain_tree (opening_account plain_tree servers clients) events)) (lasts_kept plain_tree servers clients events) in
     subst (λ (u : Account). IsPrefix t.committed u.committed) (sym (account_more (opening_account plain_tree servers clients) events more))
     (runs_sound plain_tree t exact (every_run_is_sound servers clients events) more).1

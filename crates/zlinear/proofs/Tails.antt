@@ -1,6 +1,6 @@
 -- At most one live server is a tail, the log of each member begins that of the one before it, and tails hold what is
 -- committed.
-use Rattle.std.specs.Prelude.{◌&&◌, is_none, is_some}
+use Rattle.std.specs.Prelude.{◌&&◌, is_none, is_some, if◌then◌else◌}
 use Rattle.std.specs.Option.{option_map}
 use Rattle.std.proofs.Common.{◌≡◌, ℕ, Bool, true, false, List, ◌++◌, Option, Some, None, refl, sym, ap, ◌∙◌, subst, inl, inr}
 use Rattle.zcalls.specs.declared.call.Entry.{Entry}
@@ -8,12 +8,12 @@ use Rattle.zcalls.specs.Lists.{ComesBefore}
 use Rattle.zcalls.specs.PlainTree.{plain_tree}
 use Rattle.zcalls.proofs.ActedLogs.{acted_entries_once}
 use Rattle.zprotocol.specs.server.Machine.{kept_tree, replay}
-use Rattle.zprotocol.specs.server.View.{ServerView, is_tail}
+use Rattle.zprotocol.specs.server.View.{ServerView, is_tail, spare}
 use Rattle.zprotocol.specs.server.support.Homomorphism.{view_with}
 use Rattle.zprotocol.proofs.server_lemmas.Projection.{log_stands_for_machine}
 use Rattle.zprotocol.specs.master.View.{members}
 use Rattle.zworld_model.specs.World.{World, opening_world}
-use Rattle.zworld_model.specs.Events.{run}
+use Rattle.zworld_model.specs.Events.{let_go, run}
 use Rattle.zworld_model.specs.support.LogWorld.{world_with}
 use Rattle.zworld_model.proofs.LogWorlds.{runs_with}
 use Rattle.zlinear.specs.legal.Prefix.{IsPrefix}
@@ -21,12 +21,12 @@ use Rattle.zlinear.proofs.legal_lemmas.lists.Tests.{left_of, right_of}
 use Rattle.zlinear.proofs.legal_lemmas.lists.Places.{two_places}
 use Rattle.zlinear.proofs.legal_lemmas.lists.Prefixes.{prefix_of}
 use Rattle.zlinear.specs.chain.Flow.{LogWorld, Log, log_at}
-use Rattle.zlinear.specs.chain.Account.{Account, opening_account}
+use Rattle.zlinear.specs.chain.Account.{Account}
 use Rattle.zlinear.specs.chain.Sound.{IsSound}
 use Rattle.zlinear.proofs.chain_lemmas.places.Pairs.{log_member}
 use Rattle.zlinear.proofs.chain_lemmas.steps.Sends.{final_log_of_log}
 use Rattle.zlinear.specs.Facts.{account_of, OneTailAnswers, LogsBeginEachOther, TailsHoldWhatTailsHeld, UpdatesActOnce}
-use Rattle.zlinear.proofs.Runs.{account_world, every_run_is_sound, committed_stays}
+use Rattle.zlinear.proofs.Runs.{run_world, every_run_is_sound, committed_stays}
 
 -- who stands before a member with a log has a log that goes on with it, and a successor
 record IsLonger (w : LogWorld) (x : ℕ) (log : List Entry) : Type 0 where
@@ -80,16 +80,30 @@ tail_with h v = ap (λ b. b && is_none v.succ) (by v.machine)
     by None = refl
     by (Some m) = refl
 
+-- a tail of a world that lets go of what failed servers held lives, and is one where that is kept
+lives_as_tail : (w : LogWorld) (x : ℕ) → is_tail (view_with (replay kept_tree) ((let_go w).servers x)) ≡ true
+    → (w.failed x ≡ false) × (is_tail (w.servers x) ≡ true)
+lives_as_tail w x is = by (w.failed x) refl
+  where
+    so : (b : Bool) → w.failed x ≡ b → is_tail (view_with (replay kept_tree) (if b then spare else w.servers x)) ≡ true
+    so b has = sym (ap (λ c. is_tail (view_with (replay kept_tree) (if c then spare else w.servers x))) has) ∙ is
+
+    by : (b : Bool) → w.failed x ≡ b → (w.failed x ≡ false) × (is_tail (w.servers x) ≡ true)
+    by true has = absurd (let no : ◌≡◌ {A = Bool} false true = so true has in cc no)
+    by false lives = (lives, sym (tail_with (replay kept_tree) (w.servers x)) ∙ so false lives)
+
 -- the world over trees
 pub one_tail_answers : OneTailAnswers
 one_tail_answers servers clients events s t =
-    let world : run kept_tree (opening_world kept_tree servers clients) events ≡ world_with (replay kept_tree) (account_of servers clients events).world =
+    let kept = (account_of servers clients events).world in
+    let world : run kept_tree (opening_world kept_tree servers clients) events ≡ world_with (replay kept_tree) (let_go kept) =
     runs_with (replay kept_tree) (log_stands_for_machine kept_tree) servers clients events
-    ∙ ap (world_with (replay kept_tree)) (sym (account_world plain_tree (opening_account plain_tree servers clients) events)) in
-    subst (λ (w : World _). w.failed s ≡ false → w.failed t ≡ false → is_tail (w.servers s) ≡ true → is_tail (w.servers t) ≡ true → s ≡ t) (sym world)
-    (λ s_lives t_lives s_tail t_tail. one_tail (account_of servers clients events) (every_run_is_sound servers clients events) s t s_lives t_lives
-    (sym (tail_with (replay kept_tree) ((account_of servers clients events).world.servers s)) ∙ s_tail)
-    (sym (tail_with (replay kept_tree) ((account_of servers clients events).world.servers t)) ∙ t_tail))
+    ∙ ap (world_with (replay kept_tree)) (run_world plain_tree servers clients events) in
+    subst (λ (w : World _). is_tail (w.servers s) ≡ true → is_tail (w.servers t) ≡ true → s ≡ t) (sym world)
+    (λ s_tail t_tail.
+    let first = lives_as_tail kept s s_tail in
+    let second = lives_as_tail kept t t_tail in
+    one_tail (account_of servers clients events) (every_run_is_sound servers clients events) s t first.0 second.0 first.1 second.1)
 
 -- a live tail holds the committed log
 holds_committed : (t : Account) → IsSound plain_tree t → (x : ℕ) (log : List Entry) → t.world.failed x ≡ false → is_tail (t.world.servers x) ≡ true

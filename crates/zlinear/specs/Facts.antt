@@ -22,7 +22,8 @@ use Rattle.zlinear.specs.chain.Flow.{log_at}
 use Rattle.zlinear.specs.chain.Account.{Account, account_after, opening_account}
 use Rattle.zlinear.specs.chain.Sound.{IsSound}
 
--- the log world after a list of events, with its committed log and its items
+-- the log world after a list of events, with its committed log and its items. It keeps what failed
+-- servers held
 abbrev pub account_of : ℕ → ℕ → List Event → Account
 account_of servers clients events = account_after plain_tree (opening_account plain_tree servers clients) events
 
@@ -30,11 +31,11 @@ account_of servers clients events = account_after plain_tree (opening_account pl
 abbrev pub EveryRunIsSound : Type 0
 EveryRunIsSound = (servers clients : ℕ) (events : List Event) → IsSound plain_tree (account_of servers clients events)
 
--- of the running servers at most one is a tail that answers
+-- at most one server is a tail that answers; one that has failed is none
 abbrev pub OneTailAnswers : Type 0
 OneTailAnswers =
     (servers clients : ℕ) (events : List Event) (s t : ℕ) → let w = run kept_tree (opening_world kept_tree servers clients) events in
-    w.failed s ≡ false → w.failed t ≡ false → is_tail (w.servers s) ≡ true → is_tail (w.servers t) ≡ true → s ≡ t
+    is_tail (w.servers s) ≡ true → is_tail (w.servers t) ≡ true → s ≡ t
 
 -- the log of each member is a prefix of that of each member before it
 abbrev pub LogsBeginEachOther : Type 0

@@ -2,12 +2,9 @@
 -- linearizable from that tree on.
 use Rattle.std.specs.Prelude.{ℕ, List}
 use Rattle.ztree.specs.Tree.{Tree}
-use Rattle.zcalls.specs.Kept.{KeptState}
 use Rattle.zprotocol.specs.server.Machine.{kept_tree_from}
 use Rattle.zworld_model.specs.declared.event.Event.{Event}
-use Rattle.zworld_model.specs.World.{World}
 use Rattle.zworld_model.specs.FromTree.{CanStart, IsExplainedFrom, opening_world_from, world_after_from}
-use Rattle.zlinear.specs.Headline.{LeadWithLosses}
 use Rattle.zlinear.specs.Cuts.{Stays, run_with_cuts}
 
 -- for every tree that a chain can begin with, and every list of events, the history of the run is
@@ -17,13 +14,7 @@ EveryHistoryFromIsExplained =
     (t : Tree) → CanStart t → (servers clients : ℕ) (events : List Event)
     → IsExplainedFrom t (world_after_from t servers clients events).history
 
--- the same holds where failed servers lose what they held
-abbrev pub EveryHistoryFromWithLossesIsExplained : Type 0
-EveryHistoryFromWithLossesIsExplained =
-    (t : Tree) → CanStart t → (servers clients : ℕ) (events : List Event) (w : World (KeptState Tree))
-    → LeadWithLosses (opening_world_from t servers clients) events w → IsExplainedFrom t w.history
-
--- and where channels lose their ends
+-- the same holds where channels lose their ends
 abbrev pub EveryHistoryFromWithCutsIsExplained : Type 0
 EveryHistoryFromWithCutsIsExplained =
     (t : Tree) → CanStart t → (servers clients : ℕ) (steps : List (Stays × Event))

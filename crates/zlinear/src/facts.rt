@@ -17,7 +17,7 @@ pub fn every_run_is_sound()
     ensures { EveryRunIsSound }
 {}
 
-/// Of the running servers at most one is a tail that answers.
+/// At most one server is a tail that answers. One that has failed is none.
 pub fn one_tail_answers()
     ensures { OneTailAnswers }
 {}

@@ -5,12 +5,8 @@ ghost use Rattle.zlinear.specs.Cuts.{EveryHistoryWithCutsIsExplained};
 ghost use Rattle.zlinear.specs.FromTree.{
   EveryHistoryFromIsExplained,
   EveryHistoryFromWithCutsIsExplained,
-  EveryHistoryFromWithLossesIsExplained,
 };
-ghost use Rattle.zlinear.specs.Headline.{
-  EveryHistoryIsExplained,
-  EveryHistoryWithLossesIsExplained,
-};
+ghost use Rattle.zlinear.specs.Headline.{EveryHistoryIsExplained};
 
 /// For every list of events, the history of the run is linearizable: it has one order of all
 /// answered calls and some unanswered updates, each once. The order keeps each call before those
@@ -18,12 +14,6 @@ ghost use Rattle.zlinear.specs.Headline.{
 /// through lawful trees alone.
 pub fn every_history_is_explained()
     ensures { EveryHistoryIsExplained }
-{}
-
-/// The same holds where failed servers lose what they held and what was in flight to them, as they
-/// do in a program.
-pub fn every_history_with_losses_is_explained()
-    ensures { EveryHistoryWithLossesIsExplained }
 {}
 
 /// The same holds where channels from servers and clients lose their ends, before any event: where
@@ -34,10 +24,9 @@ pub fn every_history_with_cuts_is_explained()
 {}
 
 /// A chain can begin with any tree that is lawful and whose sessions are such as are granted. For
-/// every list of events, its history is linearizable from that tree on. So it is where failed
-/// servers lose what they held, and where channels lose their ends.
+/// every list of events, its history is linearizable from that tree on. So it is where channels
+/// lose their ends.
 pub fn every_history_from_a_tree_is_explained()
     ensures history { EveryHistoryFromIsExplained }
-    ensures losses { EveryHistoryFromWithLossesIsExplained }
     ensures cuts { EveryHistoryFromWithCutsIsExplained }
 {}

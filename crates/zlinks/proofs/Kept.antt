@@ -1,17 +1,16 @@
 -- The messages on the channels that are kept, and what calls make of them.
-use Rattle.std.proofs.Common.{◌≡◌, ℕ, suc, ◌<◌, ◌≤◌, Bool, true, false, not, if◌then◌else◌, List, [], ◌∷◌, ◌++◌, length, get_or, take, drop, set, filter, refl, sym, ap, subst, ◌∙◌, arith, inl, inr, eqb-true, take-append-drop}
+use Rattle.std.proofs.Common.{◌≡◌, ℕ, ◌<◌, false, if◌then◌else◌, [], ◌∷◌, ◌++◌, refl, sym, ap, ◌∙◌, inl, inr}
 use Rattle.std.specs.Prelude.{◌==◌, ◌&&◌}
 use Rattle.std.specs.List.{AllByRecursion}
 use Rattle.zcalls.proofs.Among.{test}
 use Rattle.zprotocol.specs.declared.limits.TheConstants.{PROCESSES}
-use Rattle.zprotocol.specs.declared.message.Message.{Message}
 use Rattle.zprotocol.specs.declared.process.Process.{Process}
 use Rattle.zprotocol.specs.Places.{place_of}
 use Rattle.zworld_model.specs.Links.{is_same}
 use Rattle.zworld_model.proofs.Processes.{same_process}
 use Rattle.zworld_model.proofs.Tests.{both}
 use Rattle.zlinks.specs.Places.{Channel, Channels, messages, is_between, messages_at, links_of, with_link, Keeps}
-use Rattle.zlinks.specs.support.Order.{IsBefore, IsBehind, AreSorted, IsAround, IsFound, IsGap}
+use Rattle.zlinks.specs.support.Order.{IsAround}
 use Rattle.zlinks.proofs.Order.{before_elsewhere, behind_elsewhere, places_between}
 use Rattle.zlinks.proofs.Places.{by_place}
 use Rattle.zlinks.proofs.Sorted.{each}

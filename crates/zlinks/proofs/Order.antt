@@ -1,8 +1,8 @@
 -- Places that precede others, and the test for it.
-use Rattle.std.proofs.Common.{◌≡◌, ℕ, ◌<◌, ◌≤◌, Bool, true, false, if◌then◌else◌, refl, sym, ap, ◌∙◌, arith, inl, inr, eqb-true, eq-eqb}
+use Rattle.std.proofs.Common.{◌≡◌, ℕ, ◌<◌, true, false, if◌then◌else◌, refl, sym, ap, ◌∙◌, arith, inl, inr, eqb-true, eq-eqb}
 use mathlib.Core.Bool.{true≢false}
 use Rattle.std.proofs.lemmas.Bool.Decides.{nat_tests}
-use Rattle.std.specs.Prelude.{nat_lt, ◌==◌, ◌&&◌}
+use Rattle.std.specs.Prelude.{nat_lt, ◌==◌}
 use Rattle.zcalls.proofs.Among.{test}
 use Rattle.zworld_model.proofs.Tests.{both}
 use Rattle.zlinks.specs.Places.{Channel, is_between}

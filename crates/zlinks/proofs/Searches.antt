@@ -1,15 +1,15 @@
 -- Which senders and receivers have messages in flight.
-use Rattle.std.proofs.Common.{◌≡◌, ℕ, suc, ◌+◌, ◌<◌, ◌≤◌, Bool, true, false, not, if◌then◌else◌, List, [], ◌∷◌, ◌++◌, length, get_or, take, drop, refl, sym, ap, subst, ◌∙◌, arith, inl, inr, eqb-true, eq-eqb, take-append-drop, drop-cons}
+use Rattle.std.proofs.Common.{◌≡◌, ℕ, suc, ◌<◌, ◌≤◌, Bool, true, false, not, List, [], ◌∷◌, ◌++◌, length, get_or, take, drop, refl, sym, ap, subst, ◌∙◌, arith, inl, inr, eqb-true, eq-eqb, take-append-drop, drop-cons}
 use mathlib.Core.Bool.{true≢false}
 use Rattle.std.proofs.lemmas.List.{drop_all}
 use Rattle.std.proofs.lemmas.List.Folds.{list_any-append, list_any_at}
-use Rattle.std.specs.Prelude.{◌==◌, ◌&&◌, ◌||◌}
+use Rattle.std.specs.Prelude.{◌==◌, ◌||◌}
 use Rattle.std.specs.List.{AllByRecursion, list_any}
 use Rattle.zcalls.proofs.Among.{test}
 use Rattle.zprotocol.specs.declared.process.Process.{Process}
 use Rattle.zprotocol.specs.Places.{place_of}
 use Rattle.zlinks.specs.Places.{Channel, Channels, is_between, messages_at, links_of, is_silent, holds, Between}
-use Rattle.zlinks.specs.support.Order.{IsBefore, IsFrom, IsBehind, AreSorted, IsFirstFrom}
+use Rattle.zlinks.specs.support.Order.{IsBefore, IsFrom, AreSorted, IsFirstFrom}
 use Rattle.zlinks.proofs.Kept.{not_among, behind_others}
 use Rattle.zlinks.proofs.Order.{before_elsewhere, behind_elsewhere, places_between}
 use Rattle.zlinks.proofs.Sorted.{each, around_item, sorted_behind}

@@ -1,5 +1,5 @@
 -- Channels in order: where a search ends, and channels that are put in, taken out or left.
-use Rattle.std.proofs.Common.{◌≡◌, ℕ, zero, suc, ◌+◌, ◌<◌, ◌≤◌, Bool, true, false, not, List, [], ◌∷◌, ◌++◌, length, get_or, take, drop, set, filter, refl, sym, ap, subst, ◌∙◌, arith, inl, inr, add-one, take-append-drop, length-take, length-drop, get_or-take, get_or-drop, drop-set-lt}
+use Rattle.std.proofs.Common.{◌≡◌, ℕ, zero, suc, ◌+◌, ◌<◌, ◌≤◌, Bool, true, false, List, [], ◌∷◌, ◌++◌, length, get_or, take, drop, set, filter, refl, sym, ap, subst, ◌∙◌, arith, inl, inr, take-append-drop, length-take, length-drop, get_or-take, get_or-drop, drop-set-lt}
 use Rattle.std.proofs.lemmas.List.{get_or_default, set_split, set-get_or, take-set}
 use Rattle.std.proofs.lemmas.List.Elements.{All-from_recursion, recursion_from_All, All-from_all_within}
 use Rattle.std.specs.List.{AllByRecursion, AllWithin}

@@ -13,10 +13,8 @@ use Rattle.zworld_model.specs.declared.outcome.Outcome.{Outcome}
 use Rattle.zworld_model.specs.declared.outcome.Outcome.TheVariants.{Acted}
 use Rattle.zworld_model.specs.declared.settled.Settled.{Settled}
 use Rattle.zworld_model.specs.History.{History}
-use Rattle.zworld_model.specs.Alike.{IsAlike}
 use Rattle.zworld_model.specs.Events.{is_enabled, happens, run}
 use Rattle.zworld_model.specs.Settle.{Settling, settle}
-use Rattle.zworld_model.proofs.Alike.{alike_through}
 use Rattle.zlines.specs.declared.request.Request.{Request}
 use Rattle.zworld.specs.declared.did.Did.{Did}
 use Rattle.zworld.specs.declared.did.Did.TheVariants as became
@@ -36,8 +34,7 @@ use Rattle.std.proofs.lemmas.List.{append-nil}
 use Rattle.zworld_model.specs.Reading.{read, is_fitting}
 use mathlib.Core.Bool.{true≢false}
 use Rattle.zworld_model.proofs.Settling.{settling_is_a_run}
-use Rattle.zscript.proofs.AlikeLines.{Like, settling_like, same_history}
-use Rattle.zscript.proofs.Effects.{enabled, not_enabled, idle_alike, tried_on, event_done}
+use Rattle.zscript.proofs.Effects.{enabled, not_enabled, idle_stays, tried_on, event_done}
 use Rattle.zworld_model.proofs.Past.{with_past, run_past}
 use Rattle.zworld.specs.Did.{outcome_of}
 
@@ -81,14 +78,14 @@ module _ (v u : ServiceWorld) (client : ℕ) (call : Call) (did : Did) (has : Ha
   abbrev number : ℕ
   number = (v.clients client).number + 1
 
-  begun_alike : IsAlike (happens kept_tree v begins) u
-  begun_alike = subst (λ e. IsAlike (happens kept_tree v e) u) (begin_reads v client call (outcome_of did)) has.leads
+  begun : happens kept_tree v begins ≡ u
+  begun = subst (λ e. happens kept_tree v e ≡ u) (begin_reads v client call (outcome_of did)) has.leads
 
   -- and is all that is told
   begun_told : v.history ≡ [] → u.history ≡ call_event.Begin client number call ∷ []
   unfolding begin_step
   begun_told none =
-      same_history (happens kept_tree v begins) u begun_alike ∙ ap (λ (w : ServiceWorld). w.history) (happens_so v begins on)
+      ap (λ (w : ServiceWorld). w.history) (sym begun ∙ happens_so v begins on)
       ∙ ap (λ (h : History). h ++ call_event.Begin client number call ∷ []) none
 
   module _ (strict : Bool) (w : ServiceWorld) (settled : Settled) (done : HasSettledBy strict u MAX_EVENTS settled w) where
@@ -102,36 +99,32 @@ module _ (v u : ServiceWorld) (client : ℕ) (call : Call) (did : Did) (has : Ha
         let ran = settle kept_tree u MAX_EVENTS outcomes in
         let behind = told_behind u ran.events in
         ap own_call
-        (same_history ran.world w (done.2 []).2 ∙ ap (λ (x : ServiceWorld). x.history) (settling_is_a_run kept_tree u MAX_EVENTS outcomes)
+        (ap (λ (x : ServiceWorld). x.history) (sym (done.2 []).2 ∙ settling_is_a_run kept_tree u MAX_EVENTS outcomes)
         ∙ behind.1 ∙ ap (λ (h : History). h ++ behind.0) (begun_told none))
 
     module _ (later : List Outcome) where
       abbrev state : ScriptState
       state = script_state v (Acted ∷ done.0 ++ later)
 
-      -- it is settled from the world that was come to, or from the one that the definition has
+      -- it is settled from the world that was come to
       abbrev settling : Settling (KeptState Tree)
       settling = record { world = u; events = begins ∷ []; left = 0; outcomes = done.0 ++ later }
 
-      tried_like : Like (after_try state begins) settling
-      tried_like =
-          subst (λ (s : Settling (KeptState Tree)). Like s settling) (sym (tried_on v (Acted ∷ done.0 ++ later) begins on)) (begun_alike, refl)
-
-      settled_like : Like (after_settling (after_try state begins)) (after_settling settling)
-      settled_like = settling_like (after_try state begins) settling tried_like
+      tried : after_try state begins ≡ settling
+      tried = tried_on v (Acted ∷ done.0 ++ later) begins on ∙ ap (λ (x : ServiceWorld). record settling { world = x }) begun
 
       abbrev defined : Settling (KeptState Tree)
       defined = after_settling (after_try state begins)
 
-      leads_alike : IsAlike defined.world w
-      leads_alike = alike_through _ _ _ settled_like.0 (done.2 later).2
+      leads : defined.world ≡ w
+      leads = ap (λ (s : Settling (KeptState Tree)). (after_settling s).world) tried ∙ (done.2 later).2
 
       answered_leads : LeadsTo (call_answered defined own) w own (option_map_or reply_text (reply_in own w.history) (codes "unanswered")) later
       answered_leads = record {
-        alike = leads_alike;
-        left = sym (ap (λ (s : Settling (KeptState Tree)). s.outcomes) settled_like.1) ∙ (done.2 later).1;
+        led = leads;
+        left = ap (λ (s : Settling (KeptState Tree)). (after_settling s).outcomes) tried ∙ (done.2 later).1;
         owned = refl;
-        answered = ap (λ history. option_map_or reply_text (reply_in own history) (codes "unanswered")) (sym (same_history defined.world w leads_alike));
+        answered = ap (λ history. option_map_or reply_text (reply_in own history) (codes "unanswered")) (ap (λ (x : ServiceWorld). x.history) leads);
       }
 
       call_leads : LeadsTo (call_effect state (record { client = client; call = call })) w own
@@ -165,7 +158,7 @@ not_begun held history request outcomes (cause.Order fault) (is, none) = let nev
 
 -- a world in which a call didn't begin has told nothing
 nothing_told : (v w : ServiceWorld) (event : Event) (why : IdleCause) → HasHappened v event (became.Idle why) w → v.history ≡ [] → w.history ≡ []
-nothing_told v w event why has none = same_history v w (idle_alike v w event why has) ∙ none
+nothing_told v w event why has none = ap (λ (x : ServiceWorld). x.history) (sym (idle_stays v w event why has)) ∙ none
 
 -- a line that is a call, or its begin, which couldn't begin
 module _ (strict : Bool) (old new : WorldView) (request : Request) (why : IdleCause) (has : HasHappened (world_in old) (event.Begin request.client request.call) (became.Idle why) (world_in new))
@@ -176,7 +169,7 @@ module _ (strict : Bool) (old new : WorldView) (request : Request) (why : IdleCa
       let begins : Event = event.Begin request.client request.call in
       let number = ((world_in old).clients request.client).number + 1 in
       let idle : LeadsTo (no_effect state (not_begun_text state request)) (world_in new) None (cause_text why) later = record {
-        alike = idle_alike (world_in old) (world_in new) begins why has;
+        led = idle_stays (world_in old) (world_in new) begins why has;
         left = refl;
         owned = refl;
         answered = not_begun old.held old.history request later why caused;

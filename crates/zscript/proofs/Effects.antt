@@ -14,7 +14,6 @@ use Rattle.zworld_model.specs.declared.event.Event.TheVariants as event
 use Rattle.zworld_model.specs.declared.outcome.Outcome.{Outcome}
 use Rattle.zworld_model.specs.declared.outcome.Outcome.TheVariants.{Acted}
 use Rattle.zworld_model.specs.declared.settled.Settled.{Settled}
-use Rattle.zworld_model.specs.Alike.{IsAlike}
 use Rattle.zworld_model.specs.Events.{is_enabled, happens}
 use Rattle.zworld_model.specs.Reading.{read}
 use Rattle.zworld_model.specs.Settle.{Settling, opening_settling, next_outcome, with_event}
@@ -71,10 +70,9 @@ module _ (v w : ServiceWorld) (event : Event) where
   pub not_enabled : (why : IdleCause) → HasHappened v event (became.Idle why) w → is_enabled v event ≡ false
   not_enabled why has = opposite true (is_enabled v event) has.idle
 
-  pub idle_alike : (why : IdleCause) → HasHappened v event (became.Idle why) w → IsAlike v w
-  idle_alike why has =
-      subst (λ (u : ServiceWorld). IsAlike u w)
-      (ap (λ (e : Event). happens kept_tree v e) (read_acted v event) ∙ happens_not v event (not_enabled why has)) has.leads
+  pub idle_stays : (why : IdleCause) → HasHappened v event (became.Idle why) w → v ≡ w
+  idle_stays why has =
+      sym (ap (λ (e : Event). happens kept_tree v e) (read_acted v event) ∙ happens_not v event (not_enabled why has)) ∙ has.leads
 
   -- the effect of an event
   happened : (did : Did) (done idle : List ℕ) (later : List Outcome) → HasHappened v event did w → is_idle did ≡ false
@@ -83,7 +81,7 @@ module _ (v w : ServiceWorld) (event : Event) where
       let on = enabled did has so in
       let tried = tried_on v (outcome_of did ∷ later) event on in
       record {
-        alike = subst (λ (s : Settling (KeptState Tree)). IsAlike s.world w) (sym tried) has.leads;
+        led = ap (λ (s : Settling (KeptState Tree)). s.world) tried ∙ has.leads;
         left = ap (λ (s : Settling (KeptState Tree)). s.outcomes) tried;
         owned = refl;
         answered = ap (λ b. if b then done else idle) on;
@@ -95,7 +93,7 @@ module _ (v w : ServiceWorld) (event : Event) where
       let off = not_enabled why has in
       let tried = tried_off v later event off in
       record {
-        alike = subst (λ (s : Settling (KeptState Tree)). IsAlike s.world w) (sym tried) (idle_alike why has);
+        led = ap (λ (s : Settling (KeptState Tree)). s.world) tried ∙ idle_stays why has;
         left = ap (λ (s : Settling (KeptState Tree)). s.outcomes) tried;
         owned = refl;
         answered = ap (λ b. if b then done else idle) off;
@@ -172,7 +170,7 @@ settle_done strict v w settled writes (learnt, acted, ends) written = (
     own = None;
     result = settled_text settled;
     leads = λ later. record {
-      alike = (ends later).2;
+      led = (ends later).2;
       left = (ends later).1;
       owned = refl;
       answered = ap settled_text (sym (ends later).0);

@@ -1,7 +1,5 @@
 pub mod LongLine
 pub mod OneRun
-pub mod AlikeLines
-pub mod Opening
 pub mod Replies
 pub mod Effects
 pub mod CallEffects

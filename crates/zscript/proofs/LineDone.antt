@@ -4,7 +4,6 @@ use Rattle.std.specs.Prelude.{Ok, Err, String, string_bytes}
 use Rattle.std.specs.List.{flat_map}
 use Rattle.zworld_model.specs.declared.outcome.Outcome.{Outcome}
 use Rattle.zworld_model.specs.History.{History}
-use Rattle.zworld_model.proofs.Alike.{alike_itself}
 use Rattle.zlines.specs.declared.line.Line.{Line}
 use Rattle.zlines.specs.declared.request.LineFault.{LineFault}
 use Rattle.zlines.specs.declared.request.LineFault.TheVariants.{Memory}
@@ -13,11 +12,9 @@ use Rattle.zlines.specs.Line.{line_of}
 use Rattle.zlines.specs.Texts.{Writes}
 use Rattle.zworld.specs.Held.{Held, world_of}
 use Rattle.zworld.specs.Steps.{WorldView, world_in}
-use Rattle.zscript.specs.Line.{ServiceWorld, script_state, LineEffect, line_fault_text, line_effect, read_effect, effect_of, taken_text, answer, after}
+use Rattle.zscript.specs.Line.{ServiceWorld, forgotten, script_state, LineEffect, line_fault_text, line_effect, read_effect, effect_of, taken_text, answer, after}
 use Rattle.zscript.specs.Done.{IsLineDone, world_between}
 use Rattle.zscript.specs.support.Effects.{MayTell, IsEffectDone, IsEffectDoneBy}
-use Rattle.zscript.proofs.AlikeLines.{answers_alike, leaves_alike, forgotten_alike, same_history}
-use Rattle.zscript.proofs.OneRun.{forgets}
 
 -- one text behind another
 pub writes_more : {A : Type 0} (old mid new : String A) (first more : List ℕ) → Writes old mid first → Writes mid new more → Writes old new (first ++ more)
@@ -31,18 +28,16 @@ line_told old new history line wrote writes ends done =
     let taken = flat_map (taken_text done.own) history in
     let effect : List Outcome → LineEffect = λ later. effect_of (script_state (world_of old []) (done.told ++ later)) line in
     let told : (later : List Outcome) → (effect later).did.world.history ≡ history =
-    λ later. sym (same_history (effect later).did.world (world_of new history) (done.leads later).alike) in
+    λ later. ap (λ (w : ServiceWorld). w.history) (done.leads later).led in
     record {
       told = done.told;
       text = taken ++ done.result ++ 10 ∷ [];
       written = ends (taken ++ done.result) done.written;
       left = λ later.
-          sym (leaves_alike (world_of old []) (world_between old) (done.told ++ later) line (forgets [] (world_of old [])))
-          ∙ ap (λ (w : ServiceWorld). script_state w (effect later).did.outcomes) (forgotten_alike (effect later).did.world (world_of new history) (done.leads later).alike)
+          ap (λ (w : ServiceWorld). script_state (forgotten w) (effect later).did.outcomes) (done.leads later).led
           ∙ ap (λ outcomes. script_state (world_between new) outcomes) (done.leads later).left;
       answered = λ later.
-          sym (answers_alike (world_of old []) (world_between old) (done.told ++ later) line (forgets [] (world_of old [])))
-          ∙ ap (λ own. flat_map (taken_text own) (effect later).did.world.history ++ (effect later).result ++ 10 ∷ []) (done.leads later).owned
+          ap (λ own. flat_map (taken_text own) (effect later).did.world.history ++ (effect later).result ++ 10 ∷ []) (done.leads later).owned
           ∙ ap (λ history. flat_map (taken_text done.own) history ++ (effect later).result ++ 10 ∷ []) (told later)
           ∙ ap (λ result. taken ++ result ++ 10 ∷ []) (done.leads later).answered;
     }
@@ -73,7 +68,7 @@ unread_done strict v line fault writes none is written =
         told = [];
         own = None;
         result = line_fault_text fault;
-        leads = λ later. record { alike = alike_itself v; left = refl; owned = refl; answered = refl };
+        leads = λ later. record { led = refl; left = refl; owned = refl; answered = refl };
         written = subst (λ (h : History). writes (flat_map (taken_text None) h ++ line_fault_text fault)) (sym none) written;
       },
       λ strictly. tt,

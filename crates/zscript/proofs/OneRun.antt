@@ -1,5 +1,5 @@
 -- What lines tell is the history of one run.
-use Rattle.std.proofs.Common.{◌≡◌, ℕ, ◌+◌, Bool, true, false, if◌then◌else◌, List, [], ◌∷◌, ◌++◌, Some, refl, sym, ap, subst, ◌∙◌, append_assoc}
+use Rattle.std.proofs.Common.{◌≡◌, ℕ, ◌+◌, Bool, true, false, if◌then◌else◌, List, [], ◌∷◌, ◌++◌, Some, refl, sym, ap, ◌∙◌, append_assoc}
 use Rattle.std.proofs.lemmas.List.{append-nil}
 use Rattle.std.specs.Prelude.{Ok, Err, ◌&&◌, nat_lt}
 use Rattle.ztree.specs.Tree.{Tree}
@@ -11,11 +11,9 @@ use Rattle.zworld_model.specs.declared.event.Event.TheVariants as event
 use Rattle.zworld_model.specs.declared.outcome.Outcome.{Outcome}
 use Rattle.zworld_model.specs.History.{History}
 use Rattle.zworld_model.specs.World.{opening_world}
-use Rattle.zworld_model.specs.Alike.{IsAlike}
 use Rattle.zworld_model.specs.Events.{is_enabled, happens, run}
 use Rattle.zworld_model.specs.Reading.{read}
 use Rattle.zworld_model.specs.Settle.{Settling, opening_settling, next_outcome, with_event, settle}
-use Rattle.zworld_model.proofs.Alike.{stay_alike, alike_itself, alike_through}
 use Rattle.zworld_model.proofs.Settling.{settling_is_a_run}
 use Rattle.zlines.specs.declared.line.Line.{Line}
 use Rattle.zlines.specs.declared.line.Line.TheVariants as asked
@@ -83,37 +81,30 @@ effect_leads : (s : ScriptState) (line : List ℕ) → LeadsFrom s.world (effect
 unfolding effect_of
 effect_leads s line = read_leads s (line_of line)
 
--- a world is like what is kept of it between two lines, with its history
-pub forgets : (past : History) (w : ServiceWorld) → IsAlike (with_past past w) (with_past (past ++ w.history) (forgotten w))
-forgets past w = record {
-  rest = ap (λ (h : History). record (forgotten w) { history = h }) (append-nil (past ++ w.history));
-  servers = λ s alive. rw alive refl;
-  links = λ from to alive. rw alive refl;
-}
+-- a world is what is kept of it between two lines, with its history
+forgets : (past : History) (w : ServiceWorld) → with_past past w ≡ with_past (past ++ w.history) (forgotten w)
+forgets past w = ap (λ (h : History). record w { history = h }) (sym (append-nil (past ++ w.history)))
 
 -- lines that are played from a world, whatever was told before
 runs_from :
-    (lines : List (List ℕ)) (s : ScriptState) (v : ServiceWorld) (past : History)
-    → s.world.history ≡ [] → IsAlike v (with_past past s.world)
-    → (events : List Event) × ((run kept_tree v events).history ≡ past ++ histories s lines)
+    (lines : List (List ℕ)) (s : ScriptState) (past : History) → s.world.history ≡ []
+    → (events : List Event) × ((run kept_tree (with_past past s.world) events).history ≡ past ++ histories s lines)
 unfolding after
-runs_from [] s v past none alike = ([], ap (λ (w : ServiceWorld). w.history) (sym alike.rest) ∙ ap (λ h. past ++ h) none)
-runs_from (line ∷ lines) s v past none alike =
+runs_from [] s past none = ([], ap (λ h. past ++ h) none)
+runs_from (line ∷ lines) s past none =
     let did = (effect_of s line).did in
-    let leads : run kept_tree (with_past past s.world) did.events ≡ with_past past did.world =
-    run_past kept_tree past s.world did.events ∙ ap (with_past past) (sym (effect_leads s line)) in
-    let alike_after : IsAlike (run kept_tree v did.events) (with_past past did.world) =
-    subst (IsAlike (run kept_tree v did.events)) leads (stay_alike kept_tree v (with_past past s.world) did.events alike) in
-    let rest = runs_from lines (after s line) (run kept_tree v did.events) (past ++ did.world.history) refl
-    (alike_through _ _ _ alike_after (forgets past did.world)) in (
+    let now : History = past ++ did.world.history in
+    let leads : run kept_tree (with_past past s.world) did.events ≡ with_past now (forgotten did.world) =
+    run_past kept_tree past s.world did.events ∙ ap (with_past past) (sym (effect_leads s line)) ∙ forgets past did.world in
+    let rest = runs_from lines (after s line) now refl in (
       did.events ++ rest.0,
-      ap (λ (w : ServiceWorld). w.history) (run_append v did.events rest.0) ∙ rest.1 ∙ append_assoc past did.world.history (histories (after s line) lines),
+      ap (λ (w : ServiceWorld). w.history) (run_append (with_past past s.world) did.events rest.0)
+          ∙ ap (λ (w : ServiceWorld). (run kept_tree w rest.0).history) leads
+          ∙ rest.1 ∙ append_assoc past did.world.history (histories (after s line) lines),
     )
 
 -- from the opening
 pub lines_tell_one_run :
     (servers : ℕ) (outcomes : List Outcome) (lines : List (List ℕ))
     → (events : List Event) × ((run kept_tree (opening_world kept_tree servers MAX_CLIENTS) events).history ≡ histories (opening_script servers outcomes) lines)
-lines_tell_one_run servers outcomes lines =
-    let opening : ServiceWorld = opening_world kept_tree servers MAX_CLIENTS in
-    runs_from lines (opening_script servers outcomes) opening [] refl (alike_itself opening)
+lines_tell_one_run servers outcomes lines = runs_from lines (opening_script servers outcomes) [] refl

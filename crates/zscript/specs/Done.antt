@@ -4,11 +4,11 @@ use Rattle.zworld_model.specs.declared.outcome.Outcome.{Outcome}
 use Rattle.zworld.specs.Held.{Held, world_of}
 use Rattle.zworld.specs.Steps.{WorldView}
 use Rattle.zlines.specs.Texts.{Writes}
-use Rattle.zscript.specs.Line.{ServiceWorld, forgotten, script_state, answer, after}
+use Rattle.zscript.specs.Line.{ServiceWorld, script_state, answer, after}
 
 -- the world between two lines, of the processes that are held
 abbrev pub world_between : Held → ServiceWorld
-world_between held = forgotten (world_of held [])
+world_between held = world_of held []
 
 -- a line was executed, and this was written: these outcomes occurred at it, whatever comes after
 -- them

@@ -9,9 +9,8 @@ use Rattle.zworld_model.specs.declared.outcome.Outcome.{Outcome}
 use Rattle.zworld_model.specs.declared.history.CallEvent.TheVariants.{Answer}
 use Rattle.zworld_model.specs.World.{opening_world}
 use Rattle.zworld_model.specs.Events.{run}
-use Rattle.zworld_model.specs.Alike.{IsAlike}
 use Rattle.zlines.specs.Reply.{reply_text}
-use Rattle.zscript.specs.Line.{ServiceWorld, ScriptState, LineEffect, opening_script, effect_of, answer, after, histories}
+use Rattle.zscript.specs.Line.{ScriptState, LineEffect, opening_script, effect_of, histories}
 
 -- there are events such that the histories of all lines, one after the other, are the history of
 -- their run
@@ -31,15 +30,3 @@ IsAnsweredBy effect =
 -- the same, of every line
 abbrev pub CallsAreAnsweredByTheirReplies : Type 0
 CallsAreAnsweredByTheirReplies = (s : ScriptState) (line : List ℕ) → IsAnsweredBy (effect_of s line)
-
--- worlds that are alike are answered alike
-abbrev pub AlikeWorldsAnswerAlike : Type 0
-AlikeWorldsAnswerAlike =
-    (v w : ServiceWorld) (outcomes : List Outcome) (line : List ℕ) → IsAlike v w
-    → answer (record { world = v; outcomes = outcomes }) line ≡ answer (record { world = w; outcomes = outcomes }) line
-
--- and one state is left of both
-abbrev pub AlikeWorldsLeaveOneState : Type 0
-AlikeWorldsLeaveOneState =
-    (v w : ServiceWorld) (outcomes : List Outcome) (line : List ℕ) → IsAlike v w
-    → after (record { world = v; outcomes = outcomes }) line ≡ after (record { world = w; outcomes = outcomes }) line

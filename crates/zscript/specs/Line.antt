@@ -10,7 +10,6 @@ use Rattle.ztree.specs.declared.limits.TheConstants.{MAX_CLIENTS}
 use Rattle.zcalls.specs.Kept.{KeptState}
 use Rattle.zcalls.specs.declared.reply.Reply.{Reply}
 use Rattle.zprotocol.specs.server.Machine.{kept_tree}
-use Rattle.zprotocol.specs.server.View.{spare}
 use Rattle.zprotocol.specs.declared.master.order.Order.{Order}
 use Rattle.zprotocol.specs.declared.master.order_fault.OrderFault.{OrderFault}
 use Rattle.zprotocol.specs.declared.master.order_fault.OrderFault.TheVariants.{Used, NotMember, Joining, NoChain, Lost, Last, Retiring}
@@ -27,7 +26,7 @@ use Rattle.zworld_model.specs.declared.settled.Settled.{Settled}
 use Rattle.zworld_model.specs.declared.settled.Settled.TheVariants.{Quiet, Limit}
 use Rattle.zworld_model.specs.History.{History}
 use Rattle.zworld_model.specs.World.{World, opening_world}
-use Rattle.zworld_model.specs.Events.{has_failed, is_enabled}
+use Rattle.zworld_model.specs.Events.{is_enabled}
 use Rattle.zworld_model.specs.Settle.{Settling, opening_settling, with_try, settle, settling_end}
 use Rattle.zlines.specs.declared.line.Line.{Line}
 use Rattle.zlines.specs.declared.line.Line.TheVariants as asked
@@ -58,14 +57,9 @@ script_state world outcomes = record { world = world; outcomes = outcomes }
 abbrev pub opening_script : ℕ → List Outcome → ScriptState
 opening_script servers outcomes = script_state (opening_world kept_tree servers MAX_CLIENTS) outcomes
 
--- what is left of a world between two lines: the history is cleared, and nothing is kept of failed
--- servers, nor on channels into them. Nobody sees that again (Alike.antt of the world's model)
+-- what is left of a world between two lines: the history is cleared
 abbrev pub forgotten : ServiceWorld → ServiceWorld
-forgotten w = record w {
-  servers = λ s. if w.failed s then spare else w.servers s;
-  links = λ from to. if has_failed w to then [] else w.links from to;
-  history = [];
-}
+forgotten w = record w { history = [] }
 
 -- what a line did: its events with the world that they led to, the call that it invoked and waited
 -- for, and its result

@@ -1,8 +1,7 @@
 //! What holds of the definitions themselves. Each function's contract is a law, and its body does
 //! nothing.
 
-ghost use Rattle.zscript.specs.Histories.{LinesTellOneRun, AlikeWorldsAnswerAlike};
-ghost use Rattle.zscript.specs.Histories.{AlikeWorldsLeaveOneState, CallsAreAnsweredByTheirReplies};
+ghost use Rattle.zscript.specs.Histories.{LinesTellOneRun, CallsAreAnsweredByTheirReplies};
 ghost use Rattle.zscript.specs.Laws.{UnendedLinesHaveNoAnswer};
 ghost use Rattle.zscript.specs.Promise.{EveryScriptIsExplained};
 
@@ -26,13 +25,6 @@ pub fn lines_tell_one_run()
 /// its line. Where its client received none, the answer is `unanswered`.
 pub fn calls_are_answered_by_their_replies()
     ensures { CallsAreAnsweredByTheirReplies }
-{}
-
-/// Worlds that are equal up to failed servers are answered alike, and one state is left of both. So
-/// a program may drop what nobody can see.
-pub fn alike_worlds_answer_alike()
-    ensures answer { AlikeWorldsAnswerAlike }
-    ensures after { AlikeWorldsLeaveOneState }
 {}
 
 /// A line without LF has no answer before the source reported its end, whatever failed.

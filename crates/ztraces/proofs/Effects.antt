@@ -6,14 +6,14 @@ use Rattle.zcalls.proofs.Among.{test}
 use Rattle.zprotocol.specs.declared.process.Process.{Process}
 use Rattle.zprotocol.specs.declared.process.Process.TheVariants.{Master, Server, Client}
 use Rattle.zprotocol.specs.server.Machine.{Does}
-use Rattle.zprotocol.specs.server.View.{MessageOf, Post, Transfer}
+use Rattle.zprotocol.specs.server.View.{MessageOf, Post, Transfer, spare}
 use Rattle.zworld_model.specs.declared.event.Event.{Event}
 use Rattle.zworld_model.specs.declared.event.Event.TheVariants as event
 use Rattle.zworld_model.specs.History.{History}
 use Rattle.zworld_model.specs.Links.{Links, is_same, messages_to, put, without_front}
 use Rattle.zworld_model.specs.World.{World}
 use Rattle.zworld_model.specs.Does.{Standing, Out, Hear, Effect, AtMaster, AtServer, AtClient, Input, Obey, Stop, accepts, does, server_effect, stop_effect}
-use Rattle.zworld_model.specs.Events.{has_failed, is_enabled, happens, does_in, acts, standing_of, with_standing, goes_on, did_in}
+use Rattle.zworld_model.specs.Events.{has_failed, is_enabled, let_go, happens, does_in, acts, standing_of, with_standing, goes_on, did_in}
 use Rattle.ztraces.specs.declared.trace.Act.{Act}
 use Rattle.ztraces.specs.declared.trace.Act.TheVariants.{Took, Left}
 use Rattle.ztraces.specs.Deeds.{Stamped, standing_in, takes_part, done}
@@ -48,10 +48,12 @@ abbrev pub AreInto : {M : Type 0} → World M → Process → Act → Standing M
 AreInto {M} w p act left posts after =
     (left ≡ Out) ⊎ ((from : Process) → after.links from p ≡ put (fronts w.links act p) p posts from p)
 
--- what a row does in the world
+-- what a row does in the world; what is on links into others that have failed doesn't matter
 pub record HappensIn {M : Type 0} (w : World M) (p : Process) (act : Act) (left : Standing M) (posts : List (Post M)) (told : History) (after : World M) : Type 0 where
   pub stands : (q : Process) → standing_in after q ≡ at_process p left (standing_in w) q
-  pub others : (from to : Process) → is_same to p ≡ false → after.links from to ≡ put w.links p posts from to
+  pub others : (from to : Process) → is_same to p ≡ false → has_failed w to ≡ false → after.links from to ≡ put w.links p posts from to
+  pub failed : (q : Process) → is_same q p ≡ false → has_failed after q ≡ has_failed w q
+  pub lives : (left ≡ Out) ⊎ (has_failed after p ≡ false)
   pub own : AreInto w p act left posts after
   pub history : after.history ≡ w.history ++ told
 
@@ -63,6 +65,13 @@ pub record IsRowOf {M : Type 0} (machine : Does M) (w : World M) (p : Process) (
 pub and_false : (b : Bool) → (b && false) ≡ false
 and_false true = refl
 and_false false = refl
+
+-- who has failed takes no part
+pub out_of : {M : Type 0} (w : World M) (q : Process) → has_failed w q ≡ true → standing_in w q ≡ Out
+out_of w Master gone = absurd (true≢false (sym gone))
+out_of w (Client c) gone = absurd (true≢false (sym gone))
+out_of w (Server s) gone =
+    ap (λ b. if is_server s && not b then AtServer (w.servers s) else Out) gone ∙ ap (λ b. if b then AtServer (w.servers s) else Out) (and_false (is_server s))
 
 module _ {M : Type 0} (w : World M) where
   -- the fronts of links into others aren't taken
@@ -86,11 +95,21 @@ module _ {M : Type 0} (w : World M) where
   pub idles : (act : Act) (p : Process) → HappensIn w p act (standing_in w p) [] [] (record w { links = fronts w.links act p })
   idles act p = record {
     stands = stays;
-    others = λ x y other. fronts_elsewhere act p x y other ∙ put_nothing w.links p x y;
+    others = λ x y other alive. fronts_elsewhere act p x y other ∙ put_nothing w.links p x y;
+    failed = λ q other. refl;
+    lives = stands_or_out p;
     own = inr (λ x. put_nothing (fronts w.links act p) p x p);
     history = sym (append-nil w.history);
   }
     where
+      stands_or_out : (q : Process) → (standing_in w q ≡ Out) ⊎ (has_failed w q ≡ false)
+      stands_or_out Master = inr refl
+      stands_or_out (Client c) = inr refl
+      stands_or_out (Server s) = elim (test (w.failed s)) [
+        | inl gone ↦ inl (out_of w (Server s) gone)
+        | inr alive ↦ inr alive
+      ]
+
       stays : (q : Process) → standing_in w q ≡ at_process p (standing_in w p) (standing_in w) q
       stays q = elim (test (is_same q p)) [ inl y ↦ rw y (ap (standing_in w) (same_process q p y)) | inr f ↦ rw f refl ]
 
@@ -104,11 +123,40 @@ module _ {M : Type 0} (machine : Does M) (w : World M) where
         (subst (HappensIn w p act did.left did.posts did.told) same does);
   }
 
+  -- what failed servers held is let go of
+  goes : (p : Process) (act : Act) (did : Effect M) (after : World M) → HappensIn w p act did.left did.posts did.told after
+      → HappensIn w p act did.left did.posts did.told (let_go after)
+  goes p act did after does = record {
+    stands = λ q. still q ∙ does.stands q;
+    others = λ x y other alive. ap (λ b. if b then [] else after.links x y) (does.failed y other ∙ alive) ∙ does.others x y other alive;
+    failed = does.failed;
+    lives = does.lives;
+    own = into does.lives does.own;
+    history = does.history;
+  }
+    where
+      still : (q : Process) → standing_in (let_go after) q ≡ standing_in after q
+      still Master = refl
+      still (Client c) = refl
+      still (Server s) = by (after.failed s)
+        where
+          by : (b : Bool) → (if is_server s && not b then AtServer (if b then spare else after.servers s) else Out)
+              ≡ (if is_server s && not b then AtServer (after.servers s) else Out)
+          by true =
+              ap (λ c. if c then AtServer spare else Out) (and_false (is_server s))
+              ∙ sym (ap (λ c. if c then AtServer (after.servers s) else Out) (and_false (is_server s)))
+          by false = refl
+
+      into : (did.left ≡ Out) ⊎ (has_failed after p ≡ false) → AreInto w p act did.left did.posts after → AreInto w p act did.left did.posts (let_go after)
+      into (inl out) own = inl out
+      into (inr alive) (inl out) = inl out
+      into (inr alive) (inr is) = inr (λ x. ap (λ b. if b then [] else after.links x p) alive ∙ is x)
+
   -- one that is enabled
   pub enabled_row : (p : Process) (act : Act) (e : Event) (did : Effect M) → event_of p act ≡ Some e → is_in_place w e ≡ true → is_enabled w e ≡ true
       → HappensIn w p act did.left did.posts did.told (acts machine w e) → IsRowOf machine w p act did.left did.posts did.told
   enabled_row p act e did is place enabled does =
-      row_by p act e did (acts machine w e) is place (sym (ap (λ b. if b then acts machine w e else w) enabled)) does
+      row_by p act e did (let_go (acts machine w e)) is place (sym (ap (λ b. if b then let_go (acts machine w e) else w) enabled)) (goes p act did (acts machine w e) does)
 
   -- a delivery
   pub delivered : (p : Process) (act : Act) (from : Process) (m : MessageOf M) (more : List (MessageOf M)) (did : Effect M)
@@ -116,9 +164,9 @@ module _ {M : Type 0} (machine : Does M) (w : World M) where
       → HappensIn w p act did.left did.posts did.told (does_in machine (record w { links = without_front w.links from p }) p (Hear from m))
       → IsRowOf machine w p act did.left did.posts did.told
   delivered p act from m more did is front alive does =
-      row_by p act (event.Take from p) did _ is (rw (front, alive) refl) (sym takes) does
+      row_by p act (event.Take from p) did _ is (rw (front, alive) refl) (sym takes) (goes p act did _ does)
     where
-      takes : happens machine w (event.Take from p) ≡ does_in machine (record w { links = without_front w.links from p }) p (Hear from m)
+      takes : happens machine w (event.Take from p) ≡ let_go (does_in machine (record w { links = without_front w.links from p }) p (Hear from m))
       takes = rw (front, alive) refl
 
 -- some value where a test holds
@@ -195,12 +243,33 @@ module _ {M : Type 0} (w : World M) where
   ]
   moved links after history p left part fits q = absurd fits
 
+  -- nobody else fails by that; it does where it takes no part any more
+  moved_failed : (links : Links M) (p : Process) (left : Standing M) → Fits p left → (q : Process) → is_same q p ≡ false
+      → has_failed (with_standing (record w { links = links }) p left) q ≡ has_failed w q
+  moved_failed links (Server s) Out fits (Server t) other = ap (λ b. if b then true else w.failed t) other
+  moved_failed links (Server s) Out fits Master other = refl
+  moved_failed links (Server s) Out fits (Client c) other = refl
+  moved_failed links (Server s) (AtServer v) fits q other = refl
+  moved_failed links Master (AtMaster v) fits q other = refl
+  moved_failed links (Client c) (AtClient v) fits q other = refl
+  moved_failed links p left fits q other = absurd fits
+
+  moved_lives : (links : Links M) (p : Process) (left : Standing M) → takes_part w p ≡ true → Fits p left
+      → (left ≡ Out) ⊎ (has_failed (with_standing (record w { links = links }) p left) p ≡ false)
+  moved_lives links (Server s) Out part fits = inl refl
+  moved_lives links (Server s) (AtServer v) part fits = inr (lives (Server s) part)
+  moved_lives links Master (AtMaster v) part fits = inr refl
+  moved_lives links (Client c) (AtClient v) part fits = inr refl
+  moved_lives links p left part fits = absurd fits
+
   -- what a process did, once its message was taken
   did_happens : (p : Process) (act : Act) (did : Effect M) → takes_part w p ≡ true → Fits p did.left
       → HappensIn w p act did.left did.posts did.told (did_in (record w { links = fronts w.links act p }) p did)
   did_happens p act did part fits = record {
     stands = λ q. moved (fronts w.links act p) (put (fronts w.links act p) p did.posts) (goes_on w.history did.told) p did.left part fits q;
-    others = λ x y other. put_elsewhere w act p did.posts x y other;
+    others = λ x y other alive. put_elsewhere w act p did.posts x y other;
+    failed = λ q other. moved_failed (fronts w.links act p) p did.left fits q other;
+    lives = moved_lives (fronts w.links act p) p did.left part fits;
     own = inr (λ x. refl);
     history = goes_on_is w.history did.told;
   }
@@ -237,4 +306,5 @@ module _ {M : Type 0} (machine : Does M) (w : World M) where
   -- who ends needn't take its message
   pub ends : (p : Process) (act other : Act) (did : Effect M) (after : World M) → did.left ≡ Out → HappensIn w p act did.left did.posts did.told after
       → HappensIn w p other did.left did.posts did.told after
-  ends p act other did after out happens = record { stands = happens.stands; others = happens.others; own = inl out; history = happens.history }
+  ends p act other did after out happens =
+      record { stands = happens.stands; others = happens.others; failed = happens.failed; lives = happens.lives; own = inl out; history = happens.history }

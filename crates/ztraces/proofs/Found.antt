@@ -20,7 +20,7 @@ module _ (t : Traces) (read : List ℕ) (w : World (KeptState Tree)) (replayed :
   is_run = record { rise = rise; merge = merges_left (trace_of t) replayed.0 (rest_of t read) (λ p. []) replayed.1 all; in_place = replayed.2 }
 
   told : w.history ≡ (world_after_steps t replayed.0).history
-  told = ap (λ (v : World (KeptState Tree)). v.history) replayed.3.rest
+  told = ap (λ (v : World (KeptState Tree)). v.history) (sym replayed.3)
 
   pub found_by : AgreesWithRecords t w.history → IsFound t w.history
   found_by agrees = record { steps = replayed.0; run = is_run; told = sym told; agrees = agrees }

@@ -1,17 +1,14 @@
 -- One step more of a merge, and of a run.
-use Rattle.std.proofs.Common.{◌≡◌, Bool, true, false, cond, List, [], ◌∷◌, ◌++◌, Option, Some, None, refl, sym, ap, ◌∙◌, subst}
+use Rattle.std.proofs.Common.{◌≡◌, Bool, true, false, cond, List, [], ◌∷◌, ◌++◌, Option, Some, None, refl, sym, ap, ◌∙◌}
 use Rattle.std.specs.Prelude.{◌&&◌}
 use Rattle.zprotocol.specs.declared.process.Process.{Process}
 use Rattle.zprotocol.specs.server.Machine.{Does}
 use Rattle.zworld_model.specs.declared.event.Event.{Event}
-use Rattle.zworld_model.specs.declared.event.Event.TheVariants as event
 use Rattle.zworld_model.specs.Links.{is_same}
 use Rattle.zworld_model.specs.World.{World}
 use Rattle.zworld_model.specs.Events.{happens, run}
-use Rattle.zworld_model.specs.Alike.{IsAlike}
-use Rattle.zworld_model.proofs.Alike.{have_the_same_enabled, stay_alike, alike_through}
 use Rattle.ztraces.specs.declared.trace.TraceEvent.{TraceEvent}
-use Rattle.ztraces.specs.Traces.{event_of, Step, comes_before, at_process, Merges, is_in_place, is_step_in_place, step_happens, are_in_place, event_list, events_of}
+use Rattle.ztraces.specs.Traces.{event_of, Step, comes_before, at_process, Merges, is_step_in_place, step_happens, are_in_place, event_list, events_of}
 
 -- what is left may be said otherwise
 pub merges_left : (traces : Process → List TraceEvent) (steps : List Step) (left other : Process → List TraceEvent)
@@ -88,31 +85,12 @@ module _ {M : Type 0} (machine : Does M) where
       both_are true b h = (refl, h)
       both_are false b h = absurd (cc h)
 
--- worlds that are alike have the same in place
-in_place_alike : {M : Type 0} (machine : Does M) (v w : World M) (e : Event) → IsAlike v w → is_in_place v e ≡ is_in_place w e
-in_place_alike machine v w (event.Order order) alike = refl
-in_place_alike machine v w (event.Begin c call) alike = have_the_same_enabled machine v w (event.Begin c call) alike
-in_place_alike machine v w (event.Retry c) alike = have_the_same_enabled machine v w (event.Retry c) alike
-in_place_alike machine v w (event.Take from to) alike = have_the_same_enabled machine v w (event.Take from to) alike
-in_place_alike machine v w (event.Ignore from to) alike = have_the_same_enabled machine v w (event.Ignore from to) alike
-in_place_alike machine v w (event.Fail s) alike = have_the_same_enabled machine v w (event.Fail s) alike
-
-pub step_in_place_alike : {M : Type 0} (machine : Does M) (v w : World M) (e : Option Event) → IsAlike v w → is_step_in_place v e ≡ is_step_in_place w e
-step_in_place_alike machine v w None alike = refl
-step_in_place_alike machine v w (Some e) alike = in_place_alike machine v w e alike
-
-pub step_alike : {M : Type 0} (machine : Does M) (v w : World M) (e : Option Event) → IsAlike v w → IsAlike (step_happens machine v e) (step_happens machine w e)
-step_alike machine v w None alike = alike
-step_alike machine v w (Some e) alike = stay_alike machine v w (e ∷ []) alike
-
--- one step more, replayed on a world that is alike
+-- one step more, replayed on the world that the others led to
 module _ {M : Type 0} (machine : Does M) (opening : World M) (steps : List Step) (s : Step) (w : World M)
-    (all : are_in_place machine opening steps ≡ true) (alike : IsAlike (run machine opening (events_of steps)) w) where
+    (all : are_in_place machine opening steps ≡ true) (here : run machine opening (events_of steps) ≡ w) where
   pub replayed_place : are_in_place machine opening (steps ++ s ∷ []) ≡ is_step_in_place w (event_of s.process s.event.act)
-  replayed_place = places_more machine opening steps s all ∙ step_in_place_alike machine (run machine opening (events_of steps)) w (event_of s.process s.event.act) alike
+  replayed_place = places_more machine opening steps s all ∙ ap (λ v. is_step_in_place v (event_of s.process s.event.act)) here
 
-  pub replayed_alike : (after : World M) → IsAlike (step_happens machine w (event_of s.process s.event.act)) after
-      → IsAlike (run machine opening (events_of (steps ++ s ∷ []))) after
-  replayed_alike after leads =
-      subst (λ v. IsAlike v after) (sym (run_more machine opening steps s))
-      (alike_through _ _ _ (step_alike machine (run machine opening (events_of steps)) w (event_of s.process s.event.act) alike) leads)
+  pub replayed_world : (after : World M) → step_happens machine w (event_of s.process s.event.act) ≡ after
+      → run machine opening (events_of (steps ++ s ∷ [])) ≡ after
+  replayed_world after leads = run_more machine opening steps s ∙ ap (λ v. step_happens machine v (event_of s.process s.event.act)) here ∙ leads

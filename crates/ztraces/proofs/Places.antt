@@ -17,7 +17,6 @@ use Rattle.zprotocol.specs.Places.{place_of}
 use Rattle.zprotocol.proofs.Places.{place_of-server, place_of-client}
 use Rattle.zworld_model.specs.Links.{is_same}
 use Rattle.zworld_model.specs.World.{World}
-use Rattle.zworld_model.specs.Alike.{IsAlike}
 use Rattle.ztraces.specs.declared.trace.Trace.{Trace}
 use Rattle.ztraces.specs.declared.trace.ClientTrace.{ClientTrace}
 use Rattle.ztraces.specs.declared.trace.TraceEvent.{TraceEvent}
@@ -26,7 +25,7 @@ use Rattle.ztraces.specs.Traces.{trace_of, record_of, event_of, Step, comes_befo
 use Rattle.ztraces.specs.Audit.{opening_of}
 use Rattle.ztraces.specs.support.Places.{place_count, process_at, index_of, rest_of, stamp_at_front, head_at, chosen, IsLeast, unread, HasReplayed, IsAllRead, IsReplayFault}
 use Rattle.zworld_model.proofs.Processes.{same_process, same_itself}
-use Rattle.ztraces.proofs.Merging.{merges_more, replayed_place, replayed_alike}
+use Rattle.ztraces.proofs.Merging.{merges_more, replayed_place, replayed_world}
 
 split_last : (j n : ℕ) → j < n + 1 → (j ≡ n) ⊎ (j < n)
 split_last j n lt = eq-or-lt_of_le {n = j} {m = n} (omega (arith, lt))
@@ -329,13 +328,13 @@ module _ (t : Traces) (read : List ℕ) (w : World (KeptState Tree)) (best : ℕ
       (next_is_first t read best e least stamp) (rest_moves t read best.0 e more there front)
 
   pub replayed_more : (after : World (KeptState Tree)) → is_step_in_place w (event_of (process_at t best.0) e.act) ≡ true
-      → IsAlike (step_happens kept_tree w (event_of (process_at t best.0) e.act)) after
+      → step_happens kept_tree w (event_of (process_at t best.0) e.act) ≡ after
       → HasReplayed t (set read best.0 (get_or read best.0 0 + 1)) after
   replayed_more after place leads = (
     replayed.0 ++ next_step ∷ [],
     merge_more,
     replayed_place kept_tree (opening_of t) replayed.0 next_step w replayed.2 replayed.3 ∙ place,
-    replayed_alike kept_tree (opening_of t) replayed.0 next_step w replayed.2 replayed.3 after leads,
+    replayed_world kept_tree (opening_of t) replayed.0 next_step w replayed.2 replayed.3 after leads,
   )
 
   pub replayed_fault : is_step_in_place w (event_of (process_at t best.0) e.act) ≡ false
@@ -380,11 +379,11 @@ module _ (t : Traces) (read : List ℕ) (w : World (KeptState Tree)) (best : ℕ
       (more, subst (λ y. rest_of t read (process_at t best.0) ≡ y ∷ more) same front, subst (λ (y : TraceEvent). y.stamp ≡ best.1) same stamp)
 
   pub code_replays : (p : Process) (after : World (KeptState Tree)) → p ≡ process_at t best.0 → is_step_in_place w (event_of p x.act) ≡ true
-      → IsAlike (step_happens kept_tree w (event_of p x.act)) after → HasReplayed t (set read best.0 (get_or read best.0 0 + 1)) after
+      → step_happens kept_tree w (event_of p x.act) ≡ after → HasReplayed t (set read best.0 (get_or read best.0 0 + 1)) after
   code_replays p after same place leads =
       replayed_more t read w best x next_event.0 replayed least there next_event.1 next_event.2 after
       (subst (λ q. is_step_in_place w (event_of q x.act) ≡ true) same place)
-      (subst (λ q. IsAlike (step_happens kept_tree w (event_of q x.act)) after) same leads)
+      (subst (λ q. step_happens kept_tree w (event_of q x.act) ≡ after) same leads)
 
   pub code_refuses : (p : Process) → p ≡ process_at t best.0 → is_step_in_place w (event_of p x.act) ≡ false → IsReplayFault t
   code_refuses p same place =
@@ -395,8 +394,8 @@ module _ (t : Traces) (read : List ℕ) (w : World (KeptState Tree)) (best : ℕ
   code_reads = unread_less t read best.0 x next_event.0 there next_event.1 (place_count t) least.0
 
 -- nothing was replayed yet
-pub replayed_nothing : (t : Traces) (n : ℕ) (w : World (KeptState Tree)) → IsAlike (opening_of t) w → HasReplayed t (replicate n 0) w
-replayed_nothing t n w alike = ([], nothing_read t n, refl, alike)
+pub replayed_nothing : (t : Traces) (n : ℕ) (w : World (KeptState Tree)) → opening_of t ≡ w → HasReplayed t (replicate n 0) w
+replayed_nothing t n w is = ([], nothing_read t n, refl, is)
 
 -- a client's record, as it is read
 pub client_record : (t : Traces) (c : ℕ) (x : ClientTrace) → c < length t.clients.items → x ≡ get_or t.clients.items c x → x.record.items ≡ record_of t c

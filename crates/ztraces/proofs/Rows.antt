@@ -7,7 +7,7 @@ use Rattle.zprotocol.specs.declared.process.Process.{Process}
 use Rattle.zprotocol.specs.declared.process.Process.TheVariants.{Master, Server, Client}
 use Rattle.zprotocol.specs.Places.{is_server}
 use Rattle.zprotocol.specs.server.Machine.{Does}
-use Rattle.zprotocol.specs.server.Memory.{is_query, may_be_unheard}
+use Rattle.zprotocol.specs.server.Memory.{is_query}
 use Rattle.zprotocol.specs.server.View.{ServerView, MessageOf, Post}
 use Rattle.zprotocol.specs.declared.master.order.Order.{Order}
 use Rattle.zprotocol.specs.master.Order.{server_of}
@@ -18,7 +18,7 @@ use Rattle.zworld_model.specs.History.{History}
 use Rattle.zworld_model.specs.World.{World}
 use Rattle.zworld_model.specs.Does as given
 use Rattle.zworld_model.specs.Does.{Standing, AtServer, Out, Input, Hear, Obey, Stop, Effect, idle_effect, stop_effect}
-use Rattle.zworld_model.specs.Events.{is_enabled, is_request, acts}
+use Rattle.zworld_model.specs.Events.{is_enabled, is_request, acts, let_go}
 use Rattle.zworld_model.proofs.Tests.{both}
 use Rattle.ztraces.specs.declared.trace.Act.{Act}
 use Rattle.ztraces.specs.declared.trace.Act.TheVariants.{Took, Began, Retried, Ordered, Left, Halted}
@@ -85,7 +85,7 @@ module _ {M : Type 0} (machine : Does M) (w : World M) where
   refused order is =
       let none : (is_server (server_of order) && is_none (order_fault w.master order)) ≡ false =
       ap (λ b. is_server (server_of order) && b) (not_none (order_fault w.master order) is) ∙ and_false (is_server (server_of order)) in
-      row_by machine w Master (Ordered order) (event.Order order) (idle_effect (standing_in w Master)) w refl refl (sym (ap (λ b. if b then acts machine w (event.Order order) else w) none)) (idles w (Ordered order) Master)
+      row_by machine w Master (Ordered order) (event.Order order) (idle_effect (standing_in w Master)) w refl refl (sym (ap (λ b. if b then let_go (acts machine w (event.Order order)) else w) none)) (idles w (Ordered order) Master)
 
   -- every row, where its message has come
   happens_so : (p : Process) (act : Act) (took : Option (Stamped M)) (did : Effect M) → row_of machine p (standing_in w p) act took ≡ Some did

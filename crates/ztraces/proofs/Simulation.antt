@@ -2,7 +2,7 @@
 -- its own deeds left it, and on every link what was put there and not yet taken; and the message that the next event takes was
 -- put by an event with a smaller stamp, so by one that stands before it.
 use Rattle.std.proofs.Common.{◌≡◌, ◌<◌, ◌≤◌, ℕ, Bool, true, false, cond, ◌==◌, nat_lt, List, [], ◌∷◌, ◌++◌, Option, Some, None, drop, refl, sym, ap, ◌∙◌, subst, inl, inr, eqb-true, eq-eqb, arith, append_assoc}
-use Rattle.std.specs.Prelude.{◌+◌, ◌&&◌, ◌||◌, if◌then◌else◌}
+use Rattle.std.specs.Prelude.{◌&&◌, ◌||◌, if◌then◌else◌}
 use Rattle.std.proofs.lemmas.List.{append-nil}
 use Rattle.std.proofs.lemmas.List.Elements.{filter-append}
 use Rattle.std.proofs.lemmas.Bool.Decides.{nat_tests}
@@ -22,7 +22,7 @@ use Rattle.zworld_model.specs.Links.{is_same, messages_to, without_front}
 use Rattle.zworld_model.specs.World.{World, opening_world}
 use Rattle.zworld_model.specs.Does as given
 use Rattle.zworld_model.specs.Does.{Standing, AtMaster, AtServer, AtClient, Input, Hear, Obey, Stop, answer_told, server_effect, stop_effect, does}
-use Rattle.zworld_model.specs.Events.{run}
+use Rattle.zworld_model.specs.Events.{has_failed, run}
 use Rattle.ztraces.specs.declared.trace.Act.{Act}
 use Rattle.ztraces.specs.declared.trace.Act.TheVariants.{Took, Began, Retried, Ordered, Left, Halted}
 use Rattle.ztraces.specs.declared.trace.TraceEvent.{TraceEvent}
@@ -33,7 +33,7 @@ use Rattle.ztraces.specs.Lawful.{AccountFor}
 use Rattle.ztraces.proofs.Deeds.{rises, no_delivery, row_has, out_ends}
 use Rattle.ztraces.proofs.Flows.{Flows, flows_out, flows_put, flows_take, puts_from_front}
 use Rattle.zworld_model.proofs.Processes.{same_process, same_itself}
-use Rattle.ztraces.proofs.Effects.{fronts, Arrives, HappensIn}
+use Rattle.ztraces.proofs.Effects.{fronts, Arrives, HappensIn, out_of}
 use Rattle.ztraces.proofs.Rows.{row_happens}
 
 swapped : (c d : ℕ) → (d == c) ≡ (c == d)
@@ -151,6 +151,17 @@ module _ {M : Type 0} (machine : Does M) where
               (flow_put x p (fronts w.links act p x p) (takes x deeds) (own x))
         ]
 
+        -- into another process; one that has failed takes nothing more
+        elsewhere : (x y : Process) → is_same y p ≡ false → (failed : Bool) → has_failed w y ≡ failed
+            → Flows (after.links x y) (puts y (at_process p deeds rest x)) (takes x (rest y))
+        elsewhere x y n false alive =
+            subst (λ link. Flows link (puts y (at_process p deeds rest x)) (takes x (rest y))) (sym (did.others x y n alive))
+            (flow_put x y (w.links x y) (takes x (rest y)) (f.links x y))
+        elsewhere x y n true gone =
+            let none : rest y ≡ [] = out_ends machine y (last y) (rest y) (subst (λ s. GoesBy machine y s (last y) (rest y)) (out_of w y gone) (f.goes y)) in
+            subst (λ l. Flows (after.links x y) (puts y (at_process p deeds rest x)) (takes x l)) (sym none)
+            (flows_out (after.links x y) (puts y (at_process p deeds rest x)))
+
         links : (x y : Process) → Flows (after.links x y) (puts y (at_process p deeds rest x)) (takes x (at_process p deeds rest y))
         links x y = elim (test (is_same y p)) [
           | inl t ↦
@@ -159,9 +170,7 @@ module _ {M : Type 0} (machine : Does M) where
               (subst (λ z. Flows (after.links x z) (puts z (at_process p deeds rest x)) (takes x deeds)) (sym (same_process y p t)) (into x))
           | inr n ↦
               let awaited : at_process p deeds rest y ≡ rest y = ap (λ b. cond b deeds (rest y)) n in
-              subst (λ l. Flows (after.links x y) (puts y (at_process p deeds rest x)) (takes x l)) (sym awaited)
-              (subst (λ link. Flows link (puts y (at_process p deeds rest x)) (takes x (rest y))) (sym (did.others x y n))
-              (flow_put x y (w.links x y) (takes x (rest y)) (f.links x y)))
+              subst (λ l. Flows (after.links x y) (puts y (at_process p deeds rest x)) (takes x l)) (sym awaited) (elsewhere x y n (has_failed w y) refl)
         ]
 
   -- the next deed is in its place, and leads to a world that is followed by what is left

@@ -26,7 +26,7 @@ use Rattle.zworld_model.specs.declared.history.CallEvent.TheVariants as call_eve
 use Rattle.zworld_model.specs.Links.{Links, without_front}
 use Rattle.zworld_model.specs.World.{World, at, opening_world}
 use Rattle.zworld_model.specs.Does.{Hear, client_effect, server_effect, stop_effect}
-use Rattle.zworld_model.specs.Events.{is_enabled, did_in, does_in, front_step, acts, happens, run}
+use Rattle.zworld_model.specs.Events.{is_enabled, did_in, does_in, front_step, acts, let_go, happens, run}
 use Rattle.zworld_model.proofs.Effects.{by_choice}
 use Rattle.zworld_model.proofs.Tests.{both}
 use Rattle.zlinear.proofs.chain_lemmas.links.Links.{at_cases}
@@ -61,6 +61,9 @@ module _ {M : Type 0} (log : Log) (waiting : Option Call) where
   kept : (w : World M) (servers : ℕ → ServerView M) (failed : ℕ → Bool) (links : Links M) → TakesTurns w log waiting
       → TakesTurns (record w { servers = servers; failed = failed; links = links }) log waiting
   kept w servers failed links is = record { one = is.one; told = is.told; number = is.number; outstanding = is.outstanding; others = is.others }
+
+  lets_go : (w : World M) → TakesTurns w log waiting → TakesTurns (let_go w) log waiting
+  lets_go w is = kept w (let_go w).servers w.failed (let_go w).links is
 
   mastered : (w : World M) (view : MasterView) (links : Links M) → view.clients ≡ w.master.clients → TakesTurns w log waiting
       → TakesTurns (record w { master = view; links = links }) log waiting
@@ -162,8 +165,13 @@ module _ {M : Type 0} (machine : Does M) (log : Log) (waiting : Option Call) whe
   acts_go w (Fail s) none is = inl (kept log waiting w w.servers _ _ is)
   acts_go w (Order order) none is = inl (mastered log waiting w (order_step w.master order).0 _ (order_counts (Transfer M) w.master order) is)
 
+  -- what failed servers held is let go of
+  goes_without : (w : World M) → Goes w → Goes (let_go w)
+  goes_without w (inl is) = inl (lets_go log waiting w is)
+  goes_without w (inr did) = inr (did.0, did.1, did.2, lets_go (log ++ (did.0, did.1) ∷ []) None w did.3)
+
   happens_goes : (w : World M) (event : Event) → NoCall event → TakesTurns w log waiting → Goes (happens machine w event)
-  happens_goes w event none is = chosen Goes (is_enabled w event) (acts machine w event) w (acts_go w event none is) (inl is)
+  happens_goes w event none is = chosen Goes (is_enabled w event) (let_go (acts machine w event)) w (goes_without (acts machine w event) (acts_go w event none is)) (inl is)
 
 -- one more event at which no call begins
 pub goes_on : {M : Type 0} (machine : Does M) (log : Log) (waiting : Option Call) (w : World M) (event : Event) → NoCall event → GoesOn w log waiting
@@ -202,7 +210,9 @@ module _ {M : Type 0} (machine : Does M) (w : World M) (call : Call) where
       let low : c < 1 = ltb-true c 1 below in
       let first : c ≡ 0 = omega (arith, low) in
       let none : waiting ≡ None = nothing_waits log waiting (ap (λ d. (w.clients d).outstanding) (sym first) ∙ free (w.clients c) parts.1) is in
-      (first, none, rw enabled (subst (λ d. TakesTurns (acts machine w (Begin d call)) log (Some call)) (sym first) (begun_turns log waiting none is)))
+      let acted : TakesTurns (acts machine w (Begin c call)) log (Some call) =
+      subst (λ d. TakesTurns (acts machine w (Begin d call)) log (Some call)) (sym first) (begun_turns log waiting none is) in
+      (first, none, rw enabled (lets_go log (Some call) (acts machine w (Begin c call)) acted))
 
 -- an event at which a call begins, or none does
 kind : (event : Event) → ((c : ℕ) × (call : Call) × (event ≡ Begin c call)) ⊎ NoCall event
@@ -247,9 +257,11 @@ IsOrder (Fail s) = Unit {0}
 IsOrder (Order order) = Unit {0}
 IsOrder event = ⊥
 
--- a fact of what happens, by what an enabled event does
-of_event : {M : Type 0} (machine : Does M) (P : World M → Type 0) (w : World M) (event : Event) → P (acts machine w event) → P w → P (happens machine w event)
-of_event machine P w event acted idle = chosen P (is_enabled w event) (acts machine w event) w acted idle
+-- turns are taken after an event, by what it does where it is enabled
+of_event : {M : Type 0} (machine : Does M) (w : World M) (log : Log) (waiting : Option Call) (event : Event) → TakesTurns (acts machine w event) log waiting
+    → TakesTurns w log waiting → TakesTurns (happens machine w event) log waiting
+of_event machine w log waiting event acted idle =
+    chosen (λ u. TakesTurns u log waiting) (is_enabled w event) (let_go (acts machine w event)) w (lets_go log waiting (acts machine w event) acted) idle
 
 -- leave the log as it is
 pub order_keeps : {M : Type 0} (machine : Does M) (w : World M) (log : Log) (waiting : Option Call) (event : Event) → IsOrder event → TakesTurns w log waiting
@@ -258,9 +270,9 @@ order_keeps machine w log waiting (Begin c call) order is = absurd order
 order_keeps machine w log waiting (Retry c) order is = absurd order
 order_keeps machine w log waiting (Take from to) order is = absurd order
 order_keeps machine w log waiting (Ignore from to) order is = absurd order
-order_keeps machine w log waiting (Fail s) order is = of_event machine (λ u. TakesTurns u log waiting) w (Fail s) (kept log waiting w w.servers _ _ is) is
+order_keeps machine w log waiting (Fail s) order is = of_event machine w log waiting (Fail s) (kept log waiting w w.servers _ _ is) is
 order_keeps {M} machine w log waiting (Order asked) order is =
-    of_event machine (λ u. TakesTurns u log waiting) w (Order asked)
+    of_event machine w log waiting (Order asked)
     (mastered log waiting w (order_step w.master asked).0 _ (order_counts (Transfer M) w.master asked) is) is
 
 -- a client that waits for nothing and can't begin has no number left

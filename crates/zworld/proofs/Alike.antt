@@ -8,7 +8,7 @@ use Rattle.zcalls.proofs.Among.{test}
 use Rattle.zprotocol.specs.declared.process.Process.{Process}
 use Rattle.zworld_model.specs.World.{World, at}
 use Rattle.zworld_model.specs.Events.{has_failed}
-use Rattle.zworld_model.specs.Alike.{IsAlike}
+use Rattle.zworld_model.specs.support.Alike.{IsAlike}
 use Rattle.zworld.specs.Held.{MemberView, member_at, bystander}
 
 -- worlds are alike that agree field by field

@@ -18,10 +18,10 @@ use Rattle.zworld_model.specs.History.{History}
 use Rattle.zworld_model.specs.Does.{AtClient, begin_effect}
 use Rattle.zworld_model.specs.Events.{did_in, is_enabled}
 use Rattle.zworld_model.proofs.Effects.{goes_on_is}
-use Rattle.zworld_model.specs.Alike.{IsAlike}
+use Rattle.zworld_model.specs.support.Alike.{IsAlike}
 use Rattle.zworld.specs.declared.did.Did.TheVariants as became
 use Rattle.zworld.specs.declared.did.IdleCause.TheVariants as cause
-use Rattle.zworld.specs.Held.{Held, HeldChannels, MemberView, nobody, world_of}
+use Rattle.zworld.specs.Held.{Held, HeldChannels, MemberView, nobody, kept_world}
 use Rattle.zworld.specs.support.Stepped.{HasStepped}
 use Rattle.zworld.specs.support.Posting.{IsPosted}
 use Rattle.zworld.proofs.Alike.{alike_by, family_set}
@@ -35,11 +35,11 @@ with_client held c view channels = record held { clients = set held.clients c vi
 -- a client's new view, and what it puts; the history goes on
 pub client_alike : (held : Held) (c : ℕ) (view : ClientView) (posts : List (Post (KeptState Tree))) (channels : HeldChannels) (history told : History)
     → c < length held.clients → IsPosted held.members held.links (Client c) posts channels
-    → IsAlike (did_in (world_of held history) (Client c) (record { left = AtClient view; posts = posts; told = told }))
-    (world_of (with_client held c view channels) (history ++ told))
+    → IsAlike (did_in (kept_world held history) (Client c) (record { left = AtClient view; posts = posts; told = told }))
+    (kept_world (with_client held c view channels) (history ++ told))
 client_alike held c view posts channels history told inside done =
-    alike_by (did_in (world_of held history) (Client c) (record { left = AtClient view; posts = posts; told = told }))
-    (world_of (with_client held c view channels) (history ++ told)) refl (sym (goes_on_is history told))
+    alike_by (did_in (kept_world held history) (Client c) (record { left = AtClient view; posts = posts; told = told }))
+    (kept_world (with_client held c view channels) (history ++ told)) refl (sym (goes_on_is history told))
     (λ d. family_set held.clients c view nobody inside d) (λ s. refl) (λ s alive. refl)
     (λ from to alive. posted held.members held.links channels (Client c) posts (client_words held.members c) done from to (sym (lost_is held history to) ∙ alive))
 
@@ -55,10 +55,10 @@ begun held c call number view posts channels one free inside is puts counted don
     let did : ClientView × List (Post (KeptState Tree)) = begin_step (get_or held.clients c nobody) call in
     done_stepped held (with_client held c view channels) (event.Begin c call) (call_event.Begin c number call ∷ []) (rw (one, free) refl)
     (λ history.
-    subst (λ (n : ℕ). IsAlike (did_in (world_of held history) (Client c) (begin_effect c call did))
-    (world_of (with_client held c view channels) (history ++ call_event.Begin c n call ∷ []))) (sym (counted ∙ ap (λ (v : ClientView). v.number) is))
-    (subst (λ (v : ClientView). IsAlike (did_in (world_of held history) (Client c) (begin_effect c call did))
-    (world_of (with_client held c v channels) (history ++ call_event.Begin c did.0.number call ∷ []))) (sym is)
+    subst (λ (n : ℕ). IsAlike (did_in (kept_world held history) (Client c) (begin_effect c call did))
+    (kept_world (with_client held c view channels) (history ++ call_event.Begin c n call ∷ []))) (sym (counted ∙ ap (λ (v : ClientView). v.number) is))
+    (subst (λ (v : ClientView). IsAlike (did_in (kept_world held history) (Client c) (begin_effect c call did))
+    (kept_world (with_client held c v channels) (history ++ call_event.Begin c did.0.number call ∷ []))) (sym is)
     (client_alike held c did.0 did.1 channels history (call_event.Begin c did.0.number call ∷ []) inside
     (subst (λ (ps : List (Post (KeptState Tree))). IsPosted held.members held.links (Client c) ps channels) puts done))))
 
@@ -85,8 +85,8 @@ pub retried : (held : Held) (c : ℕ) (posts : List (Post (KeptState Tree))) (ch
 retried held c posts channels waits inside is done =
     done_stepped held (record held { links = channels }) (event.Retry c) [] waits
     (λ history. let view = get_or held.clients c nobody in
-    subst (λ (cs : List ClientView). IsAlike (did_in (world_of held history) (Client c) (record { left = AtClient view; posts = retry_posts view; told = [] }))
-    (world_of (record held { clients = cs; links = channels }) (history ++ [])))
+    subst (λ (cs : List ClientView). IsAlike (did_in (kept_world held history) (Client c) (record { left = AtClient view; posts = retry_posts view; told = [] }))
+    (kept_world (record held { clients = cs; links = channels }) (history ++ [])))
     (set-get_or held.clients c nobody)
     (client_alike held c view (retry_posts view) channels history [] inside
     (subst (λ (ps : List (Post (KeptState Tree))). IsPosted held.members held.links (Client c) ps channels) is done)))
@@ -105,10 +105,10 @@ core_at clients c place was at inside read =
 -- a call can begin, by what its client's core says
 pub begin_enabled : (old held : Held) (c place : ℕ) (call : Call) (was : ClientView)
     → held ≡ old → place ≡ c → place < length held.clients → was ≡ get_or held.clients place was → c < held.master.clients → begin_fault was ≡ None
-    → is_enabled (world_of old []) (event.Begin c call) ≡ true
+    → is_enabled (kept_world old []) (event.Begin c call) ≡ true
 begin_enabled old held c place call was same at inside read one free =
     let here = core_at held.clients c place was at inside read in
-    subst (λ (o : Held). is_enabled (world_of o []) (event.Begin c call) ≡ true) same
+    subst (λ (o : Held). is_enabled (kept_world o []) (event.Begin c call) ≡ true) same
     (ap (λ b. b && is_none (begin_fault (get_or held.clients c nobody))) (lt-ltb c held.master.clients one)
     ∙ ap (λ v. is_none (begin_fault v)) here ∙ ap is_none free)
 
@@ -165,9 +165,9 @@ retry_done old held c place was before after now channels number same at inside 
 pub retry_enabled : (old held : Held) (c place : ℕ) (was : ClientView) (number : Option ℕ)
     → held ≡ old → place ≡ c → place < length held.clients → was ≡ get_or held.clients place was
     → number ≡ option_map (λ waits. waits.0) was.outstanding → is_none number ≡ false
-    → is_enabled (world_of old []) (event.Retry c) ≡ true
+    → is_enabled (kept_world old []) (event.Retry c) ≡ true
 retry_enabled old held c place was number same at inside read asked some =
-    subst (λ (o : Held). is_enabled (world_of o []) (event.Retry c) ≡ true) same
+    subst (λ (o : Held). is_enabled (kept_world o []) (event.Retry c) ≡ true) same
     (ap (λ (v : ClientView). is_some v.outstanding) (core_at held.clients c place was at inside read) ∙ waits_by was.outstanding (ap is_none (sym asked) ∙ some))
 
 pub retry_idle : (old held : Held) (c place : ℕ) (was : ClientView) (number : Option ℕ)

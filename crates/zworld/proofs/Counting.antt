@@ -24,7 +24,7 @@ use Rattle.zworld_model.specs.Settle.{retry_events}
 use Rattle.zlinks.specs.Places.{links_of}
 use Rattle.zworld.specs.support.Counts.{passing, share}
 use Rattle.zworld.proofs.Counts.{passing-set, passing_at, fails_at}
-use Rattle.zworld.specs.Held.{MemberView, Held, bystander, is_gone, member_at, owes, last_words, nobody, world_of}
+use Rattle.zworld.specs.Held.{MemberView, Held, bystander, is_gone, member_at, owes, last_words, nobody, kept_world}
 use Rattle.zworld.specs.support.Members.{HasTaken, waits}
 use Rattle.zworld.specs.support.Posting.{is_lost}
 use Rattle.zworld.specs.support.Settling.{Point, Tries}
@@ -62,7 +62,7 @@ no_last_words members none (Server s) Master = rw (none_owes members none s) ref
 no_last_words members none from to = refl
 
 pub paid_link : (inside held : Held) (from to : Process) → inside ≡ held → passing owes inside.members ≡ 0 → links_of inside.links from to ≡ []
-    → (world_of held []).links from to ≡ []
+    → (kept_world held []).links from to ≡ []
 paid_link inside held from to same paid none =
     let empty : links_of held.links from to ≡ [] = ap (λ (h : Held). links_of h.links from to) (sym same) ∙ none in
     let words = no_last_words held.members (ap (λ (h : Held). passing owes h.members) (sym same) ∙ paid) from to in

@@ -20,37 +20,37 @@ use Rattle.zprotocol.specs.Places.{is_server}
 use Rattle.zworld_model.specs.Does.{Hear}
 use Rattle.zworld_model.specs.Events.{is_request, has_failed, is_enabled, happens, acts, front_step, does_in}
 use Rattle.zworld_model.specs.Reading.{is_fitting, read}
-use Rattle.zworld_model.specs.Alike.{IsAlike}
+use Rattle.zworld_model.specs.support.Alike.{IsAlike}
 use Rattle.zworld_model.proofs.Alike.{alike_itself, alike_through}
 use Rattle.zworld_model.proofs.Tests.{both}
 use Rattle.zworld.specs.declared.did.Did.TheVariants as became
 use Rattle.zworld.specs.declared.did.IdleCause.TheVariants as cause
-use Rattle.zworld.specs.Held.{Held, is_gone, member_at, world_of}
+use Rattle.zworld.specs.Held.{Held, is_gone, member_at, kept_world}
 use Rattle.zworld.specs.support.Stepped.{HasStepped}
 use Rattle.zworld.specs.support.Posting.{is_lost}
 use Rattle.zworld.specs.support.Fronts.{without, IsGiven}
 use Rattle.zworld.proofs.Alike.{alike_by}
 use Rattle.zworld.proofs.Posting.{lost_is}
-use Rattle.zworld.proofs.Steps.{idle_stepped, done_stepped, happens_so}
+use Rattle.zworld.proofs.Steps.{idle_stepped, done_stepped, happens_so, gone_too}
 
 -- a delivery with this front, to one that has not failed
 module _ (old : Held) (from to : Process) (front : MessageOf (KeptState Tree)) (rest : List (MessageOf (KeptState Tree)))
-    (there : (world_of old []).links from to ≡ front ∷ rest) (alive : is_lost old.members to ≡ false) where
-  not_failed : (history : History) → has_failed (world_of old history) to ≡ false
+    (there : (kept_world old []).links from to ≡ front ∷ rest) (alive : is_lost old.members to ≡ false) where
+  not_failed : (history : History) → has_failed (kept_world old history) to ≡ false
   not_failed history = lost_is old history to ∙ alive
 
   -- is enabled
-  pub delivery_enabled : is_enabled (world_of old []) (event.Take from to) ≡ true
+  pub delivery_enabled : is_enabled (kept_world old []) (event.Take from to) ≡ true
   delivery_enabled = rw (there, not_failed []) refl
 
   -- the taker acted
-  pub taken : (mid new : Held) (told : History) → ((history : History) → world_of mid history ≡ without (world_of old history) from to)
+  pub taken : (mid new : Held) (told : History) → ((history : History) → kept_world mid history ≡ without (kept_world old history) from to)
       → IsGiven mid from to front told new → HasStepped old new (event.Take from to) became.Done told
   taken mid new told popped given =
       done_stepped old new (event.Take from to) told delivery_enabled
       (λ history.
-      subst (λ link. IsAlike (front_step kept_tree (world_of old history) from to link) (world_of new (history ++ told))) (sym there)
-      (subst (λ w. IsAlike (does_in kept_tree w to (Hear from front)) (world_of new (history ++ told))) (popped history) (given history)))
+      subst (λ link. IsAlike (front_step kept_tree (kept_world old history) from to link) (kept_world new (history ++ told))) (sym there)
+      (subst (λ w. IsAlike (does_in kept_tree w to (Hear from front)) (kept_world new (history ++ told))) (popped history) (given history)))
 
 -- what is enabled isn't idle
 not_idle : (b : Bool) → b ≡ true → false ≡ not b
@@ -75,15 +75,15 @@ query_is_request message.Gone is = absurd (true≢false (sym is))
 query_is_request (message.Config epoch head tail) is = absurd (true≢false (sym is))
 
 module _ (old : Held) (from : Process) (s : ℕ) (front : MessageOf (KeptState Tree)) (rest : List (MessageOf (KeptState Tree)))
-    (there : (world_of old []).links from (Server s) ≡ front ∷ rest) (alive : is_gone (member_at old.members s) ≡ false) where
-  enabled : is_enabled (world_of old []) (event.Take from (Server s)) ≡ true
+    (there : (kept_world old []).links from (Server s) ≡ front ∷ rest) (alive : is_gone (member_at old.members s) ≡ false) where
+  enabled : is_enabled (kept_world old []) (event.Take from (Server s)) ≡ true
   enabled = delivery_enabled old from (Server s) front rest there alive
 
   -- the server didn't hear the query
-  pub unheard : (mid : Held) → ((history : History) → world_of mid history ≡ without (world_of old history) from (Server s))
-      → may_be_unheard kept_tree ((world_of old []).servers s) from front ≡ true → HasStepped old mid (event.Take from (Server s)) became.Unheard []
+  pub unheard : (mid : Held) → ((history : History) → kept_world mid history ≡ without (kept_world old history) from (Server s))
+      → may_be_unheard kept_tree ((kept_world old []).servers s) from front ≡ true → HasStepped old mid (event.Take from (Server s)) became.Unheard []
   unheard mid popped wants =
-      let w = world_of old [] in
+      let w = kept_world old [] in
       let fits : is_fitting kept_tree w (event.Take from (Server s)) outcome.Unheard ≡ true = rw (enabled, there) wants in
       let reads : read kept_tree w (event.Take from (Server s)) outcome.Unheard ≡ event.Ignore from (Server s) =
       ap (λ b. if b then event.Ignore from (Server s) else event.Take from (Server s)) fits in
@@ -95,10 +95,10 @@ module _ (old : Held) (from : Process) (s : ℕ) (front : MessageOf (KeptState T
         caused = λ why is. let never : ⊥ = cc in absurd never;
         fits = fits;
         leads = λ history.
-            subst (λ e. IsAlike (happens kept_tree (world_of old history) e) (world_of mid (history ++ []))) (sym reads)
-            (subst (λ v. IsAlike v (world_of mid (history ++ []))) (sym (happens_so (world_of old history) (event.Ignore from (Server s)) request))
-            (subst (λ v. IsAlike v (world_of mid (history ++ []))) (popped history)
-            (subst (λ (h : History). IsAlike (world_of mid history) (world_of mid h)) (sym (append-nil history)) (alike_itself (world_of mid history)))));
+            subst (λ e. IsAlike (happens kept_tree (kept_world old history) e) (kept_world mid (history ++ []))) (sym reads)
+            (subst (λ v. IsAlike v (kept_world mid (history ++ []))) (sym (happens_so (kept_world old history) (event.Ignore from (Server s)) request))
+            (gone_too _ _ (subst (λ v. IsAlike v (kept_world mid (history ++ []))) (popped history)
+            (subst (λ (h : History). IsAlike (kept_world mid history) (kept_world mid h)) (sym (append-nil history)) (alike_itself (kept_world mid history))))));
       }
 
   -- the front that goes with the server makes no difference
@@ -128,11 +128,11 @@ module _ (old : Held) (from : Process) (s : ℕ) (front : MessageOf (KeptState T
           ap (λ link. if is_same p (Server s) then link ++ messages_to q ((Master, message.Gone) ∷ []) else link) (sym same)
 
   -- the server stopped at it
-  pub stopped : (mid new : Held) → is_server s ≡ true → ((history : History) → world_of mid history ≡ without (world_of old history) from (Server s))
-      → may_stop kept_tree ((world_of old []).servers s) from front ≡ true → ((history : History) → IsAlike (acts kept_tree (world_of mid history) (event.Fail s)) (world_of new history))
+  pub stopped : (mid new : Held) → is_server s ≡ true → ((history : History) → kept_world mid history ≡ without (kept_world old history) from (Server s))
+      → may_stop kept_tree ((kept_world old []).servers s) from front ≡ true → ((history : History) → IsAlike (acts kept_tree (kept_world mid history) (event.Fail s)) (kept_world new history))
       → HasStepped old new (event.Take from (Server s)) became.Stopped []
   stopped mid new one popped wants given =
-      let w = world_of old [] in
+      let w = kept_world old [] in
       let fits : is_fitting kept_tree w (event.Take from (Server s)) outcome.Stopped ≡ true = rw (enabled, there) wants in
       let reads : read kept_tree w (event.Take from (Server s)) outcome.Stopped ≡ event.Fail s =
       ap (λ b. if b then event.Fail s else event.Take from (Server s)) fits in
@@ -143,16 +143,16 @@ module _ (old : Held) (from : Process) (s : ℕ) (front : MessageOf (KeptState T
         caused = λ why is. let never : ⊥ = cc in absurd never;
         fits = fits;
         leads = λ history.
-            subst (λ e. IsAlike (happens kept_tree (world_of old history) e) (world_of new (history ++ []))) (sym reads)
-            (subst (λ v. IsAlike v (world_of new (history ++ []))) (sym (happens_so (world_of old history) (event.Fail s) fails))
-            (alike_through (acts kept_tree (world_of old history) (event.Fail s)) (acts kept_tree (without (world_of old history) from (Server s)) (event.Fail s)) (world_of new (history ++ []))
-            (lost_front (world_of old history))
-            (subst (λ v. IsAlike (acts kept_tree v (event.Fail s)) (world_of new (history ++ []))) (popped history)
-            (subst (λ (h : History). IsAlike (acts kept_tree (world_of mid history) (event.Fail s)) (world_of new h)) (sym (append-nil history)) (given history)))));
+            subst (λ e. IsAlike (happens kept_tree (kept_world old history) e) (kept_world new (history ++ []))) (sym reads)
+            (subst (λ v. IsAlike v (kept_world new (history ++ []))) (sym (happens_so (kept_world old history) (event.Fail s) fails))
+            (gone_too _ _ (alike_through (acts kept_tree (kept_world old history) (event.Fail s)) (acts kept_tree (without (kept_world old history) from (Server s)) (event.Fail s)) (kept_world new (history ++ []))
+            (lost_front (kept_world old history))
+            (subst (λ v. IsAlike (acts kept_tree v (event.Fail s)) (kept_world new (history ++ []))) (popped history)
+            (subst (λ (h : History). IsAlike (acts kept_tree (kept_world mid history) (event.Fail s)) (kept_world new h)) (sym (append-nil history)) (given history))))));
       }
 
 -- nothing can be taken
-pub not_taken : (held : Held) (from to : Process) → (world_of held []).links from to ≡ [] → HasStepped held held (event.Take from to) (became.Idle cause.Nothing) []
+pub not_taken : (held : Held) (from to : Process) → (kept_world held []).links from to ≡ [] → HasStepped held held (event.Take from to) (became.Idle cause.Nothing) []
 not_taken held from to none = idle_stepped held (event.Take from to) cause.Nothing (rw none refl) refl
 
 pub not_taken_lost : (held : Held) (from to : Process) → is_lost held.members to ≡ true → HasStepped held held (event.Take from to) (became.Idle cause.Nothing) []

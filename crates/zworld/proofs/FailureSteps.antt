@@ -25,10 +25,10 @@ use Rattle.zworld_model.specs.World.{at}
 use Rattle.zprotocol.specs.Places.{is_server}
 use Rattle.zworld_model.specs.Does.{master_effect}
 use Rattle.zworld_model.specs.Events.{has_failed, did_in, acts}
-use Rattle.zworld_model.specs.Alike.{IsAlike}
+use Rattle.zworld_model.specs.support.Alike.{IsAlike}
 use Rattle.zworld.specs.declared.did.Did.TheVariants as became
 use Rattle.zworld.specs.declared.did.IdleCause.TheVariants as cause
-use Rattle.zworld.specs.Held.{Held, HeldChannels, MemberView, bystander, gone_member, is_gone, owes, view_of, member_at, world_of}
+use Rattle.zworld.specs.Held.{Held, HeldChannels, MemberView, bystander, gone_member, is_gone, owes, view_of, member_at, kept_world}
 use Rattle.zworld.specs.support.Stepped.{HasStepped}
 use Rattle.zworld.specs.support.Posting.{IsPosted, is_lost}
 use Rattle.zserver.specs.Server.{TreeView}
@@ -39,9 +39,9 @@ use Rattle.zworld.proofs.Steps.{idle_stepped, done_stepped}
 -- the master's new view, and what it puts
 pub master_alike : (held : Held) (did : MasterView × List (Post (KeptState Tree))) (channels : HeldChannels) (history : History)
     → IsPosted held.members held.links Master did.1 channels
-    → IsAlike (did_in (world_of held history) Master (master_effect did)) (world_of (record held { master = did.0; links = channels }) history)
+    → IsAlike (did_in (kept_world held history) Master (master_effect did)) (kept_world (record held { master = did.0; links = channels }) history)
 master_alike held did channels history done =
-    alike_by (did_in (world_of held history) Master (master_effect did)) (world_of (record held { master = did.0; links = channels }) history) refl refl
+    alike_by (did_in (kept_world held history) Master (master_effect did)) (kept_world (record held { master = did.0; links = channels }) history) refl refl
     (λ c. refl) (λ s. refl) (λ s alive. refl)
     (λ from to alive. posted held.members held.links channels Master did.1 (master_words held.members) done from to (sym (lost_is held history to) ∙ alive))
 
@@ -59,8 +59,8 @@ obeyed held order view posts channels one free is puts done =
     let did : MasterView × List (Post (KeptState Tree)) = order_step held.master order in
     done_stepped held (record held { master = view; links = channels }) (event.Order order) [] (rw (one, free) refl)
     (λ history.
-    subst (λ (h : History). IsAlike (did_in (world_of held history) Master (master_effect did)) (world_of (record held { master = view; links = channels }) h)) (sym (append-nil history))
-    (subst (λ (v : MasterView). IsAlike (did_in (world_of held history) Master (master_effect did)) (world_of (record held { master = v; links = channels }) history)) (sym is)
+    subst (λ (h : History). IsAlike (did_in (kept_world held history) Master (master_effect did)) (kept_world (record held { master = view; links = channels }) h)) (sym (append-nil history))
+    (subst (λ (v : MasterView). IsAlike (did_in (kept_world held history) Master (master_effect did)) (kept_world (record held { master = v; links = channels }) history)) (sym is)
     (master_alike held did channels history (subst (λ (ps : List (Post (KeptState Tree))). IsPosted held.members held.links Master ps channels) puts done))))
 
 -- or is refused
@@ -156,21 +156,21 @@ module _ (held : Held) (s place : ℕ) (channels : HeldChannels) (is : s ≡ pla
     | inr other ↦ ap view_of (sym (member_set held.members s place gone_member is inside t ∙ ap (λ b. if b then gone_member else member_at held.members t) other))
   ]
 
-  lost_then : (history : History) (to : Process) → has_failed (acts kept_tree (world_of held history) (event.Fail s)) to ≡ is_lost new_members to
+  lost_then : (history : History) (to : Process) → has_failed (acts kept_tree (kept_world held history) (event.Fail s)) to ≡ is_lost new_members to
   lost_then history Master = refl
   lost_then history (Server t) = sym (failed_then t)
   lost_then history (Client c) = refl
 
   -- a server fails
-  pub failed_alike : (history : History) → IsAlike (acts kept_tree (world_of held history) (event.Fail s)) (world_of (with_gone held place channels) history)
+  pub failed_alike : (history : History) → IsAlike (acts kept_tree (kept_world held history) (event.Fail s)) (kept_world (with_gone held place channels) history)
   failed_alike history =
-      alike_by (acts kept_tree (world_of held history) (event.Fail s)) (world_of (with_gone held place channels) history) refl refl
+      alike_by (acts kept_tree (kept_world held history) (event.Fail s)) (kept_world (with_gone held place channels) history) refl refl
       (λ c. refl) failed_then views_then (λ from to alive. links_then from to (sym (lost_then history to) ∙ alive))
 
   pub failed : is_server s ≡ true → HasStepped held (with_gone held place channels) (event.Fail s) became.Done []
   failed one =
       done_stepped held (with_gone held place channels) (event.Fail s) [] (rw (one, lives) refl)
-      (λ history. subst (λ (h : History). IsAlike (acts kept_tree (world_of held history) (event.Fail s)) (world_of (with_gone held place channels) h)) (sym (append-nil history))
+      (λ history. subst (λ (h : History). IsAlike (acts kept_tree (kept_world held history) (event.Fail s)) (kept_world (with_gone held place channels) h)) (sym (append-nil history))
       (failed_alike history))
 
 -- one that has failed doesn't fail again

@@ -14,11 +14,11 @@ use Rattle.zworld_model.specs.declared.event.Event.TheVariants as event
 use Rattle.zworld_model.specs.History.{History}
 use Rattle.zworld_model.specs.Links.{without_front}
 use Rattle.zworld_model.specs.Events.{front_is, is_request}
-use Rattle.zworld_model.specs.Alike.{IsAlike}
+use Rattle.zworld_model.specs.support.Alike.{IsAlike}
 use Rattle.zworld_model.proofs.Alike.{alike_itself}
 use Rattle.zworld.specs.declared.did.Did.TheVariants as became
 use Rattle.zlinks.specs.Places.{links_of, with_link}
-use Rattle.zworld.specs.Held.{Held, HeldChannels, MemberView, nobody, owes, member_at, last_words, world_of}
+use Rattle.zworld.specs.Held.{Held, HeldChannels, MemberView, nobody, owes, member_at, last_words, kept_world}
 use Rattle.zworld.specs.support.Stepped.{HasStepped}
 use Rattle.zworld.specs.support.Posting.{is_lost}
 use Rattle.zworld.specs.support.Fronts.{without, HasPopped}
@@ -40,14 +40,14 @@ popped_some old held channels from to m same some rest =
     )
 
 -- a request is ignored
-pub ignored : (held mid : Held) (from to : Process) → front_is is_request ((world_of held []).links from to) ≡ true → is_lost held.members to ≡ false
-    → ((history : History) → world_of mid history ≡ without (world_of held history) from to)
+pub ignored : (held mid : Held) (from to : Process) → front_is is_request ((kept_world held []).links from to) ≡ true → is_lost held.members to ≡ false
+    → ((history : History) → kept_world mid history ≡ without (kept_world held history) from to)
     → HasStepped held mid (event.Ignore from to) became.Done []
 ignored held mid from to request alive popped =
     done_stepped held mid (event.Ignore from to) [] (rw (request, lost_is held [] to ∙ alive) refl)
     (λ history.
-    subst (λ (h : History). IsAlike (without (world_of held history) from to) (world_of mid h)) (sym (append-nil history))
-    (subst (λ w. IsAlike w (world_of mid history)) (popped history) (alike_itself (world_of mid history))))
+    subst (λ (h : History). IsAlike (without (kept_world held history) from to) (kept_world mid h)) (sym (append-nil history))
+    (subst (λ w. IsAlike w (kept_world mid history)) (popped history) (alike_itself (kept_world mid history))))
 
 -- the master hears that a server has failed
 module _ (held : Held) (s place : ℕ) (was member : MemberView) (is : s ≡ place + 1) (inside : place < length held.members) (read : was ≡ get_or held.members place was)
@@ -97,7 +97,7 @@ module _ (held : Held) (s place : ℕ) (was member : MemberView) (is : s ≡ pla
         rw (other, same) refl
   ]
 
-  told_world : (history : History) → world_of (record held { members = told_members }) history ≡ without (world_of held history) (Server s) Master
+  told_world : (history : History) → kept_world (record held { members = told_members }) history ≡ without (kept_world held history) (Server s) Master
   told_world history = λ i. record {
     servers = λ t. elim (told_views t i) [ None ↦ spare | Some view ↦ view ];
     clients = λ c. get_or held.clients c nobody;
@@ -107,7 +107,7 @@ module _ (held : Held) (s place : ℕ) (was member : MemberView) (is : s ≡ pla
     history = history;
   }
 
-  told_front : (world_of held []).links (Server s) Master ≡ message.Gone ∷ []
+  told_front : (kept_world held []).links (Server s) Master ≡ message.Gone ∷ []
   told_front = rw (empty, ap owes here_was ∙ owed) refl
 
   pub told_popped : (old : Held) (channels : HeldChannels) → held ≡ old → channels ≡ held.links → HasPopped old (Server s) Master (Some message.Gone) (record held { members = told_members; links = channels })
@@ -136,12 +136,12 @@ request_front (m ∷ queue) words none request = (m, refl)
 
 -- a request is ignored
 pub request_ignored : (old held : Held) (channels : HeldChannels) (from to : Process) (asked : Bool) → held ≡ old
-    → asked ≡ front_is is_request ((world_of old []).links from to) → asked ≡ true → is_lost old.members to ≡ false
+    → asked ≡ front_is is_request ((kept_world old []).links from to) → asked ≡ true → is_lost old.members to ≡ false
     → ((p q : Process) → links_of channels p q ≡ with_link (links_of held.links) from to (drop 1 (links_of held.links from to)) p q)
     → HasStepped old (record held { links = channels }) (event.Ignore from to) became.Done []
 request_ignored old held channels from to asked same is so alive rest =
-    let request : front_is is_request ((world_of held []).links from to) ≡ true =
-    ap (λ (h : Held). front_is is_request ((world_of h []).links from to)) same ∙ sym is ∙ so in
+    let request : front_is is_request ((kept_world held []).links from to) ≡ true =
+    ap (λ (h : Held). front_is is_request ((kept_world h []).links from to)) same ∙ sym is ∙ so in
     let front = request_front (links_of held.links from to) (last_words held.members from to) (no_request held.members from to) request in
     subst (λ (o : Held). HasStepped o (record held { links = channels }) (event.Ignore from to) became.Done []) same
     (ignored held (record held { links = channels }) from to request (ap (λ (h : Held). is_lost h.members to) same ∙ alive)

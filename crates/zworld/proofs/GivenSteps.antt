@@ -22,16 +22,15 @@ use Rattle.zserver.specs.declared.stopped.Stopped.{Stopped}
 use Rattle.zserver.specs.declared.stopped.Stopped.TheVariants.{Memory, Retired}
 use Rattle.zserver.specs.declared.taken.Taken.{Taken}
 use Rattle.zserver.specs.declared.taken.Taken.TheVariants.{Acted, Unheard}
-use Rattle.zworld_model.specs.declared.history.CallEvent.TheVariants as call_event
 use Rattle.zworld_model.specs.History.{History}
 use Rattle.zworld_model.specs.Links.{is_same, messages_to}
 use Rattle.zworld_model.specs.World.{at}
 use Rattle.zprotocol.specs.Places.{is_server}
 use Rattle.zworld_model.specs.Does.{Hear, server_effect, stop_effect, answer_told}
 use Rattle.zworld_model.specs.Events.{has_failed, acts, did_in, does_in}
-use Rattle.zworld_model.specs.Alike.{IsAlike}
+use Rattle.zworld_model.specs.support.Alike.{IsAlike}
 use Rattle.zlinks.specs.Places.{links_of, without_receiver}
-use Rattle.zworld.specs.Held.{Held, HeldChannels, MemberView, bystander, gone_member, nobody, is_gone, owes, view_of, member_at, last_words, world_of}
+use Rattle.zworld.specs.Held.{Held, HeldChannels, MemberView, bystander, gone_member, nobody, is_gone, owes, view_of, member_at, last_words, kept_world}
 use Rattle.zworld.specs.support.Posting.{IsPosted, is_lost}
 use Rattle.zworld.specs.support.Fronts.{IsGiven, IsGivenToServer, did_of, answered_number, answers_of}
 use Rattle.zworld.specs.support.Members.{HasTaken}
@@ -47,8 +46,8 @@ pub given_to_master : (held : Held) (from : Process) (m : MessageOf (KeptState T
     → IsPosted held.members held.links Master (master_step held.master from m).1 channels
     → IsGiven held from Master m [] (record held { master = (master_step held.master from m).0; links = channels })
 given_to_master held from m channels done history =
-    subst (λ (h : History). IsAlike (does_in kept_tree (world_of held history) Master (Hear from m))
-    (world_of (record held { master = (master_step held.master from m).0; links = channels }) h)) (sym (append-nil history))
+    subst (λ (h : History). IsAlike (does_in kept_tree (kept_world held history) Master (Hear from m))
+    (kept_world (record held { master = (master_step held.master from m).0; links = channels }) h)) (sym (append-nil history))
     (master_alike held (master_step held.master from m) channels history done)
 
 -- a server acts on a message
@@ -99,7 +98,7 @@ module _ (held : Held) (from : Process) (s place : ℕ) (m : MessageOf (KeptStat
   view_is : view_of member ≡ (server_step kept_tree view from m).0
   view_is = ap (λ o. elim o [ None ↦ spare | Some v ↦ v ]) has
 
-  lost_same : (history : History) (to : Process) → has_failed (world_of held history) to ≡ is_lost members_then to
+  lost_same : (history : History) (to : Process) → has_failed (kept_world held history) to ≡ is_lost members_then to
   lost_same history Master = refl
   lost_same history (Server t) = sym (gone_then t)
   lost_same history (Client c) = refl
@@ -118,9 +117,9 @@ module _ (held : Held) (from : Process) (s place : ℕ) (m : MessageOf (KeptStat
   ]
 
   server_alike : (history : History)
-      → IsAlike (did_in (world_of held history) (Server s) (server_effect did)) (world_of (record held { members = members_then; links = channels }) history)
+      → IsAlike (did_in (kept_world held history) (Server s) (server_effect did)) (kept_world (record held { members = members_then; links = channels }) history)
   server_alike history =
-      alike_by (did_in (world_of held history) (Server s) (server_effect did)) (world_of (record held { members = members_then; links = channels }) history) refl refl
+      alike_by (did_in (kept_world held history) (Server s) (server_effect did)) (kept_world (record held { members = members_then; links = channels }) history) refl refl
       (λ c. refl) gone_then (λ t alive. views_then t)
       (λ p q alive.
       ap (λ words. if is_same p (Server s) then (links_of held.links p q ++ words) ++ messages_to q did.1 else links_of held.links p q ++ words) (same_words p q)
@@ -129,10 +128,10 @@ module _ (held : Held) (from : Process) (s place : ℕ) (m : MessageOf (KeptStat
   pub given_to_server : IsGiven held from (Server s) m [] (record held { members = members_then; links = channels })
   given_to_server history =
       let new : Held = record held { members = members_then; links = channels } in
-      subst (λ (h : History). IsAlike (does_in kept_tree (world_of held history) (Server s) (Hear from m)) (world_of new h)) (sym (append-nil history))
-      (subst (λ b. IsAlike (did_in (world_of held history) (Server s) (if b then stop_effect else server_effect (server_step kept_tree (view_of (member_at held.members s)) from m)))
-      (world_of new history)) (sym serves)
-      (subst (λ (v : TreeView). IsAlike (did_in (world_of held history) (Server s) (server_effect (server_step kept_tree v from m))) (world_of new history)) (sym view_was)
+      subst (λ (h : History). IsAlike (does_in kept_tree (kept_world held history) (Server s) (Hear from m)) (kept_world new h)) (sym (append-nil history))
+      (subst (λ b. IsAlike (did_in (kept_world held history) (Server s) (if b then stop_effect else server_effect (server_step kept_tree (view_of (member_at held.members s)) from m)))
+      (kept_world new history)) (sym serves)
+      (subst (λ (v : TreeView). IsAlike (did_in (kept_world held history) (Server s) (server_effect (server_step kept_tree v from m))) (kept_world new history)) (sym view_was)
       (server_alike history)))
 
 -- the reply that a client hands out is that of the message, with its number
@@ -164,8 +163,8 @@ pub given_to_client : (held : Held) (from : Process) (c : ℕ) (m : MessageOf (K
     → IsGiven held from (Client c) m seen (with_client held c view channels)
 given_to_client held from c m view channels seen inside is done told history =
     let did : ClientResult (Transfer (KeptState Tree)) = client_step (get_or held.clients c nobody) from m in
-    subst (λ (v : ClientView). IsAlike (does_in kept_tree (world_of held history) (Client c) (Hear from m)) (world_of (with_client held c v channels) (history ++ seen))) (sym is)
-    (subst (λ (given : History). IsAlike (does_in kept_tree (world_of held history) (Client c) (Hear from m)) (world_of (with_client held c did.0 channels) (history ++ given))) (sym told)
+    subst (λ (v : ClientView). IsAlike (does_in kept_tree (kept_world held history) (Client c) (Hear from m)) (kept_world (with_client held c v channels) (history ++ seen))) (sym is)
+    (subst (λ (given : History). IsAlike (does_in kept_tree (kept_world held history) (Client c) (Hear from m)) (kept_world (with_client held c did.0 channels) (history ++ given))) (sym told)
     (client_alike held c did.0 did.1 channels history (answer_told c did.2) inside done))
 
 -- the member at a place
@@ -210,7 +209,7 @@ acted_given old held from s place m was member before after now channels same is
 
 -- a test that a member's view passes is passed by the world's view of that server
 wants_there : (old held : Held) (s : ℕ) (view : TreeView) (test : TreeView → Bool) → held ≡ old → (member_at held.members s).view ≡ Some view
-    → test view ≡ true → test ((world_of old []).servers s) ≡ true
+    → test view ≡ true → test ((kept_world old []).servers s) ≡ true
 wants_there old held s view test same is passed =
     subst (λ (o : Held). test (view_of (member_at o.members s)) ≡ true) same
     (ap (λ o. test (elim o [ None ↦ spare | Some v ↦ v ])) is ∙ passed)
@@ -219,7 +218,7 @@ wants_there old held s view test same is passed =
 pub unheard_given : (old held : Held) (from : Process) (s place : ℕ) (m : MessageOf (KeptState Tree)) (was member : MemberView) (before after : List (Post (KeptState Tree)))
     → held ≡ old → s ≡ place + 1 → place < length held.members → was ≡ get_or held.members place was → is_lost old.members (Server s) ≡ false
     → ((view : TreeView) → was.view ≡ Some view → HasTaken was view from m (Ok Unheard) member before after)
-    → (record held { members = set held.members place member } ≡ old) × (may_be_unheard kept_tree ((world_of old []).servers s) from m ≡ true)
+    → (record held { members = set held.members place member } ≡ old) × (may_be_unheard kept_tree ((kept_world old []).servers s) from m ≡ true)
 unheard_given old held from s place m was member before after same is inside read alive took =
     let here = member_was held.members s place was is inside read in
     let lives : is_gone was ≡ false = ap is_gone (sym here) ∙ ap (λ (h : Held). is_gone (member_at h.members s)) same ∙ alive in
@@ -257,7 +256,7 @@ stopped_given : (old held : Held) (from : Process) (s place : ℕ) (m : MessageO
     → ((view : TreeView) → was.view ≡ Some view → HasTaken was view from m (Err Memory) member before after)
     → ((p q : Process) → links_of channels p q ≡ without_receiver (links_of held.links) (Server s) p q)
     → is_server s ≡ true
-    → (is_server s ≡ true) × (may_stop kept_tree ((world_of old []).servers s) from m ≡ true) × ((history : History) → IsAlike (acts kept_tree (world_of old history) (event.Fail s)) (world_of (record held { members = set held.members place member; links = channels }) history))
+    → (is_server s ≡ true) × (may_stop kept_tree ((kept_world old []).servers s) from m ≡ true) × ((history : History) → IsAlike (acts kept_tree (kept_world old history) (event.Fail s)) (kept_world (record held { members = set held.members place member; links = channels }) history))
 stopped_given old held from s place m was member before after channels same is inside read alive took cleared one =
     let here = member_was held.members s place was is inside read in
     let lives : is_gone was ≡ false = ap is_gone (sym here) ∙ ap (λ (h : Held). is_gone (member_at h.members s)) same ∙ alive in
@@ -266,8 +265,8 @@ stopped_given old held from s place m was member before after channels same is i
       one,
       wants_there old held s view.0 (λ v. may_stop kept_tree v from m) same (ap (λ (x : MemberView). x.view) here ∙ view.1) had.1,
       λ history.
-          subst (λ (o : Held). IsAlike (acts kept_tree (world_of o history) (event.Fail s)) (world_of (record held { members = set held.members place member; links = channels }) history)) same
-          (subst (λ (x : MemberView). IsAlike (acts kept_tree (world_of held history) (event.Fail s)) (world_of (record held { members = set held.members place x; links = channels }) history)) (sym had.0)
+          subst (λ (o : Held). IsAlike (acts kept_tree (kept_world o history) (event.Fail s)) (kept_world (record held { members = set held.members place member; links = channels }) history)) same
+          (subst (λ (x : MemberView). IsAlike (acts kept_tree (kept_world held history) (event.Fail s)) (kept_world (record held { members = set held.members place x; links = channels }) history)) (sym had.0)
           (failed_alike held s place channels is inside (ap is_gone here ∙ lives) cleared history)),
     )
 
@@ -283,11 +282,11 @@ left_given old held from s place m was member before after channels same is insi
     let view = has_view was lives in
     let had = took view.0 view.1 in
     let new : MemberView → Held = λ x. record held { members = set held.members place x; links = channels } in
-    subst (λ (h : History). IsAlike (does_in kept_tree (world_of old history) (Server s) (Hear from m)) (world_of (new member) h)) (sym (append-nil history))
-    (subst (λ (o : Held). IsAlike (does_in kept_tree (world_of o history) (Server s) (Hear from m)) (world_of (new member) history)) same
-    (subst (λ (x : MemberView). IsAlike (does_in kept_tree (world_of held history) (Server s) (Hear from m)) (world_of (new x) history)) (sym had.0)
-    (subst (λ b. IsAlike (did_in (world_of held history) (Server s) (if b then stop_effect else server_effect (server_step kept_tree (view_of (member_at held.members s)) from m)))
-    (world_of (new gone_member) history)) (sym had.1)
+    subst (λ (h : History). IsAlike (does_in kept_tree (kept_world old history) (Server s) (Hear from m)) (kept_world (new member) h)) (sym (append-nil history))
+    (subst (λ (o : Held). IsAlike (does_in kept_tree (kept_world o history) (Server s) (Hear from m)) (kept_world (new member) history)) same
+    (subst (λ (x : MemberView). IsAlike (does_in kept_tree (kept_world held history) (Server s) (Hear from m)) (kept_world (new x) history)) (sym had.0)
+    (subst (λ b. IsAlike (did_in (kept_world held history) (Server s) (if b then stop_effect else server_effect (server_step kept_tree (view_of (member_at held.members s)) from m)))
+    (kept_world (new gone_member) history)) (sym had.1)
     (failed_alike held s place channels is inside (ap is_gone here ∙ lives) cleared history))))
 
 -- a server that has stopped, for the one or the other

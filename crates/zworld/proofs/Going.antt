@@ -8,40 +8,57 @@ use Rattle.zcalls.specs.Kept.{KeptState}
 use Rattle.zprotocol.specs.server.Machine.{Does, kept_tree, kept_tree_from}
 use Rattle.zworld_model.specs.declared.event.Event.{Event}
 use Rattle.zworld_model.specs.declared.event.Event.TheVariants.{Begin, Retry, Take, Ignore, Fail, Order}
-use Rattle.zworld_model.specs.declared.outcome.Outcome.{Outcome}
 use Rattle.zworld_model.specs.declared.outcome.Outcome.TheVariants.{Acted}
 use Rattle.zworld_model.specs.History.{History}
 use Rattle.zworld_model.specs.World.{World, opening_world}
 use Rattle.zprotocol.specs.Places.{is_server}
-use Rattle.zworld_model.specs.Events.{is_enabled, happens, run}
-use Rattle.zworld_model.specs.Reading.{read, read_all}
-use Rattle.zworld_model.specs.Alike.{IsAlike}
+use Rattle.zworld_model.specs.Events.{is_enabled, let_go, happens, run}
+use Rattle.zworld_model.specs.Reading.{read}
+use Rattle.zworld_model.specs.support.Alike.{IsAlike}
 use Rattle.zworld_model.specs.PlainTree.{IsExplained}
 use Rattle.zworld_model.specs.FromTree.{CanStart, IsExplainedFrom, opening_world_from, world_after_from}
 use Rattle.zworld_model.proofs.FirstCallsFrom.{opening_can_start}
 use Rattle.zworld_model.proofs.Starts.{runs_forget_the_start}
-use Rattle.zworld_model.proofs.Alike.{stay_alike, alike_itself, alike_through, read_alike}
+use Rattle.zworld_model.proofs.Alike.{have_the_same_enabled, outcomes_alike, stay_alike, alike_back, alike_let_go, alike_through, read_alike}
+use Rattle.zworld_model.proofs.Keeping.{happened_lets_go, opening_let_go}
 use Rattle.zlinear.proofs.Headline.{every_history_from_is_explained}
 use Rattle.zworld.specs.declared.did.Did.{Did}
 use Rattle.zworld.specs.declared.did.Did.TheVariants as deed
-use Rattle.zworld.specs.Held.{Held, world_of}
+use Rattle.zworld.specs.Held.{Held, kept_world, world_of}
 use Rattle.zworld.specs.Did.{outcome_of, is_idle}
 use Rattle.zworld.specs.Steps.{WorldView, IsExplainedFromStart, HasHappened, HasRun, HasBegunToRun, can_want_memory}
 use Rattle.zworld.specs.support.Stepped.{HasStepped, GoesBy}
 use Rattle.zworld.specs.support.Past.{HasPast, LeadRead}
 use Rattle.zworld.proofs.Steps.{enabled_anyway, fitting_anyway, read_anyway, read_acted, happens_not}
 
+-- what leads to what is held leads to its world
+pub leads_on : (v : World (KeptState Tree)) (held : Held) (history : History) → let_go v ≡ v → IsAlike v (kept_world held history) → v ≡ world_of held history
+leads_on v held history gone alike = sym gone ∙ alike_let_go v (kept_world held history) alike
+
 -- an event of the processes is one of the world, from any history
 pub happened : (old new : Held) (before after : History) (event : Event) (did : Did) → GoesBy old new event before after did
     → HasHappened (world_of old before) event did (world_of new after)
 happened old new before after event did (told, is, stepped) =
-    let reads = sym (read_anyway old before event (outcome_of did)) in
+    let kept = kept_world old before in
+    let from : IsAlike (world_of old before) kept = alike_back kept in
+    let reads : read kept_tree (world_of old before) event (outcome_of did) ≡ read kept_tree (kept_world old []) event (outcome_of did) =
+    read_alike kept_tree (world_of old before) kept event (outcome_of did) from ∙ read_anyway old before event (outcome_of did) in
+    let next = happens kept_tree (world_of old before) (read kept_tree (kept_world old []) event (outcome_of did)) in
+    let alike : IsAlike next (kept_world new (before ++ told)) =
+    alike_through _ _ _ (stay_alike kept_tree (world_of old before) kept (read kept_tree (kept_world old []) event (outcome_of did) ∷ []) from) (stepped.leads before) in
     record {
-      idle = stepped.idle ∙ ap not (sym (enabled_anyway old before event));
-      fits = fitting_anyway old before event (outcome_of did) ∙ stepped.fits;
-      leads = subst (λ h. IsAlike (happens kept_tree (world_of old before) (read kept_tree (world_of old before) event (outcome_of did))) (world_of new h)) (sym is)
-          (subst (λ e. IsAlike (happens kept_tree (world_of old before) e) (world_of new (before ++ told))) reads (stepped.leads before));
+      idle = stepped.idle ∙ ap not (sym (have_the_same_enabled kept_tree (world_of old before) kept event from ∙ enabled_anyway old before event));
+      fits = outcomes_alike kept_tree (world_of old before) kept event (outcome_of did) from ∙ fitting_anyway old before event (outcome_of did) ∙ stepped.fits;
+      leads =
+          ap (happens kept_tree (world_of old before)) reads
+          ∙ leads_on next new (before ++ told) (happened_lets_go kept_tree kept (read kept_tree (kept_world old []) event (outcome_of did))) alike
+          ∙ ap (world_of new) (sym is);
     }
+
+-- what is enabled in the world is in what is held
+pub enabled_of : (held : Held) (history : History) (event : Event) → is_enabled (world_of held history) event ≡ is_enabled (kept_world held []) event
+enabled_of held history event =
+    have_the_same_enabled kept_tree (world_of held history) (kept_world held history) event (alike_back (kept_world held history)) ∙ enabled_anyway held history event
 
 -- it goes on behind any past
 pub behind : (past : History) (old new : Held) (before after : History) (event : Event) (did : Did) → GoesBy old new event before after did
@@ -59,21 +76,16 @@ pub after_both : (t : Tree) (servers clients : ℕ) (events more : List Event)
 after_both t servers clients events more =
     run_both (kept_tree_from t) (opening_world_from t servers clients) events more ∙ runs_forget_the_start t (world_after_from t servers clients events) more
 
--- worlds that are alike have one history
-pub same_history : (v w : World (KeptState Tree)) → IsAlike v w → w.history ≡ v.history
-same_history v w alike = ap (λ (x : World (KeptState Tree)). x.history) alike.rest
-
 -- where a run leads from the end of a past
 pub stands_later : (restored forgotten : Bool) (held next : Held) (history later : History) (events : List Event) (had : HasPast restored forgotten false held history)
-    → IsAlike (run kept_tree (world_of held (had.past ++ history)) events) (world_of next later)
-    → IsAlike (world_after_from had.tree had.servers had.clients (had.events ++ events)) (world_of next later)
+    → run kept_tree (world_of held (had.past ++ history)) events ≡ world_of next later
+    → world_after_from had.tree had.servers had.clients (had.events ++ events) ≡ world_of next later
 stands_later restored forgotten held next history later events had leads =
-    let first = stay_alike kept_tree _ _ events (had.stands refl) in
-    subst (λ w. IsAlike w (world_of next later)) (sym (after_both had.tree had.servers had.clients had.events events)) (alike_through _ _ _ first leads)
+    after_both had.tree had.servers had.clients had.events events ∙ ap (λ w. run kept_tree w events) (had.stands refl) ∙ leads
 
 -- the past goes on with it
 pub goes_on : (restored forgotten : Bool) (held next : Held) (history later : History) (events : List Event) (had : HasPast restored forgotten false held history)
-    → IsAlike (run kept_tree (world_of held (had.past ++ history)) events) (world_of next (had.past ++ later)) → HasPast restored forgotten false next later
+    → run kept_tree (world_of held (had.past ++ history)) events ≡ world_of next (had.past ++ later) → HasPast restored forgotten false next later
 goes_on restored forgotten held next history later events had leads =
     let stands = stands_later restored forgotten held next history (had.past ++ later) events had leads in
     record {
@@ -87,7 +99,7 @@ goes_on restored forgotten held next history later events had leads =
       past = had.past;
       opens = had.opens;
       whole = had.whole;
-      told = sym (same_history _ _ stands);
+      told = ap (λ (w : World (KeptState Tree)). w.history) stands;
       stands = λ _. stands;
     }
 
@@ -117,6 +129,11 @@ past_stays restored forgotten is_broken held next history later had same =
       stands = λ broken. absurd (true≢false broken);
     }
 
+-- an initial world holds nothing that is let go of
+pub opens_as : (machine : Does (KeptState Tree)) (held : Held) (servers clients : ℕ) → kept_world held [] ≡ opening_world machine servers clients
+    → world_of held [] ≡ opening_world machine servers clients
+opens_as machine held servers clients is = ap let_go is ∙ opening_let_go machine servers clients
+
 -- an initial world has a past without events, whatever tree it begins with
 pub past_begins_with : (t : Tree) → CanStart t → (restored forgotten : Bool) (held : Held) (history : History) (servers clients : ℕ)
     → (restored ≡ false → t ≡ opening_tree) → (forgotten ≡ false → restored ≡ false) → is_server servers ≡ true → history ≡ []
@@ -134,8 +151,7 @@ past_begins_with t can restored forgotten held history servers clients initial l
       opens = opens;
       whole = λ whole. refl;
       told = sym none;
-      stands = λ _. subst (λ h. IsAlike (opening_world_from t servers clients) (world_of held h)) (sym none)
-          (subst (IsAlike (opening_world_from t servers clients)) (sym opening) (alike_itself (opening_world_from t servers clients)));
+      stands = λ _. sym opening ∙ ap (world_of held) (sym none);
     }
 
 -- so has the world that begins with the initial tree
@@ -161,7 +177,7 @@ past_is_longer restored forgotten is_broken held history later had none =
       opens = had.opens;
       whole = λ whole. absurd (true≢false whole);
       told = had.told ∙ all;
-      stands = λ sound. subst (λ xs. IsAlike (world_after_from had.tree had.servers had.clients had.events) (world_of held xs)) all (had.stands sound);
+      stands = λ sound. had.stands sound ∙ ap (world_of held) all;
     }
 
 -- the past and the history are explained
@@ -185,46 +201,23 @@ whole_is_explained w had whole =
 -- one more event
 pub lead_more : (v u w : World (KeptState Tree)) (events : List Event) (event : Event) (did : Did) → LeadRead v events u → HasHappened u event did w
     → LeadRead v (events ++ event ∷ []) w
-lead_more v u w [] event did alike has =
-    let reads = sym (read_alike kept_tree v u event (outcome_of did) alike) in (
-      outcome_of did,
-      w,
-      alike_through _ _ _ (stay_alike kept_tree v u (read kept_tree v event (outcome_of did) ∷ []) alike)
-          (subst (λ e. IsAlike (happens kept_tree u e) w) reads has.leads),
-      alike_itself w,
-    )
-lead_more v u w (first ∷ events) event did (outcome, x, one, more) has = (outcome, x, one, lead_more x u w events event did more has)
-
--- worlds that are alike read events alike
-all_read_alike : (v w : World (KeptState Tree)) (events : List Event) (outcomes : List Outcome) → IsAlike v w
-    → read_all kept_tree v events outcomes ≡ read_all kept_tree w events outcomes
-all_read_alike v w [] outcomes alike = refl
-all_read_alike v w (event ∷ events) [] alike =
-    ap (λ es. event ∷ es) (all_read_alike (happens kept_tree v event) (happens kept_tree w event) events [] (stay_alike kept_tree v w (event ∷ []) alike))
-all_read_alike v w (event ∷ events) (outcome ∷ outcomes) alike =
-    let same = read_alike kept_tree v w event outcome alike in
-    ap (λ e. e ∷ read_all kept_tree (happens kept_tree v e) events outcomes) same
-    ∙ ap (λ es. read kept_tree w event outcome ∷ es)
-    (all_read_alike (happens kept_tree v (read kept_tree w event outcome)) (happens kept_tree w (read kept_tree w event outcome)) events outcomes (stay_alike kept_tree v w (read kept_tree w event outcome ∷ []) alike))
+lead_more v u w [] event did is has = (outcome_of did, subst (λ x. happens kept_tree x (read kept_tree x event (outcome_of did)) ≡ w) (sym is) has.leads)
+lead_more v u w (first ∷ events) event did (outcome, more) has =
+    (outcome, lead_more (happens kept_tree v (read kept_tree v first outcome)) u w events event did more has)
 
 -- events that lead to a world one after the other are read so
 pub has_run : (v w : World (KeptState Tree)) (events : List Event) → LeadRead v events w → HasRun v events w
-has_run v w [] alike = ([], ([], refl), alike)
-has_run v w (event ∷ events) (outcome, u, one, more) =
-    let rest = has_run u w events more in
-    let next = happens kept_tree v (read kept_tree v event outcome) in
-    let same = all_read_alike next u events rest.1.0 one ∙ rest.1.1 in (
-      read kept_tree v event outcome ∷ rest.0,
-      (outcome ∷ rest.1.0, ap (λ es. read kept_tree v event outcome ∷ es) same),
-      alike_through _ _ _ (stay_alike kept_tree next u rest.0 one) rest.2,
-    )
+has_run v w [] is = ([], ([], refl), is)
+has_run v w (event ∷ events) (outcome, more) =
+    let rest = has_run (happens kept_tree v (read kept_tree v event outcome)) w events more in
+    (read kept_tree v event outcome ∷ rest.0, (outcome ∷ rest.1.0, ap (λ es. read kept_tree v event outcome ∷ es) rest.1.1), rest.2)
 
 -- so are those of which some were done
 pub has_begun_to_run : (v w : World (KeptState Tree)) (events front back : List Event) (history : History) → LeadRead v front w → events ≡ front ++ back
     → history ≡ w.history → HasBegunToRun v events history
 has_begun_to_run v w events front back history leads cut same =
     let ran = has_run v w front leads in
-    (front, back, cut, ran.0, ran.1, sym (same_history _ _ ran.2) ∙ sym same)
+    (front, back, cut, ran.0, ran.1, ap (λ (x : World (KeptState Tree)). x.history) ran.2 ∙ sym same)
 
 -- the past after a call, where memory was refused or not
 pub past_after : {A : Type 0} (r : Result A Memory) (Goes : A → Type 0) (restored forgotten : Bool) (old new : Held) (before after : History)
@@ -248,12 +241,13 @@ acted_idle deed.Stopped idle = absurd (true≢false (sym idle))
 
 -- an event that isn't enabled tells nothing
 tells_nothing : (held next : Held) (event : Event) (became : Did) (told : History) → HasStepped held next event became told
-    → is_enabled (world_of held []) event ≡ false → told ≡ []
+    → is_enabled (kept_world held []) event ≡ false → told ≡ []
 tells_nothing held next event became told stepped off =
-    let w = world_of held [] in
+    let w = kept_world held [] in
     let acted = acted_idle became (stepped.idle ∙ ap not off) in
     let reads : read kept_tree w event (outcome_of became) ≡ event = ap (read kept_tree w event) acted ∙ read_acted w event in
-    same_history _ _ (stepped.leads []) ∙ ap (λ (x : World (KeptState Tree)). x.history) (ap (happens kept_tree w) reads ∙ happens_not w event off)
+    ap (λ (x : World (KeptState Tree)). x.history) (stepped.leads []).rest
+    ∙ ap (λ (x : World (KeptState Tree)). x.history) (ap (happens kept_tree w) reads ∙ happens_not w event off)
 
 -- an idle event leaves the processes and the history
 unchanged : (old new : Held) (before after : History) (event : Event) (became : Did) → GoesBy old new event before after became → is_idle became ≡ true
@@ -277,16 +271,16 @@ same_world (Ok did) old new before after event restored forgotten is_broken is g
 same_world (Err memory) old new before after event restored forgotten is_broken is goes = tt
 
 -- whether an event can want memory doesn't hang on the history
-pub can_anyway : (held : Held) (history : History) (event : Event) → can_want_memory (world_of held history) event ≡ can_want_memory (world_of held []) event
+pub can_anyway : (held : Held) (history : History) (event : Event) → can_want_memory (world_of held history) event ≡ can_want_memory (kept_world held []) event
 can_anyway held history (Fail s) = refl
 can_anyway held history (Ignore from to) = refl
-can_anyway held history (Begin c call) = enabled_anyway held history (Begin c call)
-can_anyway held history (Retry c) = enabled_anyway held history (Retry c)
-can_anyway held history (Take from to) = enabled_anyway held history (Take from to)
-can_anyway held history (Order order) = enabled_anyway held history (Order order)
+can_anyway held history (Begin c call) = enabled_of held history (Begin c call)
+can_anyway held history (Retry c) = enabled_of held history (Retry c)
+can_anyway held history (Take from to) = enabled_of held history (Take from to)
+can_anyway held history (Order order) = enabled_of held history (Order order)
 
 -- so nor does what is said of an event that was refused
 pub needed_anyway : (r : Result Did Memory) (held : Held) (history : History) (event : Event)
-    → OnErr r (can_want_memory (world_of held []) event ≡ true) → OnErr r (can_want_memory (world_of held history) event ≡ true)
+    → OnErr r (can_want_memory (kept_world held []) event ≡ true) → OnErr r (can_want_memory (world_of held history) event ≡ true)
 needed_anyway (Ok did) held history event needed = tt
 needed_anyway (Err memory) held history event needed = can_anyway held history event ∙ needed

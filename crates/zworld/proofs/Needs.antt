@@ -4,38 +4,34 @@ use Rattle.zworld.specs.declared.did.Did.TheVariants as became
 use Rattle.std.proofs.Common.{◌≡◌, ◌<◌, ◌-◌, ℕ, Bool, true, false, not, if◌then◌else◌, List, [], ◌∷◌, ◌++◌, inl, inr, refl, sym, ap, ◌∙◌, subst, true≢false}
 use Rattle.ztree.specs.Tree.{Tree}
 use Rattle.zcalls.specs.Kept.{KeptState}
-use Rattle.zprotocol.specs.server.Machine.{kept_tree}
 use Rattle.zworld_model.specs.declared.event.Event.{Event}
 use Rattle.zworld_model.specs.declared.event.Event.TheVariants.{Begin, Retry, Take, Ignore, Fail, Order}
 use Rattle.zworld_model.specs.History.{History}
 use Rattle.zworld_model.specs.World.{World}
-use Rattle.zworld_model.specs.Events.{is_enabled, run}
-use Rattle.zworld_model.specs.Alike.{IsAlike}
-use Rattle.zworld_model.proofs.Alike.{have_the_same_enabled}
+use Rattle.zworld_model.specs.Events.{is_enabled}
 use Rattle.zworld.specs.declared.did.Did.{Did}
-use Rattle.zworld.specs.Held.{Held, world_of}
+use Rattle.zworld.specs.Held.{Held, kept_world, world_of}
 use Rattle.zworld.specs.Did.{is_idle, is_short}
 use Rattle.zworld.specs.Steps.{HasRunOut, CanWantMemoryToSettle, can_want_memory, is_of_settling}
 use Rattle.zworld.specs.support.Past.{LeadRead}
 use Rattle.zworld.specs.support.Settling.{CanRunOut, StillOrCould}
 use Rattle.zworld.specs.support.Stepped.{HasStepped}
-use Rattle.zworld.proofs.Going.{has_run, same_history, can_anyway}
-
--- worlds that are alike can want memory at the same events
-can_alike : (v w : World (KeptState Tree)) (event : Event) → IsAlike v w → can_want_memory v event ≡ can_want_memory w event
-can_alike v w (Fail s) alike = refl
-can_alike v w (Ignore from to) alike = refl
-can_alike v w (Begin c call) alike = have_the_same_enabled kept_tree v w (Begin c call) alike
-can_alike v w (Retry c) alike = have_the_same_enabled kept_tree v w (Retry c) alike
-can_alike v w (Take from to) alike = have_the_same_enabled kept_tree v w (Take from to) alike
-can_alike v w (Order order) alike = have_the_same_enabled kept_tree v w (Order order) alike
+use Rattle.zworld.proofs.Going.{has_run, can_anyway}
 
 -- events of which some were done, and the next can want memory
 pub has_run_out : (v w : World (KeptState Tree)) (events front back : List Event) (event : Event) (history : History) → LeadRead v front w
     → events ≡ front ++ event ∷ back → history ≡ w.history → can_want_memory w event ≡ true → HasRunOut v events history
 has_run_out v w events front back event history leads cut same can =
-    let ran = has_run v w front leads in
-    (front, back, event, cut, ran.0, ran.1, sym (same_history _ _ ran.2) ∙ sym same, can_alike (run kept_tree v ran.0) w event ran.2 ∙ can)
+    let ran = has_run v w front leads in (
+      front,
+      back,
+      event,
+      cut,
+      ran.0,
+      ran.1,
+      ap (λ (x : World (KeptState Tree)). x.history) ran.2 ∙ sym same,
+      ap (λ x. can_want_memory x event) ran.2 ∙ can,
+    )
 
 -- an enabled event of settling can want memory
 enabled_can : (w : World (KeptState Tree)) (event : Event) → is_of_settling event ≡ true → is_enabled w event ≡ true → can_want_memory w event ≡ true
@@ -47,8 +43,8 @@ enabled_can w (Fail s) is on = absurd (true≢false (sym is))
 enabled_can w (Order order) is on = absurd (true≢false (sym is))
 
 -- so settling can run out of memory there
-pub can_run_out : (held : Held) (event : Event) (left : ℕ) → 0 < left → is_of_settling event ≡ true → is_enabled (world_of held []) event ≡ true → CanRunOut held left
-can_run_out held event left some is on = (some, event, is, enabled_can (world_of held []) event is on)
+pub can_run_out : (held : Held) (event : Event) (left : ℕ) → 0 < left → is_of_settling event ≡ true → is_enabled (kept_world held []) event ≡ true → CanRunOut held left
+can_run_out held event left some is on = (some, event, is, enabled_can (kept_world held []) event is on)
 
 -- where it can at the second point, it can at the first
 pub could_at_first : (old new : Held) (left more : ℕ) → StillOrCould old new left more → CanRunOut new more → CanRunOut old left
@@ -73,7 +69,7 @@ tried_or_could old new event did told left more stepped some is rest = by_idle (
     by_idle : (idle : Bool) → is_idle did ≡ idle → StillOrCould old new left more
     by_idle true idle = inl (stepped.same idle, rest ∙ ap (λ b. if b then left else left - 1) idle)
     by_idle false active =
-        inr (can_run_out old event left some is (not-false (is_enabled (world_of old []) event) (sym active ∙ stepped.idle)))
+        inr (can_run_out old event left some is (not-false (is_enabled (kept_world old []) event) (sym active ∙ stepped.idle)))
 
 -- what is said of it doesn't hang on the history
 pub can_run_out_anyway : (held : Held) (history : History) (left : ℕ) → CanRunOut held left → CanWantMemoryToSettle (world_of held history) left
@@ -81,8 +77,8 @@ can_run_out_anyway held history left (some, event, is, can) = (some, event, is, 
 
 -- an event at which a server ran out of memory, and none may, was enabled
 pub short_is_enabled : (old new : Held) (event : Event) (did : Did) (told : History) (strict : Bool) → HasStepped old new event did told → (strict && is_short did) ≡ true
-    → is_enabled (world_of old []) event ≡ true
-short_is_enabled old new event did told strict stepped short = not_idle (is_enabled (world_of old []) event) (sym (active did (second strict short)) ∙ stepped.idle)
+    → is_enabled (kept_world old []) event ≡ true
+short_is_enabled old new event did told strict stepped short = not_idle (is_enabled (kept_world old []) event) (sym (active did (second strict short)) ∙ stepped.idle)
   where
     second : (strict : Bool) → (strict && is_short did) ≡ true → is_short did ≡ true
     second true both = both

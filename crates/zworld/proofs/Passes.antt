@@ -12,10 +12,10 @@ use Rattle.zworld_model.specs.declared.settled.Settled.TheVariants.{Quiet, Limit
 use Rattle.zworld_model.specs.History.{History}
 use Rattle.zworld_model.specs.Events.{is_enabled}
 use Rattle.zworld_model.specs.Settle.{deliveries, retry_events, with_tries, is_over, passes, opening_settling, settling_end}
-use Rattle.zworld_model.specs.Alike.{IsAlike}
-use Rattle.zworld_model.proofs.Alike.{alike_itself}
+use Rattle.zworld_model.specs.support.Alike.{IsAlike}
+use Rattle.zworld_model.proofs.Alike.{alike_back}
 use Rattle.zworld_model.proofs.Settling.{pass_takes, over_does_nothing}
-use Rattle.zworld.specs.Held.{Held, world_of}
+use Rattle.zworld.specs.Held.{Held, kept_world, world_of}
 use Rattle.zworld.specs.support.Stepped.{Settles}
 use Rattle.zworld.specs.support.Settling.{TreeSettling, StandsAt, Point, GoesOn, Does, Tries}
 use Rattle.zworld.proofs.Tries.{goes_nowhere, goes_on_with, under}
@@ -132,7 +132,7 @@ module _ (strict : Bool) where
     has_settled settled is (told, given, more, leads, acted) =
         let opening : History → List Outcome → TreeSettling = λ history rest. opening_settling (world_of old history) limit (told ++ rest) in
         let opens : (history : History) (rest : List Outcome) → StandsAt old history limit (told ++ rest) (opening history rest) =
-        λ history rest. record { alike = alike_itself (world_of old history); remaining = refl; coming = refl } in (
+        λ history rest. record { alike = alike_back (kept_world old history); remaining = refl; coming = refl } in (
           told,
           given,
           more,
@@ -142,7 +142,7 @@ module _ (strict : Bool) where
             left = λ history rest. let end = leads history rest (opening history rest) (opens history rest) in
                 ap (λ (t : TreeSettling). t.outcomes) end.2 ∙ end.1.coming;
             leads = λ history rest. let end = leads history rest (opening history rest) (opens history rest) in
-                subst (λ (t : TreeSettling). IsAlike t.world (world_of new (history ++ given))) (sym end.2) end.1.alike;
+                subst (λ (t : TreeSettling). IsAlike t.world (kept_world new (history ++ given))) (sym end.2) end.1.alike;
           },
           acted,
         )

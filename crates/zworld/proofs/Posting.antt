@@ -14,12 +14,12 @@ use Rattle.zworld_model.proofs.Processes.{same_process}
 use Rattle.zworld_model.specs.Links.{Links, is_same, messages_to, put, without_front}
 use Rattle.zworld_model.specs.Events.{has_failed}
 use Rattle.zworld_model.specs.History.{History}
-use Rattle.zworld.specs.Held.{Held, HeldChannels, MemberView, last_words, world_of}
+use Rattle.zworld.specs.Held.{Held, HeldChannels, MemberView, last_words, kept_world}
 use Rattle.zworld.specs.support.Posting.{is_lost, IsPosted}
 use Rattle.zworld.specs.support.Fronts.{without}
 
 -- who has failed in the world
-pub lost_is : (held : Held) (history : History) (to : Process) → has_failed (world_of held history) to ≡ is_lost held.members to
+pub lost_is : (held : Held) (history : History) (to : Process) → has_failed (kept_world held history) to ≡ is_lost held.members to
 lost_is held history Master = refl
 lost_is held history (Server s) = refl
 lost_is held history (Client c) = refl
@@ -94,11 +94,11 @@ popped members old new taker giver front some rest p q = elim (test (is_same p g
 pub world_popped : (old : Held) (channels : HeldChannels) (giver taker : Process) (front : MessageOf (KeptState Tree))
     → links_of old.links giver taker ≡ front ∷ drop 1 (links_of old.links giver taker)
     → ((p q : Process) → links_of channels p q ≡ with_link (links_of old.links) giver taker (drop 1 (links_of old.links giver taker)) p q)
-    → (history : History) → world_of (record old { links = channels }) history ≡ without (world_of old history) giver taker
+    → (history : History) → kept_world (record old { links = channels }) history ≡ without (kept_world old history) giver taker
 world_popped old channels giver taker front some rest history =
     let links : ◌≡◌ {A = Links (KeptState Tree)} (all_links old.members channels) (without_front (all_links old.members old.links) giver taker) =
     fun_ext (λ p. fun_ext (λ q. popped old.members old.links channels taker giver front some rest p q)) in
-    ap (λ (ls : Links (KeptState Tree)). record (world_of old history) { links = ls }) links
+    ap (λ (ls : Links (KeptState Tree)). record (kept_world old history) { links = ls }) links
 
 -- a message to a server that has failed makes no difference to the others
 pub rest_lost : (members : List MemberView) (links : Links (KeptState Tree)) (from to : Process) (m : MessageOf (KeptState Tree)) (rest : List (Post (KeptState Tree)))

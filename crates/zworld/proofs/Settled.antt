@@ -1,5 +1,5 @@
 -- From what the processes say of settling to what the world says.
-use Rattle.std.proofs.Common.{◌≡◌, ℕ, Bool, false, [], ◌++◌, inl, inr, refl, sym, ap, subst, ◌∙◌, append_assoc}
+use Rattle.std.proofs.Common.{◌≡◌, ℕ, Bool, false, List, [], ◌++◌, inl, inr, refl, sym, ap, subst, ◌∙◌, append_assoc}
 use Rattle.std.specs.List.{list_any}
 use Rattle.ztree.specs.Tree.{Tree}
 use Rattle.zcalls.specs.Kept.{KeptState}
@@ -9,26 +9,33 @@ use Rattle.zworld_model.specs.declared.settled.Settled.{Settled}
 use Rattle.zworld_model.specs.declared.settled.Settled.TheVariants.{Quiet}
 use Rattle.zworld_model.specs.History.{History}
 use Rattle.zworld_model.specs.World.{World}
-use Rattle.zworld_model.specs.Events.{is_enabled}
+use Rattle.zworld_model.specs.declared.outcome.Outcome.{Outcome}
+use Rattle.zworld_model.specs.Events.{is_enabled, let_go}
+use Rattle.zworld_model.specs.Keeping.{run_keeping}
 use Rattle.zworld_model.specs.Settle.{deliveries, settle}
-use Rattle.zworld_model.specs.Alike.{IsAlike}
-use Rattle.zworld_model.specs.FromTree.{world_after_from}
-use Rattle.zworld_model.proofs.Alike.{have_the_same_enabled}
+use Rattle.zworld_model.proofs.Keeping.{keeping_runs, let_go_twice}
 use Rattle.zworld_model.proofs.Settling.{settling_is_a_run, quiet_has_nothing_to_take}
 use Rattle.zworld_model.proofs.Visited.{after_within_from, links_are_visited_from, none_passes}
-use Rattle.zworld.specs.Held.{Held, world_of}
+use Rattle.zworld.specs.Held.{Held, kept_world, world_of}
 use Rattle.zworld.specs.Steps.{IsAtRest}
 use Rattle.zworld.specs.support.Settled.{HasSettledBy}
 use Rattle.zworld.specs.support.Stepped.{Settles}
 use Rattle.zworld.specs.support.Past.{HasPast}
-use Rattle.zworld.proofs.Steps.{enabled_anyway}
-use Rattle.zworld.proofs.Going.{goes_on, stands_later}
+use Rattle.zworld.proofs.Going.{goes_on, stands_later, leads_on, enabled_of}
 
 -- settling goes on behind any past
 settles_behind : (strict : Bool) (past : History) (old new : Held) (limit : ℕ) (before after : History) (settled : Settled) → Settles strict old new limit before after settled
     → Settles strict old new limit (past ++ before) (past ++ after) settled
 settles_behind strict past old new limit before after settled (learnt, told, is, settles, acted) =
     (learnt, told, ap (λ xs. past ++ xs) is ∙ sym (append_assoc past before told), settles, acted)
+
+-- what settling leads to has let go of what failed servers held
+settled_gone : (held : Held) (history : History) (limit : ℕ) (outcomes : List Outcome) → let s = settle kept_tree (world_of held history) limit outcomes in let_go s.world ≡ s.world
+settled_gone held history limit outcomes =
+    let kept = kept_world held history in
+    let s = settle kept_tree (let_go kept) limit outcomes in
+    let ran : s.world ≡ let_go (run_keeping kept_tree kept s.events) = settling_is_a_run kept_tree (let_go kept) limit outcomes ∙ keeping_runs kept_tree kept s.events in
+    ap let_go ran ∙ let_go_twice (run_keeping kept_tree kept s.events) ∙ sym ran
 
 -- the processes settled as the world of the definition does
 pub settled_as_defined : (strict : Bool) (old new : Held) (limit : ℕ) (before after : History) (settled : Settled) → Settles strict old new limit before after settled
@@ -39,7 +46,8 @@ settled_as_defined strict old new limit before after settled (learnt, told, is, 
   λ later. (
     settles.ended before later,
     settles.left before later,
-    subst (λ h. IsAlike (settle kept_tree (world_of old before) limit (learnt ++ later)).world (world_of new h)) (sym is) (settles.leads before later),
+    leads_on (settle kept_tree (world_of old before) limit (learnt ++ later)).world new (before ++ told) (settled_gone old before limit (learnt ++ later)) (settles.leads before later)
+        ∙ ap (world_of new) (sym is),
   ),
 )
 
@@ -51,7 +59,7 @@ past_settles strict restored forgotten old new limit before after settled had se
     let (learnt, acted, ends) =
     settled_as_defined strict old new limit (had.past ++ before) (had.past ++ after) settled (settles_behind strict had.past old new limit before after settled settles) in
     goes_on restored forgotten old new before after (settle kept_tree v limit (learnt ++ [])).events had
-    (subst (λ w. IsAlike w (world_of new (had.past ++ after))) (settling_is_a_run kept_tree v limit (learnt ++ [])) (ends []).2)
+    (sym (settling_is_a_run kept_tree v limit (learnt ++ [])) ∙ (ends []).2)
 
 -- where settling ended quiet, no message can be taken
 pub quiet_is_rest : (strict : Bool) (restored forgotten : Bool) (old new : Held) (limit : ℕ) (before after : History) → HasPast restored forgotten false old before
@@ -63,19 +71,19 @@ quiet_is_rest strict restored forgotten old new limit before after had settles f
     settled_as_defined strict old new limit (had.past ++ before) (had.past ++ after) Quiet (settles_behind strict had.past old new limit before after Quiet settles) in
     let (ended, taken, leads) = ends [] in
     let done = settle kept_tree v limit (learnt ++ []) in
-    let ran = subst (λ u. IsAlike u w) (settling_is_a_run kept_tree v limit (learnt ++ [])) leads in
-    let alike = stands_later restored forgotten old new before (had.past ++ after) done.events had ran in
+    let ran = sym (settling_is_a_run kept_tree v limit (learnt ++ [])) ∙ leads in
+    let here = stands_later restored forgotten old new before (had.past ++ after) done.events had ran in
     let counted : old.master.clients ≡ had.clients =
-    ap (λ (u : World (KeptState Tree)). u.master.clients) (had.stands refl).rest
+    ap (λ (u : World (KeptState Tree)). u.master.clients) (sym (had.stands refl))
     ∙ (after_within_from had.tree had.servers had.clients had.events had.opens).counted in
     let none : list_any (is_enabled done.world) (deliveries had.clients) ≡ false =
     subst (λ n. list_any (is_enabled done.world) (deliveries n) ≡ false) counted (quiet_has_nothing_to_take kept_tree v limit (learnt ++ []) (sym ended)) in
     let rest : is_enabled w (Take from to) ≡ false =
     elim (links_are_visited_from had.tree had.servers had.clients (had.events ++ done.events) from to had.opens) [
       | inl empty ↦
-          sym (have_the_same_enabled kept_tree (world_after_from had.tree had.servers had.clients (had.events ++ done.events)) w (Take from to) alike) ∙ rw empty refl
+          sym (ap (λ u. is_enabled u (Take from to)) here) ∙ rw empty refl
       | inr among ↦
-          sym (have_the_same_enabled kept_tree done.world w (Take from to) leads)
+          sym (ap (λ u. is_enabled u (Take from to)) leads)
           ∙ none_passes (is_enabled done.world) (Take from to) (deliveries had.clients) among none
     ] in
-    enabled_anyway new after (Take from to) ∙ sym (enabled_anyway new (had.past ++ after) (Take from to)) ∙ rest
+    enabled_of new after (Take from to) ∙ sym (enabled_of new (had.past ++ after) (Take from to)) ∙ rest

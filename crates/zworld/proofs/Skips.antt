@@ -14,7 +14,7 @@ use Rattle.zworld_model.specs.Settle.{processes}
 use Rattle.zlinks.specs.Places.{links_of, is_silent, Between}
 use Rattle.zlinks.proofs.Places.{server_place}
 use Rattle.zlinks.proofs.Searches.{silent_links}
-use Rattle.zworld.specs.Held.{MemberView, Held, SendsNothing, member_at, owes, last_words, world_of}
+use Rattle.zworld.specs.Held.{MemberView, Held, SendsNothing, member_at, owes, last_words, kept_world}
 use Rattle.zworld.specs.support.Settling.{Point, Tries, takes, takes_from}
 use Rattle.zworld.proofs.Tries.{silent_tries, empty_try, one_more_receiver, one_more_sender}
 
@@ -38,7 +38,7 @@ no_words members (Client s) (Client t) some = refl
 
 -- so nothing is under way to a process behind the master
 pub empty_link : (inside held : Held) (from to : Process) → inside ≡ held → links_of inside.links from to ≡ [] → 0 < place_of to
-    → (world_of held []).links from to ≡ []
+    → (kept_world held []).links from to ≡ []
 empty_link inside held from to same none some =
     let empty : links_of held.links from to ≡ [] = ap (λ (h : Held). links_of h.links from to) (sym same) ∙ none in
     rw (empty, no_words held.members from to some) refl
@@ -47,7 +47,7 @@ empty_link inside held from to same none some =
 pub silent_place : (inside held : Held) (from to : Process) (at bound : ℕ) → inside ≡ held → is_silent inside.links from ≡ true
     → at ≤ place_of from → place_of from < bound → bound ≤ PROCESSES
     → ((s : ℕ) → at ≤ s → 0 < s → s ≤ MAX_SERVERS → s < bound → owes (member_at held.members s) ≡ false)
-    → (world_of held []).links from to ≡ []
+    → (kept_world held []).links from to ≡ []
 silent_place inside held from to at bound same silent behind before few paid =
     let quiet : links_of held.links from to ≡ [] = silent_links held.links from to (ap (λ (h : Held). is_silent h.links from) (sym same) ∙ silent) in
     rw (quiet, words from to behind before) refl
@@ -74,7 +74,7 @@ past xs n all = take_all (n + 1) xs (omega (arith, all)) ∙ sym (take_all n xs 
 module _ (strict : Bool) (clients : ℕ) (p : Point) where
   -- receivers to which nothing is under way
   pub skipped_receivers : (from : Process) (a : Point) (place k : ℕ) → place + k ≤ PROCESSES
-      → Between place (place + k) (λ to. (world_of p.held []).links from to ≡ [])
+      → Between place (place + k) (λ to. (kept_world p.held []).links from to ≡ [])
       → Tries strict (takes_from (take place (processes clients)) from) a p → Tries strict (takes_from (take (place + k) (processes clients)) from) a p
   skipped_receivers from a place zero few none tries = subst (λ n. Tries strict (takes_from (take n (processes clients)) from) a p) (let same : place ≡ place + 0 = omega arith in same) tries
   skipped_receivers from a place (suc k) few none tries =
@@ -94,7 +94,7 @@ module _ (strict : Bool) (clients : ℕ) (p : Point) where
       ])
 
   pub receivers_to : (from : Process) (a : Point) (place next : ℕ) → place ≤ next → next ≤ PROCESSES
-      → Between place next (λ to. (world_of p.held []).links from to ≡ [])
+      → Between place next (λ to. (kept_world p.held []).links from to ≡ [])
       → Tries strict (takes_from (take place (processes clients)) from) a p → Tries strict (takes_from (take next (processes clients)) from) a p
   receivers_to from a place next ahead few none tries =
       let far : place + (next - place) ≡ next = omega (arith, ahead) in
@@ -103,7 +103,7 @@ module _ (strict : Bool) (clients : ℕ) (p : Point) where
 
   -- and senders of which nothing is
   pub skipped_senders : (a : Point) (place k : ℕ) → place + k ≤ PROCESSES
-      → Between place (place + k) (SendsNothing (world_of p.held []))
+      → Between place (place + k) (SendsNothing (kept_world p.held []))
       → Tries strict (takes (processes clients) (take place (processes clients))) a p → Tries strict (takes (processes clients) (take (place + k) (processes clients))) a p
   skipped_senders a place zero few none tries = subst (λ n. Tries strict (takes (processes clients) (take n (processes clients))) a p) (let same : place ≡ place + 0 = omega arith in same) tries
   skipped_senders a place (suc k) few none tries =
@@ -123,7 +123,7 @@ module _ (strict : Bool) (clients : ℕ) (p : Point) where
       ])
 
   pub senders_to : (a : Point) (place next : ℕ) → place ≤ next → next ≤ PROCESSES
-      → Between place next (SendsNothing (world_of p.held []))
+      → Between place next (SendsNothing (kept_world p.held []))
       → Tries strict (takes (processes clients) (take place (processes clients))) a p → Tries strict (takes (processes clients) (take next (processes clients))) a p
   senders_to a place next ahead few none tries =
       let far : place + (next - place) ≡ next = omega (arith, ahead) in

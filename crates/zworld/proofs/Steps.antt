@@ -12,19 +12,19 @@ use Rattle.zworld_model.specs.declared.outcome.Outcome.{Outcome}
 use Rattle.zworld_model.specs.declared.outcome.Outcome.TheVariants.{Acted, Stopped, Unheard}
 use Rattle.zworld_model.specs.History.{History}
 use Rattle.zworld_model.specs.World.{World}
-use Rattle.zworld_model.specs.Events.{is_enabled, happens, acts}
+use Rattle.zworld_model.specs.Events.{is_enabled, let_go, happens, acts}
 use Rattle.zworld_model.specs.Reading.{is_fitting, read, reading_by}
-use Rattle.zworld_model.specs.Alike.{IsAlike}
-use Rattle.zworld_model.proofs.Alike.{alike_itself}
+use Rattle.zworld_model.specs.support.Alike.{IsAlike}
+use Rattle.zworld_model.proofs.Alike.{alike_itself, alike_let_go, alike_back}
 use Rattle.zworld.specs.declared.did.Did.{Did}
 use Rattle.zworld.specs.declared.did.Did.TheVariants as did
 use Rattle.zworld.specs.declared.did.IdleCause.{IdleCause}
-use Rattle.zworld.specs.Held.{Held, world_of}
+use Rattle.zworld.specs.Held.{Held, kept_world}
 use Rattle.zworld.specs.Did.{IsCause}
 use Rattle.zworld.specs.support.Stepped.{HasStepped}
 
 -- what is enabled doesn't hang on the history
-pub enabled_anyway : (held : Held) (history : History) (event : Event) → is_enabled (world_of held history) event ≡ is_enabled (world_of held []) event
+pub enabled_anyway : (held : Held) (history : History) (event : Event) → is_enabled (kept_world held history) event ≡ is_enabled (kept_world held []) event
 enabled_anyway held history (Begin c call) = refl
 enabled_anyway held history (Retry c) = refl
 enabled_anyway held history (Take from to) = refl
@@ -45,7 +45,7 @@ read_acted w (Order order) = refl
 
 -- what outcomes an event can have doesn't hang on the history either
 pub fitting_anyway : (held : Held) (history : History) (event : Event) (outcome : Outcome)
-    → is_fitting kept_tree (world_of held history) event outcome ≡ is_fitting kept_tree (world_of held []) event outcome
+    → is_fitting kept_tree (kept_world held history) event outcome ≡ is_fitting kept_tree (kept_world held []) event outcome
 fitting_anyway held history event Acted = refl
 fitting_anyway held history (Begin c call) Stopped = refl
 fitting_anyway held history (Retry c) Stopped = refl
@@ -66,19 +66,23 @@ fitting_anyway held history (Order order) Unheard = refl
 
 -- nor does how it reads
 pub read_anyway : (held : Held) (history : History) (event : Event) (outcome : Outcome)
-    → read kept_tree (world_of held history) event outcome ≡ read kept_tree (world_of held []) event outcome
+    → read kept_tree (kept_world held history) event outcome ≡ read kept_tree (kept_world held []) event outcome
 read_anyway held history event outcome =
     ap (λ b. if b then reading_by event outcome else event) (fitting_anyway held history event outcome)
 
 -- an event that isn't enabled, or is
 pub happens_not : (w : World (KeptState Tree)) (event : Event) → is_enabled w event ≡ false → happens kept_tree w event ≡ w
-happens_not w event off = ap (λ b. if b then acts kept_tree w event else w) off
+happens_not w event off = ap (λ b. if b then let_go (acts kept_tree w event) else w) off
 
-pub happens_so : (w : World (KeptState Tree)) (event : Event) → is_enabled w event ≡ true → happens kept_tree w event ≡ acts kept_tree w event
-happens_so w event on = ap (λ b. if b then acts kept_tree w event else w) on
+pub happens_so : (w : World (KeptState Tree)) (event : Event) → is_enabled w event ≡ true → happens kept_tree w event ≡ let_go (acts kept_tree w event)
+happens_so w event on = ap (λ b. if b then let_go (acts kept_tree w event) else w) on
+
+-- what let go is alike to what the other is alike to
+pub gone_too : (v w : World (KeptState Tree)) → IsAlike v w → IsAlike (let_go v) w
+gone_too v w alike = subst (λ u. IsAlike u w) (sym (alike_let_go v w alike)) (alike_back w)
 
 -- an event that isn't enabled
-pub idle_stepped : (held : Held) (event : Event) (why : IdleCause) → is_enabled (world_of held []) event ≡ false → IsCause held event why
+pub idle_stepped : (held : Held) (event : Event) (why : IdleCause) → is_enabled (kept_world held []) event ≡ false → IsCause held event why
     → HasStepped held held event (did.Idle why) []
 idle_stepped held event why off caused = record {
   idle = ap not (sym off);
@@ -86,17 +90,17 @@ idle_stepped held event why off caused = record {
   caused = λ other is. subst (λ c. IsCause held event c) (same_cause why other is) caused;
   fits = refl;
   leads = λ history.
-      subst (λ e. IsAlike (happens kept_tree (world_of held history) e) (world_of held (history ++ []))) (sym (read_acted (world_of held []) event))
-      (subst (λ w. IsAlike w (world_of held (history ++ []))) (sym (happens_not (world_of held history) event (enabled_anyway held history event ∙ off)))
-      (subst (λ h. IsAlike (world_of held history) (world_of held h)) (sym (append-nil history)) (alike_itself (world_of held history))));
+      subst (λ e. IsAlike (happens kept_tree (kept_world held history) e) (kept_world held (history ++ []))) (sym (read_acted (kept_world held []) event))
+      (subst (λ w. IsAlike w (kept_world held (history ++ []))) (sym (happens_not (kept_world held history) event (enabled_anyway held history event ∙ off)))
+      (subst (λ h. IsAlike (kept_world held history) (kept_world held h)) (sym (append-nil history)) (alike_itself (kept_world held history))));
 }
   where
     same_cause : (a b : IdleCause) → did.Idle a ≡ did.Idle b → a ≡ b
     same_cause a b is = ap (λ (d : Did). elim d [ did.Done ↦ a | did.Idle c ↦ c | did.Unheard ↦ a | did.Stopped ↦ a ]) is
 
 -- an event that happened
-pub done_stepped : (old new : Held) (event : Event) (told : History) → is_enabled (world_of old []) event ≡ true
-    → ((history : History) → IsAlike (acts kept_tree (world_of old history) event) (world_of new (history ++ told)))
+pub done_stepped : (old new : Held) (event : Event) (told : History) → is_enabled (kept_world old []) event ≡ true
+    → ((history : History) → IsAlike (acts kept_tree (kept_world old history) event) (kept_world new (history ++ told)))
     → HasStepped old new event did.Done told
 done_stepped old new event told on alike = record {
   idle = ap not (sym on);
@@ -104,6 +108,7 @@ done_stepped old new event told on alike = record {
   caused = λ why is. let never : ⊥ = cc in absurd never;
   fits = refl;
   leads = λ history.
-      subst (λ e. IsAlike (happens kept_tree (world_of old history) e) (world_of new (history ++ told))) (sym (read_acted (world_of old []) event))
-      (subst (λ w. IsAlike w (world_of new (history ++ told))) (sym (happens_so (world_of old history) event (enabled_anyway old history event ∙ on))) (alike history));
+      subst (λ e. IsAlike (happens kept_tree (kept_world old history) e) (kept_world new (history ++ told))) (sym (read_acted (kept_world old []) event))
+      (subst (λ w. IsAlike w (kept_world new (history ++ told))) (sym (happens_so (kept_world old history) event (enabled_anyway old history event ∙ on)))
+      (gone_too _ _ (alike history)));
 }

@@ -17,7 +17,7 @@ use Rattle.zworld_model.specs.History.{History}
 use Rattle.zworld.specs.declared.did.Did.{Did}
 use Rattle.zworld.specs.declared.did.Did.TheVariants as became
 use Rattle.zworld.specs.declared.did.IdleCause.TheVariants as cause
-use Rattle.zworld.specs.Held.{Held, MemberView, world_of}
+use Rattle.zworld.specs.Held.{Held, MemberView, kept_world}
 use Rattle.zworld.proofs.Posting.{lost_is}
 use Rattle.zworld.specs.support.Stepped.{HasStepped}
 use Rattle.zworld.specs.support.Posting.{is_lost}
@@ -45,7 +45,7 @@ module _ (old : Held) (from to : Process) (seen : History) where
 
 -- a server's view is the same before a front was taken
 wants_before : (old mid : Held) (from : Process) (s : ℕ) (front : MessageOf (KeptState Tree)) (test : TreeView → Bool)
-    → HasPopped old from (Server s) (Some front) mid → test ((world_of mid []).servers s) ≡ true → test ((world_of old []).servers s) ≡ true
+    → HasPopped old from (Server s) (Some front) mid → test ((kept_world mid []).servers s) ≡ true → test ((kept_world old []).servers s) ≡ true
 wants_before old mid from s front test popped passed =
     subst (λ (w : World (KeptState Tree)). test (w.servers s) ≡ true) (popped.2 []) passed
 

@@ -17,12 +17,12 @@ use Rattle.zworld_model.specs.History.{History}
 use Rattle.zworld_model.specs.Events.{is_enabled, happens}
 use Rattle.zworld_model.specs.Reading.{read, is_fitting}
 use Rattle.zworld_model.specs.Settle.{retry_events, with_event, with_try, with_tries, opening_settling, next_outcome}
-use Rattle.zworld_model.specs.Alike.{IsAlike}
+use Rattle.zworld_model.specs.support.Alike.{IsAlike}
 use Rattle.zworld_model.proofs.Alike.{have_the_same_enabled, stay_alike, alike_itself, alike_through, read_alike}
 use Rattle.zworld_model.proofs.Settling.{none_is_done, none_may_be_done}
 use Rattle.zworld.specs.declared.did.Did.{Did}
 use Rattle.zworld.specs.declared.did.Did.TheVariants as became
-use Rattle.zworld.specs.Held.{Held, nobody, world_of}
+use Rattle.zworld.specs.Held.{Held, nobody, kept_world}
 use Rattle.zworld.specs.Did.{is_idle, is_short, outcome_of}
 use Rattle.zworld.specs.Steps.{AreActed}
 use Rattle.zworld.specs.support.Stepped.{HasStepped}
@@ -151,11 +151,11 @@ module _ (strict : Bool) where
       (one_more_retry (n + k) (n + k) a b b refl (spent_retries n k a b none tries) (spent_tries (Retry (n + k) ∷ []) b none))
 
   -- from a process that has put nothing, nothing is taken
-  pub silent_tries : (from : Process) (receivers : List Process) (p : Point) → ((to : Process) → (world_of p.held []).links from to ≡ []) → Tries strict (takes_from receivers from) p p
+  pub silent_tries : (from : Process) (receivers : List Process) (p : Point) → ((to : Process) → (kept_world p.held []).links from to ≡ []) → Tries strict (takes_from receivers from) p p
   silent_tries from receivers p silent =
       tries_nothing (takes_from receivers from) p (λ history outcomes s stands.
       none_is_done kept_tree s (takes_from receivers from) (none_taken receivers s (λ to.
-      have_the_same_enabled kept_tree s.world (world_of p.held history) (Take from to) stands.alike ∙ rw (silent to) refl)))
+      have_the_same_enabled kept_tree s.world (kept_world p.held history) (Take from to) stands.alike ∙ rw (silent to) refl)))
     where
       none_taken : (receivers : List Process) (s : TreeSettling) → ((to : Process) → is_enabled s.world (Take from to) ≡ false)
           → list_any (is_enabled s.world) (takes_from receivers from) ≡ false
@@ -167,15 +167,15 @@ module _ (strict : Bool) where
   idle_retry c p none =
       tries_nothing (Retry c ∷ []) p (λ history outcomes s stands.
       none_is_done kept_tree s (Retry c ∷ []) (ap (λ b. b || false)
-      (have_the_same_enabled kept_tree s.world (world_of p.held history) (Retry c) stands.alike ∙ none)))
+      (have_the_same_enabled kept_tree s.world (kept_world p.held history) (Retry c) stands.alike ∙ none)))
 
   -- nor from a link on which nothing is
-  pub empty_try : (from to : Process) (p : Point) → (world_of p.held []).links from to ≡ [] → Tries strict (Take from to ∷ []) p p
+  pub empty_try : (from to : Process) (p : Point) → (kept_world p.held []).links from to ≡ [] → Tries strict (Take from to ∷ []) p p
   empty_try from to p empty =
       tries_nothing (Take from to ∷ []) p (λ history outcomes s stands.
-      let off : is_enabled (world_of p.held history) (Take from to) ≡ false = rw empty refl in
+      let off : is_enabled (kept_world p.held history) (Take from to) ≡ false = rw empty refl in
       none_is_done kept_tree s (Take from to ∷ []) (ap (λ b. b || false)
-      (have_the_same_enabled kept_tree s.world (world_of p.held history) (Take from to) stands.alike ∙ off)))
+      (have_the_same_enabled kept_tree s.world (kept_world p.held history) (Take from to) stands.alike ∙ off)))
 
   -- an event that was tried
   module _ (old new : Held) (event : Event) (did : Did) (given : History) (stepped : HasStepped old new event did given) where
@@ -183,8 +183,8 @@ module _ (strict : Bool) where
     enabled_at : (history : History) (more : ℕ) (outcomes : List Outcome) (s : TreeSettling) → StandsAt old history more outcomes s
         → is_enabled s.world event ≡ not (is_idle did)
     enabled_at history more outcomes s stands =
-        have_the_same_enabled kept_tree s.world (world_of old history) event stands.alike ∙ enabled_anyway old history event
-        ∙ twice_not (is_enabled (world_of old []) event) ∙ ap not (sym stepped.idle)
+        have_the_same_enabled kept_tree s.world (kept_world old history) event stands.alike ∙ enabled_anyway old history event
+        ∙ twice_not (is_enabled (kept_world old []) event) ∙ ap not (sym stepped.idle)
       where
         twice_not : (b : Bool) → b ≡ not (not b)
         twice_not true = refl
@@ -200,29 +200,29 @@ module _ (strict : Bool) where
         of_did became.Unheard idle = absurd (true≢false (sym idle))
         of_did became.Stopped idle = absurd (true≢false (sym idle))
 
-    stays : is_idle did ≡ true → (history : History) → IsAlike (world_of old history) (world_of new (history ++ given))
+    stays : is_idle did ≡ true → (history : History) → IsAlike (kept_world old history) (kept_world new (history ++ given))
     stays idle history =
-        let later = world_of new (history ++ given) in
-        let off : is_enabled (world_of old history) event ≡ false =
-        enabled_at history 0 [] (opening_settling (world_of old history) 0 []) (record { alike = alike_itself (world_of old history); remaining = refl; coming = refl }) ∙ ap not idle in
-        let reads : read kept_tree (world_of old []) event (outcome_of did) ≡ event = ap (read kept_tree (world_of old []) event) (idle_acted idle) ∙ read_acted (world_of old []) event in
-        subst (λ w. IsAlike w later) (happens_not (world_of old history) event off)
-        (subst (λ e. IsAlike (happens kept_tree (world_of old history) e) later) reads (stepped.leads history))
+        let later = kept_world new (history ++ given) in
+        let off : is_enabled (kept_world old history) event ≡ false =
+        enabled_at history 0 [] (opening_settling (kept_world old history) 0 []) (record { alike = alike_itself (kept_world old history); remaining = refl; coming = refl }) ∙ ap not idle in
+        let reads : read kept_tree (kept_world old []) event (outcome_of did) ≡ event = ap (read kept_tree (kept_world old []) event) (idle_acted idle) ∙ read_acted (kept_world old []) event in
+        subst (λ w. IsAlike w later) (happens_not (kept_world old history) event off)
+        (subst (λ e. IsAlike (happens kept_tree (kept_world old history) e) later) reads (stepped.leads history))
 
     -- and one that was done
     goes : (history : History) (more : ℕ) (outcomes : List Outcome) (s : TreeSettling) → is_idle did ≡ false → 0 < more → StandsAt old history more (outcome_of did ∷ outcomes) s
         → (t : TreeSettling) × StandsAt new (history ++ given) (more - 1) outcomes t × (with_try kept_tree s event ≡ t)
     goes history more outcomes s active some stands =
         let outcome = outcome_of did in
-        let now = world_of old history in
+        let now = kept_world old history in
         let on : is_enabled s.world event ≡ true = enabled_at history more (outcome ∷ outcomes) s stands ∙ ap not active in
         let may : nat_lt 0 s.left ≡ true = ap (nat_lt 0) stands.remaining ∙ lt-ltb 0 more some in
-        let reads : read kept_tree s.world event outcome ≡ read kept_tree (world_of old []) event outcome = read_alike kept_tree s.world now event outcome stands.alike ∙ read_anyway old history event outcome in
+        let reads : read kept_tree s.world event outcome ≡ read kept_tree (kept_world old []) event outcome = read_alike kept_tree s.world now event outcome stands.alike ∙ read_anyway old history event outcome in
         let next : TreeSettling = with_event kept_tree s (read kept_tree s.world event outcome) in (
           next,
           record {
             alike = alike_through _ _ _ (stay_alike kept_tree s.world now (read kept_tree s.world event outcome ∷ []) stands.alike)
-                (subst (λ e. IsAlike (happens kept_tree now e) (world_of new (history ++ given))) (sym reads) (stepped.leads history));
+                (subst (λ e. IsAlike (happens kept_tree now e) (kept_world new (history ++ given))) (sym reads) (stepped.leads history));
             remaining = ap (λ n. n - 1) stands.remaining;
             coming = ap (drop 1) stands.coming;
           },
@@ -273,7 +273,7 @@ pub strict_tries : (strict : Bool) (events : List Event) (a b : Point) → Tries
 strict_tries strict events a b (told, given, more, leads, acted) = (told, given, more, leads, λ strictly. acted refl)
 
 -- no server takes part where a client sends its call once more
-pub retried_acted : (held : Held) (client : ℕ) (did : Did) → is_fitting kept_tree (world_of held []) (Retry client) (outcome_of did) ≡ true → outcome_of did ≡ Acted
+pub retried_acted : (held : Held) (client : ℕ) (did : Did) → is_fitting kept_tree (kept_world held []) (Retry client) (outcome_of did) ≡ true → outcome_of did ≡ Acted
 retried_acted held client (became.Idle cause) fits = refl
 retried_acted held client became.Done fits = refl
 retried_acted held client became.Unheard fits = absurd (true≢false (sym fits))

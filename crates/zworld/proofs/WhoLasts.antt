@@ -7,17 +7,17 @@ use Rattle.std.specs.List.{list_any, range_with_len}
 use mathlib.Core.Bool.{true≢false}
 use Rattle.zcalls.proofs.Among.{test}
 use Rattle.zmaster.specs.Staying.{is_staying}
-use Rattle.zworld.specs.Held.{Held, MemberView, bystander, is_gone, member_at, world_of}
+use Rattle.zworld.specs.Held.{Held, MemberView, bystander, is_gone, member_at, kept_world}
 use Rattle.zworld.specs.Last.{is_lasting}
 
 -- a server by its member and the master
 pub lasts_by : (old held : Held) (s place : ℕ) (was : MemberView) (gone staying : Bool)
     → held ≡ old → s ≡ place + 1 → place < length held.members → was ≡ get_or held.members place was → gone ≡ is_gone was → staying ≡ is_staying held.master s
-    → (not gone && staying) ≡ is_lasting (world_of old []) s
+    → (not gone && staying) ≡ is_lasting (kept_world old []) s
 lasts_by old held s place was gone staying same is inside read asked stays =
     let here : member_at held.members s ≡ was =
     ap (λ n. member_at held.members n) (is ∙ add-one place) ∙ get_or_default held.members place bystander was inside ∙ sym read in
-    subst (λ (o : Held). (not gone && staying) ≡ is_lasting (world_of o []) s) same
+    subst (λ (o : Held). (not gone && staying) ≡ is_lasting (kept_world o []) s) same
     (rw (asked, stays, here) refl)
 
 -- one of a range passes a test

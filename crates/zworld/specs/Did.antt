@@ -10,7 +10,7 @@ use Rattle.zworld.specs.declared.did.Did.{Did}
 use Rattle.zworld.specs.declared.did.Did.TheVariants as became
 use Rattle.zworld.specs.declared.did.IdleCause.{IdleCause}
 use Rattle.zworld.specs.declared.did.IdleCause.TheVariants as cause
-use Rattle.zworld.specs.Held.{Held, world_of}
+use Rattle.zworld.specs.Held.{Held, kept_world}
 
 -- the event didn't happen
 abbrev pub is_idle : Did → Bool
@@ -32,7 +32,7 @@ outcome_of other = outcome.Acted
 -- why an event isn't enabled: the fault of the client or of the master, or nothing to say
 abbrev pub IsCause : Held → Event → IdleCause → Type 0
 IsCause old (event.Begin client call) (cause.Begin fault) =
-    (nat_lt client old.master.clients ≡ true) × (begin_fault ((world_of old []).clients client) ≡ Some fault)
+    (nat_lt client old.master.clients ≡ true) × (begin_fault ((kept_world old []).clients client) ≡ Some fault)
 IsCause old (event.Begin client call) why = (why ≡ cause.Nothing) × (nat_lt client old.master.clients ≡ false)
 IsCause old (event.Order order) (cause.Order fault) = order_fault old.master order ≡ Some fault
 IsCause old (event.Order order) why = ⊥

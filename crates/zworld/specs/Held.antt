@@ -14,6 +14,7 @@ use Rattle.zlinks.specs.Places.{Channels, links_of}
 use Rattle.zworld_model.specs.History.{History}
 use Rattle.zworld_model.specs.Links.{Links}
 use Rattle.zworld_model.specs.World.{World}
+use Rattle.zworld_model.specs.Events.{let_go}
 
 -- one of the servers: its view, or none where it has failed, and whether it still owes the master
 -- its failure notice
@@ -71,9 +72,9 @@ last_words members from to = []
 abbrev pub nobody : ClientView
 nobody = record { number = 0; outstanding = None; epoch = 0; head = None; tail = None }
 
--- the world that is held, with this history; a failed server has dropped what it held
-abbrev pub world_of : Held → History → World (KeptState Tree)
-world_of held history = record {
+-- the world that is held, with this history, whatever lies on channels into failed servers
+abbrev pub kept_world : Held → History → World (KeptState Tree)
+kept_world held history = record {
   servers = λ s. elim (member_at held.members s).view [ None ↦ spare | Some view ↦ view ];
   clients = λ c. get_or held.clients c nobody;
   master = held.master;
@@ -81,6 +82,10 @@ world_of held history = record {
   links = λ from to. links_of held.links from to ++ last_words held.members from to;
   history = history;
 }
+
+-- the world that it stands for: there what failed servers held is let go of
+abbrev pub world_of : Held → History → World (KeptState Tree)
+world_of held history = let_go (kept_world held history)
 
 -- no message that the process sent is still in flight
 abbrev pub SendsNothing : World (KeptState Tree) → Process → Type 0

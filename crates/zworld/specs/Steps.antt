@@ -1,7 +1,6 @@
--- What a world's calls promise. Each does what the definition says, up to failed servers
--- (Alike.antt of the world's model). The events are resolved first, since processes can run out of
--- memory. Van Renesse and Schneider, "Chain Replication for Supporting High Throughput and
--- Availability" (OSDI 2004), section 3: servers are fail-stop.
+-- What a world's calls promise. Each does what the definition says. The events are resolved first,
+-- since processes can run out of memory. Van Renesse and Schneider, "Chain Replication for
+-- Supporting High Throughput and Availability" (OSDI 2004), section 3: servers are fail-stop.
 use Rattle.std.specs.Prelude.{◌≡◌, ◌<◌, ℕ, Bool, true, false, not, List, [], ◌∷◌, ◌++◌}
 use Rattle.ztree.specs.Tree.{Tree}
 use Rattle.zcalls.specs.Kept.{KeptState}
@@ -17,7 +16,6 @@ use Rattle.zworld_model.specs.World.{World}
 use Rattle.zworld_model.specs.Events.{is_enabled, happens, run}
 use Rattle.zworld_model.specs.Reading.{read, is_fitting, IsReading}
 use Rattle.zworld_model.specs.Settle.{Settling, settle, settling_end}
-use Rattle.zworld_model.specs.Alike.{IsAlike}
 use Rattle.zworld_model.specs.PlainTree.{IsExplained}
 use Rattle.zworld_model.specs.FromTree.{CanStart, IsExplainedFrom}
 use Rattle.zworld.specs.declared.did.Did.{Did}
@@ -63,7 +61,7 @@ pub record HasHappened (v : World (KeptState Tree)) (event : Event) (did : Did) 
   -- the outcome that is returned fits the event
   pub fits : is_fitting kept_tree v event (outcome_of did) ≡ true
   -- it is the event of the definition, resolved by that outcome
-  pub leads : IsAlike (happens kept_tree v (read kept_tree v event (outcome_of did))) w
+  pub leads : happens kept_tree v (read kept_tree v event (outcome_of did)) ≡ w
 
 -- a world did an event, and this became of it
 abbrev pub HasDone : WorldView → WorldView → Event → Did → Type 0
@@ -93,7 +91,7 @@ CanWantMemoryToSettle w limit = (0 < limit) × (event : Event) × (is_of_settlin
 
 -- events led from one world to another, resolved by some outcomes
 abbrev pub HasRun : World (KeptState Tree) → List Event → World (KeptState Tree) → Type 0
-HasRun v events w = (readings : List Event) × IsReading kept_tree v events readings × IsAlike (run kept_tree v readings) w
+HasRun v events w = (readings : List Event) × IsReading kept_tree v events readings × (run kept_tree v readings ≡ w)
 
 -- some of the events, from the first on, were done, resolved by some outcomes, and this is the
 -- history
@@ -111,7 +109,7 @@ HasRunOut v events history =
 
 -- a settling ended this way, used up all outcomes but these, and led to this world
 abbrev pub Ends : Settling (KeptState Tree) → Settled → List Outcome → World (KeptState Tree) → Type 0
-Ends did settled later w = (settled ≡ settling_end did) × (did.outcomes ≡ later) × IsAlike did.world w
+Ends did settled later w = (settled ≡ settling_end did) × (did.outcomes ≡ later) × (did.world ≡ w)
 
 -- settling led from one world to another, and ended this way. It is that of the definition, by some
 -- outcomes of its events: it used up all of those, and none that would come later

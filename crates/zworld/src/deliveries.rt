@@ -6,7 +6,7 @@ ghost use Rattle.zprotocol.specs.declared.process.Process.TheVariants.{Master, S
 ghost use Rattle.zworld.specs.support.Stepped.{CanHappen, Goes, HasStepped};
 ghost use Rattle.zworld_model.specs.Events.{front_is, is_request};
 ghost use Rattle.zworld.specs.declared.did.Did.TheVariants.{Done};
-ghost use Rattle.zworld.specs.Held.{world_of};
+ghost use Rattle.zworld.specs.Held.{kept_world};
 ghost use Rattle.zworld.specs.support.Posting.{is_lost};
 ghost use Rattle.zworld.specs.support.Fronts.{HasHeard, HasPopped, IsGiven, IsGivenToServer};
 ghost use Rattle.zworld.specs.support.Fronts.{did_of};
@@ -186,7 +186,7 @@ impl Processes {
 
     // Returns whether the front of a channel is a request of a client.
     fn has_request(&self, from: &Process, to: &Process) -> bool
-        ensures { result ≡ front_is is_request ((world_of self.now []).links from.now to.now) }
+        ensures { result ≡ front_is is_request ((kept_world self.now []).links from.now to.now) }
     {
         match self.links.front(from, to) {
             Some(Message::Submit(_, _)) => true,

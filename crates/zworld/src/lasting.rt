@@ -3,7 +3,7 @@
 ghost use Rattle.std.specs.Prelude.{◌≡◌, []};
 ghost use Rattle.std.specs.List.{list_any, range_with_len};
 ghost use Rattle.zprotocol.specs.declared.limits.TheConstants.{MAX_SERVERS};
-ghost use Rattle.zworld.specs.Held.{world_of};
+ghost use Rattle.zworld.specs.Held.{kept_world};
 ghost use Rattle.zworld.specs.Last.{is_another, is_lasting, is_last};
 
 use crate::processes::Processes;
@@ -12,14 +12,14 @@ use zprotocol::{MAX_SERVERS, ServerId};
 impl Processes {
     /// Returns whether no other server lasts.
     pub(crate) fn is_last(&self, server: ServerId) -> bool
-        ensures { result ≡ is_last (world_of self.now []) server }
+        ensures { result ≡ is_last (kept_world self.now []) server }
     {
         !self.has_another(server)
     }
 
     // Returns whether another server lasts.
     fn has_another(&self, server: ServerId) -> bool
-        ensures { result ≡ list_any (is_another (world_of self.now []) server)
+        ensures { result ≡ list_any (is_another (kept_world self.now []) server)
             (range_with_len 1 MAX_SERVERS) }
     {
         for number in 1..MAX_SERVERS + 1 {
@@ -35,14 +35,14 @@ impl Processes {
 
     // Returns whether this is another server, and it lasts.
     fn is_another(&self, server: ServerId, other: ServerId) -> bool
-        ensures { result ≡ is_another (world_of self.now []) server other }
+        ensures { result ≡ is_another (kept_world self.now []) server other }
     {
         other.number() != server.number() && self.is_lasting(other)
     }
 
     // Returns whether a server runs, and has the state and stays for the master.
     fn is_lasting(&self, server: ServerId) -> bool
-        ensures { result ≡ is_lasting (world_of self.now []) server }
+        ensures { result ≡ is_lasting (kept_world self.now []) server }
     {
         if self.members[server.number() as usize - 1].has_failed() {
             return false;

@@ -7,7 +7,7 @@ ghost use Rattle.zprotocol.specs.server.Machine.{kept_tree};
 ghost use Rattle.zserver.specs.Server.{IsFresh};
 ghost use Rattle.zworld_model.specs.World.{opening_world};
 ghost use Rattle.zworld_model.specs.FromTree.{opening_world_from};
-ghost use Rattle.zworld.specs.Held.{world_of};
+ghost use Rattle.zworld.specs.Held.{kept_world};
 ghost use Rattle.zworld.specs.support.Opening.{opening_members, restored_members, opening_clients};
 
 use crate::member::Member;
@@ -26,7 +26,7 @@ impl Processes {
     /// clients.
     pub(crate) fn new(alloc: Global, last: ServerId, clients: u8) -> Result<Processes, Memory>
         requires { clients ≤ MAX_CLIENTS }
-        ensures { IfOk result (λ a. world_of a [] ≡ opening_world kept_tree last clients) }
+        ensures { IfOk result (λ a. kept_world a [] ≡ opening_world kept_tree last clients) }
     {
         last.keeps_in_range();
         let members = opening_members(alloc, last)?;
@@ -55,7 +55,7 @@ impl Processes {
     ) -> Result<Processes, Memory>
         requires few { clients ≤ MAX_CLIENTS }
         requires fresh { IsFresh snapshot.now }
-        ensures { IfOk result (λ a. world_of a []
+        ensures { IfOk result (λ a. kept_world a []
             ≡ opening_world_from snapshot.now.machine.plain last clients) }
     {
         last.keeps_in_range();

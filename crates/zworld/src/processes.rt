@@ -1,7 +1,7 @@
 //! All processes and their channels.
 
 ghost use Rattle.std.specs.Prelude.{◌≡◌, [], true, IfOk, OnErr};
-ghost use Rattle.zworld.specs.Held.{world_of};
+ghost use Rattle.zworld.specs.Held.{kept_world};
 ghost use Rattle.zworld.specs.Steps.{can_want_memory};
 ghost use Rattle.zworld.specs.support.Stepped.{Goes};
 
@@ -58,7 +58,7 @@ impl Processes {
     pub(crate) fn step(&mut self, event: Event, seen: &mut Vec<CallEvent>) -> Result<Did, Memory>
         ensures goes { IfOk result (Goes self.old self.new event seen.old seen.new) }
         ensures stays { OnErr result (seen.new.items ≡ seen.old.items) }
-        ensures needed { OnErr result (can_want_memory (world_of self.old []) event ≡ true) }
+        ensures needed { OnErr result (can_want_memory (kept_world self.old []) event ≡ true) }
     {
         match event {
             Event::Begin(client, call) => self.begin(client, call, seen),

@@ -7,7 +7,7 @@ ghost use Rattle.ztree.specs.declared.limits.TheConstants.{MAX_CLIENTS};
 ghost use Rattle.zprotocol.specs.declared.limits.TheConstants.{PROCESSES};
 ghost use Rattle.zlinks.specs.Places.{Between};
 ghost use Rattle.zworld_model.specs.Settle.{deliveries, retry_events};
-ghost use Rattle.zworld.specs.Held.{SendsNothing, world_of};
+ghost use Rattle.zworld.specs.Held.{SendsNothing, kept_world};
 ghost use Rattle.zworld.specs.Did.{is_idle, is_short};
 ghost use Rattle.zworld.specs.support.Stepped.{Settles};
 ghost use Rattle.zworld.specs.support.Settling.{CanRunOut, StillOrCould};
@@ -145,7 +145,7 @@ impl Processes {
     fn next_sender(&self, at: usize) -> usize
         ensures few { result ≤ PROCESSES }
         ensures ahead { at ≤ PROCESSES → at ≤ result }
-        ensures silent { Between at result (SendsNothing (world_of self.now [])) }
+        ensures silent { Between at result (SendsNothing (kept_world self.now [])) }
     {
         let next = self.links.next_sender(at);
         if self.owing == 0 {

@@ -1,24 +1,23 @@
 -- Worlds that are alike have the same events enabled, and stay alike.
-use Rattle.std.proofs.Common.{◌≡◌, ℕ, Bool, true, false, if◌then◌else◌, List, [], ◌∷◌, ◌++◌, Option, Some, None, refl, sym, ap, subst, ◌∙◌}
+use Rattle.std.proofs.Common.{◌≡◌, ℕ, Bool, true, false, if◌then◌else◌, List, [], ◌∷◌, ◌++◌, refl, sym, ap, subst, ◌∙◌}
 use mathlib.Core.Bool.{true≢false}
 use Rattle.std.specs.Prelude.{◌&&◌, not, ◌==◌, drop}
-use Rattle.zprotocol.specs.declared.message.Message.TheVariants as message
 use Rattle.zprotocol.specs.declared.process.Process.{Process}
 use Rattle.zprotocol.specs.declared.process.Process.TheVariants.{Master, Server, Client}
 use Rattle.zprotocol.specs.server.Machine.{Does}
-use Rattle.zprotocol.specs.server.View.{ServerView, Transfer, MessageOf, Post}
+use Rattle.zprotocol.specs.server.View.{ServerView, MessageOf, Post, spare}
 use Rattle.zprotocol.specs.server.Table as server
 use Rattle.zworld_model.specs.declared.event.Event.{Event}
 use Rattle.zworld_model.specs.declared.event.Event.TheVariants.{Begin, Retry, Take, Ignore, Fail, Order}
 use Rattle.zworld_model.specs.Links.{Links, put, without_front, is_same, messages_to}
 use Rattle.zworld_model.specs.World.{World, at}
 use Rattle.zworld_model.specs.Does.{AtServer, Hear, Effect, server_effect, stop_effect, last_post, does}
-use Rattle.zworld_model.specs.Events.{front_is, is_request, has_failed, is_enabled, did_in, does_in, front_step, acts, happens, run}
+use Rattle.zworld_model.specs.Events.{front_is, is_request, has_failed, is_enabled, did_in, does_in, front_step, acts, let_go, happens, run}
 use Rattle.zworld_model.specs.declared.outcome.Outcome.{Outcome}
 use Rattle.zworld_model.specs.declared.outcome.Outcome.TheVariants.{Acted, Stopped, Unheard}
 use Rattle.zprotocol.specs.server.Memory.{may_be_unheard, may_stop}
 use Rattle.zworld_model.specs.Reading.{is_delivery, is_fitting, reading_by, read}
-use Rattle.zworld_model.specs.Alike.{IsAlike}
+use Rattle.zworld_model.specs.support.Alike.{IsAlike}
 
 -- the links agree where it matters in the world
 abbrev Agree : {M : Type 0} → World M → Links M → Links M → Type 0
@@ -33,6 +32,40 @@ put_agrees v links others sender posts agree from to alive = ap (λ link. if is_
 front_agrees : {M : Type 0} (v : World M) (links others : Links M) (sender taker : Process)
     → Agree v links others → Agree v (without_front links sender taker) (without_front others sender taker)
 front_agrees v links others sender taker agree from to alive = ap (λ link. if is_same from sender && is_same to taker then drop 1 link else link) (agree from to alive)
+
+-- what is let go of doesn't hang on what failed servers held
+forgets : {A : Type 0} (b : Bool) (none x y : A) → (b ≡ false → x ≡ y) → (if b then none else x) ≡ (if b then none else y)
+forgets true none x y same = refl
+forgets false none x y same = same refl
+
+go_in : {M : Type 0} (v : World M) (others : ℕ → ServerView M) (links : Links M) → IsAlike v (record v { servers = others; links = links })
+    → let_go v ≡ let_go (record v { servers = others; links = links })
+go_in v others links alike = λ i. record v {
+  servers = λ s. forgets (v.failed s) spare (v.servers s) (others s) (alike.servers s) i;
+  links = λ from to. forgets (has_failed v to) [] (v.links from to) (links from to) (alike.links from to) i;
+}
+
+pub alike_let_go : {M : Type 0} (v w : World M) → IsAlike v w → let_go v ≡ let_go w
+alike_let_go v w alike = go_in v w.servers w.links (subst (IsAlike v) alike.rest alike) ∙ ap let_go (sym alike.rest)
+
+-- a world is like itself
+pub alike_itself : {M : Type 0} (w : World M) → IsAlike w w
+alike_itself w = record { rest = refl; servers = λ s alive. refl; links = λ from to alive. refl }
+
+-- and like the one that has let go
+pub alike_gone : {M : Type 0} (w : World M) → IsAlike w (let_go w)
+alike_gone w = record {
+  rest = refl;
+  servers = λ s alive. ap (λ b. if b then spare else w.servers s) (sym alive);
+  links = λ from to alive. ap (λ b. if b then [] else w.links from to) (sym alive);
+}
+
+pub alike_back : {M : Type 0} (w : World M) → IsAlike (let_go w) w
+alike_back w = record {
+  rest = refl;
+  servers = λ s alive. ap (λ b. if b then spare else w.servers s) alive;
+  links = λ from to alive. ap (λ b. if b then [] else w.links from to) alive;
+}
 
 -- a taker of an enabled delivery has not failed
 not_failed : (front failed : Bool) → (front && not failed) ≡ true → failed ≡ false
@@ -153,7 +186,8 @@ module _ {M : Type 0} (machine : Does M) (v : World M) (others : ℕ → ServerV
   -- an event that is enabled in both, or in neither
   happens_as : (event : Event) (b : Bool) → is_enabled v event ≡ b → is_enabled other event ≡ b
       → IsAlike (happens machine v event) (happens machine other event)
-  happens_as event true here there = rw (here, there) (acts_alike event here)
+  happens_as event true here there =
+      rw (here, there) (subst (IsAlike (let_go (acts machine v event))) (alike_let_go _ _ (acts_alike event here)) (alike_itself (let_go (acts machine v event))))
   happens_as event false here there = rw (here, there) as_they_are
 
   -- an event
@@ -165,6 +199,11 @@ pub have_the_same_enabled : {M : Type 0} (machine : Does M) (v w : World M) (eve
 have_the_same_enabled machine v w event alike =
     enabled_alike machine v w.servers w.links alike.servers alike.links event ∙ ap (λ u. is_enabled u event) (sym alike.rest)
 
+-- do the same at an event that is enabled
+pub alike_acts : {M : Type 0} (machine : Does M) (v w : World M) (event : Event) → IsAlike v w → is_enabled v event ≡ true → IsAlike (acts machine v event) (acts machine w event)
+alike_acts machine v w event alike enabled =
+    subst (λ u. IsAlike (acts machine v event) (acts machine u event)) (sym alike.rest) (acts_alike machine v w.servers w.links alike.servers alike.links event enabled)
+
 -- and stay alike
 pub stay_alike : {M : Type 0} (machine : Does M) (v w : World M) (events : List Event) → IsAlike v w → IsAlike (run machine v events) (run machine w events)
 stay_alike machine v w [] alike = alike
@@ -172,10 +211,6 @@ stay_alike machine v w (event ∷ events) alike =
     stay_alike machine (happens machine v event) (happens machine w event) events
     (subst (λ u. IsAlike (happens machine v event) (happens machine u event)) (sym alike.rest)
     (happens_alike machine v w.servers w.links alike.servers alike.links event))
-
--- a world is like itself
-pub alike_itself : {M : Type 0} (w : World M) → IsAlike w w
-alike_itself w = record { rest = refl; servers = λ s alive. refl; links = λ from to alive. refl }
 
 -- who failed in one failed in the other
 same_failed : {M : Type 0} (u v : World M) → IsAlike u v → (to : Process) → has_failed u to ≡ has_failed v to

@@ -11,6 +11,7 @@ pub mod Orders
 pub mod Lives
 pub mod Tables
 pub mod Alike
+pub mod Keeping
 pub mod Retiring
 pub mod Settling
 pub mod LogWorlds

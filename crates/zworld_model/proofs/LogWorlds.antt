@@ -21,11 +21,10 @@ use Rattle.zworld_model.specs.declared.event.Event.{Event}
 use Rattle.zworld_model.specs.declared.event.Event.TheVariants.{Begin, Retry, Take, Ignore, Fail, Order}
 use Rattle.zworld_model.specs.Links.{Links, put, without_front, is_same, messages_to}
 use Rattle.zworld_model.specs.World.{World, at, opening_world}
-use Rattle.zworld_model.specs.Does as given
 use Rattle.zworld_model.specs.Does.{AtClient, Hear, Effect, master_effect, server_effect, stop_effect, client_effect, begin_effect, answer_told, last_post}
 use Rattle.zworld_model.specs.declared.history.CallEvent.TheVariants as call_event
 use Rattle.zworld_model.specs.History.{History}
-use Rattle.zworld_model.specs.Events.{front_is, is_request, has_failed, is_enabled, goes_on, did_in, does_in, front_step, acts, happens, run}
+use Rattle.zworld_model.specs.Events.{front_is, is_request, has_failed, is_enabled, goes_on, did_in, does_in, front_step, acts, let_go, happens, run}
 use Rattle.zworld_model.specs.support.LogWorld.{world_with}
 
 module _ {M N : Type 0} (h : M → N) where
@@ -127,6 +126,17 @@ module _ {M N : Type 0} (h : M → N) where
   failed_with w (Server s) = refl
   failed_with w (Client c) = refl
 
+  -- what is let go of
+  gone_if : (b : Bool) (link : List (MessageOf M)) → (if b then [] else map (message_with h) link) ≡ map (message_with h) (if b then [] else link)
+  gone_if true link = refl
+  gone_if false link = refl
+
+  let_go_with : (w : World M) → let_go (world_with h w) ≡ world_with h (let_go w)
+  let_go_with w = λ i. record (world_with h w) {
+    servers = λ s. at_if (w.failed s) spare (w.servers s) i;
+    links = λ from to. (ap (λ b. if b then [] else map (message_with h) (w.links from to)) (failed_with w to) ∙ gone_if (has_failed w to) (w.links from to)) i;
+  }
+
   -- the same events are enabled
   pub enabled_with : (w : World M) (event : Event) → is_enabled (world_with h w) event ≡ is_enabled w event
   enabled_with w (Begin c call) = refl
@@ -190,8 +200,8 @@ module _ {M N : Type 0} (h : M → N) where
 
     -- where it can happen
     happens_if : (b : Bool) (w acted : World M) (acted' : World N) → acted' ≡ world_with h acted
-        → (if b then acted' else world_with h w) ≡ world_with h (if b then acted else w)
-    happens_if true w acted acted' did = did
+        → (if b then let_go acted' else world_with h w) ≡ world_with h (if b then let_go acted else w)
+    happens_if true w acted acted' did = ap let_go did ∙ let_go_with acted
     happens_if false w acted acted' did = refl
 
     happens_with : (w : World M) (event : Event) → happens e (world_with h w) event ≡ world_with h (happens d w event)

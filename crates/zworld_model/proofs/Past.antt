@@ -11,7 +11,7 @@ use Rattle.zworld_model.specs.Links.{put, without_front}
 use Rattle.zworld_model.specs.World.{World}
 use Rattle.zworld_model.specs.Does as given
 use Rattle.zworld_model.specs.Does.{Standing, AtMaster, AtServer, AtClient, Out, Input, Hear, Obey, Stop, Effect, does}
-use Rattle.zworld_model.specs.Events.{is_enabled, with_standing, goes_on, did_in, does_in, front_step, acts, happens, run}
+use Rattle.zworld_model.specs.Events.{is_enabled, with_standing, goes_on, did_in, does_in, front_step, acts, let_go, happens, run}
 
 -- the world, with more history before its own
 abbrev pub with_past : {M : Type 0} → History → World M → World M
@@ -58,7 +58,7 @@ module _ {M : Type 0} (machine : Does M) (past : History) where
 
   happens_by : (w : World M) (event : Event) (b : Bool) → is_enabled w event ≡ b
       → happens machine (with_past past w) event ≡ with_past past (happens machine w event)
-  happens_by w event true enabled = rw enabled (acts_past w event)
+  happens_by w event true enabled = rw enabled (ap let_go (acts_past w event))
   happens_by w event false enabled = rw enabled refl
 
   pub run_past : (w : World M) (events : List Event) → run machine (with_past past w) events ≡ with_past past (run machine w events)

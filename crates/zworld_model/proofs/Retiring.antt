@@ -1,5 +1,5 @@
--- A server that takes an order to retire is like one that failed at that moment.
-use Rattle.std.proofs.Common.{◌≡◌, ℕ, Bool, true, false, if◌then◌else◌, List, [], ◌∷◌, ◌++◌, refl, sym, ap, ◌∙◌, inl, inr}
+-- A server that takes an order to retire is as one that failed at that moment.
+use Rattle.std.proofs.Common.{◌≡◌, ℕ, Bool, true, false, if◌then◌else◌, List, ◌∷◌, ◌++◌, refl, sym, ap, ◌∙◌, inl, inr}
 use mathlib.Core.Bool.{true≢false}
 use Rattle.std.specs.Prelude.{not, ◌==◌}
 use Rattle.zcalls.proofs.Among.{test}
@@ -14,7 +14,8 @@ use Rattle.zworld_model.specs.World.{World}
 use Rattle.zprotocol.specs.Places.{is_server}
 use Rattle.zworld_model.specs.Does.{stop_effect, last_post}
 use Rattle.zworld_model.specs.Events.{has_failed, did_in, happens, is_enabled}
-use Rattle.zworld_model.specs.Alike.{IsAlike}
+use Rattle.zworld_model.specs.support.Alike.{IsAlike}
+use Rattle.zworld_model.proofs.Alike.{alike_let_go}
 use Rattle.zworld_model.proofs.Tests.{both}
 
 -- no more than a test that holds
@@ -52,8 +53,8 @@ module _ {M : Type 0} (machine : Does M) (w : World M) (s : ℕ) (more : List (M
 
   -- a retired server has failed
   pub retired_have_failed : w.links Master (Server s) ≡ message.Retire ∷ more → is_enabled w (Fail s) ≡ true
-      → IsAlike (happens machine w (Fail s)) (happens machine w (Take Master (Server s)))
+      → happens machine w (Fail s) ≡ happens machine w (Take Master (Server s))
   retired_have_failed front enabled =
       let alive : w.failed s ≡ false = not_true (w.failed s) (both (is_server s) (not (w.failed s)) enabled).1 in
       let takes : is_enabled w (Take Master (Server s)) ≡ true = rw (front, alive) refl in
-      rw (enabled, takes, front) stopped_alike
+      rw (enabled, takes, front) (alike_let_go _ _ stopped_alike)

@@ -12,7 +12,7 @@ use Rattle.zworld_model.specs.declared.event.Event.TheVariants.{Begin, Retry, Ta
 use Rattle.zworld_model.specs.Links.{without_front}
 use Rattle.zworld_model.specs.World.{World}
 use Rattle.zworld_model.specs.Does.{Hear, server_effect, stop_effect}
-use Rattle.zworld_model.specs.Events.{is_enabled, did_in, does_in, front_step, acts, happens, run}
+use Rattle.zworld_model.specs.Events.{is_enabled, did_in, does_in, front_step, acts, let_go, happens, run}
 use Rattle.zworld_model.specs.FromTree.{EventsForgetTheStart, RunsForgetTheStart}
 
 module _ {M : Type 0} (does : Does M) (start : M) where
@@ -39,7 +39,7 @@ module _ {M : Type 0} (does : Does M) (start : M) where
   same_acts w (Order order) = refl
 
   pub same_happens : (w : World M) (event : Event) → happens other w event ≡ happens does w event
-  same_happens w event = ap (λ u. if is_enabled w event then u else w) (same_acts w event)
+  same_happens w event = ap (λ u. if is_enabled w event then let_go u else w) (same_acts w event)
 
   pub same_run : (w : World M) (events : List Event) → run other w events ≡ run does w events
   same_run w [] = refl

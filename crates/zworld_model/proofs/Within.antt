@@ -1,5 +1,5 @@
 -- In every run from an opening all that is on links is between processes of the world.
-use Rattle.std.proofs.Common.{◌≡◌, ℕ, ◌+◌, Bool, true, false, if◌then◌else◌, nat_lt, ◌==◌, List, [], ◌∷◌, ◌++◌, Option, Some, None, refl, sym, ap, subst, ◌∙◌, inl, inr, eqb-true}
+use Rattle.std.proofs.Common.{◌≡◌, ℕ, ◌+◌, Bool, true, false, if◌then◌else◌, nat_lt, ◌==◌, List, [], ◌∷◌, ◌++◌, Some, None, refl, sym, ap, subst, ◌∙◌, inl, inr, eqb-true}
 use mathlib.Core.Bool.{true≢false}
 use Rattle.std.specs.Prelude.{◌&&◌, not, drop, is_some}
 use Rattle.std.specs.List.{AllByRecursion}
@@ -10,7 +10,7 @@ use Rattle.zprotocol.specs.declared.message.Message.TheVariants as message
 use Rattle.zprotocol.specs.declared.process.Process.{Process}
 use Rattle.zprotocol.specs.declared.process.Process.TheVariants.{Master, Server, Client}
 use Rattle.zprotocol.specs.server.Machine.{Does}
-use Rattle.zprotocol.specs.server.View.{ServerView, Transfer, MessageOf, Post}
+use Rattle.zprotocol.specs.server.View.{ServerView, Transfer, MessageOf, Post, spare}
 use Rattle.zprotocol.specs.server.Table.{is_retirement, server_step}
 use Rattle.zprotocol.proofs.server_lemmas.Cases.{server_case}
 use Rattle.zprotocol.specs.master.View.{MasterView}
@@ -30,7 +30,7 @@ use Rattle.zworld_model.specs.History.{History}
 use Rattle.zworld_model.specs.Does as given
 use Rattle.zworld_model.specs.declared.history.CallEvent.TheVariants as call_event
 use Rattle.zworld_model.specs.Does.{AtClient, Hear, server_effect, stop_effect, answer_told}
-use Rattle.zworld_model.specs.Events.{is_enabled, did_in, does_in, front_step, acts, happens, run}
+use Rattle.zworld_model.specs.Events.{has_failed, is_enabled, did_in, does_in, front_step, acts, let_go, happens, run}
 use Rattle.zworld_model.proofs.Effects.{by_choice}
 use Rattle.zworld_model.specs.support.Within.{is_process, SpeaksWithin, GoesWithin, IsViewWithin, IsClientWithin, AreLinksWithin, IsWithin}
 use Rattle.zworld_model.proofs.Processes.{same_process}
@@ -224,10 +224,29 @@ module _ (M : Type 0) (n : ℕ) where
         let same : IsMasterWithin n w.master = record { counted = within.counted; chain = within.chain; used = within.used } in
         master_acts w (order_step w.master order) within (order_within M n w.master order same (both (is_server (server_of order)) _ enabled).0)
 
+    -- what is left where failed servers let go
+    view_left : (b : Bool) (v : ServerView M) → IsViewWithin n v → IsViewWithin n (if b then spare else v)
+    view_left true v within = record { near_pred = tt; near_succ = tt; of_clients = tt }
+    view_left false v within = within
+
+    link_left : (b : Bool) (m : MessageOf M) (link : List (MessageOf M)) → Among m (if b then [] else link) → Among m link
+    link_left true m link among = absurd among
+    link_left false m link among = among
+
+    left_within : (w : World M) → IsWithin n w → IsWithin n (let_go w)
+    left_within w within = record {
+      counted = within.counted;
+      chain = within.chain;
+      used = within.used;
+      views = λ s. view_left (w.failed s) (w.servers s) (within.views s);
+      callers = within.callers;
+      sent = λ from to m among. within.sent from to m (link_left (has_failed w to) m (w.links from to) among);
+    }
+
     -- an event, and a run
     happens_within : (w : World M) (event : Event) → IsWithin n w → IsWithin n (happens machine w event)
     happens_within w event within = elim (test (is_enabled w event)) [
-      | inl enabled ↦ rw enabled (acts_within w event within enabled)
+      | inl enabled ↦ rw enabled (left_within (acts machine w event) (acts_within w event within enabled))
       | inr not ↦ rw not within
     ]
 

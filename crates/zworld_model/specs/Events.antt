@@ -3,13 +3,13 @@
 -- says (Does.antt): it stands somewhere else then, and what it sends is put on its outgoing channels.
 -- Van Renesse and Schneider, "Chain Replication for Supporting High Throughput and Availability"
 -- (OSDI 2004), sections 2 and 3: a request may be ignored, servers fail for good, channels keep order.
-use Rattle.std.specs.Prelude.{ℕ, Bool, true, false, ◌&&◌, not, nat_lt, if◌then◌else◌, List, [], ◌∷◌, ◌++◌}
+use Rattle.std.specs.Prelude.{Bool, true, false, ◌&&◌, not, nat_lt, if◌then◌else◌, List, [], ◌∷◌, ◌++◌}
 use Rattle.zprotocol.specs.declared.message.Message.TheVariants as message
 use Rattle.zprotocol.specs.declared.process.Process.{Process}
 use Rattle.zprotocol.specs.declared.process.Process.TheVariants.{Master, Server, Client}
 use Rattle.zprotocol.specs.server.Machine.{Does}
 use Rattle.zprotocol.specs.Places.{is_server}
-use Rattle.zprotocol.specs.server.View.{MessageOf}
+use Rattle.zprotocol.specs.server.View.{MessageOf, spare}
 use Rattle.zworld_model.specs.declared.event.Event.{Event}
 use Rattle.zworld_model.specs.declared.event.Event.TheVariants.{Begin, Retry, Take, Ignore, Fail, Order}
 use Rattle.zworld_model.specs.History.{History}
@@ -50,8 +50,7 @@ is_enabled w (Ignore from to) = front_is is_request (w.links from to) && not (ha
 is_enabled w (Fail s) = is_server s && not (w.failed s)
 is_enabled w (Order order) = accepts Master (Obey order) (standing_of w Master)
 
--- a process stands somewhere else. A server that takes no part any more has failed; it keeps its
--- view and what is on channels into it, and nobody sees them again (Alike.antt)
+-- a process stands somewhere else; a server that takes no part any more has failed
 abbrev pub with_standing : {M : Type 0} → World M → Process → Standing M → World M
 with_standing w Master (AtMaster v) = record w { master = v }
 with_standing w (Server s) (AtServer v) = record w { servers = at s v w.servers }
@@ -87,9 +86,18 @@ acts machine w (Ignore from to) = record w { links = without_front w.links from 
 acts machine w (Fail s) = does_in machine w (Server s) Stop
 acts machine w (Order order) = does_in machine w Master (Obey order)
 
--- an event that isn't enabled changes nothing
+-- what a failed server held is let go of: its view, and what is on channels into it. It receives
+-- nothing more, and sends nothing more
+abbrev pub let_go : {M : Type 0} → World M → World M
+let_go w = record w {
+  servers = λ s. if w.failed s then spare else w.servers s;
+  links = λ from to. if has_failed w to then [] else w.links from to;
+}
+
+-- an event that is enabled acts, and what failed servers held is let go of; one that isn't changes
+-- nothing
 abbrev pub happens : {M : Type 0} → Does M → World M → Event → World M
-happens machine w event = if is_enabled w event then acts machine w event else w
+happens machine w event = if is_enabled w event then let_go (acts machine w event) else w
 
 -- a run: the events one after the other
 abbrev pub run : {M : Type 0} → Does M → World M → List Event → World M

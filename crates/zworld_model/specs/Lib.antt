@@ -10,6 +10,6 @@ pub mod Does
 pub mod Events
 pub mod Reading
 pub mod Settle
-pub mod Alike
+pub mod Keeping
 pub mod Laws
 pub mod support

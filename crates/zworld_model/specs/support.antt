@@ -2,6 +2,7 @@ pub mod LogWorld
 pub mod Learning
 pub mod Within
 pub mod Counter
+pub mod Alike
 pub mod OrderRows
 pub mod RunRows
 pub mod StepRows

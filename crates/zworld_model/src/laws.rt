@@ -9,9 +9,8 @@ ghost use Rattle.zcalls.specs.declared.call.Call.TheVariants as call;
 ghost use Rattle.zcalls.specs.PlainTree.{plain_tree};
 ghost use Rattle.zcalls.specs.Step.{step, query_reply};
 ghost use Rattle.zworld_model.specs.PlainTree.{service_of, serve};
-ghost use Rattle.zworld_model.specs.Alike.{HaveTheSameEnabled, StayAlike, ReadAlike};
-ghost use Rattle.zworld_model.specs.Alike.{HaveTheSameOutcomes, AreAlikeThemselves, AlikeIsTransitive};
-ghost use Rattle.zworld_model.specs.Alike.{RetiredHaveFailed};
+ghost use Rattle.zworld_model.specs.Keeping.{KeepingDoesTheSame, KeepingHasTheSameEnabled};
+ghost use Rattle.zworld_model.specs.Keeping.{RetiredHaveFailed};
 ghost use Rattle.zprotocol.specs.server.Machine.{kept_tree};
 ghost use Rattle.zworld_model.specs.FromTree.{EventsForgetTheStart, RunsForgetTheStart};
 ghost use Rattle.zworld_model.specs.Lives.{TwoLivesAreOne, TheSecondLifeLeavesTheTree};
@@ -29,18 +28,14 @@ pub fn log_world_stands_for_the_world()
     ensures enabled { LogWorldHasTheSameEnabled }
 {}
 
-/// Worlds that are equal up to failed servers have the same events enabled, and stay so in every
-/// run. So they have one history. Events resolve alike in them, and can have the same outcomes.
+/// A world that keeps what failed servers held does the same as one that lets go of it, in every
+/// run. So they have one history.
 pub fn failed_servers_do_not_matter()
-    ensures enabled { HaveTheSameEnabled }
-    ensures alike { StayAlike }
-    ensures reading { ReadAlike }
-    ensures outcomes { HaveTheSameOutcomes }
-    ensures itself { AreAlikeThemselves }
-    ensures through { AlikeIsTransitive }
+    ensures run { KeepingDoesTheSame }
+    ensures enabled { KeepingHasTheSameEnabled }
 {}
 
-/// A server that receives an order to retire is like one that failed at that moment.
+/// A server that receives an order to retire is as one that failed at that moment.
 pub fn retired_servers_have_failed()
     ensures { RetiredHaveFailed }
 {}

@@ -5,7 +5,6 @@ use Rattle.zprotocol.specs.declared.process.Process.{Process}
 use Rattle.zprotocol.specs.server.Machine.{kept_tree}
 use Rattle.zworld_model.specs.declared.event.Event.{Event}
 use Rattle.zworld_model.specs.Events.{happens}
-use Rattle.zworld_model.specs.Alike.{IsAlike}
 use Rattle.zworld.specs.Steps.{WorldView, world_in}
 use Rattle.ztraces.specs.declared.trace.Act.{Act}
 use Rattle.ztraces.specs.declared.trace.Traces.{Traces}
@@ -15,7 +14,7 @@ use Rattle.ztraces.specs.support.Places.{place_count, unread, HasReplayed, IsAll
 -- an event is in its place, and happens
 abbrev pub HappensInPlace : WorldView → Event → WorldView → Type 0
 HappensInPlace old event new =
-    (is_in_place (world_in old) event ≡ true) × IsAlike (happens kept_tree (world_in old) event) (world_in new)
+    (is_in_place (world_in old) event ≡ true) × (happens kept_tree (world_in old) event ≡ world_in new)
 
 -- it isn't in its place
 abbrev pub CannotHappen : WorldView → Event → Type 0
@@ -25,7 +24,7 @@ CannotHappen world event = is_in_place (world_in world) event ≡ false
 abbrev pub ActsInPlace : WorldView → Process → Act → WorldView → Type 0
 ActsInPlace old process act new =
     (is_step_in_place (world_in old) (event_of process act) ≡ true)
-    × IsAlike (step_happens kept_tree (world_in old) (event_of process act)) (world_in new)
+    × (step_happens kept_tree (world_in old) (event_of process act) ≡ world_in new)
 
 -- the step stands for none, or for one that isn't in its place
 abbrev pub CannotAct : WorldView → Process → Act → Type 0

@@ -5,7 +5,6 @@ use Rattle.zworld_model.specs.declared.event.Event.{Event}
 use Rattle.zworld_model.specs.declared.history.CallEvent.TheVariants as call_event
 use Rattle.zworld_model.specs.declared.outcome.Outcome.{Outcome}
 use Rattle.zworld_model.specs.History.{History}
-use Rattle.zworld_model.specs.Alike.{IsAlike}
 use Rattle.zlines.specs.declared.request.LineFault.{LineFault}
 use Rattle.zlines.specs.declared.request.LineFault.TheVariants as line_fault
 use Rattle.zlines.specs.Texts.{Writes}
@@ -55,7 +54,7 @@ called_text history =
 
 -- the effect led to a world, and used up none of the outcomes that follow
 pub record LeadsTo (effect : LineEffect) (new : ServiceWorld) (own : Option (ℕ × ℕ)) (result : List ℕ) (later : List Outcome) : Type 0 where
-  pub alike : IsAlike effect.did.world new
+  pub led : effect.did.world ≡ new
   pub left : effect.did.outcomes ≡ later
   pub owned : effect.own ≡ own
   pub answered : effect.result ≡ result

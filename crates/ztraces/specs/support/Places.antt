@@ -9,7 +9,6 @@ use Rattle.ztree.specs.Tree.{Tree}
 use Rattle.zcalls.specs.Kept.{KeptState}
 use Rattle.zprotocol.specs.server.Machine.{kept_tree}
 use Rattle.zworld_model.specs.World.{World}
-use Rattle.zworld_model.specs.Alike.{IsAlike}
 use Rattle.ztraces.specs.Traces.{Step, trace_of, Merges, BeginsMerge, are_in_place}
 use Rattle.ztraces.specs.Audit.{opening_of, world_after_steps}
 
@@ -60,12 +59,11 @@ abbrev pub unread : Traces → List ℕ → ℕ → ℕ
 unread t read zero = 0
 unread t read (suc n) = (length (trace_of t (process_at t n)) - get_or read n 0) + unread t read n
 
--- so far these steps were replayed, each in its place, and led to a world that is equal up to
--- failed servers
+-- so far these steps were replayed, each in its place, and led to this world
 abbrev pub HasReplayed : Traces → List ℕ → World (KeptState Tree) → Type 0
 HasReplayed t read w =
     (steps : List Step) × Merges (trace_of t) steps (rest_of t read) × (are_in_place kept_tree (opening_of t) steps ≡ true)
-    × IsAlike (world_after_steps t steps) w
+    × (world_after_steps t steps ≡ w)
 
 -- no event is left
 abbrev pub IsAllRead : Traces → List ℕ → Type 0

@@ -16,13 +16,13 @@ use Rattle.zworld_model.specs.World.{World}
 use Rattle.zprotocol.specs.Places.{is_server}
 use Rattle.zworld_model.specs.Does.{Hear}
 use Rattle.zworld_model.specs.Events.{does_in, acts}
-use Rattle.zworld_model.specs.Alike.{IsAlike}
+use Rattle.zworld_model.specs.support.Alike.{IsAlike}
 use Rattle.zcalls.specs.declared.reply.Reply.{Reply}
 use Rattle.zserver.specs.declared.stopped.Stopped.{Stopped}
 use Rattle.zserver.specs.declared.stopped.Stopped.TheVariants.{Memory, Retired}
 use Rattle.zworld.specs.declared.did.Did.{Did}
 use Rattle.zworld.specs.declared.did.Did.TheVariants as did
-use Rattle.zworld.specs.Held.{Held, world_of}
+use Rattle.zworld.specs.Held.{Held, kept_world}
 use Rattle.zworld.specs.support.Stepped.{Seen}
 
 -- the number of the call that a message answers
@@ -42,15 +42,15 @@ without w from to = record w { links = without_front w.links from to }
 
 -- the front of a channel was removed, if there was one
 abbrev pub HasPopped : Held → Process → Process → Option (MessageOf (KeptState Tree)) → Held → Type 0
-HasPopped old from to None new = ((world_of old []).links from to ≡ []) × (new ≡ old)
+HasPopped old from to None new = ((kept_world old []).links from to ≡ []) × (new ≡ old)
 HasPopped old from to (Some message) new =
-    (rest : List (MessageOf (KeptState Tree))) × ((world_of old []).links from to ≡ message ∷ rest)
-    × ((history : History) → world_of new history ≡ without (world_of old history) from to)
+    (rest : List (MessageOf (KeptState Tree))) × ((kept_world old []).links from to ≡ message ∷ rest)
+    × ((history : History) → kept_world new history ≡ without (kept_world old history) from to)
 
 -- the receiver acted on a message, and the history goes on with this
 abbrev pub IsGiven : Held → Process → Process → MessageOf (KeptState Tree) → History → Held → Type 0
 IsGiven old from to message told new =
-    (history : History) → IsAlike (does_in kept_tree (world_of old history) to (Hear from message)) (world_of new (history ++ told))
+    (history : History) → IsAlike (does_in kept_tree (kept_world old history) to (Hear from message)) (kept_world new (history ++ told))
 
 -- a client received a message and acted on it, and the history goes on with what it handed out
 abbrev pub HasHeard : Held → Held → Process → ℕ → MessageOf (KeptState Tree) → (before after : Seen) → Type 0
@@ -67,7 +67,7 @@ abbrev pub IsGivenToServer : Held → Process → ℕ → MessageOf (KeptState T
 IsGivenToServer old from s message new did.Done = IsGiven old from (Server s) message [] new
 IsGivenToServer old from s message new (did.Idle why) = ⊥
 IsGivenToServer old from s message new did.Unheard =
-    (new ≡ old) × (may_be_unheard kept_tree ((world_of old []).servers s) from message ≡ true)
+    (new ≡ old) × (may_be_unheard kept_tree ((kept_world old []).servers s) from message ≡ true)
 IsGivenToServer old from s message new did.Stopped =
-    (is_server s ≡ true) × (may_stop kept_tree ((world_of old []).servers s) from message ≡ true)
-    × ((history : History) → IsAlike (acts kept_tree (world_of old history) (Fail s)) (world_of new history))
+    (is_server s ≡ true) × (may_stop kept_tree ((kept_world old []).servers s) from message ≡ true)
+    × ((history : History) → IsAlike (acts kept_tree (kept_world old history) (Fail s)) (kept_world new history))

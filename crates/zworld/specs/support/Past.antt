@@ -10,7 +10,6 @@ use Rattle.zworld_model.specs.World.{World}
 use Rattle.zprotocol.specs.Places.{is_server}
 use Rattle.zworld_model.specs.Events.{happens}
 use Rattle.zworld_model.specs.Reading.{read}
-use Rattle.zworld_model.specs.Alike.{IsAlike}
 use Rattle.zworld_model.specs.FromTree.{CanStart, world_after_from}
 use Rattle.zworld.specs.Held.{Held, world_of}
 
@@ -29,10 +28,10 @@ pub record HasPast (is_restored has_forgotten is_broken : Bool) (held : Held) (h
   pub opens : is_server servers ≡ true
   pub whole : has_forgotten ≡ false → past ≡ []
   pub told : (world_after_from tree servers clients events).history ≡ past ++ history
-  pub stands : is_broken ≡ false → IsAlike (world_after_from tree servers clients events) (world_of held (past ++ history))
+  pub stands : is_broken ≡ false → world_after_from tree servers clients events ≡ world_of held (past ++ history)
 
 -- the events lead from one world to another, one after the other, each resolved by some outcome
 abbrev pub LeadRead : World (KeptState Tree) → List Event → World (KeptState Tree) → Type 0
-LeadRead v [] w = IsAlike v w
+LeadRead v [] w = v ≡ w
 LeadRead v (event ∷ events) w =
-    (outcome : Outcome) × (u : World (KeptState Tree)) × IsAlike (happens kept_tree v (read kept_tree v event outcome)) u × LeadRead u events w
+    (outcome : Outcome) × LeadRead (happens kept_tree v (read kept_tree v event outcome)) events w

@@ -11,8 +11,8 @@ use Rattle.zworld_model.specs.declared.event.Event.TheVariants.{Take}
 use Rattle.zworld_model.specs.declared.outcome.Outcome.{Outcome}
 use Rattle.zworld_model.specs.History.{History}
 use Rattle.zworld_model.specs.Settle.{Settling, with_tries, passes, deliveries}
-use Rattle.zworld_model.specs.Alike.{IsAlike}
-use Rattle.zworld.specs.Held.{Held, world_of}
+use Rattle.zworld_model.specs.support.Alike.{IsAlike}
+use Rattle.zworld.specs.Held.{Held, kept_world}
 use Rattle.zworld.specs.Steps.{AreActed, CanWantMemoryToSettle}
 use Rattle.zworld.specs.support.Stepped.{Seen}
 
@@ -23,7 +23,7 @@ TreeSettling = Settling (KeptState Tree)
 -- a settling is where the processes are: this many more events may be done, and these are the
 -- outcomes to come
 pub record StandsAt (held : Held) (history : History) (more : ℕ) (rest : List Outcome) (s : TreeSettling) : Type 0 where
-  pub alike : IsAlike s.world (world_of held history)
+  pub alike : IsAlike s.world (kept_world held history)
   pub remaining : s.left ≡ more
   pub coming : s.outcomes ≡ rest
 
@@ -84,7 +84,7 @@ GoOn after before = (given : History) × (after ≡ before ++ given)
 
 -- settling that goes on from what is held, with so many more events, can run out of memory
 abbrev pub CanRunOut : Held → (left : ℕ) → Type 0
-CanRunOut held left = CanWantMemoryToSettle (world_of held []) left
+CanRunOut held left = CanWantMemoryToSettle (kept_world held []) left
 
 -- from one point to another nothing was done, or it could have run out of memory at the first
 abbrev pub StillOrCould : Held → Held → (left more : ℕ) → Type 0

@@ -1,6 +1,5 @@
 -- What the processes do, by what they held before and hold after. An event is that of the
--- definition, resolved by what became of it, up to failed servers (Alike.antt of the world's
--- model).
+-- definition, resolved by what became of it, up to what lies on channels into failed servers.
 use Rattle.std.specs.Prelude.{◌≡◌, ℕ, Bool, true, not, List, [], ◌++◌}
 use Rattle.std.specs.declared.alloc.Global.{Global}
 use Rattle.std.specs.declared.vec.Vec.{Vec}
@@ -13,11 +12,11 @@ use Rattle.zworld_model.specs.History.{History}
 use Rattle.zworld_model.specs.Events.{is_enabled, happens}
 use Rattle.zworld_model.specs.Reading.{read, is_fitting}
 use Rattle.zworld_model.specs.Settle.{settle, settling_end}
-use Rattle.zworld_model.specs.Alike.{IsAlike}
+use Rattle.zworld_model.specs.support.Alike.{IsAlike}
 use Rattle.zworld.specs.declared.did.Did.{Did}
 use Rattle.zworld.specs.declared.did.Did.TheVariants as became
 use Rattle.zworld.specs.declared.did.IdleCause.{IdleCause}
-use Rattle.zworld.specs.Held.{Held, world_of}
+use Rattle.zworld.specs.Held.{Held, kept_world, world_of}
 use Rattle.zworld.specs.Did.{is_idle, outcome_of, HasCause}
 use Rattle.zworld.specs.Steps.{AreActed}
 
@@ -27,24 +26,24 @@ Seen = Vec CallEvent Global
 
 -- the event is enabled
 abbrev pub CanHappen : Held → Event → Type 0
-CanHappen held event = is_enabled (world_of held []) event ≡ true
+CanHappen held event = is_enabled (kept_world held []) event ≡ true
 
 -- the event leads from what was held to what is held, whatever the history before it, which goes on
 -- with this
 abbrev pub Leads : Held → Event → History → Held → Type 0
 Leads old event told new =
-    (history : History) → IsAlike (happens kept_tree (world_of old history) event) (world_of new (history ++ told))
+    (history : History) → IsAlike (happens kept_tree (kept_world old history) event) (kept_world new (history ++ told))
 
 -- the event was done, and the history goes on with this
 pub record HasStepped (old new : Held) (event : Event) (did : Did) (told : History) : Type 0 where
   -- it is idle exactly where it wasn't enabled, and then nothing changed
-  pub idle : is_idle did ≡ not (is_enabled (world_of old []) event)
+  pub idle : is_idle did ≡ not (is_enabled (kept_world old []) event)
   pub same : is_idle did ≡ true → new ≡ old
   pub caused : HasCause old event did
   -- the outcome fits the event
-  pub fits : is_fitting kept_tree (world_of old []) event (outcome_of did) ≡ true
+  pub fits : is_fitting kept_tree (kept_world old []) event (outcome_of did) ≡ true
   -- it is the event of the definition, resolved by its outcome
-  pub leads : Leads old (read kept_tree (world_of old []) event (outcome_of did)) told new
+  pub leads : Leads old (read kept_tree (kept_world old []) event (outcome_of did)) told new
 
 -- it can't be done, for this reason
 abbrev pub IsIdle : Held → Event → IdleCause → Type 0
@@ -67,7 +66,7 @@ pub record SettlesBy (old new : Held) (limit : ℕ) (settled : Settled) (learnt 
       → (settle kept_tree (world_of old history) limit (learnt ++ rest)).outcomes ≡ rest
   -- it leads to what is held
   pub leads : (history : History) (rest : List Outcome)
-      → IsAlike (settle kept_tree (world_of old history) limit (learnt ++ rest)).world (world_of new (history ++ told))
+      → IsAlike (settle kept_tree (world_of old history) limit (learnt ++ rest)).world (kept_world new (history ++ told))
 
 -- settling came to this, and the history goes on with the responses that clients received; where it
 -- was strict, no server ran out of memory

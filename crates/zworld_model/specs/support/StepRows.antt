@@ -1,6 +1,6 @@
 -- Worked steps of one process, over a machine that counts: where the processes of a chain of three
 -- stand, and what each does.
-use Rattle.std.specs.Prelude.{◌≡◌, ℕ, true, false, List, []}
+use Rattle.std.specs.Prelude.{◌≡◌, true, false, List}
 use Rattle.zprotocol.specs.declared.process.Process.{Process}
 use Rattle.zworld_model.specs.declared.event.Event.{Event}
 use Rattle.zworld_model.specs.Does.{Standing, Input, Effect, accepts, does}

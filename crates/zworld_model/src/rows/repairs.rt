@@ -48,7 +48,8 @@ pub fn tail_fails_before_it_answered()
 /// The middle fails: the tail tells the master its last number, the master tells the head, and the
 /// head sends what follows.
 pub fn middle_fails_before_it_forwarded()
-    ensures unsent { link 3 (take 3 middle_fails) s1 s2 ≡ message.Update 0 1 first_entry ∷ [] }
+    ensures unsent { link 3 (take 2 middle_fails) s1 s2 ≡ message.Update 0 1 first_entry ∷ [] }
+    ensures lost { link 3 (take 3 middle_fails) s1 s2 ≡ [] }
     ensures new_pred { link 3 (take 4 middle_fails) m s3 ≡ message.NewPred 1 1 ∷ [] }
     ensures has_none { link 3 (take 5 middle_fails) s3 m ≡ message.Have 1 (Some 0) ∷ [] }
     ensures new_succ { link 3 (take 6 middle_fails) m s1 ≡ message.NewSucc 1 3 (Some 0) ∷ [] }

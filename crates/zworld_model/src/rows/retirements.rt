@@ -38,7 +38,8 @@ pub fn head_retires_after_it_forwarded()
 
 /// The middle is ordered to leave: what it hadn't forwarded, the head sends to the tail.
 pub fn middle_retires_before_it_forwarded()
-    ensures unsent { link 3 (take 4 middle_retires) s1 s2 ≡ message.Update 0 1 first_entry ∷ [] }
+    ensures unsent { link 3 (take 3 middle_retires) s1 s2 ≡ message.Update 0 1 first_entry ∷ [] }
+    ensures lost { link 3 (take 4 middle_retires) s1 s2 ≡ [] }
     ensures new_pred { link 3 (take 5 middle_retires) m s3 ≡ message.NewPred 1 1 ∷ [] }
     ensures sent_again { link 3 (take 8 middle_retires) s1 s3
         ≡ message.Update 1 1 first_entry ∷ [] }

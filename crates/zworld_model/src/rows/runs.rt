@@ -3,6 +3,7 @@
 ghost use Rattle.std.specs.Prelude.{◌≡◌, [], ◌∷◌, take};
 ghost use Rattle.zworld_model.specs.declared.event.Event.TheVariants.{Begin, Retry, Take, Ignore, Fail};
 ghost use Rattle.zworld_model.specs.Orders.{Join};
+ghost use Rattle.zprotocol.specs.server.View.{spare};
 ghost use Rattle.zworld_model.specs.support.Counter.{create, exists};
 ghost use Rattle.zworld_model.specs.support.RunRows.{seen, link, view, CanHappen, CannotHappen, s1, s2, c1};
 ghost use Rattle.zworld_model.specs.support.RunRows.{began, told, create_begun, first_entry, update_in_turn};
@@ -54,7 +55,9 @@ pub fn only_enabled_events_happen()
     ensures server_16_joins { CanHappen 3 [] (Join 16) }
     ensures member_joins { CannotHappen 3 [] (Join 3) }
     ensures spare_joins { CanHappen 3 [] (Join 4) }
-    ensures unchanged { link 3 (Begin 1 create ∷ Fail 1 ∷ Take c1 s1 ∷ []) c1 s1 ≡ request }
+    ensures unchanged { link 3 (Begin 1 create ∷ Take c1 s2 ∷ []) c1 s1 ≡ request }
+    ensures let_go { link 3 (Begin 1 create ∷ Fail 1 ∷ []) c1 s1 ≡ [] }
+    ensures view_is_let_go { view 3 (Fail 1 ∷ []) 1 ≡ spare }
 {}
 
 /// A request may be lost, and the client sends it again.

@@ -19,7 +19,8 @@ use Rattle.zworld_model.specs.World.{World}
 use Rattle.zworld_model.specs.History.{History}
 use Rattle.zworld_model.specs.Does.{AtClient, Hear, server_effect, stop_effect, answer_told, last_post}
 use Rattle.zworld_model.specs.declared.history.CallEvent.TheVariants as call_event
-use Rattle.zworld_model.specs.Events.{is_enabled, did_in, does_in, front_step, acts, happens, run}
+use Rattle.zworld_model.specs.Events.{is_enabled, did_in, does_in, front_step, acts}
+use Rattle.zworld_model.specs.Keeping.{keeps, run_keeping}
 use Rattle.zworld_model.proofs.Effects.{by_choice}
 use Rattle.zlinear.proofs.chain_lemmas.links.Links.{put_among, front_among, at_cases, AllPosts, all_none, all_and}
 use Rattle.zlinear.proofs.chain_lemmas.tables.OtherPosts.{IsOrder, IsRequest, master_orders, order_orders, begin_requests, retry_requests, client_requests}
@@ -87,10 +88,10 @@ module _ {M : Type 0} (does : Does M) (V : ServerView M → Type 0) (Q : Message
       record { views = h.views; under_way = put_all w.links Master (master.order_step w.master order).1 (ordered_all _ (order_orders w.master order)) h.under_way }
 
   -- an event
-  pub happens_all : (w : World M) (event : Event) → Everywhere V Q w → Everywhere V Q (happens does w event)
-  happens_all w event h = elim (test (is_enabled w event)) [ inl t ↦ rw t (acts_all w event h) | inr f ↦ rw f h ]
+  pub keeps_all : (w : World M) (event : Event) → Everywhere V Q w → Everywhere V Q (keeps does w event)
+  keeps_all w event h = elim (test (is_enabled w event)) [ inl t ↦ rw t (acts_all w event h) | inr f ↦ rw f h ]
 
   -- and every list of events
-  pub run_all : (w : World M) (events : List Event) → Everywhere V Q w → Everywhere V Q (run does w events)
+  pub run_all : (w : World M) (events : List Event) → Everywhere V Q w → Everywhere V Q (run_keeping does w events)
   run_all w [] h = h
-  run_all w (event ∷ events) h = run_all (happens does w event) events (happens_all w event h)
+  run_all w (event ∷ events) h = run_all (keeps does w event) events (keeps_all w event h)

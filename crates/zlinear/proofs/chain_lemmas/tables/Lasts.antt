@@ -1,24 +1,27 @@
 -- The number of the last entry is the length of the log.
-use Rattle.std.proofs.Common.{◌≡◌, ℕ, ◌+◌, nat_lt, ◌==◌, List, [], ◌∷◌, ◌++◌, length, length-append, Option, Some, None, refl, ap, ◌∙◌, inl, inr, arith}
+use Rattle.std.proofs.Common.{◌≡◌, ℕ, ◌+◌, Bool, true, false, if◌then◌else◌, nat_lt, ◌==◌, List, [], ◌∷◌, ◌++◌, length, length-append, Option, Some, None, refl, sym, ap, subst, ◌∙◌, inl, inr, arith}
 use Rattle.zcalls.specs.declared.call.Entry.{Entry}
 use Rattle.zcalls.specs.declared.reply.Reply.{Reply}
 use Rattle.zcalls.specs.Kept.{Plain}
+use Rattle.zcalls.specs.Lists.{Among}
 use Rattle.zcalls.proofs.Among.{test}
 use Rattle.zprotocol.specs.declared.message.Message.TheVariants as message
 use Rattle.zprotocol.specs.declared.process.Process.{Process}
 use Rattle.zprotocol.specs.declared.process.Process.TheVariants.{Master, Server, Client}
-use Rattle.zprotocol.specs.server.View.{ServerView, Neighbour, Post, opening_server}
+use Rattle.zprotocol.specs.server.View.{ServerView, Neighbour, Post, spare, opening_server}
 use Rattle.zprotocol.specs.server.Table.{ServerResult, ack_posts, answer_posts, forward_post, entries_above, missing_posts, server_step, last_number}
 use Rattle.zprotocol.specs.server.support.Cases.{IsAccepted, IsRow, Processes, Forwards, Ignores, Submits, Updates, Asks, Acknowledges, Shows, Turns, Follows, Leads, Ends}
 use Rattle.zprotocol.proofs.server_lemmas.Cases.{server_case}
 use Rattle.zworld_model.specs.declared.event.Event.{Event}
 use Rattle.zworld_model.specs.World.{opening_world}
-use Rattle.zworld_model.specs.Events.{happens, run}
+use Rattle.zworld_model.specs.Events.{has_failed, run}
+use Rattle.zworld_model.specs.Keeping.{keeps, run_keeping}
+use Rattle.zworld_model.proofs.Keeping.{run_lets_go}
 use Rattle.zlinear.specs.chain.Flow.{log_machine, LogWorld, LogMessage, Log, length_of}
 use Rattle.zlinear.specs.chain.Last.{HasExactLast, IsExact, LastsAreLengths}
 use Rattle.zlinear.proofs.chain_lemmas.links.Links.{AllPosts, all_none, all_and, all_append, all_map}
 use Rattle.zlinear.proofs.chain_lemmas.tables.OtherPosts.{IsOrder, IsRequest}
-use Rattle.zlinear.proofs.chain_lemmas.tables.Everywhere.{happens_all, run_all}
+use Rattle.zlinear.proofs.chain_lemmas.tables.Everywhere.{keeps_all, run_all}
 
 -- what is put
 acks_exact : (pred : Option Neighbour) (n : ℕ) → AllPosts IsExact (ack_posts pred n)
@@ -81,18 +84,36 @@ module _ {P : Type 0} (plain : Plain P) where
   ]
 
   -- an event keeps last numbers the lengths of logs
-  pub lasts_happen : (w : LogWorld) (event : Event) → LastsAreLengths w → LastsAreLengths (happens (log_machine plain) w event)
-  lasts_happen w event h =
-      let all = happens_all (log_machine plain) HasExactLast IsExact
+  pub lasts_keep : (w : LogWorld) (event : Event) → LastsAreLengths w → LastsAreLengths (keeps (log_machine plain) w event)
+  lasts_keep w event h =
+      let all = keeps_all (log_machine plain) HasExactLast IsExact
       (λ v from m exact is. row_exact v from m (server_step (log_machine plain) v from m) (server_case (log_machine plain) v from m) exact is)
       orders_exact requests_exact tt w event (record { views = h.views; under_way = h.under_way }) in
       record { views = all.views; under_way = all.under_way }
 
   -- so does every list of events, from the opening
-  pub lasts : (servers clients : ℕ) (events : List Event) → LastsAreLengths (run (log_machine plain) (opening_world (log_machine plain) servers clients) events)
-  lasts servers clients events =
+  pub lasts_kept : (servers clients : ℕ) (events : List Event) → LastsAreLengths (run_keeping (log_machine plain) (opening_world (log_machine plain) servers clients) events)
+  lasts_kept servers clients events =
       let all = run_all (log_machine plain) HasExactLast IsExact
       (λ v from m exact is. row_exact v from m (server_step (log_machine plain) v from m) (server_case (log_machine plain) v from m) exact is)
       orders_exact requests_exact tt (opening_world (log_machine plain) servers clients) events
       (record { views = opening_exact servers; under_way = λ from to m a. absurd a }) in
       record { views = all.views; under_way = all.under_way }
+
+  -- and what is left of failed servers
+  left_exact : (b : Bool) (v : ServerView (List Entry)) → HasExactLast v → HasExactLast (if b then spare else v)
+  left_exact true v exact = refl
+  left_exact false v exact = exact
+
+  link_exact : (b : Bool) (m : LogMessage) (link : List LogMessage) → Among m (if b then [] else link) → Among m link
+  link_exact true m link a = absurd a
+  link_exact false m link a = a
+
+  pub lasts : (servers clients : ℕ) (events : List Event) → LastsAreLengths (run (log_machine plain) (opening_world (log_machine plain) servers clients) events)
+  lasts servers clients events =
+      let kept = run_keeping (log_machine plain) (opening_world (log_machine plain) servers clients) events in
+      let all = lasts_kept servers clients events in
+      subst LastsAreLengths (sym (run_lets_go (log_machine plain) servers clients events)) (record {
+        views = λ s. left_exact (kept.failed s) (kept.servers s) (all.views s);
+        under_way = λ from to m a. all.under_way from to m (link_exact (has_failed kept to) m (kept.links from to) a);
+      })

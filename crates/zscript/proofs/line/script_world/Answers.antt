@@ -1,4 +1,4 @@
-use Rattle.std.proofs.Common.{◌≡◌, ap, ◌∙◌}
+use Rattle.std.proofs.Common.{◌≡◌, ap}
 use Rattle.std.proofs.lemmas.Result.{IfOk-weaker}
 use Rattle.ztree.specs.declared.limits.TheConstants.{MAX_CLIENTS}
 use Rattle.zprotocol.specs.server.Machine.{kept_tree}
@@ -7,10 +7,9 @@ use Rattle.zworld.specs.Steps.{WorldView, world_in}
 use Rattle.zscript.specs.Line.{forgotten}
 use Rattle.zscript.specs.Done.{world_between}
 use Rattle.zscript.specs.Script.{opening_of}
-use Rattle.zscript.proofs.Opening.{opening_is_kept}
 use Rattle.zscript.proofs.line.script_world.Goals as goal
 
 pub returns : goal.returns
 returns c =
     IfOk-weaker c.new.result (λ (w : WorldView). world_in w ≡ opening_world kept_tree c.args.last MAX_CLIENTS) (λ (w : WorldView). world_between w.held ≡ opening_of c.args.last)
-    (λ w is. ap forgotten is ∙ opening_is_kept c.args.last MAX_CLIENTS) c.new.ensures.world
+    (λ w is. ap forgotten is) c.new.ensures.world

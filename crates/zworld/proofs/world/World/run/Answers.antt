@@ -1,6 +1,5 @@
 use Rattle.std.proofs.Common.{subst, sym, ap, ◌∙◌, [], ◌∷◌, ◌++◌, ◌≡◌, append_assoc, false, refl}
 use Rattle.std.proofs.lemmas.List.{append-nil, nil_from_length}
-use Rattle.zworld_model.proofs.Alike.{alike_itself}
 use Rattle.zworld.specs.Steps.{WorldView, IsExplainedFromStart, HasRun, world_in}
 use Rattle.zworld.proofs.Going.{past_is_explained, lead_more, has_run, has_begun_to_run}
 use Rattle.zworld.proofs.Needs.{has_run_out}
@@ -15,7 +14,7 @@ pub loop-event-init : goal.loop-event-init
 loop-event-init c = (
   [],
   sym c.into_iter-event-iterator.ensures.into_iter_gives.0,
-  alike_itself (world_in c.args.self.now),
+  refl,
   subst (λ (v : WorldView). v.is_broken ≡ false) c.self.view_is c.if-self.false,
   subst IsExplainedFromStart c.self.view_is (past_is_explained _ c.self.invariant),
   refl,

@@ -6,6 +6,7 @@ pub returns : goal.returns
 unfolding all_tables
 returns c = record {
   unsent = refl;
+  lost = refl;
   new_pred = refl;
   has_none = refl;
   new_succ = refl;

@@ -6,6 +6,7 @@ pub returns : goal.returns
 unfolding all_tables
 returns c = record {
   unsent = refl;
+  lost = refl;
   new_pred = refl;
   sent_again = refl;
   seen = refl;

@@ -21,4 +21,6 @@ returns c = record {
   member_joins = refl;
   spare_joins = refl;
   unchanged = refl;
+  let_go = refl;
+  view_is_let_go = refl;
 }
