@@ -1,11 +1,11 @@
--- Channels in order: where a search ends, and channels that are put in, taken out or left.
+-- Sent in order: where a search ends, and channels that are put in, taken out or left.
 use Rattle.std.proofs.Common.{◌≡◌, ℕ, zero, suc, ◌+◌, ◌<◌, ◌≤◌, Bool, true, false, List, [], ◌∷◌, ◌++◌, length, get_or, take, drop, set, filter, refl, sym, ap, subst, ◌∙◌, arith, inl, inr, take-append-drop, length-take, length-drop, get_or-take, get_or-drop, drop-set-lt}
 use Rattle.std.proofs.lemmas.List.{get_or_default, set_split, set-get_or, take-set}
 use Rattle.std.proofs.lemmas.List.Elements.{All-from_recursion, recursion_from_All, All-from_all_within}
 use Rattle.std.specs.List.{AllByRecursion, AllWithin}
 use Rattle.std.specs.List.Sorted.{IsPartitionedBy, IsPartitionPoint}
 use Rattle.zcalls.proofs.Among.{test}
-use Rattle.zlinks.specs.Places.{Channel, Channels, is_between}
+use Rattle.zlinks.specs.Places.{Channel, Sent, is_between}
 use Rattle.zlinks.specs.support.Order.{IsBefore, is_before, IsBehind, IsFrom, AreSorted, IsFirstFrom, IsAround, IsFound, IsGap}
 use Rattle.zlinks.proofs.Order.{precedes_next, before_is, from_is, is_before_as, between_places, behind_from}
 
@@ -50,7 +50,7 @@ module _ {X : Type 0} where
 
 module _ {T : Type 0} where
   -- where the test ends to pass
-  pub parted : (channels : Channels T) (from to : ℕ) → AreSorted channels → IsPartitionedBy (λ (channel : Channel T). is_before channel from to) channels
+  pub parted : (channels : Sent T) (from to : ℕ) → AreSorted channels → IsPartitionedBy (λ (channel : Channel T). is_before channel from to) channels
   parted [] from to sorted i j d le lt passes = absurd (omega (arith, lt))
   parted (c ∷ cs) from to sorted zero zero d le lt passes = passes
   parted (c ∷ cs) from to sorted zero (suc j) d le lt passes =
@@ -61,7 +61,7 @@ module _ {T : Type 0} where
   parted (c ∷ cs) from to sorted (suc i) zero d le lt passes = absurd (omega (arith, le))
   parted (c ∷ cs) from to sorted (suc i) (suc j) d le lt passes = parted cs from to sorted.1 i j d (omega (arith, le)) (omega (arith, lt)) passes
 
-  pub first_from : (channels : Channels T) (from to count : ℕ) → count ≤ length channels
+  pub first_from : (channels : Sent T) (from to count : ℕ) → count ≤ length channels
       → IsPartitionPoint (λ (channel : Channel T). is_before channel from to ≡ true) (λ (channel : Channel T). is_before channel from to ≡ false) channels count
       → IsFirstFrom channels from to count
   first_from channels from to count within point = record {
@@ -71,27 +71,27 @@ module _ {T : Type 0} where
   }
 
   -- channels behind one of them
-  pub behind_next : (channels : Channels T) (c : Channel T) (from to : ℕ) → IsBehind c from to → AllByRecursion (λ other. IsBefore c other.from other.to) channels
+  pub behind_next : (channels : Sent T) (c : Channel T) (from to : ℕ) → IsBehind c from to → AllByRecursion (λ other. IsBefore c other.from other.to) channels
       → AllByRecursion (λ other. IsBehind other from to) channels
   behind_next channels c from to behind all = each (λ other next. precedes_next from to c.from c.to other.from other.to behind next) channels all
 
   -- one that is put in, and one that is taken out
-  sorted_with : (front back : Channels T) (c : Channel T) → AllByRecursion (λ other. IsBefore other c.from c.to) front
+  sorted_with : (front back : Sent T) (c : Channel T) → AllByRecursion (λ other. IsBefore other c.from c.to) front
       → AllByRecursion (λ other. IsBehind other c.from c.to) back → AreSorted (front ++ back) → AreSorted (front ++ c ∷ back)
   sorted_with [] back c before behind sorted = (behind, sorted)
   sorted_with (d ∷ front) back c before behind sorted =
       (all_with (λ other. IsBefore d other.from other.to) front back c before.0 sorted.0, sorted_with front back c before.1 behind sorted.1)
 
-  sorted_without : (front back : Channels T) (c : Channel T) → AreSorted (front ++ c ∷ back) → AreSorted (front ++ back)
+  sorted_without : (front back : Sent T) (c : Channel T) → AreSorted (front ++ c ∷ back) → AreSorted (front ++ back)
   sorted_without [] back c sorted = sorted.1
   sorted_without (d ∷ front) back c sorted =
       (all_without (λ other. IsBefore d other.from other.to) front back c sorted.0, sorted_without front back c sorted.1)
 
-  pub sorted_behind : (front back : Channels T) → AreSorted (front ++ back) → AreSorted back
+  pub sorted_behind : (front back : Sent T) → AreSorted (front ++ back) → AreSorted back
   sorted_behind [] back sorted = sorted
   sorted_behind (c ∷ front) back sorted = sorted_behind front back sorted.1
 
-  pub sorted_left : (p : Channel T → Bool) (channels : Channels T) → AreSorted channels → AreSorted (filter p channels)
+  pub sorted_left : (p : Channel T → Bool) (channels : Sent T) → AreSorted channels → AreSorted (filter p channels)
   sorted_left p [] sorted = tt
   sorted_left p (c ∷ cs) sorted = elim (test (p c)) [
     | inl passes ↦ rw passes (all_left (λ other. IsBefore c other.from other.to) p cs sorted.0, sorted_left p cs sorted.1)
@@ -99,7 +99,7 @@ module _ {T : Type 0} where
   ]
 
   -- what stands between these places is put there, or nothing
-  pub sorted_at : (front back : Channels T) (from to : ℕ) (c : Channel T) → IsAround front back from to → c.from ≡ from → c.to ≡ to → AreSorted (front ++ c ∷ back)
+  pub sorted_at : (front back : Sent T) (from to : ℕ) (c : Channel T) → IsAround front back from to → c.from ≡ from → c.to ≡ to → AreSorted (front ++ c ∷ back)
   sorted_at front back from to c around here there =
       sorted_with front back c
       (each (λ other before. rw (here, there) before) front around.before)
@@ -107,7 +107,7 @@ module _ {T : Type 0} where
       around.sorted
 
   -- the rest of a list whose first doesn't stand between these places
-  behind_all : (channels : Channels T) (from to : ℕ) → AreSorted channels → AllByRecursion (λ c. IsFrom c from to) channels
+  behind_all : (channels : Sent T) (from to : ℕ) → AreSorted channels → AllByRecursion (λ c. IsFrom c from to) channels
       → ((c : Channel T) → 0 < length channels → c ≡ get_or channels 0 c → is_between c from to ≡ false)
       → AllByRecursion (λ c. IsBehind c from to) channels
   behind_all [] from to sorted others first = tt
@@ -115,7 +115,7 @@ module _ {T : Type 0} where
       let behind = behind_from c from to others.0 (first c (omega arith) refl) in
       (behind, behind_next cs c from to behind sorted.0)
 
-  module _ (channels : Channels T) (from to at : ℕ) (sorted : AreSorted channels) (first : IsFirstFrom channels from to at) where
+  module _ (channels : Sent T) (from to at : ℕ) (sorted : AreSorted channels) (first : IsFirstFrom channels from to at) where
     -- no channel stands there
     pub gap_at : ((c : Channel T) → at < length channels → c ≡ get_or channels at c → is_between c from to ≡ false) → IsGap channels from to at
     gap_at other =

@@ -127,7 +127,7 @@ module _ (strict : Bool) where
 
     -- what it says of the processes
     has_settled : (settled : Settled) → settled ≡ (if left == 0 then Limit else Quiet)
-        → Does strict (whole old.master.clients) (record { held = old; left = limit; seen = seen }) (record { held = new; left = left; seen = all })
+        → Does strict (whole (kept_world old []).master.clients) (record { held = old; left = limit; seen = seen }) (record { held = new; left = left; seen = all })
         → Settles strict old new limit seen all settled
     has_settled settled is (told, given, more, leads, acted) =
         let opening : History → List Outcome → TreeSettling = λ history rest. opening_settling (world_of old history) limit (told ++ rest) in
@@ -148,7 +148,7 @@ module _ (strict : Bool) where
         )
 
     pub settles : (clients first second : ℕ) (mid later : Held) (some : History) (settled : Settled)
-        → clients ≡ old.master.clients → settled ≡ (if left == 0 then Limit else Quiet)
+        → clients ≡ (kept_world old []).master.clients → settled ≡ (if left == 0 then Limit else Quiet)
         → Does strict (passes kept_tree (deliveries clients) limit) (record { held = old; left = limit; seen = seen }) (record { held = mid; left = first; seen = some })
         → Tries strict (retry_events clients) (record { held = mid; left = first; seen = some }) (record { held = later; left = second; seen = some })
         → Does strict (passes kept_tree (deliveries clients) limit) (record { held = later; left = second; seen = some }) (record { held = new; left = left; seen = all })

@@ -73,7 +73,7 @@ quiet_is_rest strict restored forgotten old new limit before after had settles f
     let done = settle kept_tree v limit (learnt ++ []) in
     let ran = sym (settling_is_a_run kept_tree v limit (learnt ++ [])) ∙ leads in
     let here = stands_later restored forgotten old new before (had.past ++ after) done.events had ran in
-    let counted : old.master.clients ≡ had.clients =
+    let counted : (kept_world old []).master.clients ≡ had.clients =
     ap (λ (u : World (KeptState Tree)). u.master.clients) (sym (had.stands refl))
     ∙ (after_within_from had.tree had.servers had.clients had.events had.opens).counted in
     let none : list_any (is_enabled done.world) (deliveries had.clients) ≡ false =

@@ -3,20 +3,24 @@ use Rattle.std.proofs.Common.{Bool, ◌≡◌, ℕ, ◌+◌, ◌-◌, ◌<◌, �
 use Rattle.std.proofs.lemmas.List.{take_all}
 use Rattle.std.proofs.lemmas.List.FromFn.{get_or-map-range_with_len, length-map-range_with_len}
 use Rattle.std.proofs.lemmas.Bool.Decides.{nat_tests}
-use Rattle.std.specs.Prelude.{nat_lt}
+use Rattle.std.specs.Prelude.{nat_lt, is_some}
 use Rattle.zcalls.proofs.Among.{test}
 use Rattle.zprotocol.specs.declared.limits.TheConstants.{MAX_SERVERS, PROCESSES}
 use Rattle.zprotocol.specs.declared.process.Process.{Process}
 use Rattle.zprotocol.specs.declared.process.Process.TheVariants.{Master, Server, Client}
 use Rattle.zprotocol.specs.Places.{place_of, process_at}
 use Rattle.zprotocol.proofs.Places.{place_of-process_at}
-use Rattle.zworld_model.specs.Settle.{processes}
+use Rattle.zworld_model.specs.Settle.{processes, retry_events}
 use Rattle.zlinks.specs.Places.{links_of, is_silent, Between}
-use Rattle.zlinks.proofs.Places.{server_place}
+use Rattle.zlinks.specs.support.Counts.{passing}
+use Rattle.zlinks.proofs.Counts.{fails_at}
+use Rattle.zactor.specs.Acting.{TreeStanding}
+use Rattle.zworld_model.specs.Does.{AtMaster, AtServer, AtClient, Out}
+use Rattle.zworld.specs.support.Standing.{waits}
 use Rattle.zlinks.proofs.Searches.{silent_links}
-use Rattle.zworld.specs.Held.{MemberView, Held, SendsNothing, member_at, owes, last_words, kept_world}
+use Rattle.zworld.specs.Held.{Held, SendsNothing, bystander, client_of, standing_at, kept_world}
 use Rattle.zworld.specs.support.Settling.{Point, Tries, takes, takes_from}
-use Rattle.zworld.proofs.Tries.{silent_tries, empty_try, one_more_receiver, one_more_sender}
+use Rattle.zworld.proofs.Tries.{goes_nowhere, idle_retry, one_more_retry, silent_tries, empty_try, one_more_receiver, one_more_sender}
 
 -- there are so many processes
 pub length-processes : (clients : ℕ) → length (processes clients) ≡ MAX_SERVERS + 1 + clients
@@ -26,41 +30,29 @@ length-processes clients = length-map-range_with_len process_at 0 (MAX_SERVERS +
 pub listed : (clients place : ℕ) → place < MAX_SERVERS + 1 + clients → process_at place ≡ get_or (processes clients) place (process_at place)
 listed clients place inside = sym (get_or-map-range_with_len process_at 0 (MAX_SERVERS + 1 + clients) place place (process_at place) inside (omega arith))
 
--- the last words of a server are for the master
-pub no_words : (members : List MemberView) (from to : Process) → 0 < place_of to → last_words members from to ≡ []
-no_words members from Master some = absurd (omega (arith, some))
-no_words members Master (Server t) some = refl
-no_words members Master (Client t) some = refl
-no_words members (Server s) (Server t) some = refl
-no_words members (Server s) (Client t) some = refl
-no_words members (Client s) (Server t) some = refl
-no_words members (Client s) (Client t) some = refl
+-- nothing is under way on a channel that is empty
+pub empty_link : (inside held : Held) (from to : Process) → inside ≡ held → links_of inside.links from to ≡ [] → (kept_world held []).links from to ≡ []
+empty_link inside held from to same none = ap (λ (h : Held). links_of h.links from to) (sym same) ∙ none
 
--- so nothing is under way to a process behind the master
-pub empty_link : (inside held : Held) (from to : Process) → inside ≡ held → links_of inside.links from to ≡ [] → 0 < place_of to
-    → (kept_world held []).links from to ≡ []
-empty_link inside held from to same none some =
-    let empty : links_of held.links from to ≡ [] = ap (λ (h : Held). links_of h.links from to) (sym same) ∙ none in
-    rw (empty, no_words held.members from to some) refl
+-- nor on any from a process that is silent
+pub silent_place : (inside held : Held) (from : Process) → inside ≡ held → is_silent inside.links from ≡ true → SendsNothing (kept_world held []) from
+silent_place inside held from same silent to =
+    silent_links held.links from to (ap (λ (h : Held). is_silent h.links from) (sym same) ∙ silent)
 
--- and nothing of a process that put nothing, where no server owes its last words
-pub silent_place : (inside held : Held) (from to : Process) (at bound : ℕ) → inside ≡ held → is_silent inside.links from ≡ true
-    → at ≤ place_of from → place_of from < bound → bound ≤ PROCESSES
-    → ((s : ℕ) → at ≤ s → 0 < s → s ≤ MAX_SERVERS → s < bound → owes (member_at held.members s) ≡ false)
-    → (kept_world held []).links from to ≡ []
-silent_place inside held from to at bound same silent behind before few paid =
-    let quiet : links_of held.links from to ≡ [] = silent_links held.links from to (ap (λ (h : Held). is_silent h.links from) (sym same) ∙ silent) in
-    rw (quiet, words from to behind before) refl
-  where
-    words : (p q : Process) → at ≤ place_of p → place_of p < bound → last_words held.members p q ≡ []
-    words Master q after until = refl
-    words (Client c) q after until = refl
-    words (Server s) (Server t) after until = refl
-    words (Server s) (Client c) after until = refl
-    words (Server s) Master after until =
-        let stands = server_place s (omega (arith, until, few)) in
-        let none = paid s (omega (arith, after, stands.0)) stands.2 stands.1 (omega (arith, until, stands.0)) in
-        rw none refl
+-- where no client waits, no call is sent once more
+waits_not : (standing : TreeStanding) → waits standing ≡ false → is_some (client_of standing).outstanding ≡ false
+waits_not (AtMaster v) not = refl
+waits_not (AtServer v) not = refl
+waits_not (AtClient v) not = not
+waits_not Out not = refl
+
+pub no_retries : (strict : Bool) (n : ℕ) (p : Point) → passing waits p.held.actors ≡ 0 → Tries strict (retry_events n) p p
+no_retries strict zero p none = goes_nowhere strict (λ s. s) p
+no_retries strict (suc n) p none =
+    let next : n + 1 ≡ suc n = omega arith in
+    subst (λ k. Tries strict (retry_events k) p p) next
+    (one_more_retry strict n n p p p refl (no_retries strict n p none)
+    (idle_retry strict n p (waits_not (standing_at p.held.actors (Client n)) (fails_at waits p.held.actors (place_of (Client n)) (bystander (Client n)) refl none))))
 
 -- the process that was asked for by its place is that of the list
 pub listed_as : (clients place : ℕ) (p : Process) → p ≡ process_at place → place < length (processes clients) → p ≡ get_or (processes clients) place p

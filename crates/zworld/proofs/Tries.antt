@@ -22,7 +22,7 @@ use Rattle.zworld_model.proofs.Alike.{have_the_same_enabled, stay_alike, alike_i
 use Rattle.zworld_model.proofs.Settling.{none_is_done, none_may_be_done}
 use Rattle.zworld.specs.declared.did.Did.{Did}
 use Rattle.zworld.specs.declared.did.Did.TheVariants as became
-use Rattle.zworld.specs.Held.{Held, nobody, kept_world}
+use Rattle.zworld.specs.Held.{Held, kept_world}
 use Rattle.zworld.specs.Did.{is_idle, is_short, outcome_of}
 use Rattle.zworld.specs.Steps.{AreActed}
 use Rattle.zworld.specs.support.Stepped.{HasStepped}
@@ -163,7 +163,7 @@ module _ (strict : Bool) where
       none_taken (to ∷ receivers) s none = ap (λ b. b || list_any (is_enabled s.world) (takes_from receivers from)) (none to) ∙ none_taken receivers s none
 
   -- nor is anything sent once more by a client that waits for nothing
-  pub idle_retry : (c : ℕ) (p : Point) → is_some (get_or p.held.clients c nobody).outstanding ≡ false → Tries strict (Retry c ∷ []) p p
+  pub idle_retry : (c : ℕ) (p : Point) → is_some ((kept_world p.held []).clients c).outstanding ≡ false → Tries strict (Retry c ∷ []) p p
   idle_retry c p none =
       tries_nothing (Retry c ∷ []) p (λ history outcomes s stands.
       none_is_done kept_tree s (Retry c ∷ []) (ap (λ b. b || false)

@@ -1,4 +1,4 @@
--- Which servers have the state and stay, by what their members and the master say.
+-- Which servers have the state and stay, by where they stand and what the master says.
 use Rattle.std.proofs.Common.{◌≡◌, ℕ, zero, suc, ◌+◌, ◌<◌, ◌≤◌, Bool, true, false, [], length, get_or, refl, sym, ap, subst, ◌∙◌, inl, inr, arith, add-one, eqb-true}
 use Rattle.std.proofs.lemmas.Bool.Decides.{nat_tests}
 use Rattle.std.proofs.lemmas.List.{get_or_default}
@@ -7,18 +7,15 @@ use Rattle.std.specs.List.{list_any, range_with_len}
 use mathlib.Core.Bool.{true≢false}
 use Rattle.zcalls.proofs.Among.{test}
 use Rattle.zmaster.specs.Staying.{is_staying}
-use Rattle.zworld.specs.Held.{Held, MemberView, bystander, is_gone, member_at, kept_world}
+use Rattle.zprotocol.specs.declared.process.Process.TheVariants.{Server}
+use Rattle.zactor.specs.Acting.{has_stopped}
+use Rattle.zworld.specs.Held.{Held, standing_at, kept_world}
 use Rattle.zworld.specs.Last.{is_lasting}
 
--- a server by its member and the master
-pub lasts_by : (old held : Held) (s place : ℕ) (was : MemberView) (gone staying : Bool)
-    → held ≡ old → s ≡ place + 1 → place < length held.members → was ≡ get_or held.members place was → gone ≡ is_gone was → staying ≡ is_staying held.master s
-    → (not gone && staying) ≡ is_lasting (kept_world old []) s
-lasts_by old held s place was gone staying same is inside read asked stays =
-    let here : member_at held.members s ≡ was =
-    ap (λ n. member_at held.members n) (is ∙ add-one place) ∙ get_or_default held.members place bystander was inside ∙ sym read in
-    subst (λ (o : Held). (not gone && staying) ≡ is_lasting (kept_world o []) s) same
-    (rw (asked, stays, here) refl)
+-- a server by where it stands and the master
+pub lasts_by : (held : Held) (s : ℕ) (gone staying : Bool) → gone ≡ has_stopped (standing_at held.actors (Server s))
+    → staying ≡ is_staying (kept_world held []).master s → (not gone && staying) ≡ is_lasting (kept_world held []) s
+lasts_by held s gone staying asked stays = rw (asked, stays) refl
 
 -- one of a range passes a test
 pub any_of_range : (f : ℕ → Bool) (count first n : ℕ) → first ≤ n → n < first + count → f n ≡ true → list_any f (range_with_len first count) ≡ true

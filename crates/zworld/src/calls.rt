@@ -6,8 +6,8 @@ ghost use Rattle.zworld_model.specs.declared.event.Event.TheVariants.{Begin, Ret
 ghost use Rattle.zworld.specs.support.Stepped.{CanHappen, Goes, HasStepped, IsIdle};
 
 use crate::did::{Did, IdleCause};
-use crate::post::post;
 use crate::processes::Processes;
+use zactor::{ActFault, Done, Input};
 use zalloc::Memory;
 use zcalls::{Call, ClientId};
 use zprotocol::Process;
@@ -39,25 +39,23 @@ impl Processes {
             drop(call);
             return Err(Memory);
         };
-        let core = &mut self.clients[client.number() as usize];
-        let Ok(number) = core.begin(call, &mut self.out) else {
-            // Nothing else refuses a call that can be invoked.
-            drop(told);
-            return Err(Memory);
-        };
-        self.waiting += 1;
-        let Ok(()) = post(
-            self.alloc,
-            &mut self.links,
-            &self.members,
-            &Process::Client(client),
-            &mut self.out,
-        ) else {
-            drop(told);
-            return Err(Memory);
-        };
-        seen.push_reserved(CallEvent::Begin(client, number, told));
-        Ok(Did::Done)
+        match self.give(&Process::Client(client), Input::Begin(call)) {
+            Ok(Done::Began(number)) => {
+                seen.push_reserved(CallEvent::Begin(client, number, told));
+                Ok(Did::Done)
+            }
+            // Nothing else becomes of a call that can be invoked.
+            Ok(done) => {
+                drop(done);
+                drop(told);
+                Err(Memory)
+            }
+            Err(fault) => {
+                drop(fault);
+                drop(told);
+                Err(Memory)
+            }
+        }
     }
 
     // Returns why a client can't invoke a call now.
@@ -66,10 +64,12 @@ impl Processes {
         ensures cannot { IfSome result
             (λ why. (call : Call) → IsIdle self.now (Begin client call) why) }
     {
-        if client.number() >= self.master.clients() {
+        if client.number() >= self.clients() {
             return Some(IdleCause::Nothing);
         }
-        let core = &self.clients[client.number() as usize];
+        let Some(core) = self.actors[Process::Client(client).place()].as_client() else {
+            unreachable!();
+        };
         match core.begin_fault() {
             Some(fault) => Some(IdleCause::Begin(fault)),
             None => None,
@@ -82,18 +82,16 @@ impl Processes {
             (λ did. HasStepped self.old self.new (Retry client) did []) }
         ensures needed { OnErr result (CanHappen self.old (Retry client)) }
     {
-        let core = &self.clients[client.number() as usize];
-        if core.outstanding().is_none() {
-            return Ok(Did::Idle(IdleCause::Nothing));
+        match self.give(&Process::Client(client), Input::Retry) {
+            Ok(done) => {
+                drop(done);
+                Ok(Did::Done)
+            }
+            Err(ActFault::Refused(_)) => Ok(Did::Idle(IdleCause::Nothing)),
+            Err(ActFault::Memory(none)) => {
+                drop(none);
+                Err(Memory)
+            }
         }
-        core.retry(&mut self.out)?;
-        post(
-            self.alloc,
-            &mut self.links,
-            &self.members,
-            &Process::Client(client),
-            &mut self.out,
-        )?;
-        Ok(Did::Done)
     }
 }

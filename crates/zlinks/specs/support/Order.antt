@@ -3,7 +3,12 @@
 use Rattle.std.specs.Prelude.{◌≡◌, ℕ, suc, ◌<◌, ◌≤◌, ◌==◌, nat_lt, Bool, not, if◌then◌else◌, [], ◌∷◌, ◌++◌, length, take, drop, get_or}
 use Rattle.std.specs.List.{AllByRecursion}
 use Rattle.zprotocol.specs.declared.message.Message.{Message}
-use Rattle.zlinks.specs.Places.{Channel, Channels}
+use Rattle.zprotocol.specs.declared.process.Process.{Process}
+use Rattle.zlinks.specs.Places.{Channel, Sent, Queues, sent_of}
+
+-- this was sent on the channels
+abbrev pub Holds : {T : Type 0} → Sent T → Queues T → Type 0
+Holds sent links = (p q : Process) → sent_of sent p q ≡ links p q
 
 -- a channel with one message more
 abbrev pub longer : {T : Type 0} → Channel T → Message T → Channel T
@@ -34,29 +39,29 @@ abbrev pub IsFrom : {T : Type 0} → Channel T → (from to : ℕ) → Type 0
 IsFrom channel from to = (from ≤ channel.from) × (channel.from ≤ from → to ≤ channel.to)
 
 -- the channels are in order, each once
-abbrev pub AreSorted : {T : Type 0} → Channels T → Type 0
+abbrev pub AreSorted : {T : Type 0} → Sent T → Type 0
 AreSorted [] = Unit {0}
 AreSorted (channel ∷ channels) = AllByRecursion (λ other. IsBefore channel other.from other.to) channels × AreSorted channels
 
 -- so many channels stand before these places
-pub record IsFirstFrom {T : Type 0} (channels : Channels T) (from to count : ℕ) : Type 0 where
+pub record IsFirstFrom {T : Type 0} (channels : Sent T) (from to count : ℕ) : Type 0 where
   pub within : count ≤ length channels
   pub before : AllByRecursion (λ channel. IsBefore channel from to) (take count channels)
   pub others : AllByRecursion (λ channel. IsFrom channel from to) (drop count channels)
 
 -- channels before these places, and channels behind them, all in order
-pub record IsAround {T : Type 0} (front back : Channels T) (from to : ℕ) : Type 0 where
+pub record IsAround {T : Type 0} (front back : Sent T) (from to : ℕ) : Type 0 where
   pub before : AllByRecursion (λ channel. IsBefore channel from to) front
   pub behind : AllByRecursion (λ channel. IsBehind channel from to) back
   pub sorted : AreSorted (front ++ back)
 
 -- the channel between these places stands here
-pub record IsFound {T : Type 0} (channels : Channels T) (from to at : ℕ) : Type 0 where
+pub record IsFound {T : Type 0} (channels : Sent T) (from to at : ℕ) : Type 0 where
   pub within : at < length channels
   pub places : (channel : Channel T) → channel ≡ get_or channels at channel → (channel.from ≡ from) × (channel.to ≡ to)
   pub around : IsAround (take at channels) (drop (suc at) channels) from to
 
 -- it doesn't hold messages, and would stand here
-pub record IsGap {T : Type 0} (channels : Channels T) (from to at : ℕ) : Type 0 where
+pub record IsGap {T : Type 0} (channels : Sent T) (from to at : ℕ) : Type 0 where
   pub within : at ≤ length channels
   pub around : IsAround (take at channels) (drop at channels) from to
