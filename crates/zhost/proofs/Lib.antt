@@ -11,3 +11,4 @@ mod Said
 pub mod Books
 pub mod CallerRows
 pub mod Results
+pub mod ActorRows

@@ -9,3 +9,5 @@ pub mod Outcomes
 pub mod Said
 pub mod Callers
 pub mod Steps
+pub mod Told
+pub mod Hosting

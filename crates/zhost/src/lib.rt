@@ -12,6 +12,7 @@
 //! calls waits.
 #![tactic(auto)]
 
+mod acting;
 mod asking;
 mod caller;
 mod desk;
@@ -21,6 +22,7 @@ mod hearing;
 mod idle;
 mod limits;
 mod links;
+mod note;
 mod master_thread;
 mod owed;
 mod posting;

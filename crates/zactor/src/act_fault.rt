@@ -1,0 +1,14 @@
+//! Why nothing was done.
+
+use crate::refusal::Refusal;
+use zprotocol::Message;
+use zserver::Snapshot;
+
+/// Why nothing was done with an input. Then nothing has changed, and nothing was sent.
+#[derive(Drop)]
+pub enum ActFault {
+    /// The process refuses the input.
+    Refused(Refusal),
+    /// Out of memory. A message that was to be heard is handed back: to hear it later is no loss.
+    Memory(Option<Message<Snapshot>>),
+}
