@@ -147,6 +147,34 @@ def wrong_goals():
     ]
 
 
+def failing(crate, tried, times):
+    """A trial of one edit, at whose first checks the machine fails so many times."""
+    edit = next(it for it in edits.edits_of(crate)[0] if it.name == "more-adds_two")
+    trial, check = rounds.Trial(crate, [edit], tried), rounds.Trial.check
+
+    def fail(*words):
+        trial.check = fail_again if times == 2 else lambda *words: check(trial, *words)
+        raise OSError("no room")
+
+    def fail_again(*words):
+        raise OSError("no room again")
+
+    trial.check = fail
+    return trial
+
+
+def wrong_failures(crate, tried):
+    """A machine that fails once changes nothing, and where it fails twice nothing was tried."""
+    pause, lanes.PAUSE, wrong = lanes.PAUSE, 0, []
+    for times, kind in ((1, rounds.REFUSED), (2, rounds.UNSURE)):
+        trial = failing(crate, tried, times)
+        tried.run(trial.begin())
+        if list(trial.came.values()) != [kind]:
+            wrong.append(f"the machine failed {times} times, and its edits came to {trial.came}")
+    lanes.PAUSE = pause
+    return wrong
+
+
 def run():
     """Returns what is wrong, a line each."""
     here = os.getcwd()
@@ -159,9 +187,10 @@ def run():
         tried.run(trial.begin())
         late = rounds.Trial(crate, found, tried, until=0)
         tried.run(late.begin())
+        wrong = wrong_failures(crate, tried)
     os.chdir(here)
     wanted = {f"numbers/{name}": kind for name, _, _, kind in EDITS}
-    wrong = [
+    wrong += [
         f"{label} came to '{trial.came.get(label)}', and not to '{kind}': {trial.said.get(label)}"
         for label, kind in wanted.items()
         if trial.came.get(label) != kind

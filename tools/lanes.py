@@ -2,6 +2,7 @@
 import os
 import threading
 import time
+import traceback
 from concurrent.futures import FIRST_COMPLETED, ThreadPoolExecutor, wait
 from dataclasses import dataclass, field
 from typing import Callable
@@ -12,6 +13,8 @@ from kit import toolchain
 SHARE = 0.85
 # The seconds between two looks at what the checks hold.
 LOOK = 1
+# The seconds until what failed is done once more.
+PAUSE = 20
 PAGE = os.sysconf("SC_PAGE_SIZE")
 
 
@@ -19,13 +22,16 @@ PAGE = os.sysconf("SC_PAGE_SIZE")
 class Task:
     """A piece of work. What `call` returns are the tasks that follow from it.
 
-    `memory` is what it plans on, and `held` the most that its processes were seen to hold.
+    `memory` is what it plans on, and `held` the most that its processes were seen to hold. `fail`
+    is called in its place, with the reason, where the machine fails twice at it, as for want of
+    memory or disk.
     """
 
     rank: float
     memory: int
     call: Callable
     name: str = ""
+    fail: Callable = None
     seconds: float = field(default=0.0, compare=False)
     held: int = field(default=0, compare=False)
     thread: int = field(default=0, compare=False)
@@ -47,6 +53,12 @@ def held_below(pid, thread):
     except (OSError, IndexError, ValueError):
         pass  # (one has just ended)
     return held
+
+
+def reason(error):
+    """What went wrong, and where."""
+    at = traceback.extract_tb(error.__traceback__)[-1]
+    return f"{error!r} at {os.path.basename(at.filename)}:{at.lineno}"
 
 
 class Lanes:
@@ -86,12 +98,29 @@ class Lanes:
     def timed(self, task):
         began, task.thread = time.monotonic(), threading.get_native_id()
         try:
-            return task.call() or []
+            return self.attempt(task) or []
         finally:
             task.seconds, task.thread = time.monotonic() - began, 0
 
+    def attempt(self, task):
+        """Does a task, and once more where that fails."""
+        try:
+            return task.call()
+        except Exception as error:
+            if task.fail is None:
+                raise
+            self.tell(f"{task.name}: once more after {reason(error)}")
+        time.sleep(PAUSE)
+        try:
+            return task.call()
+        except Exception as error:
+            return task.fail(reason(error))
+
     def run(self, tasks):
-        """Runs the tasks and all that follow from them. What a task raises ends the run."""
+        """Runs the tasks and all that follow from them.
+
+        What a task raises that has no `fail` ends the run.
+        """
         self.add(tasks)
         with ThreadPoolExecutor(self.count) as pool:
             while self.waiting or self.running:

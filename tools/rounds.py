@@ -9,7 +9,8 @@ The crate is proved once into an empty folder, the seed. Edits are tried over li
 3. All other edits, and what no batch refuses, go the toolchain's own way, each alone.
 
 Where there is a time at which no edit begins any more, those that haven't begun are left. What was
-tried in a batch and not refused there isn't left: it is tried to its end.
+tried in a batch and not refused there isn't left: it is tried to its end. Where the machine fails
+twice at a task, the crate's edits without a verdict are told as not tried, with the reason.
 """
 import collections
 import os
@@ -63,7 +64,8 @@ class Trial:
             # (in another order at each commit, so that not always the same ones are left)
             rank = zlib.crc32(f"{self.number} {self.crate.name} {what}".encode()) % LONE - LONE
         memory = max(memory * toolchain().need(self.crate), held)
-        made = Task(rank, memory, lambda: self.done(call), f"{self.crate.name} {what}")
+        fail = lambda why: self.done(lambda: self.fail(why))
+        made = Task(rank, memory, lambda: self.done(call), f"{self.crate.name} {what}", fail)
         if call != self.seed:
             self.tasks.append(made)
         return made
@@ -78,6 +80,13 @@ class Trial:
             stage = self.stages.pop(0)
             more = [*more, self.task(stage.__name__, stage)]
         return more
+
+    def fail(self, why):
+        """Gives up what has no verdict yet. Tasks that run go on."""
+        self.stages = []
+        for it in self.edits:
+            if it.label not in self.came:
+                self.settle(it, UNSURE, why)
 
     def lone(self, edit, call):
         return self.task(edit.name, lambda: call(edit), is_lone=True)
@@ -106,8 +115,9 @@ class Trial:
             os.mkdir(f"{self.room}/seed")
         said = self.check({}, f"{self.room}/seed")
         if said.status < 0:
-            # (killed, most likely for memory: once more)
-            said = self.check({}, f"{self.room}/seed")
+            # (done once more, in another folder: what it began may still write into this one)
+            shutil.rmtree(self.room, ignore_errors=True)
+            raise OSError("the check was killed, most likely for memory")
         if said.status:
             return self.give_up(said)
         self.files = toolchain().listing(f"{self.room}/seed")

@@ -6,6 +6,7 @@ They choose the order of proofs and tell how much is left. No verdict rests on t
 ONE_JOB = {
     "zpath": 117, "ztree": 34, "zcalls": 88, "zslots": 49, "znodes": 108, "zsessions": 55,
     "zstore": 116, "zops": 158, "zprotocol": 43, "zclient": 64, "zmaster": 82, "zserver": 186,
+    "zactor": 90,
     "zworld_model": 34, "zlinks": 105, "zworld": 349, "zlinear": 26, "zlines": 225, "zdevices": 31,
     "zscript": 241, "zcli": 40, "zcommand": 96, "ztraces": 41, "zaudit": 180, "zshared": 120,
     "zhost": 420,

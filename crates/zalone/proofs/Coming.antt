@@ -106,7 +106,8 @@ module _ (t : Tree) (lawful : IsLawful t) (bounded : IsBounded t) where
   -- what came of a call that waited: nothing yet, or its reply
   abbrev pub Came : AloneView → Log → Call → Option Reply → Type 0
   Came new log call told =
-      ((told ≡ None) × HasToldFrom t new log (Some call)) ⊎ ((reply : Reply) × (told ≡ Some reply) × HasToldFrom t new (log ++ (call, reply) ∷ []) None)
+      ((told ≡ None) × HasToldFrom t new log (Some call)) ⊎ ((reply : Reply) × (told ≡ Some reply) × HasToldFrom t new
+      (log ++ (call, reply) ∷ []) None)
 
   -- a client whose call waits, and that settled
   module _ (servers : ℕ) (events : List Event) (log : Log) (call : Call) (old new : AloneView) (told : Option Reply)
@@ -125,7 +126,8 @@ module _ (t : Tree) (lawful : IsLawful t) (bounded : IsBounded t) where
     has_room = subst HasRoom (sym known) (room t lawful bounded (calls_of log))
 
     -- no answer came
-    module _ (more : List Event) (still : TakesTurns (run kept_tree whole more) log (Some call)) (there : Stands (run kept_tree whole more) log new.world) where
+    module _ (more : List Event) (still : TakesTurns (run kept_tree whole more) log (Some call))
+        (there : Stands (run kept_tree whole more) log new.world) where
       only_begun : new.world.history ≡ Begin 0 (length log + 1) call ∷ []
       only_begun = append_cancel_left (history_of log None) _ _ (shown _ log log (Some call) new.world there still ∙ sym (begun_last log call))
 
@@ -139,10 +141,15 @@ module _ (t : Tree) (lawful : IsLawful t) (bounded : IsBounded t) where
       still_made = subst (Keeps log) (sym (waits.made ∙ ap (made_behind old.changes) only_begun)) made
 
       nothing_came : Came new log call told
-      nothing_came = inl (unheard, told_by new log (Some call) servers events more log still there (λ c e. refl) (waits.waits ∙ ap is_none unheard) still_known still_made)
+      nothing_came = inl (
+        unheard,
+        told_by new log (Some call) servers events more log still there (λ c e. refl)
+            (waits.waits ∙ ap is_none unheard) still_known still_made,
+      )
 
     -- an answer came
-    module _ (more : List Event) (reply : Reply) (done : TakesTurns (run kept_tree whole more) (with_reply reply) None) (there : Stands (run kept_tree whole more) log new.world) where
+    module _ (more : List Event) (reply : Reply) (done : TakesTurns (run kept_tree whole more) (with_reply reply) None)
+        (there : Stands (run kept_tree whole more) log new.world) where
       whole_call : new.world.history ≡ Begin 0 (length log + 1) call ∷ (Answer 0 (length log + 1) reply ∷ [])
       whole_call =
           append_cancel_left (history_of log None) _ _
@@ -170,14 +177,16 @@ module _ (t : Tree) (lawful : IsLawful t) (bounded : IsBounded t) where
           ∙ ap known_of (sym (last_tree log t call reply))
 
       now_made : Keeps (with_reply reply) new.changes
-      now_made = subst (Keeps (with_reply reply)) (sym (waits.made ∙ ap (made_behind old.changes) whole_call)) (keeps_more log old.changes call reply made)
+      now_made = subst (Keeps (with_reply reply)) (sym (waits.made ∙ ap (made_behind old.changes) whole_call))
+          (keeps_more log old.changes call reply made)
 
       reply_came : Came new log call told
       reply_came =
           inr (
             reply,
             was_heard,
-            told_by new (with_reply reply) None servers events more log done there (nothing_fresh log (with_reply reply)) (waits.waits ∙ ap is_none was_heard)
+            told_by new (with_reply reply) None servers events more log done there (nothing_fresh log (with_reply reply))
+                (waits.waits ∙ ap is_none was_heard)
                 now_known now_made,
           )
 

@@ -1,5 +1,6 @@
 -- The log of a client whose chain began with the tree that an earlier log left.
-use Rattle.std.proofs.Common.{◌≡◌, ◌∙◌, List, [], ◌∷◌, ◌++◌, length, drop, Option, Some, None, inl, inr, sym, ap, subst, arith, append_assoc, length-append}
+use Rattle.std.proofs.Common.{◌≡◌, ◌∙◌, List, [], ◌∷◌, ◌++◌, length, drop, Option, Some, None, inl, inr, sym, ap, subst}
+use Rattle.std.proofs.Common.{arith, append_assoc, length-append}
 use Rattle.std.proofs.lemmas.List.{append-nil}
 use Rattle.std.specs.Prelude.{IfSome, zip}
 use Rattle.ztree.specs.Tree.{Tree, opening_tree}
@@ -10,7 +11,9 @@ use Rattle.zturns.specs.Turns.{Log, calls_of, tree_after, IsOneTrees}
 use Rattle.zturns.specs.FromTree.{IsOneTreesFrom}
 use Rattle.zturns.proofs.Lives.{is_one_trees_from, lives_are_one_trees, lives_leave_one_tree}
 use Rattle.zalone.specs.Alone.{AloneView}
-use Rattle.zalone.specs.Told.{HasTold, HasToldFrom, StandsBehind, GoesOnAsked, GoesOnAskedAll, StopsBefore, GoesOnSettled, TellsAsked, TellsAskedFrom, TellsAskedAll, TellsAskedAllFrom, TellsSettled, TellsSettledFrom, TellsOrdered, TellsOrderedFrom}
+use Rattle.zalone.specs.Told.{HasTold, HasToldFrom, StandsBehind, GoesOnAsked, GoesOnAskedAll, StopsBefore}
+use Rattle.zalone.specs.Told.{GoesOnSettled, TellsAsked, TellsAskedFrom, TellsAskedAll, TellsAskedAllFrom, TellsSettled}
+use Rattle.zalone.specs.Told.{TellsSettledFrom, TellsOrdered, TellsOrderedFrom}
 
 -- what holds of what there is
 pub if_some : {A : Type 0} (found : Option A) (P Q : A → Type 0) → ((x : A) → P x → Q x) → IfSome found P → IfSome found Q
@@ -19,7 +22,8 @@ if_some (Some x) P Q leads has = leads x has
 
 -- the log since the chain began is one tree's
 pub its_log : (t : Tree) (v : AloneView) (log : Log) (waiting : Option Call) → HasToldFrom t v log waiting → IsOneTreesFrom t log
-its_log t v log waiting h = is_one_trees_from t (record { lawful = h.lawful; granted = h.bounded.sessions }) h.servers h.events log waiting h.turns.told
+its_log t v log waiting h = is_one_trees_from t (record { lawful = h.lawful; granted = h.bounded.sessions }) h.servers
+    h.events log waiting h.turns.told
 
 -- the tree that a log leaves
 abbrev pub left_by : Log → Tree
@@ -30,7 +34,8 @@ module _ (v : AloneView) (log : Log) (waiting : Option Call) (h : HasTold v log 
   pub is_one_tree : IsOneTrees log
   is_one_tree =
       let since = its_log (left_by h.earlier) v h.since waiting h.told in
-      subst IsOneTrees (ap (λ l. h.earlier ++ l) (append-nil h.since) ∙ sym h.parts) (lives_are_one_trees (h.earlier ∷ h.since ∷ []) (h.one, (since, tt)))
+      subst IsOneTrees (ap (λ l. h.earlier ++ l) (append-nil h.since) ∙ sym h.parts)
+      (lives_are_one_trees (h.earlier ∷ h.since ∷ []) (h.one, (since, tt)))
 
   pub leaves : left_by log ≡ tree_after (left_by h.earlier) (calls_of h.since)
   leaves = ap left_by h.parts ∙ lives_leave_one_tree opening_tree h.earlier h.since
@@ -40,7 +45,8 @@ module _ (v : AloneView) (log : Log) (waiting : Option Call) (h : HasTold v log 
 
 -- what was told since a log of one tree is told behind it
 module _ (new : AloneView) (earlier : Log) (one : IsOneTrees earlier) where
-  pub behind : (log since : Log) (waiting : Option Call) → log ≡ earlier ++ since → HasToldFrom (left_by earlier) new since waiting → HasTold new log waiting
+  pub behind : (log since : Log) (waiting : Option Call) → log ≡ earlier ++ since → HasToldFrom (left_by earlier) new since waiting
+      → HasTold new log waiting
   behind log since waiting parts told = record { earlier = earlier; since = since; parts = parts; one = one; told = told }
 
   longer : (log since more : Log) → log ≡ earlier ++ since → log ++ more ≡ earlier ++ (since ++ more)
@@ -64,8 +70,11 @@ module _ (new : AloneView) (earlier : Log) (one : IsOneTrees earlier) where
   all_behind : (log since : Log) (waiting : Option Call) (calls : List Call) (told : List Reply) → log ≡ earlier ++ since
       → GoesOnAskedAll (HasToldFrom (left_by earlier) new) since waiting calls told → GoesOnAskedAll (HasTold new) log waiting calls told
   all_behind log since (Some other) calls told parts goes = (goes.0, behind log since (Some other) parts goes.1)
-  all_behind log since None calls told parts goes =
-      (goes.0, stops_behind (log ++ zip calls told) (since ++ zip calls told) (drop (length told) calls) (longer log since (zip calls told) parts) goes.1)
+  all_behind log since None calls told parts goes = (
+    goes.0,
+    stops_behind (log ++ zip calls told) (since ++ zip calls told) (drop (length told) calls)
+        (longer log since (zip calls told) parts) goes.1,
+  )
 
   settled_behind : (log since : Log) (waiting : Option Call) (told : Option Reply) → log ≡ earlier ++ since
       → GoesOnSettled (HasToldFrom (left_by earlier) new) since waiting told → GoesOnSettled (HasTold new) log waiting told

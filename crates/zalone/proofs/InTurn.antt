@@ -1,5 +1,6 @@
 -- Calls that are made one after the other, and how the log goes on at them.
-use Rattle.std.proofs.Common.{◌≡◌, ℕ, ◌+◌, ◌≤◌, ◌<◌, suc, Bool, true, false, List, [], ◌∷◌, ◌++◌, length, drop, get_or, Option, Some, None, refl, sym, ap, subst, ◌∙◌, append_assoc, lit≤, arith}
+use Rattle.std.proofs.Common.{◌≡◌, ℕ, ◌+◌, ◌≤◌, ◌<◌, suc, Bool, true, false, List, [], ◌∷◌, ◌++◌, length, drop, get_or}
+use Rattle.std.proofs.Common.{Option, Some, None, refl, sym, ap, subst, ◌∙◌, append_assoc, lit≤, arith}
 use Rattle.std.proofs.lemmas.List.{append-nil}
 use Rattle.std.specs.Prelude.{zip}
 use Rattle.ztree.specs.Tree.{Tree}
@@ -24,7 +25,8 @@ pub asked_none : (v : AloneView) (calls : List Call) → HasAskedUpTo v calls 0 
 asked_none v calls new more asked = asked
 
 -- one more call was answered
-pub asked_more : (old between after : AloneView) (calls : List Call) (i : ℕ) (call : Call) (told items : List Reply) (answer : Option Reply) (reply : Reply)
+pub asked_more : (old between after : AloneView) (calls : List Call) (i : ℕ) (call : Call) (told items : List Reply)
+    (answer : Option Reply) (reply : Reply)
     → HasAskedUpTo old calls i between told → i < length calls → call ≡ get_or calls i call → Asks between call after answer → answer ≡ Some reply
     → items ≡ told ++ reply ∷ [] → HasAskedUpTo old calls (i + 1) after items
 asked_more old between after calls i call told items answer reply up_to below is asks some pushed new more asked =
@@ -75,7 +77,11 @@ module _ (t : Tree) where
   -- at no call
   none_made : (old new : AloneView) (told : List Reply) (log : Log) → told ≡ [] → new ≡ old → HasToldFrom t old log None → Goes new log [] told
   none_made old new told log none same has =
-      subst (Goes new log []) (sym none) (lit≤ tt, subst (λ l. HasToldFrom t new l None) (sym (append-nil log)) (subst (λ v. HasToldFrom t v log None) (sym same) has))
+      subst (Goes new log []) (sym none) (
+        lit≤ tt,
+        subst (λ l. HasToldFrom t new l None) (sym (append-nil log))
+            (subst (λ v. HasToldFrom t v log None) (sym same) has),
+      )
 
   -- at a call that gets no reply
   none_came : (between new : AloneView) (call : Call) (calls : List Call) (told : List Reply) (log : Log) → told ≡ [] → new ≡ between
@@ -93,7 +99,8 @@ module _ (t : Tree) where
   one_came new call calls reply told more log is goes =
       subst (Goes new log (call ∷ calls)) (sym is) (
         one_longer (length more) (length calls) goes.0,
-        subst (λ (l : Log). StopsBefore (HasToldFrom t new) l (drop (length more) calls)) (append_assoc log ((call, reply) ∷ []) (zip calls more)) goes.1,
+        subst (λ (l : Log). StopsBefore (HasToldFrom t new) l (drop (length more) calls))
+            (append_assoc log ((call, reply) ∷ []) (zip calls more)) goes.1,
       )
 
   asked_goes : (old between new : AloneView) (call : Call) (calls : List Call) (told : List Reply) (log : Log) (answer : Option Reply)
@@ -106,13 +113,15 @@ module _ (t : Tree) where
       one_came new call calls reply told behind.0 log behind.1
       (goes behind.0 (log ++ (call, reply) ∷ []) behind.2 (asks_tell t old call between (Some reply) asks log None has))
 
-  all_go : (calls : List Call) (old new : AloneView) (told : List Reply) (log : Log) → AsksAll old calls new told → HasToldFrom t old log None → Goes new log calls told
+  all_go : (calls : List Call) (old new : AloneView) (told : List Reply) (log : Log) → AsksAll old calls new told
+      → HasToldFrom t old log None → Goes new log calls told
   all_go [] old new told log asked has = none_made old new told log asked.0 asked.1 has
   all_go (call ∷ calls) old new told log asked has =
       asked_goes old asked.0 new call calls told log asked.1 asked.2 asked.3 has
       (λ more longer behind there. all_go calls asked.0 new more longer behind there)
 
-  pub all_asked_tell : (old : AloneView) (calls : List Call) (new : AloneView) (told : List Reply) → AsksAll old calls new told → (log : Log) (waiting : Option Call) → HasToldFrom t old log waiting → GoesOnAskedAll (HasToldFrom t new) log waiting calls told
+  pub all_asked_tell : (old : AloneView) (calls : List Call) (new : AloneView) (told : List Reply) → AsksAll old calls new told
+      → (log : Log) (waiting : Option Call) → HasToldFrom t old log waiting → GoesOnAskedAll (HasToldFrom t new) log waiting calls told
   all_asked_tell old calls new told asked log None has = all_go calls old new told log asked has
   all_asked_tell old calls new told asked log (Some other) has =
       let stays = busy old new calls told has.waits asked in

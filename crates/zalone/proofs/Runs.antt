@@ -56,7 +56,8 @@ is_order (Fail s) = tt
 is_order (Order order) = tt
 
 -- an event that reads as it is was a run
-pub done_run : (v w : ServiceWorld) (event : Event) (did : Did) → ((outcome : Outcome) → read kept_tree v event outcome ≡ event) → HasHappened v event did w
+pub done_run : (v w : ServiceWorld) (event : Event) (did : Did) → ((outcome : Outcome) → read kept_tree v event outcome ≡ event)
+    → HasHappened v event did w
     → run kept_tree v (event ∷ []) ≡ w
 done_run v w event did reads has = subst (λ e. happens kept_tree v e ≡ w) (reads (outcome_of did)) has.leads
 

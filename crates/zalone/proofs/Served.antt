@@ -34,7 +34,8 @@ rest_of r s rs ss e = cc e
 
 -- what a log goes on with is served by the tree that it left
 served_behind : (log : Log) (t : Tree) (calls : List Call) (told : List Reply) → length told ≤ length calls
-    → replies_of (log ++ zip calls told) ≡ served t (calls_of (log ++ zip calls told)) → told ≡ served (tree_after t (calls_of log)) (take (length told) calls)
+    → replies_of (log ++ zip calls told) ≡ served t (calls_of (log ++ zip calls told))
+    → told ≡ served (tree_after t (calls_of log)) (take (length told) calls)
 served_behind [] t calls told few is = sym (replies_zip calls told few) ∙ is ∙ ap (served t) (calls_zip calls told)
 served_behind (last ∷ log) t calls told few is =
     served_behind log (serve t 0 last.0).0 calls told few

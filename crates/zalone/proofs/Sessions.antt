@@ -1,6 +1,7 @@
 -- Sessions that are put one after the other, by their ids.
 use Rattle.std.proofs.lemmas.List.{drop_all}
-use Rattle.std.proofs.Common.{◌≡◌, ◌⊎◌, ℕ, ◌+◌, ◌<◌, ◌≤◌, length, drop, get_or, true, false, cond, List, [], ◌∷◌, Option, Some, None, refl, sym, ap, subst, ◌∙◌, inl, inr, eqb-true}
+use Rattle.std.proofs.Common.{◌≡◌, ◌⊎◌, ℕ, ◌+◌, ◌<◌, ◌≤◌, length, drop, get_or, true, false, cond, List, [], ◌∷◌}
+use Rattle.std.proofs.Common.{Option, Some, None, refl, sym, ap, subst, ◌∙◌, inl, inr, eqb-true}
 use Rattle.std.specs.Prelude.{◌||◌, is_some}
 use Rattle.std.specs.List.{list_any}
 use Rattle.std.specs.Cmp.{nat_cmp_total, unsigned_tied}
@@ -31,7 +32,8 @@ all_left all q = elim (test (list_any (eq_by_cmp nat_cmp q) (keys all))) [
 ]
 
 -- a session is put
-pub one_put : (m all : Sessions) (id : ℕ) (s : Session) (ids : List ℕ) → get all id ≡ Some s → IsLeft m all (id ∷ ids) → IsLeft (insert m id s) all ids
+pub one_put : (m all : Sessions) (id : ℕ) (s : Session) (ids : List ℕ) → get all id ≡ Some s → IsLeft m all (id ∷ ids)
+    → IsLeft (insert m id s) all ids
 one_put m all id s ids there left q = elim (test (eq_by_cmp nat_cmp q id)) [
   | inl here ↦
       inl (get-insert nat_cmp_total m id s q ∙ ap (λ b. cond b (Some s) (get m q)) here ∙ sym there ∙ ap (get all) (sym (same_id q id here)))
@@ -68,13 +70,19 @@ all_put m all left = same_map nat_cmp_total nat_cmp-IsAntisymmetric m all (λ q.
 abbrev pub IsKnownUpTo : Tree → ℕ → KnownView → Type 0
 IsKnownUpTo t n k = (k.zxid ≡ t.zxid) × (k.time ≡ t.time) × IsLeft k.sessions t.sessions (drop n (keys t.sessions))
 
-pub known_begins : (t : Tree) (k : KnownView) (zxid time : ℕ) → k ≡ record { zxid = zxid; time = time; sessions = empty } → zxid ≡ t.zxid → time ≡ t.time
+pub known_begins : (t : Tree) (k : KnownView) (zxid time : ℕ) → k ≡ record { zxid = zxid; time = time; sessions = empty }
+    → zxid ≡ t.zxid → time ≡ t.time
     → IsKnownUpTo t 0 k
-known_begins t k zxid time is last clock =
-    (ap (λ (x : KnownView). x.zxid) is ∙ last, ap (λ (x : KnownView). x.time) is ∙ clock, subst (λ m. IsLeft m t.sessions (keys t.sessions)) (sym (ap (λ (x : KnownView). x.sessions) is)) (all_left t.sessions))
+known_begins t k zxid time is last clock = (
+  ap (λ (x : KnownView). x.zxid) is ∙ last,
+  ap (λ (x : KnownView). x.time) is
+      ∙ clock,
+  subst (λ m. IsLeft m t.sessions (keys t.sessions)) (sym (ap (λ (x : KnownView). x.sessions) is)) (all_left t.sessions),
+)
 
 -- one more place
-module _ (t : Tree) (n id : ℕ) (k next : KnownView) (below : n < length (keys t.sessions)) (here : id ≡ get_or (keys t.sessions) n id) (up_to : IsKnownUpTo t n k) where
+module _ (t : Tree) (n id : ℕ) (k next : KnownView) (below : n < length (keys t.sessions)) (here : id ≡ get_or (keys t.sessions) n id)
+    (up_to : IsKnownUpTo t n k) where
   left : IsLeft k.sessions t.sessions (id ∷ drop (n + 1) (keys t.sessions))
   left = subst (IsLeft k.sessions t.sessions) (ahead (keys t.sessions) n id below here) up_to.2
 

@@ -35,11 +35,13 @@ use Rattle.zalone.proofs.Runs.{ServiceWorld, goes_with, call_reads, order_reads,
 
 module _ (t : Tree) (lawful : IsLawful t) (bounded : IsBounded t) where
   -- where no reply came, or one did, the log goes on
-  settled_came : (old new : AloneView) (log : Log) (call : Call) (told : Option Reply) → Came t lawful bounded new log call told → GoesOnSettled (HasToldFrom t new) log (Some call) told
+  settled_came : (old new : AloneView) (log : Log) (call : Call) (told : Option Reply) → Came t lawful bounded new log call told
+      → GoesOnSettled (HasToldFrom t new) log (Some call) told
   settled_came old new log call told (inl none) = subst (GoesOnSettled (HasToldFrom t new) log (Some call)) (sym none.0) none.1
   settled_came old new log call told (inr did) = subst (GoesOnSettled (HasToldFrom t new) log (Some call)) (sym did.1) did.2
 
-  asked_came : (new : AloneView) (log : Log) (call : Call) (told : Option Reply) → Came t lawful bounded new log call told → GoesOnAsked (HasToldFrom t new) log None call told
+  asked_came : (new : AloneView) (log : Log) (call : Call) (told : Option Reply) → Came t lawful bounded new log call told
+      → GoesOnAsked (HasToldFrom t new) log None call told
   asked_came new log call told (inl none) = subst (GoesOnAsked (HasToldFrom t new) log None call) (sym none.0) (inl none.1)
   asked_came new log call told (inr did) = subst (GoesOnAsked (HasToldFrom t new) log None call) (sym did.1) did.2
 
@@ -86,7 +88,8 @@ module _ (t : Tree) where
           exhausted before call log h.turns not_enabled,
           told_by t h.lawful h.bounded new log None h.servers h.events begin log
               (subst (λ u. TakesTurns u log None) (sym (idle_same before (event.Begin 0 call) not_enabled)) h.turns)
-              (subst (Stands (run kept_tree before begin) log) (sym goes.1) there) (nothing_fresh log log) (goes.2.waits ∙ h.waits) (goes.2.known ∙ h.known)
+              (subst (Stands (run kept_tree before begin) log) (sym goes.1) there) (nothing_fresh log log) (goes.2.waits
+              ∙ h.waits) (goes.2.known ∙ h.known)
               (subst (Keeps log) (sym goes.2.made) h.made),
         ))
 
@@ -104,7 +107,8 @@ module _ (t : Tree) where
     began_tells true is goes = refused is goes
     began_tells false is goes = waited is goes
 
-  pub asks_tell : (old : AloneView) (call : Call) (new : AloneView) (told : Option Reply) → Asks old call new told → (log : Log) (waiting : Option Call) → HasToldFrom t old log waiting → GoesOnAsked (HasToldFrom t new) log waiting call told
+  pub asks_tell : (old : AloneView) (call : Call) (new : AloneView) (told : Option Reply) → Asks old call new told
+      → (log : Log) (waiting : Option Call) → HasToldFrom t old log waiting → GoesOnAsked (HasToldFrom t new) log waiting call told
   asks_tell old call new told asks log (Some other) h =
       let busy : (told ≡ None) × (new ≡ old) = subst (λ b. AsksIf b old call new told) h.waits asks in
       (busy.0, subst (λ v. HasToldFrom t v log (Some other)) (sym busy.1) h)
@@ -123,22 +127,26 @@ module _ (t : Tree) where
         by : GoesOn (run kept_tree (world_after_from t h.servers 1 h.events) s.0) log None → HasToldFrom t new log None
         by (inl still) =
             told_by t h.lawful h.bounded new log None h.servers h.events s.0 h.before still
-            (goes_with (history_of h.before None) (world_after_from t h.servers 1 h.events) (world_in old.world) (world_in new.world) s.0 h.stands s.2)
+            (goes_with (history_of h.before None) (world_after_from t h.servers 1 h.events) (world_in old.world)
+            (world_in new.world) s.0 h.stands s.2)
             (nothing_fresh h.before log) (rests.same.waits ∙ h.waits) (rests.same.known ∙ h.known)
             (subst (Keeps log) (sym rests.same.made) h.made)
         by (inr did) = let clash : None ≡ Some did.0 = did.2 in absurd (cc clash)
 
-  pub settles_tell : (old new : AloneView) (told : Option Reply) → Settles old new told → (log : Log) (waiting : Option Call) → HasToldFrom t old log waiting → GoesOnSettled (HasToldFrom t new) log waiting told
+  pub settles_tell : (old new : AloneView) (told : Option Reply) → Settles old new told → (log : Log) (waiting : Option Call)
+      → HasToldFrom t old log waiting → GoesOnSettled (HasToldFrom t new) log waiting told
   settles_tell old new told settles log (Some call) h =
       let waits : Waits old new told = subst (λ b. SettlesIf b old new told) h.waits settles in
       let stands : Stands (world_after_from t h.servers 1 h.events) log old.world =
       subst (λ before. Stands (world_after_from t h.servers 1 h.events) before old.world) (h.fresh call refl) h.stands in
-      settled_came t h.lawful h.bounded old new log call told (came t h.lawful h.bounded h.servers h.events log call old new told h.turns stands h.known h.made waits)
+      settled_came t h.lawful h.bounded old new log call told (came t h.lawful h.bounded h.servers h.events log call
+      old new told h.turns stands h.known h.made waits)
   settles_tell old new told settles log None h =
       let rests : Rests old new told = subst (λ b. SettlesIf b old new told) h.waits settles in
       subst (GoesOnSettled (HasToldFrom t new) log None) (sym rests.none) (rested old new log h told rests)
 
-  pub orders_tell : (old new : AloneView) (order : ChainOrder) (did : Did) → HasDone old.world new.world (event_of order) did → SameCall old new → (log : Log) (waiting : Option Call) → HasToldFrom t old log waiting → HasToldFrom t new log waiting
+  pub orders_tell : (old new : AloneView) (order : ChainOrder) (did : Did) → HasDone old.world new.world (event_of order) did
+      → SameCall old new → (log : Log) (waiting : Option Call) → HasToldFrom t old log waiting → HasToldFrom t new log waiting
   orders_tell old new order did has same log waiting h =
       let whole = world_after_from t h.servers 1 h.events in
       told_by t h.lawful h.bounded new log waiting h.servers h.events (event_of order ∷ []) h.before
@@ -148,9 +156,23 @@ module _ (t : Tree) where
       h.fresh (same.waits ∙ h.waits) (same.known ∙ h.known) (subst (Keeps log) (sym same.made) h.made)
 
   -- what was made is taken
-  pub taken_tells : (old : AloneView) (log : Log) (waiting : Option Call) → HasToldFrom t old log waiting → HasToldFrom t (record old { changes = all_taken old.changes }) log waiting
+  pub taken_tells : (old : AloneView) (log : Log) (waiting : Option Call) → HasToldFrom t old log waiting
+      → HasToldFrom t (record old { changes = all_taken old.changes }) log waiting
   taken_tells old log waiting h =
-      record { lawful = h.lawful; bounded = h.bounded; servers = h.servers; events = h.events; turns = h.turns; before = h.before; stands = h.stands; fresh = h.fresh; waits = h.waits; known = h.known; made = keeps_taken log old.changes h.made }
+      record {
+        lawful = h.lawful;
+        bounded = h.bounded;
+        servers = h.servers;
+        events = h.events;
+        turns = h.turns;
+        before =
+            h.before;
+        stands = h.stands;
+        fresh = h.fresh;
+        waits = h.waits;
+        known = h.known;
+        made = keeps_taken log old.changes h.made;
+      }
 
 -- a client of an initial world has called nothing
 pub opening_told_from : (t : Tree) → IsLawful t → IsBounded t → (v : AloneView) (servers : ℕ) → world_in v.world ≡ opening_world_from t servers 1

@@ -34,7 +34,13 @@ module _ (old new : AloneView) (b : Bool) (told : Option Reply) where
   waits_marked w = record { settled = w.settled; settles = w.settles; hears = w.hears; waits = w.waits; made = w.made; knows = w.knows }
 
   rests_marked : Rests old new told → Rests old (marked new b) told
-  rests_marked r = record { settled = r.settled; settles = r.settles; none = r.none; same = record { known = r.same.known; made = r.same.made; waits = r.same.waits } }
+  rests_marked r = record {
+    settled = r.settled;
+    settles = r.settles;
+    none = r.none;
+    same =
+        record { known = r.same.known; made = r.same.made; waits = r.same.waits };
+  }
 
   settles_if_marked : (w : Bool) → SettlesIf w old new told → SettlesIf w old (marked new b) told
   settles_if_marked true s = waits_marked s
@@ -43,27 +49,32 @@ module _ (old new : AloneView) (b : Bool) (told : Option Reply) where
   settles_marked : Settles old new told → Settles old (marked new b) told
   settles_marked s = settles_if_marked old.is_waiting s
 
-goes_on_marked : (idle : Bool) (old : AloneView) (began : WorldView) (new : AloneView) (b : Bool) (told : Option Reply) → GoesOnIf idle old began new told
+goes_on_marked : (idle : Bool) (old : AloneView) (began : WorldView) (new : AloneView) (b : Bool) (told : Option Reply)
+    → GoesOnIf idle old began new told
     → GoesOnIf idle old began (marked new b) told
 goes_on_marked true old began new b told goes = (goes.0, goes.1, record { known = goes.2.known; made = goes.2.made; waits = goes.2.waits })
 goes_on_marked false old began new b told goes = waits_marked (record old { world = began }) new b told goes
 
 -- a settling of a client behind its view
-pub settled_view : (old new inside : AloneView) (b : Bool) (told : Option Reply) → inside ≡ new → Settles old new told → Settles old (marked inside b) told
+pub settled_view : (old new inside : AloneView) (b : Bool) (told : Option Reply) → inside ≡ new → Settles old new told
+    → Settles old (marked inside b) told
 settled_view old new inside b told is settles = settles_marked old inside b told (subst (λ v. Settles old v told) (sym is) settles)
 
 -- where none waits
-pub rested_view : (old inside new : AloneView) (told : Option Reply) → inside ≡ old → inside.is_waiting ≡ false → Rests inside new told → Settles old new told
+pub rested_view : (old inside new : AloneView) (told : Option Reply) → inside ≡ old → inside.is_waiting ≡ false
+    → Rests inside new told → Settles old new told
 rested_view old inside new told is waits rests =
     subst (λ v. Settles v new told) is (subst (λ w. SettlesIf w inside new told) (sym waits) rests)
 
 -- where one waits
-pub waited_view : (old inside new : AloneView) (told : Option Reply) → inside ≡ old → inside.is_waiting ≡ true → Waits inside new told → Settles old new told
+pub waited_view : (old inside new : AloneView) (told : Option Reply) → inside ≡ old → inside.is_waiting ≡ true
+    → Waits inside new told → Settles old new told
 waited_view old inside new told is waits waited =
     subst (λ v. Settles v new told) is (subst (λ w. SettlesIf w inside new told) (sym waits) waited)
 
 -- a call of a client behind its view, where none waits
-pub asked_view : (old inside new after : AloneView) (b : Bool) (call : Call) (told : Option Reply) → inside ≡ old → inside.is_waiting ≡ false → after ≡ new
+pub asked_view : (old inside new after : AloneView) (b : Bool) (call : Call) (told : Option Reply) → inside ≡ old
+    → inside.is_waiting ≡ false → after ≡ new
     → Begins old call new told → Asks old call (marked after b) told
 asked_view old inside new after b call told is free same began =
     let begins : Begins old call after told = subst (λ v. Begins old call v told) (sym same) began in

@@ -31,7 +31,8 @@ pub ends_early : (c : ℕ) (history seen : History) (i at : ℕ) (x : CallEvent)
 ends_early c history seen i at x there own so_far end same =
     let rest = told_of c (drop (suc i) history) in
     let all : take at seen ≡ seen = ap (λ n. take n seen) end ∙ take-length seen in
-    let whole : seen ≡ seen ++ get_or history i x ∷ rest = sym same ∙ (told_here c history i x there own ∙ ap (λ front. front ++ get_or history i x ∷ rest) (so_far ∙ all)) in
+    let whole : seen ≡ seen ++ get_or history i x ∷ rest = sym same
+    ∙ (told_here c history i x there own ∙ ap (λ front. front ++ get_or history i x ∷ rest) (so_far ∙ all)) in
     let longer : length seen ≡ length seen + suc (length rest) = ap length whole ∙ length-append seen (get_or history i x ∷ rest) in
     omega (arith, longer)
 
@@ -42,5 +43,6 @@ is_next c history seen i at x y there own so_far more same =
     let rest = told_of c (drop (suc i) history) in
     let whole : seen ≡ take at seen ++ get_or history i x ∷ rest =
     sym same ∙ (told_here c history i x there own ∙ ap (λ front. front ++ get_or history i x ∷ rest) so_far) in
-    let both : get_or history i x ∷ rest ≡ get_or seen at y ∷ drop (suc at) seen = append_cancel_left (take at seen) _ _ (sym whole ∙ split_at seen at y more) in
+    let both : get_or history i x ∷ rest ≡ get_or seen at y ∷ drop (suc at) seen = append_cancel_left (take at seen) _
+    _ (sym whole ∙ split_at seen at y more) in
     ap (λ (l : History). get_or l 0 x) both

@@ -15,7 +15,8 @@ use Rattle.ztraces.proofs.Found.{lawful_not_disordered, lawful_not_mismatched}
 use Rattle.zaudit.specs.declared.faults.AuditFault.{AuditFault}
 use Rattle.zaudit.specs.declared.faults.AuditFault.TheVariants.{Cut, Disorder, Mismatch, Memory}
 
-pub only_memory : (t : Traces) (fault : AuditFault) → (fault ≡ Cut → is_any_cut t ≡ true) → (fault ≡ Disorder → IsDisordered t) → (fault ≡ Mismatch → IsMismatched t)
+pub only_memory : (t : Traces) (fault : AuditFault) → (fault ≡ Cut → is_any_cut t ≡ true) → (fault ≡ Disorder → IsDisordered t)
+    → (fault ≡ Mismatch → IsMismatched t)
     → ∥ AreLawful t ∥₁ → is_any_cut t ≡ false → fault ≡ Memory
 only_memory t Cut cut disorder mismatch lawful whole =
     let both : true ≡ false = sym (cut refl) ∙ whole in
@@ -24,7 +25,8 @@ only_memory t Disorder cut disorder mismatch lawful whole = absurd (∥∥₁_el
 only_memory t Mismatch cut disorder mismatch lawful whole = absurd (∥∥₁_elim lawful ⊥_prop (λ l. lawful_not_mismatched t l (mismatch refl)))
 only_memory t Memory cut disorder mismatch lawful whole = refl
 
-pub opened_so : (t : Traces) (n : ℕ) → n ≡ client_count t → (r : Result WorldView zpath_memory.Memory) → IfOk r (λ w. world_in w ≡ opening_world kept_tree t.last n)
+pub opened_so : (t : Traces) (n : ℕ) → n ≡ client_count t → (r : Result WorldView zpath_memory.Memory)
+    → IfOk r (λ w. world_in w ≡ opening_world kept_tree t.last n)
     → IfOk r (λ w. opening_of t ≡ world_in w)
 opened_so t n count (Ok w) same = sym (same ∙ ap (opening_world kept_tree t.last) count)
 opened_so t n count (Err memory) same = tt

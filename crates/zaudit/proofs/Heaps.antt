@@ -1,6 +1,8 @@
 -- A heap of the next events of all traces: its top has the next of all, and once it is read the trace's next one takes its
 -- place.
-use Rattle.std.proofs.Common.{◌≡◌, ◌⊎◌, ◌<◌, ◌≤◌, ℕ, zero, suc, ◌+◌, Bool, true, false, cond, ◌==◌, nat_lt, List, [], ◌∷◌, Option, Some, None, length, get_or, drop, set, refl, sym, ap, ◌∙◌, subst, inl, inr, eqb-true, arith}
+use Rattle.std.proofs.Common.{◌≡◌, ◌⊎◌, ◌<◌, ◌≤◌, ℕ, zero, suc, ◌+◌, Bool, true, false, cond, ◌==◌, nat_lt, List, []}
+use Rattle.std.proofs.Common.{◌∷◌, Option, Some, None, length, get_or, drop, set, refl, sym, ap, ◌∙◌, subst, inl, inr}
+use Rattle.std.proofs.Common.{eqb-true, arith}
 use Rattle.std.specs.Prelude.{◌&&◌}
 use Rattle.std.specs.List.{AllByRecursion}
 use Rattle.std.proofs.Math.Nat.{eq-or-lt_of_le}
@@ -93,7 +95,8 @@ module _ (t : Traces) (read : List ℕ) where
   ]
 
   -- nothing is counted where no head passes
-  count_none : (p : ℕ × ℕ → Bool) (heads : List Head) → AllByRecursion (λ (head : Head). p head.0 ≡ false) heads → count_of (λ x. one_if (p x)) heads ≡ 0
+  count_none : (p : ℕ × ℕ → Bool) (heads : List Head) → AllByRecursion (λ (head : Head). p head.0 ≡ false) heads
+      → count_of (λ x. one_if (p x)) heads ≡ 0
   count_none p [] all = refl
   count_none p (head ∷ heads) all =
       let more = count_none p heads all.1 in

@@ -1,5 +1,6 @@
 -- What C is told, call by call: each call plays at most one line, and tells what was to be told or nothing.
-use Rattle.std.proofs.Common.{◌≡◌, ℕ, ◌⊎◌, inl, inr, Bool, true, false, List, [], ◌∷◌, ◌++◌, length, take, drop, refl, sym, ap, ◌∙◌, subst, append_assoc, if◌then◌else◌}
+use Rattle.std.proofs.Common.{◌≡◌, ℕ, ◌⊎◌, inl, inr, Bool, true, false, List, [], ◌∷◌, ◌++◌, length, take, drop, refl}
+use Rattle.std.proofs.Common.{sym, ap, ◌∙◌, subst, append_assoc, if◌then◌else◌}
 use Rattle.std.proofs.Math.Dec.{ltb}
 use Rattle.std.proofs.Math.Seq.{take-append_seam}
 use Rattle.std.proofs.lemmas.Bool.{ltb-true, ltb-false}
@@ -63,7 +64,8 @@ plays script old (Open left answer) world line Done at none h = record {
   after = world_between left.held;
   at = refl;
   done = subst (λ w. AreLinesDone w (line ∷ []) (world_between left.held) (Writes old [] (Open left answer))) at
-      (done-written (λ text. string_bytes answer ≡ text) (Writes old [] (Open left answer)) (world_between script.held) (world_between left.held) (line ∷ [])
+      (done-written (λ text. string_bytes answer ≡ text) (Writes old [] (Open left answer)) (world_between script.held)
+      (world_between left.held) (line ∷ [])
       (λ text is. ap (λ t. t ++ text) none ∙ sym is)
       (done-line (world_between script.held) (world_between left.held) line (λ text. string_bytes answer ≡ text) h));
 }
@@ -82,10 +84,13 @@ hears : (old new : Service) (world : ServiceWorld) (line : List ℕ) (status : S
     → Went old world (played_by (Hear line status)) [] new
 hears (Open script answer) new world line status at h = elim (empty_or (string_bytes answer)) [
   | inl none ↦ plays script (Open script answer) new world line status at none (h.0 none)
-  | inr some ↦ idle (Open script answer) new world (played_by (Hear line status)) [] at (unplayed line status Pending refl (h.1 some).0) refl (h.1 some).1
+  | inr some ↦ idle (Open script answer) new world (played_by (Hear line status)) [] at (unplayed line status Pending refl (h.1 some).0)
+      refl (h.1 some).1
 ]
-hears OutOfMemory new world line status at h = idle OutOfMemory new world (played_by (Hear line status)) [] at (unplayed line status Memory refl h.0) refl h.1
-hears Refused new world line status at h = idle Refused new world (played_by (Hear line status)) [] at (unplayed line status NoServers refl h.0) refl h.1
+hears OutOfMemory new world line status at h = idle OutOfMemory new world (played_by (Hear line status)) [] at
+    (unplayed line status Memory refl h.0) refl h.1
+hears Refused new world line status at h = idle Refused new world (played_by (Hear line status)) [] at
+    (unplayed line status NoServers refl h.0) refl h.1
 
 -- what a service is that has told its answer
 has_told : (old new : Service) (world : ServiceWorld) → IsIn old world → HasTold old new → IsIn new world × (to_tell new ≡ [])
@@ -96,7 +101,8 @@ has_told OutOfMemory new world at h = (subst (λ s. IsIn s world) (sym h) tt, ap
 has_told Refused new world at h = (subst (λ s. IsIn s world) (sym h) tt, ap to_tell h)
 
 -- an answer was told, or there was no room for it
-module _ (old new : Service) (world : ServiceWorld) (before after : List ℕ) (count : ℕ) (at : IsIn old world) (h : Tells old new before after count) where
+module _ (old new : Service) (world : ServiceWorld) (before after : List ℕ) (count : ℕ) (at : IsIn old world)
+    (h : Tells old new before after count) where
   abbrev by_room : (b : Bool) → ltb (length before) count ≡ b → Went old world [] (if b then [] else take count after) new
   by_room true small = idle old new world [] [] at refl refl (h.2 (ltb-true (length before) count small)).0
   by_room false fits =

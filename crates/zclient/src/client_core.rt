@@ -112,6 +112,7 @@ impl ClientCore {
     /// Invokes a call and returns its number. It fails as `begin_fault` says, or with `Memory`;
     /// then nothing has changed and nothing was sent.
     #[tactic(auto, unfolding(zprotocol::specs::client::Table::begin_step, zprotocol::specs::client::Table::begin_fault))]
+    #[inline(always)]
     pub fn begin<T: Drop>(&mut self, call: Call, out: &mut Out<T>) -> Result<CallNumber, BeginFault>
         ensures number { IfOk result (λ number. number ≡ self.new.number) }
         ensures next { OnOk result (self.new ≡ (begin_step {T = T} self.old call).0) }
@@ -142,6 +143,7 @@ impl ClientCore {
     /// Where the call must be sent again and memory runs out, it hands the message back; then
     /// nothing has changed and nothing was sent.
     #[tactic(auto, unfolding(zprotocol::specs::client::Table::client_step))]
+    #[inline(always)]
     pub fn take<T: Drop>(
         &mut self,
         from: Process,
@@ -207,6 +209,7 @@ impl ClientCore {
     // `Answer`: the reply to the outstanding call ends the wait and is handed out. Any other is
     // dropped.
     #[tactic(auto, unfolding(zprotocol::specs::client::Table::answer_row))]
+    #[inline(always)]
     fn answer<T: Drop>(&mut self, number: CallNumber, reply: Reply) -> Option<Reply>
         ensures next { self.new ≡ (answer_row {T = T} self.old number reply).0 }
         ensures silent { (answer_row {T = T} self.old number reply).1 ≡ [] }

@@ -8,7 +8,8 @@ use Rattle.zdata.specs.Answering.{asked_in, answers_in, Tells, IsAskedBy, Answer
 use Rattle.zdata.proofs.Telling.{tells_nothing, tells_both, asked_both, answers_both}
 
 -- some batches were told; what the source gave is their bytes and what was begun
-pub record IsGoing {D : Type 0} (seen : D → List ℕ) (may_leave : D → List ℕ → Type 0) (gave took : List ℕ → Type 0) (first service : Durable D) (begun : List ℕ) : Type 0 where
+pub record IsGoing {D : Type 0} (seen : D → List ℕ) (may_leave : D → List ℕ → Type 0) (gave took : List ℕ → Type 0)
+    (first service : Durable D) (begun : List ℕ) : Type 0 where
   pub told : List Told
   pub tells : Tells seen may_leave told first service
   pub bytes : List ℕ
@@ -19,8 +20,19 @@ pub record IsGoing {D : Type 0} (seen : D → List ℕ) (may_leave : D → List 
   pub sound : IsSound seen may_leave service
 
 module _ {D : Type 0} (seen : D → List ℕ) (may_leave : D → List ℕ → Type 0) where
-  pub going_begins : (gave took : List ℕ → Type 0) (service : Durable D) → (begun : List ℕ) → begun ≡ [] → gave [] → took [] → IsOpen service → IsSound seen may_leave service → IsGoing seen may_leave gave took service service begun
-  going_begins gave took service begun fresh nothing none opens sound = record { told = []; tells = tells_nothing seen may_leave service; bytes = []; gave_them = nothing; asked = sym fresh; took_them = none; opens = opens; sound = sound }
+  pub going_begins : (gave took : List ℕ → Type 0) (service : Durable D) → (begun : List ℕ) → begun ≡ [] → gave []
+      → took [] → IsOpen service → IsSound seen may_leave service → IsGoing seen may_leave gave took service service begun
+  going_begins gave took service begun fresh nothing none opens sound = record {
+    told = [];
+    tells = tells_nothing seen
+        may_leave service;
+    bytes = [];
+    gave_them = nothing;
+    asked = sym fresh;
+    took_them = none;
+    opens = opens;
+    sound = sound;
+  }
 
   -- some more bytes were heard
   pub going_on : (gave gives gave' took takes took' : List ℕ → Type 0) (first mid new : Durable D) (begun piece rest : List ℕ)
@@ -55,8 +67,10 @@ module _ {D : Type 0} (seen : D → List ℕ) (may_leave : D → List ℕ → Ty
     bytes = so_far.bytes ++ [];
     gave_them = gave_both so_far.bytes [] so_far.gave_them given;
     asked = ⊎_elim
-        (λ all. inl (asked_both so_far.told more ∙ ap (λ (l : List ℕ). asked_in so_far.told ++ l) all ∙ sym so_far.asked ∙ sym (append-nil so_far.bytes)))
-        (λ ended. inr (asked_both so_far.told more ∙ ap (λ (l : List ℕ). asked_in so_far.told ++ l) ended ∙ sym (append_assoc (asked_in so_far.told) begun (10 ∷ []))
+        (λ all. inl (asked_both so_far.told more ∙ ap (λ (l : List ℕ). asked_in so_far.told ++ l) all ∙ sym so_far.asked
+        ∙ sym (append-nil so_far.bytes)))
+        (λ ended. inr (asked_both so_far.told more ∙ ap (λ (l : List ℕ). asked_in so_far.told ++ l) ended
+        ∙ sym (append_assoc (asked_in so_far.told) begun (10 ∷ []))
         ∙ ap (λ (l : List ℕ). l ++ 10 ∷ []) (sym so_far.asked ∙ sym (append-nil so_far.bytes))))
         by;
     took_them = subst took' (sym (answers_both so_far.told more)) (took_both (answers_in so_far.told) (answers_in more) so_far.took_them told);
@@ -73,12 +87,14 @@ module _ {D : Type 0} (seen : D → List ℕ) (may_leave : D → List ℕ → Ty
     front = answers_in so_far.told ++ some.front;
     begins = (
       some.begins.0,
-      answers_both so_far.told some.told ∙ ap (λ (l : List ℕ). answers_in so_far.told ++ l) some.begins.1 ∙ sym (append_assoc (answers_in so_far.told) some.front some.begins.0),
+      answers_both so_far.told some.told ∙ ap (λ (l : List ℕ). answers_in so_far.told ++ l) some.begins.1
+          ∙ sym (append_assoc (answers_in so_far.told) some.front some.begins.0),
     );
     took_it = took_both (answers_in so_far.told) some.front so_far.took_them some.took_it;
   }
 
-  pub going_fails : (gave took : List ℕ → Type 0) (first mid : Durable D) (begun : List ℕ) → IsGoing seen may_leave gave took first mid begun → AnswersSome seen may_leave took first
+  pub going_fails : (gave took : List ℕ → Type 0) (first mid : Durable D) (begun : List ℕ) → IsGoing seen may_leave gave took first mid begun
+      → AnswersSome seen may_leave took first
   going_fails gave took first mid begun so_far = record {
     told = so_far.told;
     last = mid;

@@ -17,7 +17,8 @@ asked_both (batch ∷ told) more = ap (λ (l : List ℕ). batch.0 ++ l) (asked_b
 
 pub answers_both : (told more : List Told) → answers_in (told ++ more) ≡ answers_in told ++ answers_in more
 answers_both [] more = refl
-answers_both (batch ∷ told) more = ap (λ (l : List ℕ). batch.1 ++ l) (answers_both told more) ∙ sym (append_assoc batch.1 (answers_in told) (answers_in more))
+answers_both (batch ∷ told) more = ap (λ (l : List ℕ). batch.1 ++ l) (answers_both told more)
+    ∙ sym (append_assoc batch.1 (answers_in told) (answers_in more))
 
 kept_both : (told more : List Told) (old mid : ServiceWorld) → AreTold old told mid
     → kept_in (script_state old []) (told ++ more) ≡ kept_in (script_state old []) told ++ kept_in (script_state mid []) more
@@ -45,7 +46,8 @@ module _ {D : Type 0} (seen : D → List ℕ) (may_leave : D → List ℕ → Ty
     keeps = λ servers batches serving. subst (λ (l : List (List ℕ)). IsServing seen may_leave servers l service) (sym (append-nil batches)) serving;
   }
 
-  pub tells_both : (told more : List Told) (old mid new : Durable D) → Tells seen may_leave told old mid → Tells seen may_leave more mid new → Tells seen may_leave (told ++ more) old new
+  pub tells_both : (told more : List Told) (old mid new : Durable D) → Tells seen may_leave told old mid
+      → Tells seen may_leave more mid new → Tells seen may_leave (told ++ more) old new
   tells_both told more old mid new first then = record {
     whole = whole_both told more first.whole then.whole;
     worlds = told_both (world_in old) (world_in mid) (world_in new) told more first.worlds then.worlds;
@@ -53,22 +55,35 @@ module _ {D : Type 0} (seen : D → List ℕ) (may_leave : D → List ℕ → Ty
         let here = kept_in (state_in old) told in
         let there = kept_in (state_in mid) more in
         let same : batches ++ kept_in (state_in old) (told ++ more) ≡ (batches ++ here) ++ there =
-        ap (λ (l : List (List ℕ)). batches ++ l) (kept_both told more (world_in old) (world_in mid) first.worlds) ∙ sym (append_assoc batches here there) in
-        subst (λ (l : List (List ℕ)). IsServing seen may_leave servers l new) (sym same) (then.keeps servers (batches ++ here) (first.keeps servers batches serving));
+        ap (λ (l : List (List ℕ)). batches ++ l) (kept_both told more (world_in old) (world_in mid) first.worlds)
+        ∙ sym (append_assoc batches here there) in
+        subst (λ (l : List (List ℕ)). IsServing seen may_leave servers l new) (sym same)
+        (then.keeps servers (batches ++ here) (first.keeps servers batches serving));
   }
 
   -- one batch
-  pub tells_one : (lines answers : List ℕ) (old new : Durable D) → is_whole lines ≡ true → AreAnswered (world_in old) (lines_of lines) (world_in new) answers
-      → ((servers : ℕ) (batches : List (List ℕ)) → IsServing seen may_leave servers batches old → IsServing seen may_leave servers (batches ++ kept (state_in old) lines ∷ []) new)
+  pub tells_one : (lines answers : List ℕ) (old new : Durable D) → is_whole lines ≡ true
+      → AreAnswered (world_in old) (lines_of lines) (world_in new) answers
+      → ((servers : ℕ) (batches : List (List ℕ)) → IsServing seen may_leave servers batches old
+      → IsServing seen may_leave servers (batches ++ kept (state_in old) lines ∷ []) new)
       → Tells seen may_leave ((lines, answers) ∷ []) old new
   tells_one lines answers old new whole played keeps = record { whole = (whole, tt); worlds = (world_in new, played, refl); keeps = keeps }
 
   -- it ended before a batch was told
   pub some_none : (service : Durable D) (took : List ℕ → Type 0) → took [] → AnswersSome seen may_leave took service
-  some_none service took nothing = record { told = []; last = service; tells = tells_nothing service; front = []; begins = ([], refl); took_it = nothing }
+  some_none service took nothing = record {
+    told = [];
+    last = service;
+    tells = tells_nothing service;
+    front = [];
+    begins =
+        ([], refl);
+    took_it = nothing;
+  }
 
   -- it ended while a batch was told
-  pub some_one : (lines answers : List ℕ) (old new : Durable D) (took : List ℕ → Type 0) → Tells seen may_leave ((lines, answers) ∷ []) old new → TookBeginning took answers → AnswersSome seen may_leave took old
+  pub some_one : (lines answers : List ℕ) (old new : Durable D) (took : List ℕ → Type 0) → Tells seen may_leave ((lines, answers) ∷ []) old new
+      → TookBeginning took answers → AnswersSome seen may_leave took old
   some_one lines answers old new took tells began = record {
     told = (lines, answers) ∷ [];
     last = new;
@@ -79,5 +94,13 @@ module _ {D : Type 0} (seen : D → List ℕ) (may_leave : D → List ℕ → Ty
   }
 
   -- it ended behind a batch that was told
-  pub some_told : (told : List Told) (old new : Durable D) (took : List ℕ → Type 0) → Tells seen may_leave told old new → took (answers_in told) → AnswersSome seen may_leave took old
-  some_told told old new took tells all = record { told = told; last = new; tells = tells; front = answers_in told; begins = ([], sym (append-nil (answers_in told))); took_it = all }
+  pub some_told : (told : List Told) (old new : Durable D) (took : List ℕ → Type 0) → Tells seen may_leave told old new
+      → took (answers_in told) → AnswersSome seen may_leave took old
+  some_told told old new took tells all = record {
+    told = told;
+    last = new;
+    tells = tells;
+    front = answers_in told;
+    begins = ([], sym (append-nil (answers_in told)));
+    took_it = all;
+  }

@@ -41,7 +41,8 @@ middle false false c is = absurd (true≢false (sym is))
 
 -- so a line with one is a bad line, as an empty line is
 malformed : (line : List ℕ) → list_any (λ (byte : ℕ). byte == 0) line ≡ true → is_malformed line ≡ true
-malformed line is = middle (is_long line) (list_any (λ (byte : ℕ). not (is_plain byte)) line) (list_any is_empty (words_of line)) (zero_is_odd line is)
+malformed line is = middle (is_long line) (list_any (λ (byte : ℕ). not (is_plain byte)) line) (list_any is_empty (words_of line))
+    (zero_is_odd line is)
 
 same_effect : (s : ScriptState) (line : List ℕ) → is_malformed line ≡ true → effect_of s [] ≡ effect_of s line
 unfolding effect_of line_of

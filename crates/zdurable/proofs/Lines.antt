@@ -32,7 +32,8 @@ lines-append [] b whole = refl
 lines-append (x ∷ []) b whole = rw whole refl
 lines-append (x ∷ y ∷ a) b whole = by (x == 10) (lines-append (y ∷ a) b whole)
   where
-    by : (t : Bool) → lines_of (y ∷ a ++ b) ≡ lines_of (y ∷ a) ++ lines_of b → cond t ([] ∷ lines_of (y ∷ a ++ b)) (onto_first x (lines_of (y ∷ a ++ b)))
+    by : (t : Bool) → lines_of (y ∷ a ++ b) ≡ lines_of (y ∷ a) ++ lines_of b
+        → cond t ([] ∷ lines_of (y ∷ a ++ b)) (onto_first x (lines_of (y ∷ a ++ b)))
         ≡ cond t ([] ∷ lines_of (y ∷ a)) (onto_first x (lines_of (y ∷ a))) ++ lines_of b
     by true rest = ap (λ lines. [] ∷ lines) rest
     by false rest = ap (onto_first x) rest ∙ first-append x (lines_of (y ∷ a)) (lines_of b) (some_lines y a)

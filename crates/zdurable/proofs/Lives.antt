@@ -1,5 +1,6 @@
 -- The lives of a service, from the last one back.
-use Rattle.std.proofs.Common.{◌≡◌, ℕ, suc, true, false, List, [], ◌∷◌, ◌++◌, map, Option, None, Some, inl, inr, refl, sym, ap, subst, ◌∙◌, append_assoc, append-nil}
+use Rattle.std.proofs.Common.{◌≡◌, ℕ, suc, true, false, List, [], ◌∷◌, ◌++◌, map, Option, None, Some, inl, inr, refl}
+use Rattle.std.proofs.Common.{sym, ap, subst, ◌∙◌, append_assoc, append-nil}
 use Rattle.zjournal.specs.Journal.{StandsFor}
 use Rattle.zjournal.specs.Scan.{joined}
 use Rattle.zjournal.proofs.Readings.{files_have_one_reading}
@@ -7,14 +8,16 @@ use Rattle.zscript.specs.Line.{ServiceWorld, ScriptState, script_state, opening_
 use Rattle.zscript.specs.Script.{lines_of}
 use Rattle.zdurable.specs.Batches.{kept, is_whole}
 use Rattle.zdurable.specs.Played.{after_lines}
-use Rattle.zdurable.specs.Lives.{Told, Life, batches_of, AreTold, after_batch, kept_from, IsLeft, AreLives, asked_in, told_in, under_way_in, batch_answers, AreAmong}
+use Rattle.zdurable.specs.Lives.{Told, Life, batches_of, AreTold, after_batch, kept_from, IsLeft, AreLives, asked_in}
+use Rattle.zdurable.specs.Lives.{told_in, under_way_in, batch_answers, AreAmong}
 use Rattle.zdurable.specs.Refused.{told_lines}
 use Rattle.zdurable.proofs.Lines.{lines-append, AreWhole, wholes-append}
 use Rattle.zdurable.proofs.Kept.{whole-kept, kept-leads}
 use Rattle.zdurable.proofs.Played.{after-append, answers-append}
 
 -- one more batch in front: told, or under way and acted, or under way and lost
-among-told : (s : ScriptState) (tells answered ways batches : List (List ℕ)) (batch : List ℕ) → AreAmong (after_batch s batch) tells answered ways batches
+among-told : (s : ScriptState) (tells answered ways batches : List (List ℕ)) (batch : List ℕ)
+    → AreAmong (after_batch s batch) tells answered ways batches
     → AreAmong s (batch ∷ tells) (told_lines s (lines_of batch) ∷ answered) ways (kept s batch ∷ batches)
 among-told s tells answered ways batches batch h = record {
   came = batch ∷ h.came;
@@ -27,7 +30,8 @@ among-told s tells answered ways batches batch h = record {
   others = h.others;
 }
 
-among-acted : (s : ScriptState) (tells answered ways batches : List (List ℕ)) (batch : List ℕ) → AreAmong (after_batch s batch) tells answered ways batches
+among-acted : (s : ScriptState) (tells answered ways batches : List (List ℕ)) (batch : List ℕ)
+    → AreAmong (after_batch s batch) tells answered ways batches
     → AreAmong s tells answered (batch ∷ ways) (kept s batch ∷ batches)
 among-acted s tells answered ways batches batch h = record {
   came = batch ∷ h.came;
@@ -63,7 +67,8 @@ after_batches-append [] ys s = refl
 after_batches-append (x ∷ xs) ys s = after_batches-append xs ys (after_lines s (lines_of x))
 
 -- whole batches are their lines, one behind the other
-lines-batch : (batch : List ℕ) (batches : List (List ℕ)) → is_whole batch ≡ true → lines_of (joined (batch ∷ batches)) ≡ lines_of batch ++ lines_of (joined batches)
+lines-batch : (batch : List ℕ) (batches : List (List ℕ)) → is_whole batch ≡ true → lines_of (joined (batch ∷ batches))
+    ≡ lines_of batch ++ lines_of (joined batches)
 lines-batch batch batches whole = lines-append batch (joined batches) whole
 
 after-batches : (batches : List (List ℕ)) (s : ScriptState) → AreWhole batches → after_lines s (lines_of (joined batches)) ≡ after_batches s batches
@@ -73,7 +78,8 @@ after-batches (batch ∷ batches) s whole =
     ∙ after-append (lines_of batch) (lines_of (joined batches)) s
     ∙ after-batches batches (after_lines s (lines_of batch)) whole.1
 
-pub answers-batches : (batches : List (List ℕ)) (s : ScriptState) → AreWhole batches → joined (batch_answers s batches) ≡ answers s (lines_of (joined batches))
+pub answers-batches : (batches : List (List ℕ)) (s : ScriptState) → AreWhole batches → joined (batch_answers s batches)
+    ≡ answers s (lines_of (joined batches))
 answers-batches [] s whole = refl
 answers-batches (batch ∷ batches) s whole =
     ap (λ t. answers s (lines_of batch) ++ t) (answers-batches batches (after_lines s (lines_of batch)) whole.1)
@@ -96,14 +102,18 @@ told-leads (t ∷ told) old new (mid, answered, more) =
 -- what was told stands in front of what came after
 told-among : (told : List Told) (old new : ServiceWorld) (tells answered ways batches : List (List ℕ)) → AreTold old told new
     → AreAmong (script_state new []) tells answered ways batches
-    → AreAmong (script_state old []) (batches_of told ++ tells) (map (λ (t : Told). t.1) told ++ answered) ways (kept_from (script_state old []) (batches_of told) ++ batches)
+    → AreAmong (script_state old []) (batches_of told ++ tells) (map (λ (t : Told). t.1) told ++ answered) ways
+    (kept_from (script_state old []) (batches_of told) ++ batches)
 told-among [] old new tells answered ways batches is h = subst (λ w. AreAmong (script_state w []) tells answered ways batches) is h
 told-among (t ∷ told) old new tells answered ways batches (mid, line, more) h =
     let s = script_state old [] in
     let rest = told-among told mid new tells answered ways batches more h in
-    subst (λ answer. AreAmong s (t.0 ∷ batches_of told ++ tells) (answer ∷ map (λ (u : Told). u.1) told ++ answered) ways (kept s t.0 ∷ kept_from (after_batch s t.0) (batches_of told) ++ batches)) line.told
-    (among-told s (batches_of told ++ tells) (map (λ (u : Told). u.1) told ++ answered) ways (kept_from (after_batch s t.0) (batches_of told) ++ batches) t.0
-    (subst (λ r. AreAmong r (batches_of told ++ tells) (map (λ (u : Told). u.1) told ++ answered) ways (kept_from r (batches_of told) ++ batches)) (sym line.left) rest))
+    subst (λ answer. AreAmong s (t.0 ∷ batches_of told ++ tells) (answer ∷ map (λ (u : Told). u.1) told ++ answered)
+    ways (kept s t.0 ∷ kept_from (after_batch s t.0) (batches_of told) ++ batches)) line.told
+    (among-told s (batches_of told ++ tells) (map (λ (u : Told). u.1) told ++ answered) ways
+    (kept_from (after_batch s t.0) (batches_of told) ++ batches) t.0
+    (subst (λ r. AreAmong r (batches_of told ++ tells) (map (λ (u : Told). u.1) told ++ answered) ways
+    (kept_from r (batches_of told) ++ batches)) (sym line.left) rest))
 
 -- from a file that stands for these batches on
 record Stands (servers : ℕ) (found batches : List (List ℕ)) (lives : List Life) : Type 0 where
@@ -127,9 +137,11 @@ module _ (servers : ℕ) (found batches : List (List ℕ)) (told : List Told) (l
   closes : after_batches (opening_script servers []) mid ≡ script_state closed []
   closes = after_batches-append found here (opening_script servers []) ∙ ap (λ s. after_batches s here) opens ∙ told-leads told opened closed tells
 
-  life-first : (ways more : List (List ℕ)) → batches ≡ mid ++ more → AreWhole more → AreAmong (script_state closed []) (asked_in lives) (told_in lives) ways more
+  life-first : (ways more : List (List ℕ)) → batches ≡ mid ++ more → AreWhole more
+      → AreAmong (script_state closed []) (asked_in lives) (told_in lives) ways more
       → (all : List (List ℕ)) × (batches ≡ found ++ all) × AreWhole all
-      × AreAmong (after_batches (opening_script servers []) found) (batches_of told ++ asked_in lives) (map (λ (t : Told). t.1) told ++ told_in lives) ways all
+      × AreAmong (after_batches (opening_script servers []) found) (batches_of told ++ asked_in lives)
+      (map (λ (t : Told). t.1) told ++ told_in lives) ways all
   life-first ways more split whole among = (
     here ++ more,
     split ∙ append_assoc found here more,
@@ -141,7 +153,8 @@ module _ (servers : ℕ) (found batches : List (List ℕ)) (told : List Told) (l
   -- none was under way; or one, which was lost; or one, which acted
   stands-told : Stands servers mid batches lives → Stands servers found batches (record { told = told; under_way = None } ∷ lives)
   stands-told rest =
-      let all = life-first (under_way_in lives) rest.more rest.split rest.whole (subst (λ s. AreAmong s (asked_in lives) (told_in lives) (under_way_in lives) rest.more) closes rest.among) in
+      let all = life-first (under_way_in lives) rest.more rest.split rest.whole
+      (subst (λ s. AreAmong s (asked_in lives) (told_in lives) (under_way_in lives) rest.more) closes rest.among) in
       record { more = all.0; split = all.1; whole = all.2; among = all.3 }
 
   module _ (batch : List ℕ) where
@@ -155,11 +168,14 @@ module _ (servers : ℕ) (found batches : List (List ℕ)) (told : List Told) (l
         (subst (λ s. AreAmong s (asked_in lives) (told_in lives) (under_way_in lives) rest.more) closes rest.among)) in
         record { more = all.0; split = all.1; whole = all.2; among = all.3 }
 
-    stands-acted : Stands servers (mid ++ keeps ∷ []) batches lives → Stands servers found batches (record { told = told; under_way = Some batch } ∷ lives)
+    stands-acted : Stands servers (mid ++ keeps ∷ []) batches lives
+        → Stands servers found batches (record { told = told; under_way = Some batch } ∷ lives)
     stands-acted rest =
         let leads : after_batches (opening_script servers []) (mid ++ keeps ∷ []) ≡ after_batch (script_state closed []) batch =
-        after_batches-append mid (keeps ∷ []) (opening_script servers []) ∙ ap (λ s. after_lines s (lines_of keeps)) closes ∙ kept-leads (script_state closed []) batch in
-        let all = life-first (batch ∷ under_way_in lives) (keeps ∷ rest.more) (rest.split ∙ append_assoc mid (keeps ∷ []) rest.more) (whole-kept (script_state closed []) batch, rest.whole)
+        after_batches-append mid (keeps ∷ []) (opening_script servers []) ∙ ap (λ s. after_lines s (lines_of keeps)) closes
+        ∙ kept-leads (script_state closed []) batch in
+        let all = life-first (batch ∷ under_way_in lives) (keeps ∷ rest.more) (rest.split ∙ append_assoc mid (keeps ∷ []) rest.more)
+        (whole-kept (script_state closed []) batch, rest.whole)
         (among-acted (script_state closed []) (asked_in lives) (told_in lives) (under_way_in lives) rest.more batch
         (subst (λ s. AreAmong s (asked_in lives) (told_in lives) (under_way_in lives) rest.more) leads rest.among)) in
         record { more = all.0; split = all.1; whole = all.2; among = all.3 }
@@ -173,7 +189,8 @@ stands-then : (servers : ℕ) (found batches : List (List ℕ)) (told : List Tol
     → Stands servers found batches (record { told = told; under_way = way } ∷ lives)
 stands-then servers found batches told lives opened closed opens tells None left whole leaves rest =
     let here = kept_from (script_state opened []) (batches_of told) in
-    stands-told servers found batches told lives opened closed opens tells (rest (found ++ here) leaves (wholes-append found here whole (whole-told (batches_of told) (script_state opened []))))
+    stands-told servers found batches told lives opened closed opens tells
+    (rest (found ++ here) leaves (wholes-append found here whole (whole-told (batches_of told) (script_state opened []))))
 stands-then servers found batches told lives opened closed opens tells (Some batch) left whole (inl without) rest =
     let here = kept_from (script_state opened []) (batches_of told) in
     stands-lost servers found batches told lives opened closed opens tells batch
@@ -183,10 +200,12 @@ stands-then servers found batches told lives opened closed opens tells (Some bat
     let keeps = kept (script_state closed []) batch in
     stands-acted servers found batches told lives opened closed opens tells batch
     (rest ((found ++ here) ++ keeps ∷ []) (inl with_it)
-    (wholes-append (found ++ here) (keeps ∷ []) (wholes-append found here whole (whole-told (batches_of told) (script_state opened []))) (whole-kept (script_state closed []) batch, tt)))
+    (wholes-append (found ++ here) (keeps ∷ []) (wholes-append found here whole (whole-told (batches_of told) (script_state opened [])))
+    (whole-kept (script_state closed []) batch, tt)))
 
 -- all lives
-stands : (servers : ℕ) (lives : List Life) (file last : List ℕ) (batches : List (List ℕ)) → AreLives servers file lives last → StandsFor servers batches last
+stands : (servers : ℕ) (lives : List Life) (file last : List ℕ) (batches : List (List ℕ)) → AreLives servers file lives last
+    → StandsFor servers batches last
     → (found : List (List ℕ)) → StandsFor servers found file → AreWhole found → Stands servers found batches lives
 stands servers [] file last batches is stand found finds whole =
     let same = files_have_one_reading servers file batches found (subst (StandsFor servers batches) is stand) finds in
@@ -197,11 +216,13 @@ stands servers (life ∷ lives) file last batches (seen, sees, left, one, rest) 
     sym (after-batches found (opening_script servers []) whole)
     ∙ ap (λ bs. after_lines (opening_script servers []) (lines_of (joined bs))) (sym same) ∙ one.played.left in
     stands-then servers found batches life.told lives one.opened one.closed opens one.tells life.under_way left whole
-    (subst (λ bs. IsLeft servers (script_state one.closed []) (bs ++ kept_from (script_state one.opened []) (batches_of life.told)) life.under_way left) same one.leaves)
+    (subst (λ bs. IsLeft servers (script_state one.closed []) (bs ++ kept_from (script_state one.opened []) (batches_of life.told))
+    life.under_way left) same one.leaves)
     (λ next stand_next whole_next. stands servers lives left last batches rest stand next stand_next whole_next)
 
 -- from a new file on
-module _ (servers : ℕ) (lives : List Life) (last : List ℕ) (batches : List (List ℕ)) (are : AreLives servers [] lives last) (stand : StandsFor servers batches last) where
+module _ (servers : ℕ) (lives : List Life) (last : List ℕ) (batches : List (List ℕ)) (are : AreLives servers [] lives last)
+    (stand : StandsFor servers batches last) where
   from_new : Stands servers [] batches lives
   from_new = stands servers lives [] last batches are stand [] (inr (inl tt, refl)) tt
 

@@ -26,7 +26,8 @@ answers-append (x ∷ xs) ys s = ap (λ t. answer s x ++ t) (answers-append xs y
 pub played-none : (world : ServiceWorld) → ArePlayed world [] world []
 played-none world = record { left = refl; answered = refl }
 
-pub played-append : (old mid new : ServiceWorld) (xs ys : List (List ℕ)) (first second : List ℕ) → ArePlayed old xs mid first → ArePlayed mid ys new second → ArePlayed old (xs ++ ys) new (first ++ second)
+pub played-append : (old mid new : ServiceWorld) (xs ys : List (List ℕ)) (first second : List ℕ) → ArePlayed old xs mid first
+    → ArePlayed mid ys new second → ArePlayed old (xs ++ ys) new (first ++ second)
 played-append old mid new xs ys first second h k = record {
   left = after-append xs ys (script_state old []) ∙ ap (λ s. after_lines s ys) h.left ∙ k.left;
   answered =
@@ -35,13 +36,16 @@ played-append old mid new xs ys first second h k = record {
       ∙ ap (λ t. first ++ t) k.answered;
 }
 
-played-line : (old new : ServiceWorld) (line : List ℕ) → after (script_state old []) line ≡ script_state new [] → ArePlayed old (line ∷ []) new (answer (script_state old []) line)
+played-line : (old new : ServiceWorld) (line : List ℕ) → after (script_state old []) line ≡ script_state new []
+    → ArePlayed old (line ∷ []) new (answer (script_state old []) line)
 played-line old new line left = record { left = left; answered = append-nil _ }
 
 -- one more line
-pub played-more : (old mid new : ServiceWorld) (lines : List (List ℕ)) (line text : List ℕ) (writes : List ℕ → Type 0) → ArePlayed old lines mid text → IsLineActed mid line new writes
+pub played-more : (old mid new : ServiceWorld) (lines : List (List ℕ)) (line text : List ℕ) (writes : List ℕ → Type 0)
+    → ArePlayed old lines mid text → IsLineActed mid line new writes
     → ArePlayed old (lines ++ line ∷ []) new (text ++ answer (script_state mid []) line)
-played-more old mid new lines line text writes h k = played-append old mid new lines (line ∷ []) text (answer (script_state mid []) line) h (played-line mid new line k.left)
+played-more old mid new lines line text writes h k = played-append old mid new lines (line ∷ []) text
+    (answer (script_state mid []) line) h (played-line mid new line k.left)
 
 -- a batch that was answered, by what is kept of it
 pub played-kept : (old new : ServiceWorld) (batch text : List ℕ) → AreAnswered old (lines_of batch) new text
@@ -82,7 +86,8 @@ module _ {A : Type 0} where
   }
 
   pub plays-more : (old mid new : WorldView) (lines : List (List ℕ)) (line : List ℕ) (before between behind : String A) (kept keeps all : List ℕ)
-      → PlaysLines lines old mid before between kept keeps → PlaysLine line mid new between behind keeps all → PlaysLines (lines ++ line ∷ []) old new before behind kept all
+      → PlaysLines lines old mid before between kept keeps → PlaysLine line mid new between behind keeps all
+      → PlaysLines (lines ++ line ∷ []) old new before behind kept all
   plays-more old mid new lines line before between behind kept keeps all h k =
       let first = state_of old in
       let leads : after_lines first (played_lines first lines) ≡ state_of mid = h.answered.left in

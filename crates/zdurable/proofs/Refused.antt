@@ -25,11 +25,13 @@ played-part (line ∷ lines) s parts = (one (is_refused s line), played-part lin
     one false = parts.0
 
 -- some lines, and then others
-pub played_lines-append : (xs ys : List (List ℕ)) (s : ScriptState) → played_lines s (xs ++ ys) ≡ played_lines s xs ++ played_lines (after_lines s (played_lines s xs)) ys
+pub played_lines-append : (xs ys : List (List ℕ)) (s : ScriptState) → played_lines s (xs ++ ys) ≡ played_lines s xs
+    ++ played_lines (after_lines s (played_lines s xs)) ys
 played_lines-append [] ys s = refl
 played_lines-append (x ∷ xs) ys s = ap (λ lines. played_as s x ∷ lines) (played_lines-append xs ys (after s (played_as s x)))
 
-pub told_lines-append : (xs ys : List (List ℕ)) (s : ScriptState) → told_lines s (xs ++ ys) ≡ told_lines s xs ++ told_lines (after_lines s (played_lines s xs)) ys
+pub told_lines-append : (xs ys : List (List ℕ)) (s : ScriptState) → told_lines s (xs ++ ys) ≡ told_lines s xs
+    ++ told_lines (after_lines s (played_lines s xs)) ys
 told_lines-append [] ys s = refl
 told_lines-append (x ∷ xs) ys s =
     let rest = after s (played_as s x) in

@@ -22,9 +22,12 @@ use Rattle.zdurable.proofs.Kept.{whole-kept}
 use Rattle.zdurable.proofs.Played.{played-append, played-kept}
 
 -- one batch more
-pub serves_more : {D : Type 0} (seen : D → List ℕ) (may_leave : D → List ℕ → Type 0) (servers : ℕ) (batches : List (List ℕ)) (old new : Durable D) (batch answers : List ℕ)
-    → IsServing seen may_leave servers batches old → IsAtRest seen may_leave servers (batches ++ kept (state_in old) batch ∷ []) new.journal → journal.IsOpen new.journal
-    → AreAnswered (world_in old) (lines_of batch) (world_in new) answers → IsServing seen may_leave servers (batches ++ kept (state_in old) batch ∷ []) new
+pub serves_more : {D : Type 0} (seen : D → List ℕ) (may_leave : D → List ℕ → Type 0)
+    (servers : ℕ) (batches : List (List ℕ)) (old new : Durable D) (batch answers : List ℕ)
+    → IsServing seen may_leave servers batches old → IsAtRest seen may_leave servers (batches ++ kept (state_in old) batch ∷ []) new.journal
+    → journal.IsOpen new.journal
+    → AreAnswered (world_in old) (lines_of batch) (world_in new) answers
+    → IsServing seen may_leave servers (batches ++ kept (state_in old) batch ∷ []) new
 serves_more seen may_leave servers batches old new batch answers serving rest takes answered =
     let keeps = kept (state_in old) batch in
     let told = script.answers (state_in old) (lines_of keeps) in
@@ -35,13 +38,16 @@ serves_more seen may_leave servers batches old new batch answers serving rest ta
       whole = subst (λ t. is_whole t ≡ true) (sym all) (whole-append (joined batches) keeps serving.whole (whole-kept (state_in old) batch));
       told = serving.told ++ told;
       played =
-          subst (λ lines. ArePlayed (opening_of servers) lines (world_in new) (serving.told ++ told)) (sym (ap lines_of all ∙ lines-append (joined batches) keeps serving.whole))
-          (played-append (opening_of servers) (world_in old) (world_in new) (lines_of (joined batches)) (lines_of keeps) serving.told told serving.played
+          subst (λ lines. ArePlayed (opening_of servers) lines (world_in new) (serving.told ++ told))
+          (sym (ap lines_of all ∙ lines-append (joined batches) keeps serving.whole))
+          (played-append (opening_of servers) (world_in old) (world_in new) (lines_of (joined batches)) (lines_of keeps)
+          serving.told told serving.played
           (played-kept (world_in old) (world_in new) batch answers answered));
     }
 
 -- a file that was read is opened
-module _ {D : Type 0} (moment : D → ℕ) (left_since : D → ℕ → List ℕ → Type 0) (old mid new : D) (file : List ℕ) (read : LeavesOnly moment left_since old mid (λ c. c ≡ file)) where
+module _ {D : Type 0} (moment : D → ℕ) (left_since : D → ℕ → List ℕ → Type 0) (old mid new : D) (file : List ℕ)
+    (read : LeavesOnly moment left_since old mid (λ c. c ≡ file)) where
   pub read_then : (P : List ℕ → Type 0) → P file → LeavesOnly moment left_since mid new P → LeavesOnly moment left_since old new P
   read_then P holds run =
       joined_runs moment left_since old mid new P (weaker moment left_since old mid (λ c. c ≡ file) P read (λ c is. subst P (sym is) holds)) run

@@ -17,12 +17,14 @@ as-many [] s = refl
 as-many (batch ∷ came) s = ap suc (as-many came (after_batch s batch))
 
 -- what was told isn't undone
-pub undone : (s : ScriptState) (batch : List ℕ) (came : List (List ℕ)) (marks : List Bool) → [] ≡ kept_from s came → batch ∷ [] ≡ marked marks came → ⊥
+pub undone : (s : ScriptState) (batch : List ℕ) (came : List (List ℕ)) (marks : List Bool) → [] ≡ kept_from s came
+    → batch ∷ [] ≡ marked marks came → ⊥
 undone s batch [] marks none is = omega (arith, ap length is, none-marked marks)
 undone s batch (x ∷ came) marks none is = omega (arith, ap length none)
 
 -- nor is another one there
-one-told : (batch x y : List ℕ) (marks acted : List Bool) → length marks ≡ 2 → batch ∷ [] ≡ marked marks (x ∷ y ∷ []) → marked (map not marks) (x ∷ y ∷ []) ≡ marked acted [] → ⊥
+one-told : (batch x y : List ℕ) (marks acted : List Bool) → length marks ≡ 2 → batch ∷ [] ≡ marked marks (x ∷ y ∷ [])
+    → marked (map not marks) (x ∷ y ∷ []) ≡ marked acted [] → ⊥
 one-told batch x y [] acted both is others = omega (arith, both)
 one-told batch x y (m ∷ []) acted both is others = omega (arith, both)
 one-told batch x y (true ∷ true ∷ []) acted both is others = omega (arith, ap length is)
@@ -31,7 +33,8 @@ one-told batch x y (false ∷ true ∷ []) acted both is others = omega (arith, 
 one-told batch x y (false ∷ false ∷ []) acted both is others = omega (arith, ap length others, none-marked acted)
 one-told batch x y (m ∷ n ∷ k ∷ marks) acted both is others = omega (arith, both)
 
-pub twice : (s : ScriptState) (batch one other : List ℕ) (came : List (List ℕ)) (marks acted : List Bool) → one ∷ other ∷ [] ≡ kept_from s came → length marks ≡ length came
+pub twice : (s : ScriptState) (batch one other : List ℕ) (came : List (List ℕ)) (marks acted : List Bool)
+    → one ∷ other ∷ [] ≡ kept_from s came → length marks ≡ length came
     → batch ∷ [] ≡ marked marks came → marked (map not marks) came ≡ marked acted [] → ⊥
 twice s batch one other [] marks acted kept each is others = omega (arith, ap length kept)
 twice s batch one other (x ∷ []) marks acted kept each is others = omega (arith, ap length kept)

@@ -1,5 +1,6 @@
 -- The nodes of a tree, gone over by their paths: what was counted and written, and what is left.
-use Rattle.std.proofs.Common.{◌≡◌, ℕ, ◌+◌, ◌*◌, ◌<◌, ◌≤◌, ◌^◌, Bool, true, false, cond, List, [], ◌∷◌, ◌++◌, length, map, Option, Some, refl, sym, ap, subst, ◌∙◌, append_assoc, append-nil, arith}
+use Rattle.std.proofs.Common.{◌≡◌, ℕ, ◌+◌, ◌*◌, ◌<◌, ◌≤◌, ◌^◌, Bool, true, false, cond, List, [], ◌∷◌, ◌++◌, length}
+use Rattle.std.proofs.Common.{map, Option, Some, refl, sym, ap, subst, ◌∙◌, append_assoc, append-nil, arith}
 use Rattle.std.specs.Prelude.{nat_lt, if◌then◌else◌}
 use Rattle.std.specs.List.{AllByRecursion, count_by, flat_map, sum_by}
 use Rattle.std.specs.FinMap as finite
@@ -31,7 +32,11 @@ AreThere nodes = AllByRecursion (λ (e : Path × Node). get nodes e.0 ≡ Some e
 
 each_there : (nodes now : Nodes) (rest : List (Path × Node)) → Left paths_total same_path nodes now rest → AreThere nodes rest
 each_there nodes now [] left = tt
-each_there nodes now (e ∷ rest) left = (left_is paths_total same_path nodes now e rest left, each_there nodes (insert now e.0 e.1) rest (left_next paths_total same_path nodes now e rest left))
+each_there nodes now (e ∷ rest) left = (
+  left_is paths_total same_path nodes now e rest left,
+  each_there nodes
+      (insert now e.0 e.1) rest (left_next paths_total same_path nodes now e rest left),
+)
 
 all_there : (nodes : Nodes) → AreThere nodes (entries nodes)
 all_there nodes = each_there nodes finite.empty (entries nodes) (left_all paths_total same_path nodes)
@@ -52,7 +57,8 @@ pub record IsFirst (nodes : Nodes) (path : Path) (paths : List Path) (rows : Lis
   pub at : get nodes path ≡ Some n
   pub left : AreLeft nodes paths more
 
-pub first_of : (nodes : Nodes) (path : Path) (paths : List Path) (rows : List (Path × Node)) → AreLeft nodes (path ∷ paths) rows → IsFirst nodes path paths rows
+pub first_of : (nodes : Nodes) (path : Path) (paths : List Path) (rows : List (Path × Node)) → AreLeft nodes (path ∷ paths) rows
+    → IsFirst nodes path paths rows
 first_of nodes path paths [] left = absurd (cc left.named)
 first_of nodes path paths (e ∷ rows) left =
     let named : path ∷ paths ≡ e.0 ∷ map (λ (f : Path × Node). f.0) rows = left.named in
@@ -76,7 +82,8 @@ none_left nodes (e ∷ rows) left = absurd (cc left.named)
 abbrev pub AreWithin : List (Path × Node) → Type 0
 AreWithin = AllByRecursion (λ (e : Path × Node). IsWithinLimits e.1)
 
-found_here : (b : Bool) (n m : Node) (later : Option Node) → (later ≡ Some n → IsWithinLimits n) → IsWithinLimits m → cond b (Some m) later ≡ Some n → IsWithinLimits n
+found_here : (b : Bool) (n m : Node) (later : Option Node) → (later ≡ Some n → IsWithinLimits n) → IsWithinLimits m
+    → cond b (Some m) later ≡ Some n → IsWithinLimits n
 found_here true n m later further here found = subst IsWithinLimits (same_some m n found) here
 found_here false n m later further here found = further found
 
@@ -105,7 +112,8 @@ record IsNext (t : Tree) (written : List ℕ) (path : Path) (paths : List Path) 
   is : rows ≡ (path, n) ∷ more
   all : export_text t ≡ (written ++ text_for path n) ++ flat_map ended (flat_map lines_for more)
 
-next_of : (t : Tree) (written : List ℕ) (path : Path) (paths : List Path) (n : Node) → get t.nodes path ≡ Some n → (w : IsWriting t written (path ∷ paths)) → IsNext t written path paths n w.rows
+next_of : (t : Tree) (written : List ℕ) (path : Path) (paths : List Path) (n : Node) → get t.nodes path ≡ Some n
+    → (w : IsWriting t written (path ∷ paths)) → IsNext t written path paths n w.rows
 next_of t written path paths n got w =
     let first = first_of t.nodes path paths w.rows w.left in
     let same = same_some first.n n (sym first.at ∙ got) in
@@ -116,7 +124,8 @@ next_of t written path paths n got w =
       left = first.left;
       is = is;
       all = w.all ∙ ap (λ (x : List ℕ). written ++ x)
-          (ap (λ (rows : List (Path × Node)). flat_map ended (flat_map lines_for rows)) is ∙ flat_map-append ended (lines_for (path, n)) (flat_map lines_for first.more))
+          (ap (λ (rows : List (Path × Node)). flat_map ended (flat_map lines_for rows)) is
+          ∙ flat_map-append ended (lines_for (path, n)) (flat_map lines_for first.more))
           ∙ sym (append_assoc written (text_for path n) more);
     }
 
@@ -131,7 +140,8 @@ writing_next t written path paths n got limits w =
       all = next.all;
     }
 
-pub writing_there : (t : Tree) (written : List ℕ) (path : Path) (paths : List Path) → IsWriting t written (path ∷ paths) → (n : Node) × (get t.nodes path ≡ Some n)
+pub writing_there : (t : Tree) (written : List ℕ) (path : Path) (paths : List Path) → IsWriting t written (path ∷ paths)
+    → (n : Node) × (get t.nodes path ≡ Some n)
 writing_there t written path paths w = let first = first_of t.nodes path paths w.rows w.left in (first.n, first.at)
 
 pub writing_done : (t : Tree) (written : List ℕ) → IsWriting t written [] → written ≡ export_text t
@@ -143,7 +153,8 @@ pub writing_within : (t : Tree) (written : List ℕ) → IsWriting t written [] 
 writing_within t written w = w.within (subst AreWithin (sym (none_left t.nodes w.rows w.left)) tt)
 
 -- what was written is a prefix of all
-pub writing_front : (t : Tree) (written : List ℕ) (paths : List Path) → IsWriting t written paths → (more : List ℕ) × (export_text t ≡ written ++ more)
+pub writing_front : (t : Tree) (written : List ℕ) (paths : List Path) → IsWriting t written paths
+    → (more : List ℕ) × (export_text t ≡ written ++ more)
 writing_front t written paths w = (flat_map ended (flat_map lines_for w.rows), w.all)
 
 -- and so is a prefix of the next node's lines behind it
@@ -151,8 +162,11 @@ pub writing_part : (t : Tree) (written : List ℕ) (path : Path) (paths : List P
     → text_for path n ≡ front ++ back → IsWriting t written (path ∷ paths) → (more : List ℕ) × (export_text t ≡ (written ++ front) ++ more)
 writing_part t written path paths n front back got split w =
     let next = next_of t written path paths n got w in
-    let more = flat_map ended (flat_map lines_for next.more) in
-    (back ++ more, next.all ∙ ap (λ (x : List ℕ). (written ++ x) ++ more) split ∙ ap (λ (x : List ℕ). x ++ more) (sym (append_assoc written front back)) ∙ append_assoc (written ++ front) back more)
+    let more = flat_map ended (flat_map lines_for next.more) in (
+      back ++ more,
+      next.all ∙ ap (λ (x : List ℕ). (written ++ x) ++ more) split
+          ∙ ap (λ (x : List ℕ). x ++ more) (sym (append_assoc written front back)) ∙ append_assoc (written ++ front) back more,
+    )
 
 -- ---- what was counted
 
@@ -202,7 +216,8 @@ counting_room t c path paths counting =
       counters = omega (arith, few, counters);
     }
 
-pub counting_there : (t : Tree) (c : TreeCounts) (path : Path) (paths : List Path) → IsCounting t c (path ∷ paths) → (n : Node) × (get t.nodes path ≡ Some n)
+pub counting_there : (t : Tree) (c : TreeCounts) (path : Path) (paths : List Path) → IsCounting t c (path ∷ paths)
+    → (n : Node) × (get t.nodes path ≡ Some n)
 counting_there t c path paths counting = let first = first_of t.nodes path paths counting.rows counting.left in (first.n, first.at)
 
 add_up : (before x rest sum all : ℕ) → sum ≡ x + rest → before + sum ≡ all → (before + x) + rest ≡ all
@@ -220,9 +235,12 @@ counting_next t c path paths n got short counting =
     let is : counting.rows ≡ (path, n) ∷ first.more = first.is ∙ ap (λ m. (path, m) ∷ first.more) same in
     let few : counting.done + length ((path, n) ∷ first.more) ≤ MAX_NODES = subst (λ rows. counting.done + length rows ≤ MAX_NODES) is counting.few in
     let bytes_few = counting.bytes_few in
-    let bytes : c.bytes + sum_by bytes_of ((path, n) ∷ first.more) ≡ (counts_of t).bytes = subst (λ rows. c.bytes + sum_by bytes_of rows ≡ (counts_of t).bytes) is counting.bytes in
-    let ephemerals : c.ephemerals + count_by is_ephemeral ((path, n) ∷ first.more) ≡ (counts_of t).ephemerals = subst (λ rows. c.ephemerals + count_by is_ephemeral rows ≡ (counts_of t).ephemerals) is counting.ephemerals in
-    let counters : c.counters + count_by has_counted ((path, n) ∷ first.more) ≡ (counts_of t).counters = subst (λ rows. c.counters + count_by has_counted rows ≡ (counts_of t).counters) is counting.counters in
+    let bytes : c.bytes + sum_by bytes_of ((path, n) ∷ first.more)
+    ≡ (counts_of t).bytes = subst (λ rows. c.bytes + sum_by bytes_of rows ≡ (counts_of t).bytes) is counting.bytes in
+    let ephemerals : c.ephemerals + count_by is_ephemeral ((path, n) ∷ first.more) ≡ (counts_of t).ephemerals = subst
+    (λ rows. c.ephemerals + count_by is_ephemeral rows ≡ (counts_of t).ephemerals) is counting.ephemerals in
+    let counters : c.counters + count_by has_counted ((path, n) ∷ first.more) ≡ (counts_of t).counters = subst
+    (λ rows. c.counters + count_by has_counted rows ≡ (counts_of t).counters) is counting.counters in
     record {
       rows = first.more;
       left = first.left;
@@ -233,9 +251,11 @@ counting_next t c path paths n got short counting =
       counters_few = count_few (nat_lt 0 n.seq) c.counters counting.done counting.counters_few;
       bytes = add_up c.bytes (length n.bytes) (sum_by bytes_of first.more) (sum_by bytes_of ((path, n) ∷ first.more)) (counts_of t).bytes
           (sum_by-cons bytes_of (path, n) first.more) bytes;
-      ephemerals = add_up c.ephemerals (cond (is_owned n) 1 0) (count_by is_ephemeral first.more) (count_by is_ephemeral ((path, n) ∷ first.more)) (counts_of t).ephemerals
+      ephemerals = add_up c.ephemerals (cond (is_owned n) 1 0) (count_by is_ephemeral first.more)
+          (count_by is_ephemeral ((path, n) ∷ first.more)) (counts_of t).ephemerals
           (sum_by-cons (λ (e : Path × Node). cond (is_ephemeral e) 1 0) (path, n) first.more) ephemerals;
-      counters = add_up c.counters (cond (nat_lt 0 n.seq) 1 0) (count_by has_counted first.more) (count_by has_counted ((path, n) ∷ first.more)) (counts_of t).counters
+      counters = add_up c.counters (cond (nat_lt 0 n.seq) 1 0) (count_by has_counted first.more)
+          (count_by has_counted ((path, n) ∷ first.more)) (counts_of t).counters
           (sum_by-cons (λ (e : Path × Node). cond (has_counted e) 1 0) (path, n) first.more) counters;
       others = ap (counted n) counting.others;
     }
@@ -244,8 +264,10 @@ pub counting_done : (t : Tree) (c : TreeCounts) → IsCounting t c [] → c ≡ 
 counting_done t c counting =
     let none = none_left t.nodes counting.rows counting.left in
     let bytes : c.bytes + 0 ≡ (counts_of t).bytes = subst (λ rows. c.bytes + sum_by bytes_of rows ≡ (counts_of t).bytes) none counting.bytes in
-    let ephemerals : c.ephemerals + 0 ≡ (counts_of t).ephemerals = subst (λ rows. c.ephemerals + count_by is_ephemeral rows ≡ (counts_of t).ephemerals) none counting.ephemerals in
-    let counters : c.counters + 0 ≡ (counts_of t).counters = subst (λ rows. c.counters + count_by has_counted rows ≡ (counts_of t).counters) none counting.counters in
+    let ephemerals : c.ephemerals + 0 ≡ (counts_of t).ephemerals = subst (λ rows. c.ephemerals + count_by is_ephemeral rows
+    ≡ (counts_of t).ephemerals) none counting.ephemerals in
+    let counters : c.counters + 0 ≡ (counts_of t).counters = subst (λ rows. c.counters + count_by has_counted rows
+    ≡ (counts_of t).counters) none counting.counters in
     let b : c.bytes ≡ (counts_of t).bytes = omega (arith, bytes) in
     let e : c.ephemerals ≡ (counts_of t).ephemerals = omega (arith, ephemerals) in
     let k : c.counters ≡ (counts_of t).counters = omega (arith, counters) in

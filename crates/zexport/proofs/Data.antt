@@ -1,5 +1,7 @@
 -- The text of data is a word, and is read as the data.
-use Rattle.std.proofs.Common.{◌≡◌, ℕ, zero, suc, ◌<◌, ◌≤◌, ◌+◌, ◌*◌, ◌/◌, ◌%◌, ◌-◌, Bool, true, false, not, ◌&&◌, ◌||◌, cond, List, [], ◌∷◌, ◌++◌, length, length-append, codes, slice_index, replicate, Some, Ok, refl, sym, ap, ◌∙◌, arith}
+use Rattle.std.proofs.Common.{◌≡◌, ℕ, zero, suc, ◌<◌, ◌≤◌, ◌+◌, ◌*◌, ◌/◌, ◌%◌, ◌-◌, Bool, true, false, not, ◌&&◌, ◌||◌}
+use Rattle.std.proofs.Common.{cond, List, [], ◌∷◌, ◌++◌, length, length-append, codes, slice_index, replicate, Some, Ok}
+use Rattle.std.proofs.Common.{refl, sym, ap, ◌∙◌, arith}
 use Rattle.std.specs.Prelude.{nat_eq, nat_le, nat_lt}
 use Rattle.std.specs.List.{AllByRecursion}
 use Rattle.std.specs.Str.{bytes_eq}
@@ -30,7 +32,8 @@ no_symbol_is_a_space = refl
 symbol_mark : (i : ℕ) → i < 64 → IsMark (slice_index table i)
 symbol_mark i below = (
   leb-true 33 (slice_index table i) (all_below_at (λ k. nat_le 33 (slice_index table k)) 64 i no_symbol_is_a_space below),
-  (is_alphabet_symbol table standard.padding.value i (are_tables_alphabet table standard.decode_table standard.padding.value standard.tables) below).1,
+  (is_alphabet_symbol table standard.padding.value i (are_tables_alphabet table standard.decode_table standard.padding.value standard.tables)
+      below).1,
 )
 
 symbols_marks : (bytes : List ℕ) → IsBytes bytes → AreMarks (encode_symbols table bytes)
@@ -60,7 +63,8 @@ padding_marks (suc n) = ((omega arith, omega arith), padding_marks n)
 
 encoded_marks : (bytes : List ℕ) → IsBytes bytes → AreMarks (encode_of standard bytes)
 encoded_marks bytes are =
-    marks-append (encode_symbols table bytes) (replicate (padding_len (length bytes)) 61) (symbols_marks bytes are) (padding_marks (padding_len (length bytes)))
+    marks-append (encode_symbols table bytes) (replicate (padding_len (length bytes)) 61) (symbols_marks bytes are)
+    (padding_marks (padding_len (length bytes)))
 
 -- ---- two symbols at least
 
@@ -104,7 +108,8 @@ data_of-text bytes are short = by (is_empty bytes) refl
     by : (b : Bool) → is_empty bytes ≡ b → data_of (cond b (codes "-") (encode_of standard bytes)) ≡ Some bytes
     by true e = ap Some (sym (nothing bytes e))
     by false e =
-        ap (λ b. cond b (Some []) (full_data (decode_of standard (encode_of standard bytes)))) (not_a_dash (encode_of standard bytes) (two_symbols bytes e))
+        ap (λ b. cond b (Some []) (full_data (decode_of standard (encode_of standard bytes))))
+        (not_a_dash (encode_of standard bytes) (two_symbols bytes e))
         ∙ ap full_data (decode_of-encode_of standard bytes refl are) ∙ kept bytes e short
 
 pub data_word : (bytes : List ℕ) → IsBytes bytes → IsWord (data_text bytes)
@@ -131,5 +136,6 @@ data_length bytes short = by (is_empty bytes)
         let both = length-append (encode_symbols table bytes) (replicate (padding_len (length bytes)) 61) in
         let padding = length-replicate (padding_len (length bytes)) 61 in
         let few = padding_few (length bytes) in
-        let all : length (encode_symbols table bytes ++ replicate (padding_len (length bytes)) 61) ≤ 90000 = omega (arith, symbols, both, padding, few, short) in
+        let all : length (encode_symbols table bytes ++ replicate (padding_len (length bytes)) 61) ≤ 90000 = omega
+        (arith, symbols, both, padding, few, short) in
         all

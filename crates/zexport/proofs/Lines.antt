@@ -1,5 +1,7 @@
 -- The lines of a tree are read as the calls that they are to be.
-use Rattle.std.proofs.Common.{◌≡◌, ℕ, zero, suc, ◌<◌, ◌≤◌, ◌+◌, ◌%◌, ◌^◌, Bool, true, false, not, ◌&&◌, ◌||◌, cond, List, [], ◌∷◌, ◌++◌, length, length-append, codes, slice_index, Some, None, Ok, decimal, refl, sym, ap, subst, ◌∙◌, append_assoc, arith}
+use Rattle.std.proofs.Common.{◌≡◌, ℕ, zero, suc, ◌<◌, ◌≤◌, ◌+◌, ◌%◌, ◌^◌, Bool, true, false, not, ◌&&◌, ◌||◌, cond}
+use Rattle.std.proofs.Common.{List, [], ◌∷◌, ◌++◌, length, length-append, codes, slice_index, Some, None, Ok, decimal}
+use Rattle.std.proofs.Common.{refl, sym, ap, subst, ◌∙◌, append_assoc, arith}
 use Rattle.std.specs.Prelude.{nat_le, nat_lt, ◌==◌, if◌then◌else◌}
 use Rattle.std.specs.Fmt.{IsBoundedDecimal}
 use Rattle.std.specs.List.{AllByRecursion, flat_map}
@@ -106,7 +108,8 @@ name_marks (b ∷ name) e =
 segments_marks : (names : List (List ℕ)) → AllByRecursion IsName names → AreMarks (flat_map segment_of names)
 segments_marks [] are = tt
 segments_marks (name ∷ names) are =
-    marks-append (segment_of name) (flat_map segment_of names) ((omega arith, omega arith), name_marks name are.0.visible) (segments_marks names are.1)
+    marks-append (segment_of name) (flat_map segment_of names) ((omega arith, omega arith), name_marks name are.0.visible)
+    (segments_marks names are.1)
 
 pub path_word : (path : Path) → IsPath path → IsWord (text_of path)
 path_word [] is = record { some = omega arith; marks = ((omega arith, omega arith), tt) }
@@ -119,7 +122,8 @@ path_word (name ∷ names) is = record {
 
 -- a line of five words that creates a node
 read_create : (line : List ℕ) (path kind bytes : Word) (p : Path) (k : Kind) (d : List ℕ) → is_malformed line ≡ false
-    → words_of line ≡ codes "1" ∷ codes "create" ∷ path ∷ kind ∷ bytes ∷ [] → kind_of kind ≡ Some k → fault_of path ≡ None → names_of path ≡ p → data_of bytes ≡ Some d
+    → words_of line ≡ codes "1" ∷ codes "create" ∷ path ∷ kind ∷ bytes ∷ [] → kind_of kind ≡ Some k → fault_of path ≡ None
+    → names_of path ≡ p → data_of bytes ≡ Some d
     → line_of line ≡ Ok (Call (record { client = 1; call = Update (act.Create (record { path = p; kind = k; bytes = d })) }))
 unfolding line_of
 read_create line path kind bytes p k d formed words is_kind no_fault names is_data = rw (formed, words, is_kind, no_fault, names, is_data) refl
@@ -141,7 +145,13 @@ module _ (path : Path) (n : Node) (is : IsPath path) (within : IsWithinLimits n)
   word_create : IsWord (codes "create")
   word_create = record {
     some = omega arith;
-    marks = ((omega arith, omega arith), ((omega arith, omega arith), ((omega arith, omega arith), ((omega arith, omega arith), ((omega arith, omega arith), ((omega arith, omega arith), tt))))));
+    marks = (
+      (omega arith, omega arith),
+      (
+        (omega arith, omega arith),
+        ((omega arith, omega arith), ((omega arith, omega arith), ((omega arith, omega arith), ((omega arith, omega arith), tt)))),
+      ),
+    );
   }
 
   create_are : AreWords (codes "1" ∷ create_words)
@@ -159,8 +169,10 @@ module _ (path : Path) (n : Node) (is : IsPath path) (within : IsWithinLimits n)
   unfolding create_line
   create_is = simp append_assoc
 
-  pub create_read : line_of (create_line path n) ≡ Ok (Call (record { client = 1; call = Update (act.Create (record { path = path; kind = kind_for n.ttl; bytes = n.bytes })) }))
-  create_read = ap line_of create_is ∙ read_create (spaced (codes "1") create_words) (text_of path) (kind_text n.ttl) (data_text n.bytes) path (kind_for n.ttl) n.bytes
+  pub create_read : line_of (create_line path n)
+      ≡ Ok (Call (record { client = 1; call = Update (act.Create (record { path = path; kind = kind_for n.ttl; bytes = n.bytes })) }))
+  create_read = ap line_of create_is ∙ read_create (spaced (codes "1") create_words) (text_of path) (kind_text n.ttl)
+      (data_text n.bytes) path (kind_for n.ttl) n.bytes
       (well_formed (codes "1") create_words create_are create_short) (words_of-spaced (codes "1") create_words create_are)
       (kind_of-text n.ttl within.ttl) (text_has_no_fault path is) (names_of-text_of path is) (data_of-text n.bytes within.bytes within.short)
 
@@ -197,7 +209,8 @@ module _ (bytes : List ℕ) (are_bytes : IsBytes bytes) (short : length bytes �
   unfolding fault_of
   root_fault = refl
 
-  pub set_read : line_of (set_line bytes) ≡ Ok (Call (record { client = 1; call = Update (act.SetData (record { path = []; bytes = bytes; version = Any })) }))
+  pub set_read : line_of (set_line bytes)
+      ≡ Ok (Call (record { client = 1; call = Update (act.SetData (record { path = []; bytes = bytes; version = Any })) }))
   set_read = ap line_of set_is ∙ read_set (spaced (codes "1") set_words) (codes "/") (data_text bytes) [] bytes
       (well_formed (codes "1") set_words set_are set_short) (words_of-spaced (codes "1") set_words set_are)
       root_fault refl (data_of-text bytes are_bytes short)

@@ -1,5 +1,6 @@
 -- The lines of a tree, played one after the other: each node comes beneath a parent that is there.
-use Rattle.std.proofs.Common.{◌≡◌, ◌≢◌, ◌⊎◌, inl, inr, ℕ, ◌+◌, ◌-◌, ◌<◌, ◌≤◌, ◌^◌, Bool, true, false, not, ◌||◌, cond, List, [], ◌∷◌, ◌++◌, length, Option, Some, None, Ok, refl, sym, ap, subst, ◌∙◌, arith}
+use Rattle.std.proofs.Common.{◌≡◌, ◌≢◌, ◌⊎◌, inl, inr, ℕ, ◌+◌, ◌-◌, ◌<◌, ◌≤◌, ◌^◌, Bool, true, false, not, ◌||◌, cond}
+use Rattle.std.proofs.Common.{List, [], ◌∷◌, ◌++◌, length, Option, Some, None, Ok, refl, sym, ap, subst, ◌∙◌, arith}
 use lib.Dec.{T}
 use Rattle.std.specs.declared.cmp.Ordering.TheVariants.{Less}
 use Rattle.std.specs.Prelude.{is_some, nat_le, nat_lt, ◌==◌}
@@ -18,7 +19,8 @@ use Rattle.zpath.proofs.First.{first_that_holds-none}
 use Rattle.zpath.proofs.NameTests.{not_above}
 use Rattle.ztree.specs.declared.limits.TheConstants.{MAX_NODES, ZXID_BOUND}
 use Rattle.ztree.specs.declared.node.Node.{Node}
-use Rattle.ztree.specs.Tree.{Nodes, Path, Sessions, Tree, has_node, new_node, opening_tree, parent_of, with_change_at, with_child, with_data, with_next_zxid, with_node}
+use Rattle.ztree.specs.Tree.{Nodes, Path, Sessions, Tree, has_node, new_node, opening_tree, parent_of, with_change_at}
+use Rattle.ztree.specs.Tree.{with_child, with_data, with_next_zxid, with_node}
 use Rattle.ztree.specs.Lawful.{AllNodes, IsLawful, IsPersistent}
 use Rattle.ztree.proofs.Maps.{get-insert-elsewhere, get-insert-here, is_there, len-insert-most, len-insert-there, same_or_other, same_some}
 use Rattle.ztree.proofs.Sorted.{paths_total, same_path}
@@ -40,7 +42,8 @@ use Rattle.zexport.specs.Export.{create_line, export_lines, lines_for, root_line
 use Rattle.zexport.specs.Laws.{after_line, after_lines, said_of, ExportsMakeNoEphemerals, ExportsMakeTheirTree, HasLines, IsWithinLimits, said_if}
 use Rattle.zexport.proofs.Data.{nothing}
 use Rattle.zexport.proofs.Lines.{create_read, lifetime_for, set_read}
-use Rattle.zexport.proofs.Shown.{Mirrors, kept, kept_there, len-changed, made_unowned, mirrors_more, mirrors_owned, not_shown, owner_none, same_said, shown, shown-changed, shown_of, unowned}
+use Rattle.zexport.proofs.Shown.{Mirrors, kept, kept_there, len-changed, made_unowned, mirrors_more, mirrors_owned}
+use Rattle.zexport.proofs.Shown.{not_shown, owner_none, same_said, shown, shown-changed, shown_of, unowned}
 
 -- lines in two parts
 pub after_lines-append : (t : Tree) (a b : List (List ℕ)) → after_lines t (a ++ b) ≡ after_lines (after_lines t a) b
@@ -122,7 +125,8 @@ module _ (t : Tree) (has : HasLines t) where
   abbrev nodes_left : Nodes → List (Path × Node) → Type 0
   nodes_left = Left paths_total same_path t.nodes
 
-  module _ (now : Nodes) (path : Path) (n : Node) (rest : List (Path × Node)) (left : nodes_left now ((path, n) ∷ rest)) (u : Tree) (made : IsMade now u) where
+  module _ (now : Nodes) (path : Path) (n : Node) (rest : List (Path × Node)) (left : nodes_left now ((path, n) ∷ rest))
+      (u : Tree) (made : IsMade now u) where
     is_there_now : finite.get t.nodes path ≡ Some n
     is_there_now = left_is paths_total same_path t.nodes now (path, n) rest left
 
@@ -157,7 +161,8 @@ module _ (t : Tree) (has : HasLines t) where
       above_unowned : node_has is_owned u.nodes (parent_of path) ≡ false
       above_unowned =
           let m = above_made.0 in
-          let nobody = made_unowned (finite.get u.nodes (parent_of path)) (finite.get now (parent_of path)) m (made.mirrors (parent_of path)) above_made.1 in
+          let nobody = made_unowned (finite.get u.nodes (parent_of path)) (finite.get now (parent_of path)) m
+          (made.mirrors (parent_of path)) above_made.1 in
           ap (λ (o : Option Node). option_map_or is_owned o false) above_made.1 ∙ unowned m nobody
 
       can_come : CanCome u path
@@ -199,7 +204,8 @@ module _ (t : Tree) (has : HasLines t) where
       made_more = subst (IsMade (finite.insert now path n)) (sym comes) with_one_made
 
   -- the next node
-  made_next : (now : Nodes) (e : Path × Node) (rest : List (Path × Node)) → nodes_left now (e ∷ rest) → has_node now [] ≡ true → (u : Tree) → IsMade now u
+  made_next : (now : Nodes) (e : Path × Node) (rest : List (Path × Node)) → nodes_left now (e ∷ rest) → has_node now [] ≡ true
+      → (u : Tree) → IsMade now u
       → IsMade (finite.insert now e.0 e.1) (after_lines u (lines_for e))
   made_next now ([], n) rest left root u made =
       let clash : false ≡ true = sym (ap is_some (left_free paths_total same_path t.nodes now ([], n) rest left)) ∙ root in
@@ -214,7 +220,8 @@ module _ (t : Tree) (has : HasLines t) where
       → IsMade t.nodes (after_lines u (flat_map lines_for rest))
   made_all now [] left root u made = subst (λ (m : Nodes). IsMade m u) (left_done paths_total same_path t.nodes now left) made
   made_all now (e ∷ rest) left root u made =
-      let next = made_all (finite.insert now e.0 e.1) rest (left_next paths_total same_path t.nodes now e rest left) (has-inserted now e.0 e.1 [] root) (after_lines u (lines_for e))
+      let next = made_all (finite.insert now e.0 e.1) rest (left_next paths_total same_path t.nodes now e rest left)
+      (has-inserted now e.0 e.1 [] root) (after_lines u (lines_for e))
       (made_next now e rest left root u made) in
       subst (IsMade t.nodes) (sym (after_lines-append u (lines_for e) (flat_map lines_for rest))) next
 
@@ -233,7 +240,8 @@ module _ (t : Tree) (has : HasLines t) where
   first = finite.insert finite.empty [] own.root
 
   -- a map whose root has the data, and which has nothing else
-  mirrors_root : (made : Nodes) (m : Node) → shown_of m ≡ (0, said_of own.root) → ((q : Path) → q ≢ [] → finite.get made q ≡ None) → Mirrors first (finite.insert made [] m)
+  mirrors_root : (made : Nodes) (m : Node) → shown_of m ≡ (0, said_of own.root) → ((q : Path) → q ≢ [] → finite.get made q ≡ None)
+      → Mirrors first (finite.insert made [] m)
   mirrors_root made m same_root none q = by (same_or_other paths_total same_path q [])
     where
       by : (q ≡ []) ⊎ (q ≢ []) → shown (finite.get (finite.insert made [] m) q) ≡ kept (finite.get first q)
@@ -246,13 +254,17 @@ module _ (t : Tree) (has : HasLines t) where
           ∙ sym (ap kept (get-insert-elsewhere paths_total same_path finite.empty [] own.root q other ∙ get-empty path_cmp q))
 
   len_first : finite.len first ≡ 1
-  len_first = len-insert paths_total finite.empty [] own.root ∙ ap (λ (o : Option Node). cond (is_some o) (finite.len (finite.empty {X = Node} {R = path_cmp})) (finite.len (finite.empty {X = Node} {R = path_cmp}) + 1)) (get-empty path_cmp []) ∙ ap (λ k. k + 1) (len-empty path_cmp Node)
+  len_first = len-insert paths_total finite.empty [] own.root
+      ∙ ap (λ (o : Option Node). cond (is_some o) (finite.len (finite.empty {X = Node} {R = path_cmp}))
+      (finite.len (finite.empty {X = Node} {R = path_cmp}) + 1)) (get-empty path_cmp []) ∙ ap (λ k. k + 1) (len-empty path_cmp Node)
 
   abbrev no_data : Node
   no_data = new_node [] 0 0 0 0
 
   len_opening : finite.len opening_tree.nodes ≡ 1
-  len_opening = len-insert paths_total finite.empty [] no_data ∙ ap (λ (o : Option Node). cond (is_some o) (finite.len (finite.empty {X = Node} {R = path_cmp})) (finite.len (finite.empty {X = Node} {R = path_cmp}) + 1)) (get-empty path_cmp []) ∙ ap (λ k. k + 1) (len-empty path_cmp Node)
+  len_opening = len-insert paths_total finite.empty [] no_data
+      ∙ ap (λ (o : Option Node). cond (is_some o) (finite.len (finite.empty {X = Node} {R = path_cmp}))
+      (finite.len (finite.empty {X = Node} {R = path_cmp}) + 1)) (get-empty path_cmp []) ∙ ap (λ k. k + 1) (len-empty path_cmp Node)
 
   opening_root : finite.get opening_tree.nodes [] ≡ Some no_data
   opening_root = get-insert-here paths_total same_path finite.empty [] no_data
@@ -262,7 +274,8 @@ module _ (t : Tree) (has : HasLines t) where
 
   root_without : own.root.bytes ≡ [] → IsMade first opening_tree
   root_without nothing = record {
-    mirrors = mirrors_root finite.empty no_data (λ i. (0, record { bytes = sym nothing i; ttl = sym own.can_root.stays i })) (λ q other. get-empty path_cmp q);
+    mirrors = mirrors_root finite.empty no_data (λ i. (0, record { bytes = sym nothing i; ttl = sym own.can_root.stays i }))
+        (λ q other. get-empty path_cmp q);
     few = let a = len_first in let b = len_opening in omega (arith, a, b);
     young = let a = len_first in omega (arith, a);
   }
@@ -302,7 +315,8 @@ module _ (t : Tree) (has : HasLines t) where
   all_made : IsMade t.nodes (after_lines opening_tree (export_lines t))
   all_made =
       let made = made_all first own.rows (left_next paths_total same_path t.nodes finite.empty ([], own.root) own.rows left_root)
-      (ap is_some (get-insert-here paths_total same_path finite.empty [] own.root)) (after_lines opening_tree (root_lines own.root.bytes)) made_root in
+      (ap is_some (get-insert-here paths_total same_path finite.empty [] own.root)) (after_lines opening_tree (root_lines own.root.bytes))
+      made_root in
       subst (λ es. IsMade t.nodes (after_lines opening_tree (flat_map lines_for es))) (sym own.listed)
       (subst (IsMade t.nodes) (sym (after_lines-append opening_tree (root_lines own.root.bytes) (flat_map lines_for own.rows))) made)
 

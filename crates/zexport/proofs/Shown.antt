@@ -72,7 +72,8 @@ same_said None (Some n) e = by (is_owned n) e
 same_said (Some m) None e = cc
 same_said (Some m) (Some n) e = by (is_owned n) e
   where
-    by : (b : Bool) → ◌≡◌ {A = Option Shown} (Some (shown_of m)) (cond b None (Some (0, said_of n))) → said_if (Some m) ≡ cond b None (Some (said_of n))
+    by : (b : Bool) → ◌≡◌ {A = Option Shown} (Some (shown_of m)) (cond b None (Some (0, said_of n))) → said_if (Some m)
+        ≡ cond b None (Some (said_of n))
     by true same = cc
     by false same =
         let both : ◌≡◌ {A = Shown} (shown_of m) (0, said_of n) = cc in
@@ -86,16 +87,19 @@ same_said (Some m) (Some n) e = by (is_owned n) e
 abbrev pub Keeps : (Node → Node) → Type 0
 Keeps f = (n : Node) → shown_of (f n) ≡ shown_of n
 
-pub shown-changed : (nodes : Nodes) (p : Path) (f : Node → Node) → Keeps f → (q : Path) → shown (finite.get (with_change_at nodes p f) q) ≡ shown (finite.get nodes q)
+pub shown-changed : (nodes : Nodes) (p : Path) (f : Node → Node) → Keeps f → (q : Path)
+    → shown (finite.get (with_change_at nodes p f) q) ≡ shown (finite.get nodes q)
 shown-changed nodes p f keeps q = by (finite.get nodes p) refl
   where
-    at : (n : Node) → finite.get nodes p ≡ Some n → (q ≡ p) ⊎ (q ≢ p) → shown (finite.get (finite.insert nodes p (f n)) q) ≡ shown (finite.get nodes q)
+    at : (n : Node) → finite.get nodes p ≡ Some n → (q ≡ p) ⊎ (q ≢ p) → shown (finite.get (finite.insert nodes p (f n)) q)
+        ≡ shown (finite.get nodes q)
     at n is (inl same) =
         ap (λ k. shown (finite.get (finite.insert nodes p (f n)) k)) same ∙ ap shown (get-insert-here paths_total same_path nodes p (f n))
         ∙ ap Some (keeps n) ∙ sym (ap (λ k. shown (finite.get nodes k)) same ∙ ap shown is)
     at n is (inr other) = ap shown (get-insert-elsewhere paths_total same_path nodes p (f n) q other)
 
-    by : (o : Option Node) → finite.get nodes p ≡ o → shown (finite.get (option_map_or (λ n. finite.insert nodes p (f n)) o nodes) q) ≡ shown (finite.get nodes q)
+    by : (o : Option Node) → finite.get nodes p ≡ o → shown (finite.get (option_map_or (λ n. finite.insert nodes p (f n)) o nodes) q)
+        ≡ shown (finite.get nodes q)
     by None is = refl
     by (Some n) is = at n is (same_or_other paths_total same_path q p)
 
@@ -109,23 +113,27 @@ len-changed nodes p f most few = by (finite.get nodes p) refl
 -- ---- one node more
 
 -- the next node is one that a session owns: the second map stays
-pub mirrors_owned : (nodes made : Nodes) (p : Path) (n : Node) → is_owned n ≡ true → finite.get nodes p ≡ None → Mirrors nodes made → Mirrors (finite.insert nodes p n) made
+pub mirrors_owned : (nodes made : Nodes) (p : Path) (n : Node) → is_owned n ≡ true → finite.get nodes p ≡ None
+    → Mirrors nodes made → Mirrors (finite.insert nodes p n) made
 mirrors_owned nodes made p n owned free mirrors q = by (same_or_other paths_total same_path q p)
   where
     by : (q ≡ p) ⊎ (q ≢ p) → shown (finite.get made q) ≡ kept (finite.get (finite.insert nodes p n) q)
     by (inl same) =
         mirrors q ∙ ap kept (ap (finite.get nodes) same ∙ free)
-        ∙ sym (ap kept (ap (finite.get (finite.insert nodes p n)) same ∙ get-insert-here paths_total same_path nodes p n) ∙ ap (λ b. cond b None (Some (0, said_of n))) owned)
+        ∙ sym (ap kept (ap (finite.get (finite.insert nodes p n)) same ∙ get-insert-here paths_total same_path nodes p n)
+        ∙ ap (λ b. cond b None (Some (0, said_of n))) owned)
     by (inr other) = mirrors q ∙ sym (ap kept (get-insert-elsewhere paths_total same_path nodes p n q other))
 
 -- the next node is nobody's: the second map has one of which the same is shown
-pub mirrors_more : (nodes made : Nodes) (p : Path) (n m : Node) → is_owned n ≡ false → shown_of m ≡ (0, said_of n) → Mirrors nodes made → Mirrors (finite.insert nodes p n) (finite.insert made p m)
+pub mirrors_more : (nodes made : Nodes) (p : Path) (n m : Node) → is_owned n ≡ false → shown_of m ≡ (0, said_of n)
+    → Mirrors nodes made → Mirrors (finite.insert nodes p n) (finite.insert made p m)
 mirrors_more nodes made p n m nobodys same_node mirrors q = by (same_or_other paths_total same_path q p)
   where
     by : (q ≡ p) ⊎ (q ≢ p) → shown (finite.get (finite.insert made p m) q) ≡ kept (finite.get (finite.insert nodes p n) q)
     by (inl same) =
         ap shown (ap (finite.get (finite.insert made p m)) same ∙ get-insert-here paths_total same_path made p m) ∙ ap Some same_node
-        ∙ sym (ap kept (ap (finite.get (finite.insert nodes p n)) same ∙ get-insert-here paths_total same_path nodes p n) ∙ ap (λ b. cond b None (Some (0, said_of n))) nobodys)
+        ∙ sym (ap kept (ap (finite.get (finite.insert nodes p n)) same ∙ get-insert-here paths_total same_path nodes p n)
+        ∙ ap (λ b. cond b None (Some (0, said_of n))) nobodys)
     by (inr other) =
         ap shown (get-insert-elsewhere paths_total same_path made p m q other) ∙ mirrors q
         ∙ sym (ap kept (get-insert-elsewhere paths_total same_path nodes p n q other))

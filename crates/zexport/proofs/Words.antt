@@ -74,7 +74,8 @@ none_empty (word ∷ words) are = rw (filled word are.0.some) (none_empty words 
 short_line : (line : List ℕ) → length line ≤ MAX_LINE → is_long line ≡ false
 short_line line short = not_above MAX_LINE (length line) short
 
-pub well_formed : (word : Word) (words : List Word) → AreWords (word ∷ words) → length (spaced word words) ≤ MAX_LINE → is_malformed (spaced word words) ≡ false
+pub well_formed : (word : Word) (words : List Word) → AreWords (word ∷ words) → length (spaced word words) ≤ MAX_LINE
+    → is_malformed (spaced word words) ≡ false
 well_formed word words are short =
     rw (short_line (spaced word words) short, plain_spaced word words are, words_of-spaced word words are) (none_empty (word ∷ words) are)
 
@@ -87,5 +88,6 @@ pub length-spaced : (word : Word) (words : List Word) → length (spaced word wo
 length-spaced word [] = omega arith
 length-spaced word (next ∷ words) =
     let more = length-spaced next words in
-    let all : length (word ++ 32 ∷ spaced next words) ≡ length word + ((1 + length next) + line_length words) = omega (arith, length-append word (32 ∷ spaced next words), more) in
+    let all : length (word ++ 32 ∷ spaced next words) ≡ length word + ((1 + length next) + line_length words) = omega
+    (arith, length-append word (32 ∷ spaced next words), more) in
     all

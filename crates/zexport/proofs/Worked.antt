@@ -15,7 +15,8 @@ use Rattle.ztree.proofs.Sorted.{paths_total}
 use Rattle.zexport.specs.support.Samples.{node_with, owned_tree, timed_tree}
 
 no_rows : entries (finite.empty {X = Node} {R = path_cmp}) ≡ []
-no_rows = nil_from_length (entries (finite.empty {X = Node} {R = path_cmp})) (sym (len-entries (finite.empty {X = Node} {R = path_cmp})) ∙ len-empty path_cmp Node)
+no_rows = nil_from_length (entries (finite.empty {X = Node} {R = path_cmp})) (sym (len-entries (finite.empty {X = Node} {R = path_cmp}))
+    ∙ len-empty path_cmp Node)
 
 pub opening_rows : entries opening_tree.nodes ≡ ([], new_node [] 0 0 0 0) ∷ []
 opening_rows = entries-insert paths_total finite.empty [] (new_node [] 0 0 0 0) ∙ ap (put path_cmp [] (new_node [] 0 0 0 0)) no_rows

@@ -23,7 +23,8 @@ handles_more (first ∷ frames) c old middle bytes new all is_on done =
     (all.0, all.1, all.2, handles_more frames c all.1 middle bytes new all.3 is_on done)
 
 -- what is left behind a frame is shorter than what came
-behind_frame : (b : Bool) (n : ℕ) (rest bytes more : List ℕ) → (if b then Partial else Whole (take n rest) (drop n rest)) ≡ Whole bytes more → length more ≤ length rest
+behind_frame : (b : Bool) (n : ℕ) (rest bytes more : List ℕ) → (if b then Partial else Whole (take n rest) (drop n rest))
+    ≡ Whole bytes more → length more ≤ length rest
 behind_frame true n rest bytes more is =
     let no : ⊥ = cc in
     absurd no

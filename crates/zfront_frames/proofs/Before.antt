@@ -1,5 +1,6 @@
 -- At the inputs before its opening a connection is there, or nothing of it is left.
-use Rattle.std.proofs.Common.{◌≡◌, ◌≢◌, ◌⊎◌, inl, inr, ◌∙◌, ℕ, Bool, true, false, not, List, [], ◌∷◌, ◌++◌, take, drop, Option, None, Some, refl, sym, ap, subst, eqb}
+use Rattle.std.proofs.Common.{◌≡◌, ◌≢◌, ◌⊎◌, inl, inr, ◌∙◌, ℕ, Bool, true, false, not, List, [], ◌∷◌, ◌++◌, take, drop}
+use Rattle.std.proofs.Common.{Option, None, Some, refl, sym, ap, subst, eqb}
 use Rattle.std.specs.Prelude.{if◌then◌else◌}
 use Rattle.std.specs.FinMap as finite
 use Rattle.std.specs.FinMap.{nat_cmp-IsAntisymmetric}
@@ -107,7 +108,8 @@ module _ (c : ℕ) where
   away_shut : (t : TablesView) → IsAway t → is_open t c ≡ false
   away_shut t away = ap (λ (w : View). may_send (phase_in w.0)) away
 
-  module _ (connection : c ≢ 0) (log : Log) (waiting : Option Call) (old new : FrontView) (few : KeepsFew old) (told : IsLog old log waiting) (free : Free c old.tables) where
+  module _ (connection : c ≢ 0) (log : Log) (waiting : Option Call) (old new : FrontView) (few : KeepsFew old)
+      (told : IsLog old log waiting) (free : Free c old.tables) where
     -- nothing of it is left, and so it stays
     still_away : (input : Input) → Does input old new → IsAway new.tables → Free c new.tables → Before log new
     still_away input does away free_then =
@@ -126,8 +128,10 @@ module _ (c : ℕ) where
 
     comes_away : (d : ℕ) (bytes : List ℕ) → Comes bytes d old new → IsAway old.tables → (d ≡ c) ⊎ (d ≢ c) → Before log new
     comes_away d bytes does away (inl same) =
-        let is : new ≡ old = subst (λ (b : Bool). ComesIf b bytes c old new) (away_shut old.tables away) (subst (λ x. Comes bytes x old new) same does) in
-        still_away (it.Came d bytes) does (ap (λ (v : FrontView). view c v.tables) is ∙ away) (subst (λ (v : FrontView). Free c v.tables) (sym is) free)
+        let is : new ≡ old = subst (λ (b : Bool). ComesIf b bytes c old new) (away_shut old.tables away)
+        (subst (λ x. Comes bytes x old new) same does) in
+        still_away (it.Came d bytes) does (ap (λ (v : FrontView). view c v.tables) is ∙ away)
+        (subst (λ (v : FrontView). Free c v.tables) (sym is) free)
     comes_away d bytes does away (inr other) = calm_away (it.Came d bytes) does away (others.comes_elsewhere c d other bytes old new few does)
 
     ends_now : (d : ℕ) → inputs.Ends d old new → (d ≡ c) ⊎ (d ≢ c) → (d ≢ c → Before log new) → Before log new
@@ -158,22 +162,27 @@ module _ (c : ℕ) where
 
     -- the connection is there
     not_free : (came : List ℕ) (taken : List PieceView) → HoldsAt c came taken log (view c old.tables) → phase_of old.tables.streams c ≡ None → ⊥
-    not_free came taken has none = subst (λ phase. Holds c came (taken ++ on c old.tables.unsent) log phase (bytes_in (finite.get old.tables.streams c))) none has
+    not_free came taken has none = subst (λ phase. Holds c came (taken ++ on c old.tables.unsent) log phase
+        (bytes_in (finite.get old.tables.streams c))) none has
 
-    stays_there : (came : List ℕ) (taken : List PieceView) → HoldsAt c came taken log (view c old.tables) → (input : Input) → Stays c input → Does input old new → Before log new
+    stays_there : (came : List ℕ) (taken : List PieceView) → HoldsAt c came taken log (view c old.tables) → (input : Input)
+        → Stays c input → Does input old new → Before log new
     stays_there came taken has input stays does =
         let done = input_stays c connection came taken log waiting old new few told has free input stays does in
         (done.0, done.1, done.2, inl (came ++ came_at c input old, taken ++ sent_at c input old, done.3), done.4)
 
-    opens_there : (d : ℕ) (password came : List ℕ) (taken : List PieceView) → HoldsAt c came taken log (view c old.tables) → IsFree c (it.Opened d password) old
+    opens_there : (d : ℕ) (password came : List ℕ) (taken : List PieceView) → HoldsAt c came taken log (view c old.tables)
+        → IsFree c (it.Opened d password) old
         → inputs.Opens d password old new → (d ≡ c) ⊎ (d ≢ c) → Before log new
     opens_there d password came taken has once does (inl same) = absurd (not_free came taken has (once same))
     opens_there d password came taken has once does (inr other) = stays_there came taken has (it.Opened d password) other does
 
-    input_there : (came : List ℕ) (taken : List PieceView) → HoldsAt c came taken log (view c old.tables) → (input : Input) → IsFree c input old → Does input old new → Before log new
+    input_there : (came : List ℕ) (taken : List PieceView) → HoldsAt c came taken log (view c old.tables) → (input : Input)
+        → IsFree c input old → Does input old new → Before log new
     input_there came taken has (it.Opened d password) once does = opens_there d password came taken has once does (same_number d c)
     input_there came taken has (it.Came d bytes) once does = stays_there came taken has (it.Came d bytes) tt does
-    input_there came taken has (it.Ended d) once does = ends_now d does (same_number d c) (λ other. stays_there came taken has (it.Ended d) other does)
+    input_there came taken has (it.Ended d) once does = ends_now d does (same_number d c)
+        (λ other. stays_there came taken has (it.Ended d) other does)
     input_there came taken has it.Tick once does = stays_there came taken has it.Tick tt does
     input_there came taken has (it.Line text) once does = stays_there came taken has (it.Line text) tt does
     input_there came taken has it.Sent once does = stays_there came taken has it.Sent tt does
@@ -184,7 +193,8 @@ module _ (c : ℕ) where
     input_before (inr away) input once does = input_away input does away
 
   -- all of them
-  pub runs_before : (connection : c ≢ 0) (all : List Input) (log : Log) (waiting : Option Call) (old new : FrontView) → KeepsFew old → IsLog old log waiting → Free c old.tables
+  pub runs_before : (connection : c ≢ 0) (all : List Input) (log : Log) (waiting : Option Call) (old new : FrontView)
+      → KeepsFew old → IsLog old log waiting → Free c old.tables
       → Known log old.tables → (runs : Runs all old new) → GivesOnce c all old new runs
       → (last : Log) × (later : Option Call) × IsLog new last later × Known last new.tables × Free c new.tables × KeepsFew new
   runs_before connection [] log waiting old new few told free known is once = (
@@ -198,4 +208,5 @@ module _ (c : ℕ) where
   runs_before connection (input ∷ all) log waiting old new few told free known runs once =
       let middle = runs.0 in
       let done = input_before connection log waiting old middle few told free known input once.0 runs.1 in
-      runs_before connection all (log ++ done.0) done.1 middle new (every_input_goes_on input old middle few runs.1).1 done.2 done.4 done.3 runs.2 once.1
+      runs_before connection all (log ++ done.0) done.1 middle new (every_input_goes_on input old middle few runs.1).1
+      done.2 done.4 done.3 runs.2 once.1

@@ -1,5 +1,6 @@
 -- What goes on a connection at each input behind its opening.
-use Rattle.std.proofs.Common.{◌≡◌, ◌≢◌, ◌⊎◌, inl, inr, ◌∙◌, ℕ, Bool, true, false, ◌&&◌, List, [], ◌∷◌, ◌++◌, take, drop, Option, refl, sym, ap, subst, append_assoc}
+use Rattle.std.proofs.Common.{◌≡◌, ◌≢◌, ◌⊎◌, inl, inr, ◌∙◌, ℕ, Bool, true, false, ◌&&◌, List, [], ◌∷◌, ◌++◌, take, drop}
+use Rattle.std.proofs.Common.{Option, refl, sym, ap, subst, append_assoc}
 use Rattle.std.specs.Prelude.{if◌then◌else◌}
 use Rattle.std.specs.List.{AllByRecursion}
 use Rattle.std.specs.FinMap as finite
@@ -28,13 +29,16 @@ use Rattle.zfront_frames.proofs.Reading.{Holds, HoldsAt, bytes_in, holds_calm}
 use Rattle.zfront_frames.proofs.Coming.{After, comes_open}
 
 module _ (c : ℕ) where
-  nothing_more : (came : List ℕ) (taken : List PieceView) (log : Log) (new : FrontView) → After c came taken log new → After c (came ++ []) (taken ++ []) log new
+  nothing_more : (came : List ℕ) (taken : List PieceView) (log : Log) (new : FrontView) → After c came taken log new
+      → After c (came ++ []) (taken ++ []) log new
   nothing_more came taken log new after =
       subst (λ xs. After c xs (taken ++ []) log new) (sym (append-nil came)) (subst (λ ps. After c came ps log new) (sym (append-nil taken)) after)
 
   -- an input that answers nothing on it
-  calmly : (input : Input) (came : List ℕ) (taken : List PieceView) (log : Log) (waiting : Option Call) (old new : FrontView) → KeepsFew old → Does input old new
-      → Calm c old.tables new.tables → IsLog old log waiting → HoldsAt c came taken log (view c old.tables) → Free c old.tables → After c came taken log new
+  calmly : (input : Input) (came : List ℕ) (taken : List PieceView) (log : Log) (waiting : Option Call) (old new : FrontView)
+      → KeepsFew old → Does input old new
+      → Calm c old.tables new.tables → IsLog old log waiting → HoldsAt c came taken log (view c old.tables) → Free c old.tables
+      → After c came taken log new
   calmly input came taken log waiting old new few does calm told has free =
       let next = (every_input_goes_on input old new few does).0 log waiting told in
       let done = calm free in
@@ -42,13 +46,21 @@ module _ (c : ℕ) where
 
   -- bytes of its own
   comes_by : (on_now : Bool) (bytes came : List ℕ) (taken : List PieceView) (log : Log) (waiting : Option Call) (old new : FrontView) → KeepsFew old
-      → is_open old.tables c ≡ on_now → ComesIf on_now bytes c old new → IsLog old log waiting → HoldsAt c came taken log (view c old.tables) → Free c old.tables
+      → is_open old.tables c ≡ on_now → ComesIf on_now bytes c old new → IsLog old log waiting → HoldsAt c came taken log (view c old.tables)
+      → Free c old.tables
       → After c (came ++ (if on_now then bytes else [])) taken log new
-  comes_by true bytes came taken log waiting old new few is_on comes told has free = comes_open c came bytes taken log waiting old new few is_on has told free comes
+  comes_by true bytes came taken log waiting old new few is_on comes told has free = comes_open c came bytes taken log
+      waiting old new few is_on has told free comes
   comes_by false bytes came taken log waiting old new few shut is told has free =
       subst (λ (v : FrontView). After c (came ++ []) taken log v) (sym is)
-      (subst (λ xs. After c xs taken log old) (sym (append-nil came))
-      ([], waiting, subst (λ l. IsLog old l waiting) (sym (append-nil log)) told, subst (λ l. HoldsAt c came taken l (view c old.tables)) (sym (append-nil log)) has, free))
+      (subst (λ xs. After c xs taken log old) (sym (append-nil came)) (
+        [],
+        waiting,
+        subst (λ l. IsLog old l waiting) (sym (append-nil log)) told,
+        subst (λ l. HoldsAt c came taken l (view c old.tables))
+            (sym (append-nil log)) has,
+        free,
+      ))
 
   own_comes : (bytes came : List ℕ) (taken : List PieceView) (log : Log) (waiting : Option Call) (old new : FrontView) → KeepsFew old
       → Comes bytes c old new → IsLog old log waiting → HoldsAt c came taken log (view c old.tables) → Free c old.tables
@@ -60,7 +72,8 @@ module _ (c : ℕ) where
 
   -- a piece is sent
   sends_first : (came : List ℕ) (taken : List PieceView) (log : Log) (waiting : Option Call) (old : FrontView) → IsLog old log waiting
-      → HoldsAt c came taken log (view c old.tables) → Free c old.tables → After c (came ++ []) (taken ++ on c (take 1 old.tables.unsent)) log (without_first old)
+      → HoldsAt c came taken log (view c old.tables) → Free c old.tables
+      → After c (came ++ []) (taken ++ on c (take 1 old.tables.unsent)) log (without_first old)
   sends_first came taken log waiting old told has free =
       let unsent = old.tables.unsent in
       let whole : taken ++ on c unsent ≡ (taken ++ on c (take 1 unsent)) ++ on c (drop 1 unsent) =
@@ -80,12 +93,14 @@ module _ (c : ℕ) where
   not_its : (d : ℕ) (bytes : List ℕ) (v : FrontView) → d ≢ c → came_at c (it.Came d bytes) v ≡ []
   not_its d bytes v other = ap (λ (b : Bool). if b && is_open v.tables c then bytes else []) (ne_eqb d c other)
 
-  module _ (connection : c ≢ 0) (came : List ℕ) (taken : List PieceView) (log : Log) (waiting : Option Call) (old new : FrontView) (few : KeepsFew old)
+  module _ (connection : c ≢ 0) (came : List ℕ) (taken : List PieceView) (log : Log) (waiting : Option Call)
+      (old new : FrontView) (few : KeepsFew old)
       (told : IsLog old log waiting) (has : HoldsAt c came taken log (view c old.tables)) (free : Free c old.tables) where
     calm_input : (input : Input) → Does input old new → Calm c old.tables new.tables → After c (came ++ []) (taken ++ []) log new
     calm_input input does calm = nothing_more came taken log new (calmly input came taken log waiting old new few does calm told has free)
 
-    comes_on : (d : ℕ) (bytes : List ℕ) → Comes bytes d old new → (d ≡ c) ⊎ (d ≢ c) → After c (came ++ came_at c (it.Came d bytes) old) (taken ++ []) log new
+    comes_on : (d : ℕ) (bytes : List ℕ) → Comes bytes d old new → (d ≡ c) ⊎ (d ≢ c)
+        → After c (came ++ came_at c (it.Came d bytes) old) (taken ++ []) log new
     comes_on d bytes does (inl same) =
         subst (λ x. After c (came ++ came_at c (it.Came x bytes) old) (taken ++ []) log new) (sym same)
         (own_comes bytes came taken log waiting old new few (subst (λ x. Comes bytes x old new) same does) told has free)
@@ -93,7 +108,8 @@ module _ (c : ℕ) where
         subst (λ xs. After c (came ++ xs) (taken ++ []) log new) (sym (not_its d bytes old other))
         (calm_input (it.Came d bytes) does (others.comes_elsewhere c d other bytes old new few does))
 
-    pub input_stays : (input : Input) → Stays c input → Does input old new → After c (came ++ came_at c input old) (taken ++ sent_at c input old) log new
+    pub input_stays : (input : Input) → Stays c input → Does input old new
+        → After c (came ++ came_at c input old) (taken ++ sent_at c input old) log new
     input_stays (it.Opened d password) other does = calm_input (it.Opened d password) does (others.opens_elsewhere c d other password old new does)
     input_stays (it.Came d bytes) stays does = comes_on d bytes does (same_number d c)
     input_stays (it.Ended d) other does = calm_input (it.Ended d) does (others.ends_elsewhere c d other old new does)
@@ -105,15 +121,19 @@ module _ (c : ℕ) where
     input_stays it.Took stays is = calm_input it.Took is (fronts.becomes c old new (all_taken old) is (same c old.tables))
 
   -- inputs behind its opening
-  pub runs_behind : (connection : c ≢ 0) (all : List Input) (came : List ℕ) (taken : List PieceView) (log : Log) (waiting : Option Call) (old new : FrontView) → KeepsFew old
-      → IsLog old log waiting → HoldsAt c came taken log (view c old.tables) → Free c old.tables → AllByRecursion (Stays c) all → (runs : Runs all old new)
+  pub runs_behind : (connection : c ≢ 0) (all : List Input) (came : List ℕ) (taken : List PieceView) (log : Log)
+      (waiting : Option Call) (old new : FrontView) → KeepsFew old
+      → IsLog old log waiting → HoldsAt c came taken log (view c old.tables) → Free c old.tables → AllByRecursion (Stays c) all
+      → (runs : Runs all old new)
       → (last : Log) × (later : Option Call) × IsLog new last later
-      × Holds c (came ++ came_on c all old new runs) (taken ++ went_on c all old new runs) last (phase_of new.tables.streams c) (bytes_in (finite.get new.tables.streams c))
+      × Holds c (came ++ came_on c all old new runs) (taken ++ went_on c all old new runs) last (phase_of new.tables.streams c)
+      (bytes_in (finite.get new.tables.streams c))
   runs_behind connection [] came taken log waiting old new few told has free stays is = (
     log,
     waiting,
     subst (λ (v : FrontView). IsLog v log waiting) (sym is) told,
-    subst (λ xs. Holds c xs (taken ++ on c new.tables.unsent) log (phase_of new.tables.streams c) (bytes_in (finite.get new.tables.streams c))) (sym (append-nil came))
+    subst (λ xs. Holds c xs (taken ++ on c new.tables.unsent) log (phase_of new.tables.streams c) (bytes_in (finite.get new.tables.streams c)))
+        (sym (append-nil came))
         (subst (λ (v : FrontView). HoldsAt c came taken log (view c v.tables)) (sym is) has),
   )
   runs_behind connection (input ∷ all) came taken log waiting old new few told has free stays runs =
@@ -124,8 +144,10 @@ module _ (c : ℕ) where
         rest.0,
         rest.1,
         rest.2,
-        subst (λ xs. Holds c xs (taken ++ (sent_at c input old ++ went_on c all middle new runs.2)) rest.0 (phase_of new.tables.streams c) (bytes_in (finite.get new.tables.streams c)))
+        subst (λ xs. Holds c xs (taken ++ (sent_at c input old ++ went_on c all middle new runs.2)) rest.0
+            (phase_of new.tables.streams c) (bytes_in (finite.get new.tables.streams c)))
             (append_assoc came (came_at c input old) (came_on c all middle new runs.2))
-            (subst (λ ps. Holds c ((came ++ came_at c input old) ++ came_on c all middle new runs.2) ps rest.0 (phase_of new.tables.streams c) (bytes_in (finite.get new.tables.streams c)))
+            (subst (λ ps. Holds c ((came ++ came_at c input old) ++ came_on c all middle new runs.2) ps rest.0
+            (phase_of new.tables.streams c) (bytes_in (finite.get new.tables.streams c)))
             (append_assoc taken (sent_at c input old) (went_on c all middle new runs.2)) rest.3),
       )

@@ -1,6 +1,7 @@
 -- What the tables' changes do on one connection, where they answer no frame of it: events are told
 -- while it speaks, or it is closed.
-use Rattle.std.proofs.Common.{◌≡◌, ◌≢◌, ◌⊎◌, inl, inr, ◌∙◌, ℕ, Bool, true, false, ◌||◌, cond, List, [], ◌∷◌, map, Option, None, Some, refl, sym, ap, subst, eqb}
+use Rattle.std.proofs.Common.{◌≡◌, ◌≢◌, ◌⊎◌, inl, inr, ◌∙◌, ℕ, Bool, true, false, ◌||◌, cond, List, [], ◌∷◌, map}
+use Rattle.std.proofs.Common.{Option, None, Some, refl, sym, ap, subst, eqb}
 use Rattle.std.specs.Prelude.{if◌then◌else◌, is_some}
 use Rattle.std.specs.Cmp.{nat_cmp_total}
 use Rattle.std.specs.List.{list_any}
@@ -34,7 +35,8 @@ use Rattle.zfront_laws.proofs.Seated.{same_number}
 use Rattle.zfront_laws.proofs.Kept.{noted_alike}
 use Rattle.zfront_laws.proofs.Wishes.{wished}
 use Rattle.zfront_frames.specs.Talk.{Talk, Quiet, Tells, Answers, Closes, is_closed}
-use Rattle.zfront_frames.proofs.Views.{View, view, phase_in, run, followed, run_then, run_stream, view-sent, view-sent-elsewhere, view-closed, view-closed-elsewhere}
+use Rattle.zfront_frames.proofs.Views.{View, view, phase_in, run, followed, run_then, run_stream, view-sent}
+use Rattle.zfront_frames.proofs.Views.{view-sent-elsewhere, view-closed, view-closed-elsewhere}
 use Rattle.zfront_frames.proofs.Free.{speaks, Free, free-unwatched, free-waiting, free-closed, free-sent, free-sittings, free-forgotten}
 
 -- no answer; and events, if it speaks
@@ -76,7 +78,8 @@ talked_both c speaking old middle new one is_on shut = by (is_closed one.0) refl
         )
 
 -- a talk that isn't closed leaves the stream
-pub same_stream : (c : ℕ) (old new : TablesView) (talk : Talk) → is_closed talk ≡ false → view c new ≡ run c talk (view c old) → finite.get new.streams c ≡ finite.get old.streams c
+pub same_stream : (c : ℕ) (old new : TablesView) (talk : Talk) → is_closed talk ≡ false → view c new ≡ run c talk (view c old)
+    → finite.get new.streams c ≡ finite.get old.streams c
 same_stream c old new talk still is = ap (λ (w : View). w.0) is ∙ run_stream c talk (view c old) still
 
 -- what is sent and told leaves the streams
@@ -140,8 +143,14 @@ module _ (c : ℕ) where
   sends_elsewhere d bytes t other = alike t (sent d bytes t) (view-sent-elsewhere c d bytes t other) (free-sent c d bytes t)
 
   -- an event
-  event_talk : (speaking : Bool) (e : Event) (d : ℕ) (t : TablesView) → (d ≡ c → speaking ≡ true) → (d ≡ c) ⊎ (d ≢ c) → Talked c speaking t (sent d (event_frame e) t)
-  event_talk speaking e d t own (inl same) = (Tells e Quiet, (own same, tt), ap (λ x. view c (sent x (event_frame e) t)) same ∙ view-sent c (event_frame e) t)
+  event_talk : (speaking : Bool) (e : Event) (d : ℕ) (t : TablesView) → (d ≡ c → speaking ≡ true) → (d ≡ c) ⊎ (d ≢ c)
+      → Talked c speaking t (sent d (event_frame e) t)
+  event_talk speaking e d t own (inl same) = (
+    Tells e Quiet,
+    (own same, tt),
+    ap (λ x. view c (sent x (event_frame e) t)) same
+        ∙ view-sent c (event_frame e) t,
+  )
   event_talk speaking e d t own (inr other) = (Quiet, tt, view-sent-elsewhere c d (event_frame e) t other)
 
   pub event_sent : (e : Event) (d : ℕ) (t : TablesView) → (d ≡ c → speaks (phase_of t.streams c) ≡ true) → Calm c t (sent d (event_frame e) t)
@@ -160,7 +169,8 @@ module _ (c : ℕ) where
   sent_on_talk speaking e (d ∷ ds) t own =
       let first = event_talk speaking e d t (λ is. own (among d ds is)) (same_number d c) in
       let rest = sent_on_talk speaking e ds (sent d (event_frame e) t) (λ there. own (or_true (eqb d c) (list_any (λ x. eqb x c) ds) there)) in
-      talked_both c speaking t (sent d (event_frame e) t) (sent_on ds (event_frame e) (sent d (event_frame e) t)) first (λ still. rest) (λ ends. (rest.0, rest.2))
+      talked_both c speaking t (sent d (event_frame e) t) (sent_on ds (event_frame e) (sent d (event_frame e) t)) first
+      (λ still. rest) (λ ends. (rest.0, rest.2))
 
   free_sent_on : (ds bytes : List ℕ) (t : TablesView) → Free c t → Free c (sent_on ds bytes t)
   free_sent_on [] bytes t free = free
@@ -180,7 +190,8 @@ module _ (c : ℕ) where
   tied_any [] none = absurd (cc none)
   tied_any (x ∷ xs) there = by (eqb x c) refl there (tied_any xs)
     where
-      by : (b : Bool) → eqb x c ≡ b → (b || list_any (λ x. eqb x c) xs) ≡ true → (list_any (λ x. eqb x c) xs ≡ true → list_any (eq_by_cmp nat_cmp c) xs ≡ true)
+      by : (b : Bool) → eqb x c ≡ b → (b || list_any (λ x. eqb x c) xs) ≡ true
+          → (list_any (λ x. eqb x c) xs ≡ true → list_any (eq_by_cmp nat_cmp c) xs ≡ true)
           → (eq_by_cmp nat_cmp c x || list_any (eq_by_cmp nat_cmp c) xs) ≡ true
       by true is _ others =
           ap (λ b. b || list_any (eq_by_cmp nat_cmp c) xs)
@@ -235,7 +246,8 @@ module _ (c : ℕ) where
   ]
 
   sweeps : (session : ℕ) (t : TablesView) → Calm c t (swept session t)
-  sweeps session t = both t (moved session t) (swept session t) (moves session t) (alike (moved session t) (swept session t) refl (free-forgotten c session (moved session t)))
+  sweeps session t = both t (moved session t) (swept session t) (moves session t)
+      (alike (moved session t) (swept session t) refl (free-forgotten c session (moved session t)))
 
   pub sweeps_all : (sessions : List ℕ) (t : TablesView) → Calm c t (swept_all sessions t)
   sweeps_all [] t = same t
@@ -264,5 +276,6 @@ module _ (c : ℕ) where
   pub grants : (d : ℕ) (asks : Asked) (calls : List Call) (replies : List Reply) (t : TablesView) → (d ≡ c → speaks (phase_of t.streams c) ≡ true)
       → Calm c t (granted_all d (wishes asks calls replies) t)
   grants d asks calls replies t own =
-      (wished (Granting d) (λ u none. (same u, refl)) (granting_both d) d (waits d) (λ e u mine. (event_sent e d u mine, sent_streams d (event_frame e) u)) asks
+      (wished (Granting d) (λ u none. (same u, refl)) (granting_both d) d (waits d)
+      (λ e u mine. (event_sent e d u mine, sent_streams d (event_frame e) u)) asks
       calls replies t own).0

@@ -58,7 +58,8 @@ module _ (c : ℕ) where
   )
 
   -- what answers nothing
-  pub calmly : (log : Log) (waiting : Option Call) (old new : FrontView) → GoesOn old new → Calm c old.tables new.tables → IsLog old log waiting → Free c old.tables
+  pub calmly : (log : Log) (waiting : Option Call) (old new : FrontView) → GoesOn old new → Calm c old.tables new.tables
+      → IsLog old log waiting → Free c old.tables
       → Done c (λ more talk. IsCalm (speaks (phase_of old.tables.streams c)) talk) log old new
   calmly log waiting old new goes calm has free =
       let next = goes log waiting has in
@@ -85,7 +86,8 @@ module _ (c : ℕ) where
   replies known xid answer t =
       let bytes = answer_frame known xid answer in
       let u = sent c bytes t in
-      elim (ends_connection answer.code) as (λ b. (end : Talk) × IsCalm false end × (view c (if b then closed c u else u) ≡ run c (Answers bytes end) (view c t))
+      elim (ends_connection answer.code) as (λ b. (end : Talk) × IsCalm false end × (view c (if b then closed c u else u)
+      ≡ run c (Answers bytes end) (view c t))
       × (Free c t → Free c (if b then closed c u else u))) [
         | true ↦ (Closes, tt, view-closed c u ∙ ap (run c Closes) (view-sent c bytes t), λ free. free-closed c c u (free-sent c c bytes t free))
         | false ↦ (Quiet, tt, view-sent c bytes t, λ free. free-sent c c bytes t free)

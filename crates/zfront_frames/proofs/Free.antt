@@ -1,6 +1,7 @@
 -- A session has a connection, and a watch is of a connection, only where this one speaks. So it
 -- stays at each change of the tables.
-use Rattle.std.proofs.Common.{◌≡◌, ◌≢◌, ◌⊎◌, inl, inr, ◌∙◌, ℕ, Bool, true, false, not, ◌&&◌, ◌||◌, List, Option, None, Some, refl, sym, ap, subst, eqb}
+use Rattle.std.proofs.Common.{◌≡◌, ◌≢◌, ◌⊎◌, inl, inr, ◌∙◌, ℕ, Bool, true, false, not, ◌&&◌, ◌||◌, List, Option, None}
+use Rattle.std.proofs.Common.{Some, refl, sym, ap, subst, eqb}
 use Rattle.std.specs.Prelude.{if◌then◌else◌}
 use Rattle.std.proofs.lemmas.Bool.{eq-eqb}
 use Rattle.std.specs.Cmp.{nat_cmp_total}
@@ -23,7 +24,8 @@ use Rattle.zwatches.specs.declared.watch.Watch.{Watch}
 use Rattle.zwatches.specs.Watches.{Path, Watches, watch, watch_cmp}
 use Rattle.zwatches.specs.Events as watches
 use Rattle.zwatches.proofs.Order.{watches_total, same_watch}
-use Rattle.ztables.specs.Tables.{TablesView, is_open, session_in, without_seat, parted, closing, closed, connection_of, sent, sitting, seated, with_piece, piece}
+use Rattle.ztables.specs.Tables.{TablesView, is_open, session_in, without_seat, parted, closing, closed, connection_of}
+use Rattle.ztables.specs.Tables.{sent, sitting, seated, with_piece, piece}
 use Rattle.ztables.specs.Telling.{unwatched}
 use Rattle.ztables.specs.Sweeping.{forgotten}
 use Rattle.zfront_laws.proofs.Seated.{same_number, seat_elsewhere, seat_here, connection_in}
@@ -78,7 +80,8 @@ free-waiting c d kind path t own free = record {
   watch = λ w is mine. by w mine (set_there _ _ (sym (contains-insert watches_total t.watches (watch path kind d) w) ∙ is));
 }
   where
-    by : (w : Watch) → w.connection ≡ c → (eq_by_cmp watch_cmp w (watch path kind d) ≡ true) ⊎ (contains t.watches w ≡ true) → speaks (phase_of t.streams c) ≡ true
+    by : (w : Watch) → w.connection ≡ c → (eq_by_cmp watch_cmp w (watch path kind d) ≡ true) ⊎ (contains t.watches w ≡ true)
+        → speaks (phase_of t.streams c) ≡ true
     by w mine (inl tie) = own (sym (ap (λ (x : Watch). x.connection) (tied_same watches_total same_watch w (watch path kind d) tie)) ∙ mine)
     by w mine (inr there) = free.watch w there mine
 
@@ -148,11 +151,13 @@ pub free-forgotten : (c session : ℕ) (t : TablesView) → Free c t → Free c 
 free-forgotten c session t free =
     free_by c t (forgotten session t) refl (λ other is. near other is (same_number other session)) (λ w is own. is) free
   where
-    near : (other : ℕ) → connection_of (remove t.sittings session) other ≡ Some c → (other ≡ session) ⊎ (other ≢ session) → connection_of t.sittings other ≡ Some c
+    near : (other : ℕ) → connection_of (remove t.sittings session) other ≡ Some c → (other ≡ session) ⊎ (other ≢ session)
+        → connection_of t.sittings other ≡ Some c
     near other is (inl same) =
         absurd (none_some c (sym (ap connection_in (get-remove-here nat_cmp_total nat_cmp-IsAntisymmetric t.sittings session))
         ∙ ap (connection_of (remove t.sittings session)) (sym same) ∙ is))
-    near other is (inr apart) = sym (ap connection_in (get-remove-elsewhere nat_cmp_total nat_cmp-IsAntisymmetric t.sittings session other apart)) ∙ is
+    near other is (inr apart) = sym
+        (ap connection_in (get-remove-elsewhere nat_cmp_total nat_cmp-IsAntisymmetric t.sittings session other apart)) ∙ is
 
 -- who has the seats, where one connection gets that of a session
 new_seat : (m : SittingsView) (session d x other : ℕ) (password : List ℕ) → connection_of (insert m session (new_sitting password d)) other ≡ Some x
@@ -167,7 +172,11 @@ new_seat m session d x other password is = near (same_number other session)
               ∙ ap (connection_of (insert m session (new_sitting password d))) (sym same) ∙ is),
         )
     near (inr apart) =
-        inr (apart, sym (ap connection_in (get-insert-elsewhere nat_cmp_total nat_cmp-IsAntisymmetric m session (new_sitting password d) other apart)) ∙ is)
+        inr (
+          apart,
+          sym (ap connection_in (get-insert-elsewhere nat_cmp_total nat_cmp-IsAntisymmetric m session
+              (new_sitting password d) other apart)) ∙ is,
+        )
 
 taken_seat : (m : SittingsView) (session d x other : ℕ) → connection_of (with_changed (seats.taken_up d) m session) other ≡ Some x
     → ((other ≡ session) × (d ≡ x)) ⊎ ((other ≢ session) × (connection_of m other ≡ Some x))
@@ -175,7 +184,8 @@ taken_seat m session d x other is = near (same_number other session)
   where
     there : (o : Option Sitting) → get m session ≡ o → connection_of (with_changed (seats.taken_up d) m session) session ≡ Some x → d ≡ x
     there None none has =
-        absurd (none_some x (sym (ap (λ o. connection_of (option_map_or (λ s. insert m session (seats.taken_up d s)) o m) session) none ∙ ap connection_in none) ∙ has))
+        absurd (none_some x (sym (ap (λ o. connection_of (option_map_or (λ s. insert m session (seats.taken_up d s)) o m) session) none
+        ∙ ap connection_in none) ∙ has))
     there (Some s) is_there has = same_some d x (sym (ap connection_in (seat_here (seats.taken_up d) m session s is_there)) ∙ has)
 
     near : (other ≡ session) ⊎ (other ≢ session) → ((other ≡ session) × (d ≡ x)) ⊎ ((other ≢ session) × (connection_of m other ≡ Some x))
@@ -183,7 +193,8 @@ taken_seat m session d x other is = near (same_number other session)
     near (inr apart) = inr (apart, sym (ap connection_in (seat_elsewhere (seats.taken_up d) m session other apart)) ∙ is)
 
 -- another connection gets it
-seat_of_another : (c d : ℕ) (t : TablesView) (session other : ℕ) → d ≢ c → ((other ≡ session) × (d ≡ c)) ⊎ ((other ≢ session) × (connection_of t.sittings other ≡ Some c))
+seat_of_another : (c d : ℕ) (t : TablesView) (session other : ℕ) → d ≢ c → ((other ≡ session) × (d ≡ c))
+    ⊎ ((other ≢ session) × (connection_of t.sittings other ≡ Some c))
     → connection_of t.sittings other ≡ Some c
 seat_of_another c d t session other apart (inl own) = absurd (apart own.1)
 seat_of_another c d t session other apart (inr was) = was.1
@@ -199,7 +210,8 @@ free-seated-elsewhere c d session t other free =
     (λ s is. seat_of_another c d t session s other (taken_seat t.sittings session d c s is)) (λ w is own. is) free
 
 -- the connection itself gets it, and speaks then
-own_seat : (c : ℕ) (t : TablesView) (session other : ℕ) (password : List ℕ) (p : Option Phase) → Free c t → phase_of t.streams c ≡ Some (Silent password) → p ≡ Some (Speaking session)
+own_seat : (c : ℕ) (t : TablesView) (session other : ℕ) (password : List ℕ) (p : Option Phase) → Free c t
+    → phase_of t.streams c ≡ Some (Silent password) → p ≡ Some (Speaking session)
     → ((other ≡ session) × (c ≡ c)) ⊎ ((other ≢ session) × (connection_of t.sittings other ≡ Some c)) → p ≡ Some (Speaking other)
 own_seat c t session other password p free silent speaking (inl own) = speaking ∙ ap (λ s. Some (Speaking s)) (sym own.0)
 own_seat c t session other password p free silent speaking (inr was) =
@@ -207,14 +219,17 @@ own_seat c t session other password p free silent speaking (inr was) =
     absurd (cc clash)
 
 module _ (c session : ℕ) (silence : List ℕ) (t : TablesView) (free : Free c t) (silent : phase_of t.streams c ≡ Some (Silent silence)) where
-  pub free-sitting : (password : List ℕ) → phase_of (sitting session password c t).streams c ≡ Some (Speaking session) → Free c (sitting session password c t)
+  pub free-sitting : (password : List ℕ) → phase_of (sitting session password c t).streams c ≡ Some (Speaking session)
+      → Free c (sitting session password c t)
   free-sitting password speaking = record {
-    seat = λ s is. own_seat c t session s silence (phase_of (sitting session password c t).streams c) free silent speaking (new_seat t.sittings session c c s password is);
+    seat = λ s is. own_seat c t session s silence (phase_of (sitting session password c t).streams c) free silent speaking
+        (new_seat t.sittings session c c s password is);
     watch = λ w is own. ap speaks speaking;
   }
 
   pub free-seated : phase_of (seated session c t).streams c ≡ Some (Speaking session) → Free c (seated session c t)
   free-seated speaking = record {
-    seat = λ s is. own_seat c t session s silence (phase_of (seated session c t).streams c) free silent speaking (taken_seat t.sittings session c c s is);
+    seat = λ s is. own_seat c t session s silence (phase_of (seated session c t).streams c) free silent speaking
+        (taken_seat t.sittings session c c s is);
     watch = λ w is own. ap speaks speaking;
   }

@@ -30,19 +30,22 @@ module _ (c : ℕ) where
   both old middle new one two = table.both c old.tables middle.tables new.tables one two
 
   -- calls leave the tables
-  pub asks : (old : FrontView) (calls : List Call) (new : FrontView) (replies : List Reply) → Asks old calls new replies → Calm c old.tables new.tables
+  pub asks : (old : FrontView) (calls : List Call) (new : FrontView) (replies : List Reply) → Asks old calls new replies
+      → Calm c old.tables new.tables
   asks old calls new replies has =
       subst (λ (t : TablesView). Calm c old.tables t) (sym (ap (λ (v : FrontView). v.tables) has.rest)) (table.same c old.tables)
 
   pub tidies_up : (took : Bool) (v : FrontView) → Calm c v.tables (tidied took v).tables
   tidies_up took v = table.sweeps_all c (gone v.asker.known.sessions v.tables.sittings) v.tables
 
-  hears_of : (call : Call) (told : Option Reply) (old : FrontView) (asker : AloneView) → Calm c old.tables (heard call told (record old { asker = asker })).tables
+  hears_of : (call : Call) (told : Option Reply) (old : FrontView) (asker : AloneView)
+      → Calm c old.tables (heard call told (record old { asker = asker })).tables
   hears_of call None old asker = table.same c old.tables
   hears_of call (Some reply) old asker =
       let t = absorbed call reply old.tables in
       let middle = record old { asker = asker; tables = t; late = None } in
-      table.both c old.tables t (tidied (takes_nodes reply) middle).tables (table.absorbs c call reply old.tables) (tidies_up (takes_nodes reply) middle)
+      table.both c old.tables t (tidied (takes_nodes reply) middle).tables (table.absorbs c call reply old.tables)
+      (tidies_up (takes_nodes reply) middle)
 
   pub hears_if : (late : Option Call) (old new : FrontView) → HearsIf late old new → Calm c old.tables new.tables
   hears_if None old new is = same old new is

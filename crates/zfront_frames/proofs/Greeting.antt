@@ -1,6 +1,7 @@
 -- The first frame of a connection is answered as a greeting, or the connection is closed. Behind it
 -- the connection speaks for the session that it was told.
-use Rattle.std.proofs.Common.{◌≡◌, ◌≢◌, inl, inr, ◌∙◌, ℕ, Bool, true, false, List, [], ◌∷◌, ◌++◌, Option, None, Some, Result, Ok, Err, refl, sym, ap, subst, append_assoc, arith}
+use Rattle.std.proofs.Common.{◌≡◌, ◌≢◌, inl, inr, ◌∙◌, ℕ, Bool, true, false, List, [], ◌∷◌, ◌++◌, Option, None, Some}
+use Rattle.std.proofs.Common.{Result, Ok, Err, refl, sym, ap, subst, append_assoc, arith}
 use Rattle.std.specs.Prelude.{◌||◌, ℤ, pos, negsuc, is_some, replicate, zip, if◌then◌else◌}
 use Rattle.std.specs.Cmp.{signed_Decides}
 use Rattle.std.proofs.lemmas.List.{append-nil}
@@ -39,7 +40,9 @@ use Rattle.zfront_laws.proofs.GoingOn.{asks_log}
 use Rattle.zfront_laws.proofs.Steps.{none_late}
 use Rattle.zfront_frames.specs.Talk.{Talk, Quiet, Tells, Answers, Closes, pieces_of, is_closed, IsWelcome, tree_behind, Answered, Greeted}
 use Rattle.zfront_frames.specs.Laws.{on}
-use Rattle.zfront_frames.proofs.Views.{View, view, phase_in, run, followed, closed-followed, pieces-followed, run_pieces, run_closed, run_stream, run_ends, view-sent, view-closed, view-closed-elsewhere, changed-here}
+use Rattle.zfront_frames.proofs.Views.{View, view, phase_in, run, followed, closed-followed, pieces-followed}
+use Rattle.zfront_frames.proofs.Views.{run_pieces, run_closed, run_stream, run_ends, view-sent, view-closed}
+use Rattle.zfront_frames.proofs.Views.{view-closed-elsewhere, changed-here}
 use Rattle.zfront_frames.proofs.Free.{speaks, Free, free-sent, free-closed, free-sitting, free-seated}
 use Rattle.zfront_frames.proofs.Calm as table
 use Rattle.zfront_frames.proofs.Calm.{IsCalm, Calm}
@@ -70,7 +73,8 @@ Meeting c bytes log old new =
 
 module _ (c : ℕ) where
   -- by all that was done
-  pub went : (talk : Talk) (phase : Phase) (old new : TablesView) → is_open old c ≡ true → (is_closed talk ≡ false → phase_of old.streams c ≡ Some phase)
+  pub went : (talk : Talk) (phase : Phase) (old new : TablesView) → is_open old c ≡ true
+      → (is_closed talk ≡ false → phase_of old.streams c ≡ Some phase)
       → view c new ≡ run c talk (view c old) → Went c talk phase old new
   went talk phase old new is_on is has = record {
     pieces = ap (λ (w : View). w.1) has ∙ run_pieces c talk (view c old) is_on;
@@ -81,7 +85,8 @@ module _ (c : ℕ) where
       by true ends = ap (λ (w : View). phase_in w.0) has ∙ ap phase_in (run_closed c talk (view c old) is_on ends)
       by false still = ap (λ (w : View). phase_in w.0) has ∙ ap phase_in (run_stream c talk (view c old) still) ∙ is still
 
-  pub went_both : (one two : Talk) (phase last : Phase) (old middle new : TablesView) → is_closed one ≡ false → Went c one phase old middle → Went c two last middle new
+  pub went_both : (one two : Talk) (phase last : Phase) (old middle new : TablesView) → is_closed one ≡ false
+      → Went c one phase old middle → Went c two last middle new
       → Went c (followed one two) last old new
   went_both one two phase last old middle new still first second = record {
     pieces =
@@ -103,7 +108,8 @@ module _ (c : ℕ) where
     phase_there : (rows : StreamRows) (phase : Phase) → phase_of rows c ≡ Some (Silent silence) → phase_of (with_phase rows c phase) c ≡ Some phase
     phase_there rows phase silent = ap phase_in (changed-here (λ s. record s { phase = phase }) rows c) ∙ by (finite.get rows c) silent
       where
-        by : (o : Option StreamView) → phase_in o ≡ Some (Silent silence) → phase_in (option_map (λ (s : StreamView). record s { phase = phase }) o) ≡ Some phase
+        by : (o : Option StreamView) → phase_in o ≡ Some (Silent silence)
+            → phase_in (option_map (λ (s : StreamView). record s { phase = phase }) o) ≡ Some phase
         by None none = absurd (none_some (Silent silence) none)
         by (Some s) there = refl
 
@@ -133,7 +139,8 @@ module _ (c : ℕ) where
           )
 
       -- who is told a session, which the connection has then
-      met_told : (session : ℕ) (told : List ℕ) (old u : TablesView) → IsWelcome session bytes told (tree_behind tree more) more → on c u.unsent ≡ on c old.unsent
+      met_told : (session : ℕ) (told : List ℕ) (old u : TablesView) → IsWelcome session bytes told (tree_behind tree more) more
+          → on c u.unsent ≡ on c old.unsent
           → phase_of u.streams c ≡ Some (Speaking session) → Free c u → Met c bytes tree more old (sent c told u)
       met_told session told old u is same speaking free =
           let is_on : is_open u c ≡ true = ap may_send speaking in
@@ -153,7 +160,8 @@ module _ (c : ℕ) where
     met_opened tree clock greeting password (Opened session ticks ∷ replies) old reads new silent free =
         let more = (opening clock.tick greeting, Opened session ticks) ∷ [] in
         let speaking = phase_there old.streams (Speaking session) silent in
-        met_told tree more session (response_frame greeting (millis_told clock.tick ticks) (long_of session) password) old (sitting session password c old)
+        met_told tree more session (response_frame greeting (millis_told clock.tick ticks) (long_of session) password)
+        old (sitting session password c old)
         (record { greeting = greeting; clock = clock; reads = reads; has = inl ([], ticks, password, new, refl, refl) }) refl speaking
         (free-sitting c session silence old free silent password speaking)
     met_opened tree clock greeting password (told ∷ replies) old reads new silent free =
@@ -174,7 +182,8 @@ module _ (c : ℕ) where
 
     -- a client comes back
     module _ (tree : Tree) (clock : Clock) (greeting : ConnectRequest) (reads : whole connect_request bytes ≡ Ok greeting) where
-      met_back : (session : ℕ) (sits : Session) (old : TablesView) → greeting.session_id ≡ pos session → finite.get tree.sessions session ≡ Some sits → IsSilent old
+      met_back : (session : ℕ) (sits : Session) (old : TablesView) → greeting.session_id ≡ pos session
+          → finite.get tree.sessions session ≡ Some sits → IsSilent old
           → Free c old → Met c bytes tree [] old (came_back greeting session (millis_told clock.tick sits.timeout) c old)
       met_back session sits old asks there silent free =
           let u = moved session old in
@@ -182,9 +191,12 @@ module _ (c : ℕ) where
           let same = moved_view session old silent free in
           let silent_then : IsSilent u = ap (λ (w : View). phase_in w.0) same ∙ silent in
           let speaking = phase_there u.streams (Speaking session) silent_then in
-          elim (passes old.sittings session (given greeting)) as (λ b. Met c bytes tree [] old (if b then session_told greeting session timeout (given greeting) c (taken_up session c old) else turned_away greeting c old)) [
+          elim (passes old.sittings session (given greeting)) as
+          (λ b. Met c bytes tree [] old (if b then session_told greeting session timeout (given greeting) c (taken_up session c old)
+          else turned_away greeting c old)) [
             | true ↦ met_told tree [] session (response_frame greeting timeout (long_of session) (given greeting)) old (seated session c u)
-                (record { greeting = greeting; clock = clock; reads = reads; has = inr (sits, asks, there, refl) }) (ap (λ (w : View). w.1) same) speaking
+                (record { greeting = greeting; clock = clock; reads = reads; has = inr (sits, asks, there, refl) })
+                (ap (λ (w : View). w.1) same) speaking
                 (free-seated c session silence u ((table.moves c session old free).1) silent_then speaking)
             | false ↦ met_turned tree [] greeting old reads silent free
           ]
@@ -194,7 +206,8 @@ module _ (c : ℕ) where
       met_returned known (pos session) old knows asks silent free = by (finite.get known.sessions session) refl
         where
           by : (o : Option Session) → finite.get known.sessions session ≡ o
-              → Met c bytes tree [] old (option_map_or (λ s. came_back greeting session (millis_told clock.tick s.timeout) c old) o (turned_away greeting c old))
+              → Met c bytes tree [] old (option_map_or (λ s. came_back greeting session (millis_told clock.tick s.timeout) c old)
+              o (turned_away greeting c old))
           by None none = met_turned tree [] greeting old reads silent free
           by (Some sits) there =
               met_back session sits old asks (sym (ap (λ (k : KnownView). finite.get k.sessions session) knows) ∙ there) silent free
@@ -211,11 +224,13 @@ module _ (c : ℕ) where
     )
 
     -- or it has the call that opens
-    module _ (log : Log) (waiting : Option Call) (old new : FrontView) (late : old.late ≡ None) (told : IsLog old log waiting) (silent : IsSilent old.tables) (free : Free c old.tables) where
+    module _ (log : Log) (waiting : Option Call) (old new : FrontView) (late : old.late ≡ None) (told : IsLog old log waiting)
+        (silent : IsSilent old.tables) (free : Free c old.tables) where
       shut : new ≡ with_tables (closed c old.tables) old → Meeting c bytes log old new
       shut is = becomes (closed c old.tables) old new log waiting is told (met_closed (tree_behind opening_tree log) [] old.tables silent free)
 
-      opens : (greeting : ConnectRequest) (password : List ℕ) → whole connect_request bytes ≡ Ok greeting → greeting.session_id ≡ pos 0 → Opens greeting password c old new
+      opens : (greeting : ConnectRequest) (password : List ℕ) → whole connect_request bytes ≡ Ok greeting
+          → greeting.session_id ≡ pos 0 → Opens greeting password c old new
           → Meeting c bytes log old new
       opens greeting password reads fresh has =
           let middle = has.0 in
@@ -234,23 +249,27 @@ module _ (c : ℕ) where
                 (met_opened tree old.clock greeting password has.1 old.tables reads fresh silent free),
           )
 
-      greets_if : (is_new : Bool) (greeting : ConnectRequest) (password : List ℕ) → whole connect_request bytes ≡ Ok greeting → int_eq greeting.session_id (pos 0) ≡ is_new
+      greets_if : (is_new : Bool) (greeting : ConnectRequest) (password : List ℕ) → whole connect_request bytes ≡ Ok greeting
+          → int_eq greeting.session_id (pos 0) ≡ is_new
           → GreetsIf is_new greeting password c old new → Meeting c bytes log old new
       greets_if true greeting password reads fresh has = opens greeting password reads (same_int greeting.session_id (pos 0) fresh) has
       greets_if false greeting password reads fresh is =
           becomes (returned old.clock.tick old.asker.known greeting greeting.session_id c old.tables) old new log waiting is told
-          (met_returned (tree_behind opening_tree log) old.clock greeting reads old.asker.known greeting.session_id old.tables (known_tree old.asker log waiting told.told) refl silent free)
+          (met_returned (tree_behind opening_tree log) old.clock greeting reads old.asker.known greeting.session_id
+          old.tables (known_tree old.asker log waiting told.told) refl silent free)
 
       greets_unless : (ahead : Bool) (greeting : ConnectRequest) (password : List ℕ) → whole connect_request bytes ≡ Ok greeting
           → GreetsUnless ahead greeting password c old new → Meeting c bytes log old new
       greets_unless true greeting password reads is = shut is
       greets_unless false greeting password reads has = greets_if (int_eq greeting.session_id (pos 0)) greeting password reads refl has
 
-      greets_by : (read : Result ConnectRequest Fault) → whole connect_request bytes ≡ read → (password : List ℕ) → GreetsBy read password c old new → Meeting c bytes log old new
+      greets_by : (read : Result ConnectRequest Fault) → whole connect_request bytes ≡ read → (password : List ℕ)
+          → GreetsBy read password c old new → Meeting c bytes log old new
       greets_by (Err fault) reads password is = shut is
       greets_by (Ok greeting) reads password has = greets_unless (is_ahead old.asker.known greeting) greeting password reads has
 
-    unless : (late : Bool) (log : Log) (waiting : Option Call) (old new : FrontView) → is_some old.late ≡ late → IsLog old log waiting → IsSilent old.tables → Free c old.tables
+    unless : (late : Bool) (log : Log) (waiting : Option Call) (old new : FrontView) → is_some old.late ≡ late
+        → IsLog old log waiting → IsSilent old.tables → Free c old.tables
         → HandlesUnless late bytes c old new → Meeting c bytes log old new
     unless true log waiting old new late told silent free is =
         becomes (closed c old.tables) old new log waiting is told (met_closed (tree_behind opening_tree log) [] old.tables silent free)
@@ -259,8 +278,10 @@ module _ (c : ℕ) where
         (subst (λ phase. HandlesIn phase bytes c old new) silent has)
 
     -- the connection was closed before it was greeted, or nothing was told on it
-    ready_by : (first : Talk) (log more : Log) (later : Option Call) (old ready new : FrontView) → IsSilent old.tables → IsLog ready (log ++ more) later → IsCalm false first
-        → view c ready.tables ≡ run c first (view c old.tables) → Free c ready.tables → HandlesUnless (is_some ready.late) bytes c ready new → Meeting c bytes log old new
+    ready_by : (first : Talk) (log more : Log) (later : Option Call) (old ready new : FrontView) → IsSilent old.tables
+        → IsLog ready (log ++ more) later → IsCalm false first
+        → view c ready.tables ≡ run c first (view c old.tables) → Free c ready.tables → HandlesUnless (is_some ready.late) bytes c ready new
+        → Meeting c bytes log old new
     ready_by Quiet log more later old ready new silent told calm is free has =
         let met = unless (is_some ready.late) (log ++ more) later ready new refl told (ap (λ (w : View). phase_in w.0) is ∙ silent) free has in
         let tree = tree_behind opening_tree log in (
@@ -288,26 +309,31 @@ module _ (c : ℕ) where
             0,
             Closes,
             omega arith,
-            went Closes (Speaking 0) old.tables new.tables (ap may_send silent) (λ still. absurd (cc still)) (ap (λ (v : FrontView). view c v.tables) same ∙ is),
+            went Closes (Speaking 0) old.tables new.tables (ap may_send silent) (λ still. absurd (cc still))
+                (ap (λ (v : FrontView). view c v.tables) same ∙ is),
             subst (λ (v : FrontView). Free c v.tables) (sym same) free,
           ),
         )
 
-    pub meets : (log : Log) (waiting : Option Call) (old new : FrontView) → IsSilent old.tables → IsLog old log waiting → Free c old.tables → Handles bytes c old new
+    pub meets : (log : Log) (waiting : Option Call) (old new : FrontView) → IsSilent old.tables → IsLog old log waiting
+        → Free c old.tables → Handles bytes c old new
         → Meeting c bytes log old new
     meets log waiting old new silent told free handling =
         let ready = handling.0 in
         let calm = front.is_ready c old ready handling.1 free in
         let next = (laws.is_ready old ready handling.1).goes log waiting told in
-        ready_by calm.0.0 log next.0 next.1 old ready new silent next.2 (subst (λ phase. IsCalm (speaks phase) calm.0.0) silent calm.0.1) calm.0.2 calm.1 handling.2
+        ready_by calm.0.0 log next.0 next.1 old ready new silent next.2 (subst (λ phase. IsCalm (speaks phase) calm.0.0) silent calm.0.1)
+        calm.0.2 calm.1 handling.2
 
   -- all frames, of which the first one greets
   abbrev pub Starting : List (List ℕ) → Log → FrontView → FrontView → Type 0
   Starting frames log old new =
       (more : Log) × (later : Option Call) × IsLog new (log ++ more) later
-      × (session : ℕ) × (talk : Talk) × Greeted session (tree_behind opening_tree log) more frames talk × Went c talk (Speaking session) old.tables new.tables × Free c new.tables
+      × (session : ℕ) × (talk : Talk) × Greeted session (tree_behind opening_tree log) more frames talk
+      × Went c talk (Speaking session) old.tables new.tables × Free c new.tables
 
-  others : (bytes : List ℕ) (frames : List (List ℕ)) (old middle new : FrontView) (log : Log) → Meeting c bytes log old middle → HandlesAll frames c middle new
+  others : (bytes : List ℕ) (frames : List (List ℕ)) (old middle new : FrontView) (log : Log) → Meeting c bytes log old middle
+      → HandlesAll frames c middle new
       → Starting (bytes ∷ frames) log old new
   others bytes frames old middle new log meeting rest = by (is_closed meeting.3.1) refl
     where
@@ -318,7 +344,8 @@ module _ (c : ℕ) where
       by true ends =
           let more = meeting.0 in
           let met = meeting.3 in
-          let off : is_open middle.tables c ≡ false = ap may_send (met.3.leaves ∙ ap (λ (b : Bool). if b then Some Closing else Some (Speaking met.0)) ends) in
+          let off : is_open middle.tables c ≡ false = ap may_send (met.3.leaves
+          ∙ ap (λ (b : Bool). if b then Some Closing else Some (Speaking met.0)) ends) in
           let none = own.none_behind c frames middle new off rest in (
             more,
             meeting.1,
@@ -333,7 +360,8 @@ module _ (c : ℕ) where
           let more = meeting.0 in
           let met = meeting.3 in
           let session = met.0 in
-          let speaking : phase_of middle.tables.streams c ≡ Some (Speaking session) = met.3.leaves ∙ ap (λ (b : Bool). if b then Some Closing else Some (Speaking session)) still in
+          let speaking : phase_of middle.tables.streams c ≡ Some (Speaking session) = met.3.leaves
+          ∙ ap (λ (b : Bool). if b then Some Closing else Some (Speaking session)) still in
           let next = own.handles_all c session frames middle new (log ++ more) meeting.1 speaking meeting.2 met.4 rest in
           let is_on : is_open middle.tables c ≡ true = ap may_send speaking in (
             more ++ next.0,

@@ -82,7 +82,8 @@ away_where c log v (inl there) none =
 away_where c log v (inr away) none = away
 
 pub every_connection_is_answered : EveryConnectionIsAnswered
-every_connection_is_answered last c times tree seats past password before behind first old opened v connection restored left earlier once none opening stays later =
+every_connection_is_answered last c times tree seats past password before behind first old opened v connection restored
+    left earlier once none opening stays later =
     let few = is_few last times tree seats first restored in
     let quiet = is_quiet last times tree seats first restored past left in
     let new = bare_away c first.tables (is_bare last times tree seats first restored) in
@@ -97,5 +98,6 @@ every_connection_is_answered last c times tree seats past password before behind
       done.1,
       done.2,
       is_one_tree v.asker done.0 done.1 told,
-      shows c (came_on c behind opened v later) (went_on c behind opened v later) done.0 (phase_of v.tables.streams c) (bytes_in (finite.get v.tables.streams c)) done.3,
+      shows c (came_on c behind opened v later) (went_on c behind opened v later) done.0 (phase_of v.tables.streams c)
+          (bytes_in (finite.get v.tables.streams c)) done.3,
     )

@@ -1,6 +1,7 @@
 -- What a server does on one connection where it takes frames of another one, and at each input that
 -- isn't about it: it is calm.
-use Rattle.std.proofs.Common.{◌≡◌, ◌≢◌, ◌∙◌, ℕ, ◌+◌, Bool, true, false, not, cond, List, [], ◌∷◌, ◌++◌, length, Option, None, Some, Result, Ok, Err, refl, sym, ap, arith, eqb}
+use Rattle.std.proofs.Common.{◌≡◌, ◌≢◌, ◌∙◌, ℕ, ◌+◌, Bool, true, false, not, cond, List, [], ◌∷◌, ◌++◌, length, Option}
+use Rattle.std.proofs.Common.{None, Some, Result, Ok, Err, refl, sym, ap, arith, eqb}
 use Rattle.std.specs.Prelude.{ℤ, pos, negsuc, is_some, nat_lt, ◌||◌, codes, if◌then◌else◌, replicate}
 use Rattle.std.specs.FinMap as finite
 use Rattle.std.specs.Cmp.{nat_cmp_total}
@@ -51,7 +52,8 @@ use Rattle.zfront.specs.Front.{FrontView, with_tables}
 use Rattle.zfront.specs.Greeting.{opening, opened, Opens, GreetsIf, GreetsUnless, GreetsBy}
 use Rattle.zfront.specs.Inputs as inputs
 use Rattle.zfront.specs.Orders.{told_operator, did_text, IsGiven, SettlesIf, SettlesNow, wanted_of, Obeys, ObeysLine, Hears}
-use Rattle.zfront.specs.Reading.{HandlesIn, HandlesUnless, Handles, HandlesAll, Reads, is_too_long, kept, keeps, Keeps, word_asked, ComesBy, ComesBehind, ComesIf, Comes, emptied}
+use Rattle.zfront.specs.Reading.{HandlesIn, HandlesUnless, Handles, HandlesAll, Reads, is_too_long, kept, keeps, Keeps}
+use Rattle.zfront.specs.Reading.{word_asked, ComesBy, ComesBehind, ComesIf, Comes, emptied}
 use Rattle.zfront.specs.Requests.{touched_by, EndsIf, Makes, Acts, Requests}
 use Rattle.zfront.specs.Ticking.{tick_calls, rested, TicksIf, TicksBy, TicksUnless, Ticks}
 use Rattle.zfront.specs.Words.{said, text_of_word}
@@ -127,7 +129,8 @@ module _ (c d : ℕ) (other : d ≢ c) where
       (acts (calls_in old.clock.tick session asked.asked) asked (touched_by session old) new has)
 
   -- greetings
-  welcomes : (tick : ℕ) (greeting : ConnectRequest) (session ticks : ℕ) (password : List ℕ) (t : TablesView) → Calm c t (welcomed tick greeting session ticks password d t)
+  welcomes : (tick : ℕ) (greeting : ConnectRequest) (session ticks : ℕ) (password : List ℕ) (t : TablesView)
+      → Calm c t (welcomed tick greeting session ticks password d t)
   welcomes tick greeting session ticks password t =
       let u = sitting session password d t in
       let bytes = response_frame greeting (millis_told tick ticks) (long_of session) password in
@@ -147,7 +150,8 @@ module _ (c d : ℕ) (other : d ≢ c) where
       let w = taken_up session d t in
       let bytes = response_frame greeting timeout (long_of session) (given greeting) in
       let same = changed-elsewhere (λ s. record s { phase = Speaking session }) u.streams d c (λ is. other (sym is)) in
-      elim (passes t.sittings session (given greeting)) as (λ b. Calm c t (if b then session_told greeting session timeout (given greeting) d (taken_up session d t) else turned_away greeting d t)) [
+      elim (passes t.sittings session (given greeting)) as
+      (λ b. Calm c t (if b then session_told greeting session timeout (given greeting) d (taken_up session d t) else turned_away greeting d t)) [
         | true ↦ table.both c t u (sent d bytes w) (table.moves c session t)
             (table.both c u w (sent d bytes w)
             (table.alike c u w (ap (λ (o : Option StreamView). (o, on c u.unsent)) same) (free-seated-elsewhere c d session u other))
@@ -157,13 +161,15 @@ module _ (c d : ℕ) (other : d ≢ c) where
 
   returns : (tick : ℕ) (known : KnownView) (greeting : ConnectRequest) (id : ℤ) (t : TablesView) → Calm c t (returned tick known greeting id d t)
   returns tick known greeting (pos session) t =
-      elim (finite.get known.sessions session) as (λ o. Calm c t (option_map_or (λ s. came_back greeting session (millis_told tick s.timeout) d t) o (turned_away greeting d t))) [
+      elim (finite.get known.sessions session) as
+      (λ o. Calm c t (option_map_or (λ s. came_back greeting session (millis_told tick s.timeout) d t) o (turned_away greeting d t))) [
         | None ↦ turns_away greeting t
         | Some s ↦ comes_back greeting session (millis_told tick s.timeout) t
       ]
   returns tick known greeting (negsuc n) t = turns_away greeting t
 
-  opens_by : (tick : ℕ) (greeting : ConnectRequest) (password : List ℕ) (replies : List Reply) (t : TablesView) → Calm c t (opened tick greeting password d replies t)
+  opens_by : (tick : ℕ) (greeting : ConnectRequest) (password : List ℕ) (replies : List Reply) (t : TablesView)
+      → Calm c t (opened tick greeting password d replies t)
   opens_by tick greeting password [] t = table.closes c d t
   opens_by tick greeting password (Opened session ticks ∷ replies) t = welcomes tick greeting session ticks password t
   opens_by tick greeting password (told ∷ replies) t = table.closes c d t
@@ -174,17 +180,20 @@ module _ (c d : ℕ) (other : d ≢ c) where
       front.both c old has.0 new (front.asks c _ (opening old.clock.tick greeting ∷ []) has.0 has.1 has.2)
       (front.retabled c t has.0 new has.3 (opens_by has.0.clock.tick greeting password has.1 has.0.tables))
 
-  greets_if : (is_new : Bool) (greeting : ConnectRequest) (password : List ℕ) (old new : FrontView) → GreetsIf is_new greeting password d old new → Calm c old.tables new.tables
+  greets_if : (is_new : Bool) (greeting : ConnectRequest) (password : List ℕ) (old new : FrontView)
+      → GreetsIf is_new greeting password d old new → Calm c old.tables new.tables
   greets_if true greeting password old new has = opens greeting password old new has
   greets_if false greeting password old new is =
       front.retabled c (returned old.clock.tick old.asker.known greeting greeting.session_id d old.tables) old new is
       (returns old.clock.tick old.asker.known greeting greeting.session_id old.tables)
 
-  greets_unless : (ahead : Bool) (greeting : ConnectRequest) (password : List ℕ) (old new : FrontView) → GreetsUnless ahead greeting password d old new → Calm c old.tables new.tables
+  greets_unless : (ahead : Bool) (greeting : ConnectRequest) (password : List ℕ) (old new : FrontView)
+      → GreetsUnless ahead greeting password d old new → Calm c old.tables new.tables
   greets_unless true greeting password old new is = front.retabled c (closed d old.tables) old new is (table.closes c d old.tables)
   greets_unless false greeting password old new has = greets_if (int_eq greeting.session_id (pos 0)) greeting password old new has
 
-  greets_by : (read : Result ConnectRequest Fault) (password : List ℕ) (old new : FrontView) → GreetsBy read password d old new → Calm c old.tables new.tables
+  greets_by : (read : Result ConnectRequest Fault) (password : List ℕ) (old new : FrontView) → GreetsBy read password d old new
+      → Calm c old.tables new.tables
   greets_by (Err fault) password old new is = front.retabled c (closed d old.tables) old new is (table.closes c d old.tables)
   greets_by (Ok greeting) password old new has = greets_unless (is_ahead old.asker.known greeting) greeting password old new has
 
@@ -210,9 +219,11 @@ module _ (c d : ℕ) (other : d ≢ c) where
 
   -- bytes
   with_rest : (bytes : List ℕ) (t : TablesView) → Calm c t (record t { streams = with_bytes t.streams d bytes })
-  with_rest bytes t = other_rows c t (with_bytes t.streams d bytes) (changed-elsewhere (λ s. record s { bytes = bytes }) t.streams d c (λ is. other (sym is)))
+  with_rest bytes t = other_rows c t (with_bytes t.streams d bytes) (changed-elsewhere (λ s. record s { bytes = bytes })
+      t.streams d c (λ is. other (sym is)))
 
-  kept_by : (over : Bool) (rest : List ℕ) (t : TablesView) → Calm c t (if over then closed d t else record t { streams = with_bytes t.streams d rest })
+  kept_by : (over : Bool) (rest : List ℕ) (t : TablesView)
+      → Calm c t (if over then closed d t else record t { streams = with_bytes t.streams d rest })
   kept_by true rest t = table.closes c d t
   kept_by false rest t = with_rest rest t
 
@@ -220,7 +231,8 @@ module _ (c d : ℕ) (other : d ≢ c) where
   keeps_by true rest v = kept_by (is_too_long (next_of rest) || nat_lt MAX_KEPT (held_of v.tables.streams + length rest)) rest v.tables
   keeps_by false rest v = table.same c v.tables
 
-  reads : (came rest : List ℕ) (old middle new : FrontView) → KeepsFew old → Reads came d old rest middle → Keeps rest d middle new → Calm c old.tables new.tables
+  reads : (came rest : List ℕ) (old middle new : FrontView) → KeepsFew old → Reads came d old rest middle
+      → Keeps rest d middle new → Calm c old.tables new.tables
   reads came rest old middle new few has after =
       let done = coming.handles_all has.frames d old middle has.handles in
       front.both c old middle new (handles_all has.frames old middle has.handles)
@@ -251,7 +263,8 @@ module _ (c d : ℕ) (other : d ≢ c) where
   opens_elsewhere password old new is =
       let rows = finite.insert old.tables.streams d (stream.opened password) in
       front.retabled c (record old.tables { streams = rows }) old new is
-      (other_rows c old.tables rows (get-insert-elsewhere nat_cmp_total nat_cmp-IsAntisymmetric old.tables.streams d (stream.opened password) c (λ same. other (sym same))))
+      (other_rows c old.tables rows (get-insert-elsewhere nat_cmp_total nat_cmp-IsAntisymmetric old.tables.streams d
+      (stream.opened password) c (λ same. other (sym same))))
 
   on-others : (ps : List PieceView) → on c (outbox.without ps d) ≡ on c ps
   on-others [] = refl
@@ -273,7 +286,8 @@ module _ (c d : ℕ) (other : d ≢ c) where
       let same = get-remove-elsewhere nat_cmp_total nat_cmp-IsAntisymmetric t.streams d c (λ same. other (sym same)) in
       front.retabled c (ended d t) old new is
       (table.alike c t (ended d t)
-      (ap (λ (o : Option StreamView). (o, on c (outbox.without t.unsent d))) same ∙ ap (λ (ps : List PieceView). (finite.get t.streams c, ps)) (on-others t.unsent))
+      (ap (λ (o : Option StreamView). (o, on c (outbox.without t.unsent d))) same
+      ∙ ap (λ (ps : List PieceView). (finite.get t.streams c, ps)) (on-others t.unsent))
       (free-parted-elsewhere c d t (finite.remove t.streams d) (outbox.without t.unsent d) same))
 
 -- ticks and lines
@@ -282,7 +296,8 @@ module _ (c : ℕ) where
   ticks_if true replies old new is = front.same c old new is
   ticks_if false replies old new has =
       front.both c old (rested old) new
-      (table.alike c old.tables (rested old).tables refl (free-sittings c old.tables (all_rested old.tables.sittings) (rests_alike old.tables.sittings).0))
+      (table.alike c old.tables (rested old).tables refl (free-sittings c old.tables (all_rested old.tables.sittings)
+      (rests_alike old.tables.sittings).0))
       (front.tidies c replies (rested old) new has)
 
   ticks_by : (calls : List Call) (old new : FrontView) → TicksBy calls old new → Calm c old.tables new.tables
@@ -301,7 +316,8 @@ module _ (c : ℕ) (connection : c ≢ 0) where
   operator_told : (text : List ℕ) (t : TablesView) → Calm c t (operator_sent (text ++ 10 ∷ []) t)
   operator_told text t =
       let u = operator_sent (text ++ 10 ∷ []) t in
-      table.alike c t u (ap (λ (ps : List PieceView). (finite.get t.streams c, ps)) (on-without c t.unsent (piece 0 (text ++ 10 ∷ [])) (λ is. connection (sym is))))
+      table.alike c t u (ap (λ (ps : List PieceView). (finite.get t.streams c, ps))
+      (on-without c t.unsent (piece 0 (text ++ 10 ∷ [])) (λ is. connection (sym is))))
       (free_by c t u refl (λ session has. has) (λ w has own. has))
 
   tells_operator : (text : List ℕ) (v : FrontView) → Calm c v.tables (told_operator text v).tables

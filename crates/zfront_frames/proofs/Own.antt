@@ -1,5 +1,6 @@
 -- A frame of a connection that speaks for a session is answered there, or the connection is closed.
-use Rattle.std.proofs.Common.{◌≡◌, ◌∙◌, ℕ, ◌≤◌, suc, Bool, true, false, List, [], ◌∷◌, ◌++◌, length, Option, None, Some, Result, Ok, Err, refl, sym, ap, subst, arith}
+use Rattle.std.proofs.Common.{◌≡◌, ◌∙◌, ℕ, ◌≤◌, suc, Bool, true, false, List, [], ◌∷◌, ◌++◌, length, Option, None, Some}
+use Rattle.std.proofs.Common.{Result, Ok, Err, refl, sym, ap, subst, arith}
 use Rattle.std.specs.Prelude.{is_some, zip, if◌then◌else◌}
 use Rattle.std.specs.List.{slice_get}
 use Rattle.std.proofs.lemmas.List.{append-nil}
@@ -66,10 +67,12 @@ module _ (c : ℕ) where
     all_replies [] [] few = refl
     all_replies [] (reply ∷ replies) few = absurd (omega (arith, few))
     all_replies (call ∷ calls) [] few = refl
-    all_replies (call ∷ calls) (reply ∷ replies) few = ap (λ rs. reply ∷ rs) (all_replies calls replies (one_less (length replies) (length calls) few))
+    all_replies (call ∷ calls) (reply ∷ replies) few = ap (λ rs. reply ∷ rs)
+        (all_replies calls replies (one_less (length replies) (length calls) few))
 
     module _ (asked : Request) (reads : whole request bytes ≡ Ok asked) where
-      says_so : (clock : Clock) (known : KnownView) (tree : Tree) (part : Log) (answer : Answer) (meaning : Meaning (List Call)) → known ≡ known_of tree
+      says_so : (clock : Clock) (known : KnownView) (tree : Tree) (part : Log) (answer : Answer) (meaning : Meaning (List Call))
+          → known ≡ known_of tree
           → calls_in clock.tick session asked.asked ≡ meaning → Says meaning clock known asked.asked part answer
           → IsAnswer session bytes (answer_frame known asked.xid answer) tree part
       says_so clock known tree part answer meaning knows means says = record {
@@ -87,9 +90,11 @@ module _ (c : ℕ) where
       }
 
       -- what is done on the connection where its calls were all answered
-      answers_all : (calls : List Call) (replies : List Reply) (tree : Tree) (v : FrontView) → v.asker.known ≡ known_of (tree_behind tree (zip calls replies))
+      answers_all : (calls : List Call) (replies : List Reply) (tree : Tree) (v : FrontView) → v.asker.known
+          ≡ known_of (tree_behind tree (zip calls replies))
           → calls_in v.clock.tick session asked.asked ≡ Ok calls
-          → calls_of (zip calls replies) ≡ calls → replies_of (zip calls replies) ≡ replies → speaks (phase_of v.tables.streams c) ≡ true → Free c v.tables
+          → calls_of (zip calls replies) ≡ calls → replies_of (zip calls replies) ≡ replies → speaks (phase_of v.tables.streams c) ≡ true
+          → Free c v.tables
           → (talk : Talk) × Answered session tree (zip calls replies) (bytes ∷ []) talk
           × (view c (answered v.clock v.asker.known c asked calls replies v.tables) ≡ run c talk (view c v.tables))
           × Free c (answered v.clock v.asker.known c asked calls replies v.tables)
@@ -102,14 +107,16 @@ module _ (c : ℕ) where
           let known = v.asker.known in
           let answer = answer_unless lacked v.clock known asked.asked calls told in
           let events = table.both c t u w (table.absorbs_all c calls told t)
-          (table.grants c c asked.asked calls told u (λ is. ap (λ rows. speaks (phase_of rows c)) (absorbed_all_streams calls told t) ∙ speaking)) free in
+          (table.grants c c asked.asked calls told u (λ is. ap (λ rows. speaks (phase_of rows c)) (absorbed_all_streams calls told t)
+          ∙ speaking)) free in
           let told_to = replies c known asked.xid answer w in
           let none_lacked : wishes asked.asked calls (replies_of (zip calls told)) ≡ [] → lacked ≡ false =
           λ none. ap (λ ws. some_lacked c ws u) (ap (λ rs. wishes asked.asked calls rs) (sym each) ∙ none) in
           let is = says_so v.clock known (tree_behind tree (zip calls told)) (zip calls told) answer (Ok calls) knows means
           (all, (lacked, none_lacked, ap (λ rs. answer_unless lacked v.clock known asked.asked calls rs) (sym each))) in (
             followed events.0.0 (Answers (answer_frame known asked.xid answer) told_to.0),
-            answered_behind session (speaks (phase_of t.streams c)) tree (zip calls told) bytes events.0.0 (Answers (answer_frame known asked.xid answer) told_to.0) events.0.1
+            answered_behind session (speaks (phase_of t.streams c)) tree (zip calls told) bytes events.0.0
+                (Answers (answer_frame known asked.xid answer) told_to.0) events.0.1
                 (answers_one tree (zip calls told) (answer_frame known asked.xid answer) told_to.0 is told_to.1),
             told_to.2 ∙ ap (run c (Answers (answer_frame known asked.xid answer) told_to.0)) events.0.2
                 ∙ sym (run_then c events.0.0 (Answers (answer_frame known asked.xid answer) told_to.0) (view c t)),
@@ -123,9 +130,11 @@ module _ (c : ℕ) where
       ends_if true calls told old middle new log waiting late means speaking asks few has free is =
           let tables : middle.tables ≡ old.tables = ap (λ (v : FrontView). v.tables) asks.rest in
           let free_middle = subst (Free c) (sym tables) free in
-          behind c (λ more talk. talk ≡ Quiet) (λ more talk. talk ≡ Closes) (λ more talk. Answered session (tree_behind opening_tree log) more (bytes ∷ []) talk) log old middle new
+          behind c (λ more talk. talk ≡ Quiet) (λ more talk. talk ≡ Closes) (λ more talk. Answered session
+          (tree_behind opening_tree log) more (bytes ∷ []) talk) log old middle new
           (zip calls told, waiting, has, Quiet, refl, ap (view c) tables, free_middle)
-          (λ more talk closes. subst (λ x. Answered session (tree_behind opening_tree log) (zip calls told ++ more) (bytes ∷ []) x) (sym closes) (omega arith))
+          (λ more talk closes. subst (λ x. Answered session (tree_behind opening_tree log) (zip calls told ++ more) (bytes ∷ []) x)
+          (sym closes) (omega arith))
           (shuts c (λ more talk. talk ≡ Closes) refl (log ++ zip calls told) waiting middle new is has free_middle)
       ends_if false calls told old middle new log waiting late means speaking asks few has free ends =
           let tables : middle.tables ≡ old.tables = ap (λ (v : FrontView). v.tables) asks.rest in
@@ -134,9 +143,12 @@ module _ (c : ℕ) where
           let t = answered middle.clock middle.asker.known c asked calls told middle.tables in
           let after = with_tables t middle in
           let tree = tree_behind opening_tree log in
-          let knows = known_tree middle.asker (log ++ zip calls told) waiting has.told ∙ ap known_of (sym (behind-both opening_tree log (zip calls told))) in
-          let one = answers_all calls told tree middle knows (ap (λ (k : Clock). calls_in k.tick session asked.asked) clock ∙ means) (all_calls calls told none)
-          (all_replies calls told few) (ap (λ (u : TablesView). speaks (phase_of u.streams c)) tables ∙ speaking) (subst (Free c) (sym tables) free) in
+          let knows = known_tree middle.asker (log ++ zip calls told) waiting has.told
+          ∙ ap known_of (sym (behind-both opening_tree log (zip calls told))) in
+          let one = answers_all calls told tree middle knows (ap (λ (k : Clock). calls_in k.tick session asked.asked) clock
+          ∙ means) (all_calls calls told none)
+          (all_replies calls told few) (ap (λ (u : TablesView). speaks (phase_of u.streams c)) tables ∙ speaking)
+          (subst (Free c) (sym tables) free) in
           let first : Serving c session (bytes ∷ []) log old after = (
             zip calls told,
             waiting,
@@ -151,9 +163,11 @@ module _ (c : ℕ) where
           (λ more talk calm.
           answered_both session tree (zip calls told) more (bytes ∷ []) [] one.0 talk one.1
           (answered_calm session (speaks (phase_of after.tables.streams c)) (tree_behind tree (zip calls told)) more talk calm) (λ ends. refl))
-          (calmly c (log ++ zip calls told) waiting after new (laws.tidies told after new ends).goes (front.tidies c told after new ends) first.2 one.3)
+          (calmly c (log ++ zip calls told) waiting after new (laws.tidies told after new ends).goes
+          (front.tidies c told after new ends) first.2 one.3)
 
-      acts : (meaning : Meaning (List Call)) (old new : FrontView) (log : Log) (waiting : Option Call) → calls_in old.clock.tick session asked.asked ≡ meaning
+      acts : (meaning : Meaning (List Call)) (old new : FrontView) (log : Log) (waiting : Option Call)
+          → calls_in old.clock.tick session asked.asked ≡ meaning
           → old.late ≡ None → speaks (phase_of old.tables.streams c) ≡ true → IsLog old log waiting → Free c old.tables → Acts meaning c asked old new
           → Serving c session (bytes ∷ []) log old new
       acts (Err (Refused code)) old new log waiting means late speaking has free is =
@@ -165,7 +179,8 @@ module _ (c : ℕ) where
             waiting,
             retold (replied known c asked.xid answer old.tables) old new log waiting is has,
             Answers (answer_frame known asked.xid answer) told.0,
-            answers_one tree [] (answer_frame known asked.xid answer) told.0 (says_so old.clock known tree [] answer (Err (Refused code)) (known_tree old.asker log waiting has.told) means (refl, refl)) told.1,
+            answers_one tree [] (answer_frame known asked.xid answer) told.0
+                (says_so old.clock known tree [] answer (Err (Refused code)) (known_tree old.asker log waiting has.told) means (refl, refl)) told.1,
             ap (λ (v : FrontView). view c v.tables) is ∙ told.2,
             subst (λ (v : FrontView). Free c v.tables) (sym is) (told.3 free),
           )
@@ -174,9 +189,11 @@ module _ (c : ℕ) where
           let asks = makes.2 in
           let quiet = none_waits old log waiting late has in
           let next = asks_log old calls makes.0 makes.1 (ap (λ (v : FrontView). v.late) asks.rest) asks.tells log quiet.told in
-          ends_if (is_some makes.0.late) calls makes.1 old makes.0 new log next.0 refl means speaking asks (asks.tells log None quiet.told).0 next.1 free makes.3
+          ends_if (is_some makes.0.late) calls makes.1 old makes.0 new log next.0 refl means speaking asks
+          (asks.tells log None quiet.told).0 next.1 free makes.3
 
-    serves_by : (read : Result Request Fault) → whole request bytes ≡ read → (old new : FrontView) (log : Log) (waiting : Option Call) → old.late ≡ None
+    serves_by : (read : Result Request Fault) → whole request bytes ≡ read → (old new : FrontView) (log : Log) (waiting : Option Call)
+        → old.late ≡ None
         → speaks (phase_of old.tables.streams c) ≡ true → IsLog old log waiting → Free c old.tables → Requests read session c old new
         → Serving c session (bytes ∷ []) log old new
     serves_by (Err fault) reads old new log waiting late speaking has free is =
@@ -239,7 +256,8 @@ module _ (c : ℕ) where
           let same = same_stream c old.tables ready.tables first.3 still first.5 in
           let tree = tree_behind opening_tree log in
           let later = tree_behind opening_tree (log ++ first.0) in
-          behind c (λ more talk. IsCalm b talk) (λ more talk. Answered session later more (bytes ∷ []) talk) (λ more talk. Answered session tree more (bytes ∷ []) talk) log old ready
+          behind c (λ more talk. IsCalm b talk) (λ more talk. Answered session later more (bytes ∷ []) talk)
+          (λ more talk. Answered session tree more (bytes ∷ []) talk) log old ready
           new first
           (λ more talk has.
           answered_both session tree first.0 more [] (bytes ∷ []) first.3 talk (answered_calm session b tree first.0 first.3 first.4)
@@ -248,7 +266,8 @@ module _ (c : ℕ) where
           (unless (is_some ready.late) session bytes ready new (log ++ first.0) first.1 refl (ap phase_in same ∙ speaking) first.2 first.6 rest)
 
   -- frames behind one that closed the connection
-  pub none_behind : (frames : List (List ℕ)) (old new : FrontView) → is_open old.tables c ≡ false → HandlesAll frames c old new → (frames ≡ []) × (new ≡ old)
+  pub none_behind : (frames : List (List ℕ)) (old new : FrontView) → is_open old.tables c ≡ false → HandlesAll frames c old new
+      → (frames ≡ []) × (new ≡ old)
   none_behind [] old new shut is = (refl, is)
   none_behind (bytes ∷ frames) old new shut has =
       let clash : true ≡ false = sym has.0 ∙ shut in
@@ -257,7 +276,8 @@ module _ (c : ℕ) where
   -- the first of several frames, and the others
   all_behind : (session : ℕ) (bytes : List ℕ) (frames : List (List ℕ)) (old middle new : FrontView) (log : Log) (waiting : Option Call)
       → phase_of old.tables.streams c ≡ Some (Speaking session) → Serving c session (bytes ∷ []) log old middle → HandlesAll frames c middle new
-      → ((log : Log) (waiting : Option Call) → phase_of middle.tables.streams c ≡ Some (Speaking session) → IsLog middle log waiting → Free c middle.tables
+      → ((log : Log) (waiting : Option Call) → phase_of middle.tables.streams c ≡ Some (Speaking session)
+      → IsLog middle log waiting → Free c middle.tables
       → Serving c session frames log middle new)
       → Serving c session (bytes ∷ frames) log old new
   all_behind session bytes frames old middle new log waiting speaking first rest others = by (is_closed first.3) refl

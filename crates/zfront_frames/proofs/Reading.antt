@@ -1,5 +1,6 @@
 -- What came on a connection, and what went on it, as an invariant of its inputs.
-use Rattle.std.proofs.Common.{◌≡◌, ◌⊎◌, inl, inr, ◌∙◌, ℕ, Bool, true, false, List, [], ◌∷◌, ◌++◌, Option, None, Some, refl, sym, ap, subst, append_assoc, arith}
+use Rattle.std.proofs.Common.{◌≡◌, ◌⊎◌, inl, inr, ◌∙◌, ℕ, Bool, true, false, List, [], ◌∷◌, ◌++◌, Option, None, Some}
+use Rattle.std.proofs.Common.{refl, sym, ap, subst, append_assoc, arith}
 use Rattle.std.specs.Prelude.{◌||◌, if◌then◌else◌}
 use Rattle.std.specs.FinMap as finite
 use Rattle.std.specs.Option.{option_map_or}
@@ -16,7 +17,8 @@ use Rattle.zfront.specs.Reading.{Cuts, keeps}
 use Rattle.zfront.specs.Words.{word_in}
 use Rattle.zfront_frames.specs.Talk.{Talk, Quiet, Tells, Answers, Closes, pieces_of, is_closed, tree_behind, Answered, Greeted, IsTalk}
 use Rattle.zfront_frames.specs.Laws.{on}
-use Rattle.zfront_frames.proofs.Views.{View, view, phase_in, run, followed, closed-followed, pieces-followed, run_not, run_pieces, run_closed, run_stream, shut_open}
+use Rattle.zfront_frames.proofs.Views.{View, view, phase_in, run, followed, closed-followed, pieces-followed, run_not}
+use Rattle.zfront_frames.proofs.Views.{run_pieces, run_closed, run_stream, shut_open}
 use Rattle.zfront_frames.proofs.Free.{speaks}
 use Rattle.zfront_frames.proofs.Calm.{IsCalm}
 use Rattle.zfront_frames.proofs.Talking.{answered_calm, greeted_both, talk_wider, unworded}
@@ -62,7 +64,8 @@ pub record Heard (c : ℕ) (came : List ℕ) (went : List PieceView) (log : Log)
   pub stands : Stands session frames talk phase
 
 -- the rest is kept: no whole frame stands in front of it
-pub heard_holds : (c : ℕ) (came : List ℕ) (went : List PieceView) (log : Log) (rest bytes : List ℕ) (phase : Option Phase) → Heard c came went log rest phase
+pub heard_holds : (c : ℕ) (came : List ℕ) (went : List PieceView) (log : Log) (rest bytes : List ℕ) (phase : Option Phase)
+    → Heard c came went log rest phase
     → (may_send phase ≡ true → (bytes ≡ rest) × IsEnd rest) → Holds c came went log phase bytes
 heard_holds c came went log rest bytes phase h keeps = by h.stands
   where
@@ -93,7 +96,8 @@ heard_holds c came went log rest bytes phase h keeps = by h.stands
         )
 
 -- and a connection that is closed behind it
-pub heard_closed : (c : ℕ) (came : List ℕ) (went next : List PieceView) (log : Log) (rest : List ℕ) (phase : Option Phase) → Heard c came went log rest phase
+pub heard_closed : (c : ℕ) (came : List ℕ) (went next : List PieceView) (log : Log) (rest : List ℕ) (phase : Option Phase)
+    → Heard c came went log rest phase
     → may_send phase ≡ true → next ≡ went ++ pieces_of c Closes → Heard c came next log rest (Some Closing)
 heard_closed c came went next log rest phase h is_on is = by h.stands
   where
@@ -125,10 +129,13 @@ heard_closed c came went next log rest phase h is_on is = by h.stands
     }
 
 -- frames of a session, behind those before
-module _ (c : ℕ) (came all : List ℕ) (before went : List PieceView) (log more : Log) (session : ℕ) (bytes rest : List ℕ) (next : List (List ℕ)) (talk : Talk)
+module _ (c : ℕ) (came all : List ℕ) (before went : List PieceView) (log more : Log) (session : ℕ) (bytes rest : List ℕ)
+    (next : List (List ℕ)) (talk : Talk)
     (new : Option Phase) where
-  pub heard_more : Holds c came before log (Some (Speaking session)) bytes → ((first : List ℕ) (frames : List (List ℕ)) → Cuts came (first ∷ frames) bytes → Cuts all (first ∷ (frames ++ next)) rest × (word_in all ≡ word_in came))
-      → Answered session (tree_behind opening_tree log) more next talk → went ≡ before ++ pieces_of c talk → new ≡ (if is_closed talk then Some Closing else Some (Speaking session))
+  pub heard_more : Holds c came before log (Some (Speaking session)) bytes → ((first : List ℕ) (frames : List (List ℕ))
+      → Cuts came (first ∷ frames) bytes → Cuts all (first ∷ (frames ++ next)) rest × (word_in all ≡ word_in came))
+      → Answered session (tree_behind opening_tree log) more next talk → went ≡ before ++ pieces_of c talk
+      → new ≡ (if is_closed talk then Some Closing else Some (Speaking session))
       → Heard c all went (log ++ more) rest new
   heard_more has cut answered pieces leaves =
       let first = has.0 in
@@ -141,14 +148,20 @@ module _ (c : ℕ) (came all : List ℕ) (before went : List PieceView) (log mor
         talk = followed told talk;
         cuts = cuts.0;
         word = cuts.1 ∙ has.5;
-        greeted = greeted_both session opening_tree log more first frames next told talk has.6 answered (λ ends. let clash : true ≡ false = sym ends ∙ has.7 in absurd (cc clash));
+        greeted = greeted_both session opening_tree log more first frames next told talk has.6 answered
+            (λ ends. let clash : true ≡ false = sym ends ∙ has.7 in absurd (cc clash));
         pieces = pieces ∙ ap (λ ps. ps ++ pieces_of c talk) has.8 ∙ sym (pieces-followed c told talk has.7);
         stands = by (is_closed talk) refl told closed_as leaves first (frames ++ next);
       }
     where
-      by : (ends : Bool) → is_closed talk ≡ ends → (told : Talk) → is_closed (followed told talk) ≡ is_closed talk → new ≡ (if is_closed talk then Some Closing else Some (Speaking session))
+      by : (ends : Bool) → is_closed talk ≡ ends → (told : Talk) → is_closed (followed told talk) ≡ is_closed talk
+          → new ≡ (if is_closed talk then Some Closing else Some (Speaking session))
           → (first : List ℕ) (frames : List (List ℕ)) → Stands session (first ∷ frames) (followed told talk) new
-      by true ends told same leaves first frames = inl (same ∙ ends, leaves ∙ ap (λ (b : Bool). if b then Some Closing else Some (Speaking session)) ends)
+      by true ends told same leaves first frames = inl (
+        same ∙ ends,
+        leaves
+            ∙ ap (λ (b : Bool). if b then Some Closing else Some (Speaking session)) ends,
+      )
       by false still told same leaves first frames =
           inr (inl (same ∙ still, leaves ∙ ap (λ (b : Bool). if b then Some Closing else Some (Speaking session)) still, (first, frames, refl)))
 
@@ -190,21 +203,26 @@ module _ (c : ℕ) (came : List ℕ) (taken : List PieceView) (log more : Log) w
 
       by : (ends : Bool) → is_closed talk ≡ ends → HoldsAt c came taken (log ++ more) (run c talk (Some s, ps))
       by true ends =
-          holds_as (run c talk (Some s, ps)) _ (pair (run c talk (Some s, ps)) _ _ (run_closed c talk (Some s, ps) is_on ends) (run_pieces c talk (Some s, ps) is_on))
+          holds_as (run c talk (Some s, ps)) _ (pair (run c talk (Some s, ps)) _ _ (run_closed c talk (Some s, ps) is_on ends)
+          (run_pieces c talk (Some s, ps) is_on))
           (heard_holds c came (taken ++ (ps ++ pieces_of c talk)) (log ++ more) s.bytes [] (Some Closing)
           (heard (Some Closing) (ap (λ (b : Bool). if b then Some Closing else Some (Speaking session)) (sym ends))) (λ never. absurd (cc never)))
       by false still =
-          holds_as (run c talk (Some s, ps)) _ (pair (run c talk (Some s, ps)) _ _ (run_stream c talk (Some s, ps) still) (run_pieces c talk (Some s, ps) is_on))
+          holds_as (run c talk (Some s, ps)) _ (pair (run c talk (Some s, ps)) _ _ (run_stream c talk (Some s, ps) still)
+          (run_pieces c talk (Some s, ps) is_on))
           (heard_holds c came (taken ++ (ps ++ pieces_of c talk)) (log ++ more) s.bytes s.bytes (Some s.phase)
           (heard (Some s.phase) (ap (λ p. Some p) is ∙ ap (λ (b : Bool). if b then Some Closing else Some (Speaking session)) (sym still)))
           (λ on. (refl, has.4)))
 
-  stream_calm : (s : StreamView) (ps : List PieceView) (talk : Talk) (phase : Phase) → s.phase ≡ phase → IsCalm (speaks (Some s.phase)) talk → HoldsAt c came taken log (Some s, ps)
+  stream_calm : (s : StreamView) (ps : List PieceView) (talk : Talk) (phase : Phase) → s.phase ≡ phase
+      → IsCalm (speaks (Some s.phase)) talk → HoldsAt c came taken log (Some s, ps)
       → HoldsAt c came taken (log ++ more) (run c talk (Some s, ps))
   stream_calm s ps talk (Silent password) is calm has =
-      silent_calm s ps password talk is (subst (λ p. IsCalm (speaks (Some p)) talk) is calm) (subst (λ p. Holds c came (taken ++ ps) log (Some p) s.bytes) is has)
+      silent_calm s ps password talk is (subst (λ p. IsCalm (speaks (Some p)) talk) is calm)
+      (subst (λ p. Holds c came (taken ++ ps) log (Some p) s.bytes) is has)
   stream_calm s ps talk (Speaking session) is calm has =
-      speaking_calm s ps session talk is (subst (λ p. IsCalm (speaks (Some p)) talk) is calm) (subst (λ p. Holds c came (taken ++ ps) log (Some p) s.bytes) is has)
+      speaking_calm s ps session talk is (subst (λ p. IsCalm (speaks (Some p)) talk) is calm)
+      (subst (λ p. Holds c came (taken ++ ps) log (Some p) s.bytes) is has)
   stream_calm s ps talk Closing is calm has =
       let shut : Holds c came (taken ++ ps) log (Some Closing) s.bytes = subst (λ p. Holds c came (taken ++ ps) log (Some p) s.bytes) is has in
       holds_as (run c talk (Some s, ps)) (Some s, ps) (run_not c talk (Some s, ps) (ap (λ p. may_send (Some p)) is))

@@ -1,5 +1,6 @@
 -- One talk behind another: its frames are those of both, and so are its answers and its log.
-use Rattle.std.proofs.Common.{◌≡◌, ◌⊎◌, inl, inr, ◌∙◌, ℕ, ◌≤◌, Bool, true, List, [], ◌∷◌, ◌++◌, length, None, Some, refl, sym, ap, subst, append_assoc, arith}
+use Rattle.std.proofs.Common.{◌≡◌, ◌⊎◌, inl, inr, ◌∙◌, ℕ, ◌≤◌, Bool, true, List, [], ◌∷◌, ◌++◌, length, None, Some}
+use Rattle.std.proofs.Common.{refl, sym, ap, subst, append_assoc, arith}
 use Rattle.std.specs.Option.{MatchOption}
 use Rattle.std.proofs.lemmas.List.{append-nil}
 use Rattle.ztree.specs.Tree.{Tree, opening_tree}
@@ -7,7 +8,8 @@ use Rattle.zcalls.specs.declared.reply.Reply.TheVariants.{Opened}
 use Rattle.zturns.specs.Turns.{Log}
 use Rattle.zfront.specs.Greeting.{opening}
 use Rattle.zfront.specs.Words.{word_in, text_of_word}
-use Rattle.zfront_frames.specs.Talk.{Talk, Quiet, Tells, Answers, Closes, is_closed, IsAnswer, tree_behind, Answered, IsOpened, IsReturned, IsWelcome, IsTurnedAway, Greeted, SaysText, IsTalk}
+use Rattle.zfront_frames.specs.Talk.{Talk, Quiet, Tells, Answers, Closes, is_closed, IsAnswer, tree_behind, Answered}
+use Rattle.zfront_frames.specs.Talk.{IsOpened, IsReturned, IsWelcome, IsTurnedAway, Greeted, SaysText, IsTalk}
 use Rattle.zfront_frames.proofs.Views.{followed}
 use Rattle.zfront_frames.proofs.Calm.{IsCalm}
 
@@ -32,7 +34,8 @@ answer_deeper session bytes told tree more log a = record {
 }
 
 module _ (session : ℕ) where
-  pub answered_deeper : (tree : Tree) (more log : Log) (frames : List (List ℕ)) (talk : Talk) → Answered session (tree_behind tree more) log frames talk
+  pub answered_deeper : (tree : Tree) (more log : Log) (frames : List (List ℕ)) (talk : Talk)
+      → Answered session (tree_behind tree more) log frames talk
       → Answered session tree (more ++ log) frames talk
   answered_deeper tree more log frames Quiet has = has
   answered_deeper tree more log frames (Tells event talk) has = answered_deeper tree more log frames talk has
@@ -105,7 +108,8 @@ module _ (session : ℕ) where
   unanswered speaking tree log bytes Closes calm ends = omega arith
 
   -- and one that is answered behind events
-  pub answered_behind : (speaking : Bool) (tree : Tree) (log : Log) (bytes : List ℕ) (one two : Talk) → IsCalm speaking one → Answered session tree log (bytes ∷ []) two
+  pub answered_behind : (speaking : Bool) (tree : Tree) (log : Log) (bytes : List ℕ) (one two : Talk) → IsCalm speaking one
+      → Answered session tree log (bytes ∷ []) two
       → Answered session tree log (bytes ∷ []) (followed one two)
   answered_behind speaking tree log bytes Quiet two calm has = has
   answered_behind speaking tree log bytes (Tells event one) two calm has = answered_behind speaking tree log bytes one two calm.1 has
@@ -113,7 +117,8 @@ module _ (session : ℕ) where
   answered_behind speaking tree log bytes Closes two calm has = omega arith
 
   -- a greeting, and what is behind it
-  welcome_deeper : (bytes told : List ℕ) (tree : Tree) (more log : Log) → IsWelcome session bytes told tree log → IsWelcome session bytes told tree (more ++ log)
+  welcome_deeper : (bytes told : List ℕ) (tree : Tree) (more log : Log) → IsWelcome session bytes told tree log
+      → IsWelcome session bytes told tree (more ++ log)
   welcome_deeper bytes told tree more log a = record { greeting = a.greeting; clock = a.clock; reads = a.reads; has = by a.has }
     where
       by : IsOpened a.clock session a.greeting log told ⊎ IsReturned a.clock session a.greeting tree told
@@ -135,22 +140,26 @@ module _ (session : ℕ) where
       (IsWelcome session bytes told (tree_behind tree front) front × Answered session (tree_behind tree front) behind rest talk)
       ⊎ (IsTurnedAway bytes told × (rest ≡ []) × (talk ≡ Closes))
 
-  met_wider : (bytes told : List ℕ) (tree : Tree) (front behind more : Log) (rest : List (List ℕ)) (talk : Talk) → Met bytes told tree front behind rest talk
+  met_wider : (bytes told : List ℕ) (tree : Tree) (front behind more : Log) (rest : List (List ℕ)) (talk : Talk)
+      → Met bytes told tree front behind rest talk
       → Met bytes told tree front (behind ++ more) rest talk
   met_wider bytes told tree front behind more rest talk (inl one) = inl (one.0, answered_wider (tree_behind tree front) behind more rest talk one.1)
   met_wider bytes told tree front behind more rest talk (inr other) = inr other
 
-  met_deeper : (bytes told : List ℕ) (tree : Tree) (more front behind : Log) (rest : List (List ℕ)) (talk : Talk) → Met bytes told (tree_behind tree more) front behind rest talk
+  met_deeper : (bytes told : List ℕ) (tree : Tree) (more front behind : Log) (rest : List (List ℕ)) (talk : Talk)
+      → Met bytes told (tree_behind tree more) front behind rest talk
       → Met bytes told tree (more ++ front) behind rest talk
   met_deeper bytes told tree more front behind rest talk (inl one) =
       let same = behind-both tree more front in
       inl (
-        subst (λ (u : Tree). IsWelcome session bytes told u (more ++ front)) same (welcome_deeper bytes told (tree_behind (tree_behind tree more) front) more front one.0),
+        subst (λ (u : Tree). IsWelcome session bytes told u (more ++ front)) same
+            (welcome_deeper bytes told (tree_behind (tree_behind tree more) front) more front one.0),
         subst (λ (u : Tree). Answered session u behind rest talk) same one.1,
       )
   met_deeper bytes told tree more front behind rest talk (inr other) = inr other
 
-  met_both : (bytes told : List ℕ) (tree : Tree) (front behind more : Log) (rest next : List (List ℕ)) (one two : Talk) → Met bytes told tree front behind rest one
+  met_both : (bytes told : List ℕ) (tree : Tree) (front behind more : Log) (rest next : List (List ℕ)) (one two : Talk)
+      → Met bytes told tree front behind rest one
       → Answered session (tree_behind (tree_behind tree front) behind) more next two → (is_closed one ≡ true → next ≡ [])
       → Met bytes told tree front (behind ++ more) (rest ++ next) (followed one two)
   met_both bytes told tree front behind more rest next one two (inl is) second none =
@@ -194,7 +203,8 @@ module _ (session : ℕ) where
   none_there : (bytes : List ℕ) (frames : List (List ℕ)) → bytes ∷ frames ≡ [] → ⊥
   none_there bytes frames is = cc is
 
-  pub greeted_both : (tree : Tree) (log more : Log) (bytes : List ℕ) (frames next : List (List ℕ)) (one two : Talk) → Greeted session tree log (bytes ∷ frames) one
+  pub greeted_both : (tree : Tree) (log more : Log) (bytes : List ℕ) (frames next : List (List ℕ)) (one two : Talk)
+      → Greeted session tree log (bytes ∷ frames) one
       → Answered session (tree_behind tree log) more next two → (is_closed one ≡ true → next ≡ [])
       → Greeted session tree (log ++ more) (bytes ∷ (frames ++ next)) (followed one two)
   greeted_both tree log more bytes frames next Quiet two first second none = absurd (none_there bytes frames first)
@@ -215,14 +225,18 @@ module _ (session : ℕ) where
       subst (λ fs. length (bytes ∷ (frames ++ fs)) ≤ 1) (sym (none refl)) (subst (λ fs. length (bytes ∷ fs) ≤ 1) (sym (append-nil frames)) first)
 
 -- no word stands in front
-pub unworded : (came : List ℕ) (log : Log) (frames : List (List ℕ)) (talk : Talk) → word_in came ≡ None → (session : ℕ) × Greeted session opening_tree log frames talk
+pub unworded : (came : List ℕ) (log : Log) (frames : List (List ℕ)) (talk : Talk) → word_in came ≡ None
+    → (session : ℕ) × Greeted session opening_tree log frames talk
     → IsTalk came log frames talk
 unworded came log frames talk none has =
-    subst (λ asked. MatchOption asked ((session : ℕ) × Greeted session opening_tree log frames talk) (λ word. SaysText (text_of_word word) frames talk)) (sym none) has
+    subst (λ asked. MatchOption asked ((session : ℕ) × Greeted session opening_tree log frames talk)
+    (λ word. SaysText (text_of_word word) frames talk)) (sym none) has
 
-pub talk_wider : (came : List ℕ) (log more : Log) (frames : List (List ℕ)) (talk : Talk) → IsTalk came log frames talk → IsTalk came (log ++ more) frames talk
+pub talk_wider : (came : List ℕ) (log more : Log) (frames : List (List ℕ)) (talk : Talk) → IsTalk came log frames talk
+    → IsTalk came (log ++ more) frames talk
 talk_wider came log more frames talk has =
-    elim (word_in came) as (λ asked. MatchOption asked ((session : ℕ) × Greeted session opening_tree log frames talk) (λ word. SaysText (text_of_word word) frames talk)
+    elim (word_in came) as (λ asked. MatchOption asked ((session : ℕ) × Greeted session opening_tree log frames talk)
+    (λ word. SaysText (text_of_word word) frames talk)
     → MatchOption asked ((session : ℕ) × Greeted session opening_tree (log ++ more) frames talk) (λ word. SaysText (text_of_word word) frames talk)) [
       | None ↦ λ greeted. (greeted.0, greeted_wider greeted.0 opening_tree log more frames talk greeted.1)
       | Some word ↦ λ said. said

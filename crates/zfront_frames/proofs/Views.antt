@@ -200,14 +200,16 @@ view-closed c t = by (is_open t c) refl
     by : (b : Bool) → is_open t c ≡ b
         → view c (if b then closing c t else t) ≡ (if b then (Some (empty_in Closing), on c t.unsent ++ last_piece c ∷ []) else view c t)
     by true is =
-        ap (λ (o : Option StreamView). (o, on c (t.unsent ++ last_piece c ∷ []))) (changed-here (λ s. empty_in Closing) t.streams c ∙ there_closed (get t.streams c) is)
+        ap (λ (o : Option StreamView). (o, on c (t.unsent ++ last_piece c ∷ []))) (changed-here (λ s. empty_in Closing) t.streams c
+        ∙ there_closed (get t.streams c) is)
         ∙ ap (λ (ps : List PieceView). (Some (empty_in Closing), ps)) (on-with c t.unsent (last_piece c) refl)
     by false is = refl
 
 pub view-closed-elsewhere : (c d : ℕ) (t : TablesView) → d ≢ c → view c (closed d t) ≡ view c t
 view-closed-elsewhere c d t other =
     elim (is_open t d) as (λ b. view c (if b then closing d t else t) ≡ view c t) [
-      | true ↦ ap (λ (o : Option StreamView). (o, on c (t.unsent ++ last_piece d ∷ []))) (changed-elsewhere (λ s. empty_in Closing) t.streams d c (λ is. other (sym is)))
+      | true ↦ ap (λ (o : Option StreamView). (o, on c (t.unsent ++ last_piece d ∷ [])))
+          (changed-elsewhere (λ s. empty_in Closing) t.streams d c (λ is. other (sym is)))
           ∙ ap (λ (ps : List PieceView). (get t.streams c, ps)) (on-without c t.unsent (last_piece d) other)
       | false ↦ refl
     ]

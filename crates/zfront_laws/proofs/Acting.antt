@@ -1,5 +1,6 @@
 -- Whoever speaks for a session speaks for one that lives, whatever the inputs were.
-use Rattle.std.proofs.Common.{◌≡◌, ◌≢◌, ◌⊎◌, inl, inr, ◌∙◌, ◌+◌, ℕ, Bool, true, false, List, [], ◌∷◌, ◌++◌, Option, None, Some, Result, Ok, Err, refl, sym, ap, subst}
+use Rattle.std.proofs.Common.{◌≡◌, ◌≢◌, ◌⊎◌, inl, inr, ◌∙◌, ◌+◌, ℕ, Bool, true, false, List, [], ◌∷◌, ◌++◌, Option}
+use Rattle.std.proofs.Common.{None, Some, Result, Ok, Err, refl, sym, ap, subst}
 use Rattle.std.specs.Prelude.{is_some, pos, nat_le, zip, if◌then◌else◌}
 use Rattle.std.specs.Cmp.{nat_cmp_total}
 use Rattle.std.specs.FinMap as finite
@@ -73,22 +74,26 @@ with_more t granted id has = by (same_number id (t.zxid + 1))
     more = new_session 0 granted t.time
 
     by : (id ≡ t.zxid + 1) ⊎ (id ≢ t.zxid + 1) → contains_key (insert t.sessions (t.zxid + 1) more) id ≡ true
-    by (inl is) = ap is_some (ap (get (insert t.sessions (t.zxid + 1) more)) is ∙ get-insert-here nat_cmp_total nat_cmp-IsAntisymmetric t.sessions (t.zxid + 1) more)
+    by (inl is) = ap is_some (ap (get (insert t.sessions (t.zxid + 1) more)) is
+        ∙ get-insert-here nat_cmp_total nat_cmp-IsAntisymmetric t.sessions (t.zxid + 1) more)
     by (inr other) = ap is_some (get-insert-elsewhere nat_cmp_total nat_cmp-IsAntisymmetric t.sessions (t.zxid + 1) more id other) ∙ has
 
 step_grows : (t : Tree) (ticks id : ℕ) → contains_key t.sessions id ≡ true → contains_key (step t 0 (Open ticks)).0.sessions id ≡ true
 unfolding step
 step_grows t ticks id has =
-    grows_by t (with_next_zxid (with_session t 0 (granted_timeout ticks))) (granted_timeout ticks) (is_exhausted t (Open ticks)) (nat_le MAX_SESSIONS (finite.len t.sessions))
+    grows_by t (with_next_zxid (with_session t 0 (granted_timeout ticks))) (granted_timeout ticks) (is_exhausted t (Open ticks))
+    (nat_le MAX_SESSIONS (finite.len t.sessions))
     id has (with_more t (granted_timeout ticks) id has)
 
-step_adds : (t : Tree) (ticks id timeout : ℕ) → (step t 0 (Open ticks)).1 ≡ reply.Opened id timeout → contains_key (step t 0 (Open ticks)).0.sessions id ≡ true
+step_adds : (t : Tree) (ticks id timeout : ℕ) → (step t 0 (Open ticks)).1 ≡ reply.Opened id timeout
+    → contains_key (step t 0 (Open ticks)).0.sessions id ≡ true
 unfolding step
 step_adds t ticks id timeout is =
     let granted = granted_timeout ticks in
     let more = new_session 0 granted t.time in
     ap (λ sessions. contains_key sessions id)
-    (adds_by t (with_next_zxid (with_session t 0 granted)) granted id timeout (is_exhausted t (Open ticks)) (nat_le MAX_SESSIONS (finite.len t.sessions)) is)
+    (adds_by t (with_next_zxid (with_session t 0 granted)) granted id timeout (is_exhausted t (Open ticks))
+    (nat_le MAX_SESSIONS (finite.len t.sessions)) is)
     ∙ ap (λ n. contains_key (insert t.sessions (t.zxid + 1) more) n) (step_opens t ticks id timeout is)
     ∙ ap is_some (get-insert-here nat_cmp_total nat_cmp-IsAntisymmetric t.sessions (t.zxid + 1) more)
 
@@ -99,7 +104,8 @@ module _ (old middle : FrontView) (ticks : ℕ) (told : Log) (before : HasTold o
   abbrev calls_made : List Call
   calls_made = Update (Open ticks) ∷ []
 
-  known_then : (first : Reply) (rest : List Reply) → Asks old calls_made middle (first ∷ rest) → middle.asker.known ≡ known_of (step t 0 (Open ticks)).0
+  known_then : (first : Reply) (rest : List Reply) → Asks old calls_made middle (first ∷ rest) → middle.asker.known
+      ≡ known_of (step t 0 (Open ticks)).0
   known_then first rest asked =
       let tells = asked.tells told None before in
       known_tree middle.asker (told ++ (Update (Open ticks), first) ∷ []) None
@@ -119,12 +125,14 @@ module _ (old middle : FrontView) (ticks : ℕ) (told : Log) (before : HasTold o
       ap (λ (k : KnownView). contains_key k.sessions id) (known_then first rest asked)
       ∙ step_grows t ticks id (sym (ap (λ (k : KnownView). contains_key k.sessions id) (known_tree old.asker told None before)) ∙ has)
 
-  adds : (id timeout : ℕ) (rest : List Reply) → Asks old calls_made middle (reply.Opened id timeout ∷ rest) → contains_key middle.asker.known.sessions id ≡ true
+  adds : (id timeout : ℕ) (rest : List Reply) → Asks old calls_made middle (reply.Opened id timeout ∷ rest)
+      → contains_key middle.asker.known.sessions id ≡ true
   adds id timeout rest asked =
       let tells = asked.tells told None before in
       let has = one_answered (HasTold middle.asker) told (Update (Open ticks)) (reply.Opened id timeout) rest tells.0 tells.1 in
       let one = is_one_tree middle.asker (told ++ (Update (Open ticks), reply.Opened id timeout) ∷ []) None has in
-      let is : reply.Opened id timeout ≡ (step t 0 (Open ticks)).1 = placed opening_tree told [] (Update (Open ticks)) (reply.Opened id timeout) one in
+      let is : reply.Opened id timeout ≡ (step t 0 (Open ticks)).1 = placed opening_tree told [] (Update (Open ticks))
+      (reply.Opened id timeout) one in
       ap (λ (k : KnownView). contains_key k.sessions id) (known_then (reply.Opened id timeout) rest asked) ∙ step_adds t ticks id timeout (sym is)
 
 -- who sits behind an open sat before, or was opened
@@ -157,7 +165,8 @@ opens greeting own c old new free has told waiting is alive = subst Alive (sym h
     lives none id there =
         sits_by middle.clock.tick greeting own c has.1 middle (λ n. contains_key middle.asker.known.sessions n ≡ true)
         (λ n sat. grows old middle ticks told before has.1 n has.2 (alive free n (subst (λ (v : FrontView). Has v.tables.sittings n) has.2.rest sat)))
-        (λ n granted rest from. adds old middle ticks told before n granted rest (subst (Asks old (Update (Open ticks) ∷ []) middle) from has.2)) id there
+        (λ n granted rest from. adds old middle ticks told before n granted rest (subst (Asks old (Update (Open ticks) ∷ []) middle) from has.2))
+        id there
 
 -- ---- greetings and requests
 
@@ -176,7 +185,8 @@ greets_unless : (ahead : Bool) (greeting : ConnectRequest) (own : List ℕ) (c :
 greets_unless true greeting own c old new free is = closes c old new is
 greets_unless false greeting own c old new free has = greets_if (int_eq greeting.session_id (pos 0)) greeting own c old new free has
 
-pub greets_by : (read : Result ConnectRequest Fault) (own : List ℕ) (c : ℕ) (old new : FrontView) → old.late ≡ None → GreetsBy read own c old new → LivesOn old new
+pub greets_by : (read : Result ConnectRequest Fault) (own : List ℕ) (c : ℕ) (old new : FrontView) → old.late ≡ None
+    → GreetsBy read own c old new → LivesOn old new
 greets_by (Err fault) own c old new free is = closes c old new is
 greets_by (Ok greeting) own c old new free has = greets_unless (is_ahead old.asker.known greeting) greeting own c old new free has
 
@@ -189,15 +199,18 @@ ends_if false c asked calls replies old new late has told waiting is =
     tidies_alive replies (with_tables (answered old.clock old.asker.known c asked calls replies old.tables) old) new has told waiting
     (record { told = is.told; late = is.late })
 
-acts : (meaning : Meaning (List Call)) (c : ℕ) (asked : Request) (old new : FrontView) → old.late ≡ None → Acts meaning c asked old new → LivesOn old new
+acts : (meaning : Meaning (List Call)) (c : ℕ) (asked : Request) (old new : FrontView) → old.late ≡ None
+    → Acts meaning c asked old new → LivesOn old new
 acts (Err (Refused code)) c asked old new free is =
-    retables (replied old.asker.known c asked.xid (failed code) old.tables) old new is (tables.replies_to old.asker.known c asked.xid (failed code) old.tables).1
+    retables (replied old.asker.known c asked.xid (failed code) old.tables) old new is
+    (tables.replies_to old.asker.known c asked.xid (failed code) old.tables).1
 acts (Err Memory) c asked old new free is = absurd is
 acts (Ok made) c asked old new free has = λ told waiting is alive.
     let next = (calls.asks old made has.0 has.1 free has.2).goes told waiting is in
     ends_if (is_some has.0.late) c asked made has.1 has.0 new refl has.3 (told ++ next.0) next.1 next.2
 
-pub requests : (read : Result Request Fault) (session c : ℕ) (old new : FrontView) → old.late ≡ None → Requests read session c old new → LivesOn old new
+pub requests : (read : Result Request Fault) (session c : ℕ) (old new : FrontView) → old.late ≡ None → Requests read session c old new
+    → LivesOn old new
 requests (Err fault) session c old new free is = closes c old new is
 requests (Ok asked) session c old new free has =
     let middle = touched_by session old in

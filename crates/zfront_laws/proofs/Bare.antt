@@ -33,7 +33,8 @@ pub record IsBare (t : TablesView) : Type 0 where
 pub no_phase : (t : TablesView) → IsBare t → (c : ℕ) (p : Phase) → phase_of t.streams c ≡ Some p → ⊥
 no_phase t bare c p has =
     none_some p (
-    sym (ap (option_map (λ (s : StreamView). s.phase)) (finite.get-empty nat_cmp c)) ∙ ap (λ (rows : StreamRows). phase_of rows c) (sym bare.streams) ∙ has
+    sym (ap (option_map (λ (s : StreamView). s.phase)) (finite.get-empty nat_cmp c))
+    ∙ ap (λ (rows : StreamRows). phase_of rows c) (sym bare.streams) ∙ has
     )
 
 pub unseated : (t : TablesView) → IsBare t → (session : ℕ) → connection_of t.sittings session ≡ None
@@ -49,7 +50,8 @@ unseated t bare session = each (get t.sittings session) refl
 each_seat : (P : ℕ → Sitting → Type 0) (seats : List Seat) (m : SittingsView) → ((id : ℕ) (s : Sitting) → get m id ≡ Some s → P id s)
     → ((seat : Seat) → Among seat seats → P seat.0 (restored_sitting seat.1)) → (id : ℕ) (s : Sitting) → get (seated seats m) id ≡ Some s → P id s
 each_seat P [] m before at id s there = before id s there
-each_seat P (seat ∷ seats) m before at id s there = each_seat P seats (insert m seat.0 (restored_sitting seat.1)) put (λ other among. at other (inr among)) id s there
+each_seat P (seat ∷ seats) m before at id s there = each_seat P seats (insert m seat.0 (restored_sitting seat.1)) put
+    (λ other among. at other (inr among)) id s there
   where
     by : (q : ℕ) (x : Sitting) → ((q ≡ seat.0) × (restored_sitting seat.1 ≡ x)) ⊎ ((q ≢ seat.0) × (get m q ≡ Some x)) → P q x
     by q x (inl is) = subst (λ (n : ℕ). P n x) (sym is.0) (subst (P seat.0) is.1 (at seat (inl refl)))
@@ -78,11 +80,16 @@ each_sits (seat ∷ seats) m id is = by (each_sits seats (insert m seat.0 own) i
     own : Sitting
     own = restored_sitting seat.1
 
-    by : (list_any (eq_by_cmp nat_cmp id) (sessions_of seats) ≡ true → Has (seated seats (insert m seat.0 own)) id) → (b : Bool) → eq_by_cmp nat_cmp id seat.0 ≡ b
+    by : (list_any (eq_by_cmp nat_cmp id) (sessions_of seats) ≡ true → Has (seated seats (insert m seat.0 own)) id)
+        → (b : Bool) → eq_by_cmp nat_cmp id seat.0 ≡ b
         → b || list_any (eq_by_cmp nat_cmp id) (sessions_of seats) ≡ true → Has (seated seats (insert m seat.0 own)) id
     by later true same any =
         let here = tied_same nat_cmp_total nat_cmp-IsAntisymmetric id seat.0 same in
-        keeps_one seats (insert m seat.0 own) id (own, ap (get (insert m seat.0 own)) here ∙ get-insert-here nat_cmp_total nat_cmp-IsAntisymmetric m seat.0 own)
+        keeps_one seats (insert m seat.0 own) id (
+          own,
+          ap (get (insert m seat.0 own)) here
+              ∙ get-insert-here nat_cmp_total nat_cmp-IsAntisymmetric m seat.0 own,
+        )
     by later false same any = later any
 
 -- the session of a seat is one of theirs
@@ -92,7 +99,8 @@ listed (first ∷ seats) seat (inl is) =
     rw (ap (λ (s : Seat). eq_by_cmp nat_cmp seat.0 s.0) is ∙ tied nat_cmp_total nat_cmp-IsAntisymmetric seat.0) refl
 listed (first ∷ seats) seat (inr among) = behind (eq_by_cmp nat_cmp seat.0 first.0) (listed seats seat among)
   where
-    behind : (b : Bool) → list_any (eq_by_cmp nat_cmp seat.0) (sessions_of seats) ≡ true → b || list_any (eq_by_cmp nat_cmp seat.0) (sessions_of seats) ≡ true
+    behind : (b : Bool) → list_any (eq_by_cmp nat_cmp seat.0) (sessions_of seats) ≡ true
+        → b || list_any (eq_by_cmp nat_cmp seat.0) (sessions_of seats) ≡ true
     behind true is = refl
     behind false is = is
 
@@ -101,9 +109,11 @@ nobody_sits m id s none there =
     absurd (none_some s (sym (finite.get-empty nat_cmp id) ∙ ap (λ (t : SittingsView). get t id) (sym none) ∙ there))
 
 -- behind no sittings, each has its session among those of the seats, with the password of its seat
-pub is_listed : (seats : List Seat) (id : ℕ) (s : Sitting) → get (tables_of seats).sittings id ≡ Some s → list_any (eq_by_cmp nat_cmp id) (sessions_of seats) ≡ true
+pub is_listed : (seats : List Seat) (id : ℕ) (s : Sitting) → get (tables_of seats).sittings id ≡ Some s
+    → list_any (eq_by_cmp nat_cmp id) (sessions_of seats) ≡ true
 is_listed seats =
-    each_seat (λ id s. list_any (eq_by_cmp nat_cmp id) (sessions_of seats) ≡ true) seats finite.empty (λ id s there. nobody_sits finite.empty id s refl there) (listed seats)
+    each_seat (λ id s. list_any (eq_by_cmp nat_cmp id) (sessions_of seats) ≡ true) seats finite.empty
+    (λ id s there. nobody_sits finite.empty id s refl there) (listed seats)
 
 pub is_own : (seats : List Seat) (id : ℕ) (s : Sitting) → get (tables_of seats).sittings id ≡ Some s → Among (id, s.password) seats
 is_own seats =
@@ -114,5 +124,6 @@ seats_bare seats = record {
   streams = refl;
   watches = refl;
   unsent = refl;
-  apart = each_seat (λ id s. IsApart s) seats finite.empty (λ id s there. nobody_sits finite.empty id s refl there) (λ seat among. record { free = refl; marked = refl });
+  apart = each_seat (λ id s. IsApart s) seats finite.empty (λ id s there. nobody_sits finite.empty id s refl there)
+      (λ seat among. record { free = refl; marked = refl });
 }

@@ -16,7 +16,8 @@ use Rattle.zfront_laws.proofs.Lighter.{Lighter, lighter, unmoved, absorbs, sweep
 use Rattle.zfront_laws.proofs.Taking.{asks_all, settles}
 use Rattle.zfront_laws.proofs.Steps.{Step, steps, both, same, same_client, free_to_look}
 
-pub asks : (old : FrontView) (calls : List Call) (new : FrontView) (replies : List Reply) → old.late ≡ None → Asks old calls new replies → Step old new
+pub asks : (old : FrontView) (calls : List Call) (new : FrontView) (replies : List Reply) → old.late ≡ None
+    → Asks old calls new replies → Step old new
 asks old calls new replies free has =
     steps old new (log.asks old calls new replies free (ap (λ (v : FrontView). v.late) has.rest) has.asks)
     (asks_all calls old.asker new.asker replies has.asks)

@@ -70,7 +70,8 @@ module _ (R : TablesView → TablesView → Type 0) (carry : Carries R) where
 
   pub replies_to : (known : KnownView) (c : ℕ) (xid : ℤ) (answer : Answer) (t : TablesView) → R t (replied known c xid answer t)
   replies_to known c xid answer t =
-      elim (ends_connection answer.code) as (λ b. R t (if b then closed c (sent c (answer_frame known xid answer) t) else sent c (answer_frame known xid answer) t)) [
+      elim (ends_connection answer.code) as (λ b. R t (if b then closed c (sent c (answer_frame known xid answer) t)
+      else sent c (answer_frame known xid answer) t)) [
         | true ↦ says c (answer_frame known xid answer) t
         | false ↦ sends c (answer_frame known xid answer) t
       ]

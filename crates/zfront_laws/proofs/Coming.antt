@@ -9,7 +9,8 @@ use Rattle.zpieces.specs.Streams.{bytes_of, held_of, phase_of, with_bytes}
 use Rattle.ztables.specs.Tables.{TablesView, closed, is_open}
 use Rattle.zfront.specs.declared.limits.TheConstants.{MAX_KEPT}
 use Rattle.zfront.specs.Front.{FrontView, with_tables}
-use Rattle.zfront.specs.Reading.{HandlesIn, HandlesUnless, Handles, HandlesAll, Reads, is_too_long, kept, keeps, Keeps, word_asked, ComesBy, ComesBehind, ComesIf, Comes, emptied}
+use Rattle.zfront.specs.Reading.{HandlesIn, HandlesUnless, Handles, HandlesAll, Reads, is_too_long, kept, keeps, Keeps}
+use Rattle.zfront.specs.Reading.{word_asked, ComesBy, ComesBehind, ComesIf, Comes, emptied}
 use Rattle.zfront.specs.Words.{said, text_of_word}
 use Rattle.zfront_laws.specs.Runs.{GoesOn, KeepsFew}
 use Rattle.zfront_laws.proofs.GoingOn as log
@@ -27,7 +28,8 @@ handles_in (Some (Speaking session)) bytes c old new free has = serves bytes ses
 handles_in (Some Closing) bytes c old new free is = same old new is
 handles_in None bytes c old new free is = same old new is
 
-handles_unless : (late : Bool) (bytes : List ℕ) (c : ℕ) (old new : FrontView) → (late ≡ false → old.late ≡ None) → HandlesUnless late bytes c old new → Step old new
+handles_unless : (late : Bool) (bytes : List ℕ) (c : ℕ) (old new : FrontView) → (late ≡ false → old.late ≡ None)
+    → HandlesUnless late bytes c old new → Step old new
 handles_unless true bytes c old new free is = retabled (closed c old.tables) old new is (closes c old.tables)
 handles_unless false bytes c old new free has = handles_in (phase_of old.tables.streams c) bytes c old new (free refl) has
 
@@ -59,7 +61,8 @@ with_rest rest c t fits =
     )
 
 keeps_by : (long over : Bool) (rest : List ℕ) (c : ℕ) (t : TablesView) → nat_lt MAX_KEPT (held_of t.streams + length rest) ≡ over
-    → held_of t.streams ≤ MAX_KEPT → held_of (if long || over then closed c t else record t { streams = with_bytes t.streams c rest }).streams ≤ MAX_KEPT
+    → held_of t.streams ≤ MAX_KEPT → held_of (if long || over then closed c t else record t { streams = with_bytes t.streams c rest }).streams
+    ≤ MAX_KEPT
 keeps_by true over rest c t is few = omega (arith, (closes c t).0, few)
 keeps_by false true rest c t is few = omega (arith, (closes c t).0, few)
 keeps_by false false rest c t is few = with_rest rest c t is
@@ -105,10 +108,11 @@ reads came rest c old middle new has few after =
     )
 
 comes_behind : (came : List ℕ) (c : ℕ) (old new : FrontView) → KeepsFew old → ComesBehind came c old new → GoesOnWithFew old new
-comes_behind came c old new few has = elim (word_asked (phase_of old.tables.streams c) came) as (λ word. ComesBy word came c old new → GoesOnWithFew old new) [
-  | None ↦ λ read. reads came read.0 c old read.1 new read.2 few read.3
-  | Some word ↦ λ is. with_few old new few (retabled (said word c old).tables old new is (says c (text_of_word word old) old.tables))
-] has
+comes_behind came c old new few has = elim (word_asked (phase_of old.tables.streams c) came) as (λ word. ComesBy word came c old new
+    → GoesOnWithFew old new) [
+      | None ↦ λ read. reads came read.0 c old read.1 new read.2 few read.3
+      | Some word ↦ λ is. with_few old new few (retabled (said word c old).tables old new is (says c (text_of_word word old) old.tables))
+    ] has
 
 pub emptied_few : (c : ℕ) (v : FrontView) → KeepsFew v → KeepsFew (emptied c v)
 emptied_few c v few = omega (arith, held-changed v.tables.streams c (λ s. record s { bytes = [] }) 0 (λ s. omega arith), few)

@@ -30,7 +30,8 @@ use Rattle.zfront_laws.proofs.Steps.{seats_kept}
 -- ---- what is kept of a connection
 
 -- the bytes of a connection that isn't closing are as they were
-bytes_stay : (old new : StreamRows) (d : ℕ) (p : Phase) → StaysOpen old new d → (p ≡ Closing → ⊥) → phase_of new d ≡ Some p → bytes_of new d ≡ bytes_of old d
+bytes_stay : (old new : StreamRows) (d : ℕ) (p : Phase) → StaysOpen old new d → (p ≡ Closing → ⊥) → phase_of new d ≡ Some p
+    → bytes_of new d ≡ bytes_of old d
 bytes_stay old new d p stays going is =
     let row = row_of new d p is in
     let there = stays row.0 row.1 (λ closes. going (sym row.2 ∙ closes)) in
@@ -43,7 +44,8 @@ phase_kept rows c bytes p is =
     let was = row_here (λ s. record s { bytes = bytes }) rows c row.0 row.1 in
     phase_by rows c was.0 was.1 ∙ ap (λ q. Some q) (ap (λ (s : StreamView). s.phase) was.2 ∙ row.2)
 
-bytes_kept_are : (rows : StreamRows) (c : ℕ) (bytes : List ℕ) (p : Phase) → phase_of (with_bytes rows c bytes) c ≡ Some p → bytes_of (with_bytes rows c bytes) c ≡ bytes
+bytes_kept_are : (rows : StreamRows) (c : ℕ) (bytes : List ℕ) (p : Phase) → phase_of (with_bytes rows c bytes) c ≡ Some p
+    → bytes_of (with_bytes rows c bytes) c ≡ bytes
 bytes_kept_are rows c bytes p is =
     let row = row_of (with_bytes rows c bytes) c p is in
     let was = row_here (λ s. record s { bytes = bytes }) rows c row.0 row.1 in
@@ -72,7 +74,8 @@ shut_keeps rest c old new calm shut = record {
   here = λ p going is. absurd (in_no_phase new c p shut going is);
 }
 
-keeps_by : (closes : Bool) (rest : List ℕ) (c : ℕ) (t : TablesView) → KeepsRest rest c t (if closes then closed c t else record t { streams = with_bytes t.streams c rest })
+keeps_by : (closes : Bool) (rest : List ℕ) (c : ℕ) (t : TablesView)
+    → KeepsRest rest c t (if closes then closed c t else record t { streams = with_bytes t.streams c rest })
 keeps_by true rest c t = shut_keeps rest c t (closed c t) (carries_quiet.closes c t) (shuts c t)
 keeps_by false rest c t = record {
   others = λ d away row is going. sym (row_elsewhere (λ s. record s { bytes = rest }) t.streams c d away) ∙ is;
@@ -119,7 +122,8 @@ pub record GotBy (input : Input) (d session : ℕ) (old new : FrontView) : Type 
   pub gains : GainsBy frame session own old new
 
 pub record Gives (input : Input) (old new : FrontView) : Type 0 where
-  pub speaks : (d session : ℕ) → phase_of new.tables.streams d ≡ Some (Speaking session) → Spoke input d session old new ⊎ GotBy input d session old new
+  pub speaks : (d session : ℕ) → phase_of new.tables.streams d ≡ Some (Speaking session)
+      → Spoke input d session old new ⊎ GotBy input d session old new
   pub silent : (d : ℕ) (own : List ℕ) (since : Option Since) → phase_of new.tables.streams d ≡ Some (Silent own)
       → (phase_of old.tables.streams d ≡ Some (Silent own) → since ≡ Some (record { password = own; bytes = bytes_of old.tables.streams d }))
       → since_input d input since ≡ Some (record { password = own; bytes = bytes_of new.tables.streams d })
@@ -133,7 +137,8 @@ still_silent d own since old new stays is before =
     ∙ ap (λ b. Some (record { password = own; bytes = b })) (sym (bytes_stay old new d (Silent own) stays (silent_on own) is))
 
 -- nothing, at most inputs
-pub gives_nothing : (input : Input) (old new : FrontView) → ((d : ℕ) → IsNoOpening d input) → ((d : ℕ) (since : Option Since) → since_input d input since ≡ since)
+pub gives_nothing : (input : Input) (old new : FrontView) → ((d : ℕ) → IsNoOpening d input)
+    → ((d : ℕ) (since : Option Since) → since_input d input since ≡ since)
     → Quiet old.tables new.tables → Gives input old new
 gives_nothing input old new no_opening same calm = record {
   speaks = λ d session speaks. inl (
@@ -158,8 +163,14 @@ not_ended c d t p is =
 
 pub ends_gives : (c : ℕ) (old new : FrontView) → new ≡ with_tables (ended c old.tables) old → Gives (Ended c) old new
 ends_gives c old new is = subst (Gives (Ended c) old) (sym is) (record {
-  speaks = λ d session speaks. inl (tt, was_in old.tables.streams u.streams d (Speaking session) (calm.streams d) (speaks_on session) speaks, calm.keys session);
-  silent = λ d own since silent before. rw (not_ended c d old.tables (Silent own) silent) (still_silent d own since old.tables.streams u.streams (calm.streams d) silent before);
+  speaks = λ d session speaks. inl (
+    tt,
+    was_in old.tables.streams u.streams d (Speaking session) (calm.streams d)
+        (speaks_on session) speaks,
+    calm.keys session,
+  );
+  silent = λ d own since silent before. rw (not_ended c d old.tables (Silent own) silent)
+      (still_silent d own since old.tables.streams u.streams (calm.streams d) silent before);
 })
   where
     u : TablesView
@@ -169,7 +180,8 @@ ends_gives c old new is = subst (Gives (Ended c) old) (sym is) (record {
     calm = ends_quiet c old.tables
 
 -- an opening
-pub opens_gives : (c : ℕ) (password : List ℕ) (old new : FrontView) → new ≡ with_tables (record old.tables { streams = insert old.tables.streams c (opened password) }) old
+pub opens_gives : (c : ℕ) (password : List ℕ) (old new : FrontView)
+    → new ≡ with_tables (record old.tables { streams = insert old.tables.streams c (opened password) }) old
     → Gives (Opened c password) old new
 opens_gives c password old new is = subst (Gives (Opened c password) old) (sym is) (record {
   speaks = λ d session. speaks d session (same_number d c);
@@ -195,7 +207,8 @@ opens_gives c password old new is = subst (Gives (Opened c password) old) (sym i
     same_own own are = cc
 
     speaks : (d session : ℕ) → (d ≡ c) ⊎ (d ≢ c) → phase_of more d ≡ Some (Speaking session)
-        → Spoke (Opened c password) d session old (with_tables (record old.tables { streams = more }) old) ⊎ GotBy (Opened c password) d session old (with_tables (record old.tables { streams = more }) old)
+        → Spoke (Opened c password) d session old (with_tables (record old.tables { streams = more }) old)
+        ⊎ GotBy (Opened c password) d session old (with_tables (record old.tables { streams = more }) old)
     speaks d session (inl same) has =
         absurd (no_one session (same_some (Silent password) (Speaking session) (sym (phase_by more d (opened password) (here d same)) ∙ has)))
     speaks d session (inr away) has = inl (
@@ -210,6 +223,7 @@ opens_gives c password old new is = subst (Gives (Opened c password) old) (sym i
     silent d own since (inl same) has before =
         let are = same_own own (same_some (Silent password) (Silent own) (sym (phase_by more d (opened password) (here d same)) ∙ has)) in
         let none : bytes_of more d ≡ [] = ap (λ o. option_map_or (λ (s : StreamView). s.bytes) o []) (here d same) in
-        rw (eq-eqb c d (sym same)) (ap (λ w. Some (record { password = w; bytes = [] })) are ∙ ap (λ b. Some (record { password = own; bytes = b })) (sym none))
+        rw (eq-eqb c d (sym same)) (ap (λ w. Some (record { password = w; bytes = [] })) are
+        ∙ ap (λ b. Some (record { password = own; bytes = b })) (sym none))
     silent d own since (inr away) has before =
         rw (ne_eqb c d (λ same. away (sym same))) (still_silent d own since rows more (elsewhere d away) has before)

@@ -1,5 +1,6 @@
 -- A log that goes on: at nothing, at one step behind another, and at calls that are made.
-use Rattle.std.proofs.Common.{◌≡◌, ◌∙◌, ℕ, zero, suc, List, [], ◌∷◌, ◌++◌, length, drop, Option, None, Some, inl, inr, refl, sym, ap, subst, append_assoc}
+use Rattle.std.proofs.Common.{◌≡◌, ◌∙◌, ℕ, zero, suc, List, [], ◌∷◌, ◌++◌, length, drop, Option, None, Some, inl, inr}
+use Rattle.std.proofs.Common.{refl, sym, ap, subst, append_assoc}
 use Rattle.std.proofs.lemmas.List.{append-nil}
 use Rattle.std.specs.List.{slice_get}
 use Rattle.std.specs.Prelude.{zip}
@@ -58,7 +59,8 @@ stopped new log (call ∷ calls) late (inl has) = (Some call, record { told = ha
 stopped new log (call ∷ calls) late (inr has) = (None, quiet new log has.1)
 
 pub asks_log : (old : FrontView) (calls : List Call) (new : FrontView) (told : List Reply) → new.late ≡ slice_get calls (length told)
-    → TellsAskedAll old.asker calls new.asker told → (log : Log) → HasTold old.asker log None → (later : Option Call) × IsLog new (log ++ zip calls told) later
+    → TellsAskedAll old.asker calls new.asker told → (log : Log) → HasTold old.asker log None
+    → (later : Option Call) × IsLog new (log ++ zip calls told) later
 asks_log old calls new told is tells log has =
     stopped new (log ++ zip calls told) (drop (length told) calls) (λ call rest from. is ∙ at_drop calls (length told) call rest from)
     (tells log None has).1

@@ -46,15 +46,18 @@ record Stands (done : List Input) (first v : FrontView) : Type 0 where
       → since_opened c done None ≡ Some (record { password = own; bytes = bytes_of v.tables.streams c })
   speaks : (c session : ℕ) → phase_of v.tables.streams c ≡ Some (Speaking session) → HasGot c session done first v
 
-since_more : (c : ℕ) (done : List Input) (input : Input) (since : Option Since) → since_opened c (done ++ input ∷ []) since ≡ since_input c input (since_opened c done since)
+since_more : (c : ℕ) (done : List Input) (input : Input) (since : Option Since) → since_opened c (done ++ input ∷ []) since
+    ≡ since_input c input (since_opened c done since)
 since_more c [] input since = refl
 since_more c (first ∷ done) input since = since_more c done input (since_input c first since)
 
-runs_more : (done : List Input) (input : Input) (first old new : FrontView) → Runs done first old → Does input old new → Runs (done ++ input ∷ []) first new
+runs_more : (done : List Input) (input : Input) (first old new : FrontView) → Runs done first old → Does input old new
+    → Runs (done ++ input ∷ []) first new
 runs_more [] input first old new is does = (new, subst (λ (v : FrontView). Does input v new) is does, refl)
 runs_more (next ∷ done) input first old new ran does = (ran.0, ran.1, runs_more done input ran.0 old new ran.2 does)
 
-openings_more : (c : ℕ) (inputs : List Input) (input : Input) → AllByRecursion (IsNoOpening c) inputs → IsNoOpening c input → AllByRecursion (IsNoOpening c) (inputs ++ input ∷ [])
+openings_more : (c : ℕ) (inputs : List Input) (input : Input) → AllByRecursion (IsNoOpening c) inputs → IsNoOpening c input
+    → AllByRecursion (IsNoOpening c) (inputs ++ input ∷ [])
 openings_more c [] input all one = (one, tt)
 openings_more c (next ∷ inputs) input all one = (all.0, openings_more c inputs input all.1 one)
 
@@ -84,7 +87,8 @@ got_before done input first old new c session does sound speaks spoke got = reco
   password = got.password;
   gains = got.gains;
   then_had = got.then_had;
-  now_has = key_goes_on old.tables.sittings new.tables.sittings session got.password spoke.2 (has_seat new.tables c session sound.4.seated speaks) got.now_has;
+  now_has = key_goes_on old.tables.sittings new.tables.sittings session got.password spoke.2
+      (has_seat new.tables c session sound.4.seated speaks) got.now_has;
 }
 
 -- who speaks since this input
@@ -123,7 +127,8 @@ got_now done input first old new c session ran does stood by = record {
     grown : since_input c (Came c by.bytes) (Some (record { password = by.own; bytes = bytes_of old.tables.streams c })) ≡ Some since
     grown = rw (eq-eqb c c refl) refl
 
-stands_on : (done : List Input) (input : Input) (first old new : FrontView) → Runs done first old → Does input old new → Sound new → Gives input old new
+stands_on : (done : List Input) (input : Input) (first old new : FrontView) → Runs done first old → Does input old new
+    → Sound new → Gives input old new
     → Stands done first old → Stands (done ++ input ∷ []) first new
 stands_on done input first old new ran does sound gives stood = record {
   silent = λ c own is. since_more c done input None ∙ gives.silent c own (since_opened c done None) is (stood.silent c own);
@@ -135,7 +140,8 @@ stands_on done input first old new ran does sound gives stood = record {
     by c session is (inl spoke) = got_before done input first old new c session does sound is spoke (stood.speaks c session spoke.1)
     by c session is (inr got) = got_now done input first old new c session ran does (stood.silent c) got
 
-all_stand : (done inputs : List Input) (first old v : FrontView) → Runs done first old → KeepsFew old → Sound old → Stands done first old → Runs inputs old v
+all_stand : (done inputs : List Input) (first old v : FrontView) → Runs done first old → KeepsFew old → Sound old
+    → Stands done first old → Runs inputs old v
     → Stands (done ++ inputs) first v
 all_stand done [] first old v ran few sound stood is =
     subst (λ (u : FrontView). Stands (done ++ []) first u) (sym is) (subst (λ all. Stands all first old) (sym (append-nil done)) stood)

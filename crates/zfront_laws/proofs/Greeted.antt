@@ -75,13 +75,15 @@ GainsBy frame session own old new =
 -- what becomes of a greeting
 pub record Becomes (frame : List ℕ) (c : ℕ) (own : List ℕ) (old new : FrontView) : Type 0 where
   pub others : (d : ℕ) → d ≢ c → StaysOpen old.tables.streams new.tables.streams d
-  pub keys : (d session : ℕ) → d ≢ c → phase_of new.tables.streams d ≡ Some (Speaking session) → (s : Sitting) → get new.tables.sittings session ≡ Some s
+  pub keys : (d session : ℕ) → d ≢ c → phase_of new.tables.streams d ≡ Some (Speaking session) → (s : Sitting)
+      → get new.tables.sittings session ≡ Some s
       → HasPassword old.tables.sittings session s.password
   pub heard : NotSilent c new.tables
   pub gains : (session : ℕ) → phase_of new.tables.streams c ≡ Some (Speaking session) → GainsBy frame session own old new
 
 -- its connection is shut
-pub shut_becomes : (frame : List ℕ) (c : ℕ) (own : List ℕ) (old new : FrontView) → Quiet old.tables new.tables → IsShut new.tables c → Becomes frame c own old new
+pub shut_becomes : (frame : List ℕ) (c : ℕ) (own : List ℕ) (old new : FrontView) → Quiet old.tables new.tables
+    → IsShut new.tables c → Becomes frame c own old new
 shut_becomes frame c own old new calm shut = record {
   others = λ d other. calm.streams d;
   keys = λ d session other speaks s is. calm.keys session s is;
@@ -101,7 +103,8 @@ pub speaks_elsewhere : (session c d : ℕ) (t : TablesView) (m : SittingsView) �
     → StaysOpen t.streams (record t { streams = with_phase t.streams c (Speaking session); sittings = m }).streams d
 speaks_elsewhere session c d t m other row is going = sym (row_elsewhere (λ s. record s { phase = Speaking session }) t.streams c d other) ∙ is
 
-pub speaks_here : (session c : ℕ) (t : TablesView) (p : Phase) → phase_of (with_phase t.streams c (Speaking session)) c ≡ Some p → Speaking session ≡ p
+pub speaks_here : (session c : ℕ) (t : TablesView) (p : Phase) → phase_of (with_phase t.streams c (Speaking session)) c ≡ Some p
+    → Speaking session ≡ p
 speaks_here session c t p is = (phase_here (λ s. record s { phase = Speaking session }) t.streams c p is).2
 
 pub not_silent : (session : ℕ) (password : List ℕ) → Speaking session ≡ Silent password → ⊥
@@ -131,13 +134,15 @@ whole_password m id given is = each (get m id) refl is
     each None found none = cc
     each (Some s) found passed = (s, found, (pointwise_decides unsigned_Decides given s.password).0 passed)
 
-takes_up : (frame : List ℕ) (greeting : ConnectRequest) (session c : ℕ) (own bytes : List ℕ) (old new : FrontView) → whole connect_request frame ≡ Ok greeting
+takes_up : (frame : List ℕ) (greeting : ConnectRequest) (session c : ℕ) (own bytes : List ℕ) (old new : FrontView)
+    → whole connect_request frame ≡ Ok greeting
     → greeting.session_id ≡ pos session → passes old.tables.sittings session (given greeting) ≡ true
     → new ≡ with_tables (sent c bytes (taken_up session c old.tables)) old → Becomes frame c own old new
 takes_up frame greeting session c own bytes old new spelled names passed is = subst (Becomes frame c own old) (sym is) (record {
   others = others;
   keys = λ d other away speaks s there. keys other s there;
-  heard = λ password silent. not_silent session password (speaks_here session c u (Silent password) (before (Silent password) (silent_on password) silent));
+  heard = λ password silent. not_silent session password (speaks_here session c u (Silent password)
+      (before (Silent password) (silent_on password) silent));
   gains = gains;
 })
   where
@@ -166,40 +171,50 @@ takes_up frame greeting session c own bytes old new spelled names passed is = su
     keys : Keys t.sittings like.tables.sittings
     keys =
         keys_both t.sittings u.sittings like.tables.sittings first.keys
-        (keys_both u.sittings (taken_up session c t).sittings like.tables.sittings (changed_keys (seats.taken_up c) (λ s. refl) u.sittings session) last.keys)
+        (keys_both u.sittings (taken_up session c t).sittings like.tables.sittings
+        (changed_keys (seats.taken_up c) (λ s. refl) u.sittings session) last.keys)
 
     kept : HasPassword like.tables.sittings session (given greeting)
     kept =
         let has = moved_has session t (passes_has t.sittings session (given greeting) passed) in
         let there = took_password session c (given greeting) t passed has (whole_password t.sittings session (given greeting) passed) in
-        elim (is_open (taken_up session c t) c) as (λ b. HasPassword (if b then with_piece (piece c bytes) (taken_up session c t) else taken_up session c t).sittings session (given greeting)) [
+        elim (is_open (taken_up session c t) c) as
+        (λ b. HasPassword (if b then with_piece (piece c bytes) (taken_up session c t) else taken_up session c t).sittings
+        session (given greeting)) [
           | true ↦ there
           | false ↦ there
         ]
 
     gains : (other : ℕ) → phase_of like.tables.streams c ≡ Some (Speaking other) → GainsBy frame other own old like
     gains other speaks =
-        let is : session ≡ other = same_session session other (speaks_here session c u (Speaking other) (before (Speaking other) (speaks_on other) speaks)) in
+        let is : session ≡ other = same_session session other (speaks_here session c u (Speaking other)
+        (before (Speaking other) (speaks_on other) speaks)) in
         subst (λ n. GainsBy frame n own old like) is (greeting, given greeting, spelled, inr (names, refl), kept)
 
-turns_away : (frame : List ℕ) (greeting : ConnectRequest) (c : ℕ) (own : List ℕ) (old new : FrontView) → new ≡ with_tables (turned_away greeting c old.tables) old
+turns_away : (frame : List ℕ) (greeting : ConnectRequest) (c : ℕ) (own : List ℕ) (old new : FrontView)
+    → new ≡ with_tables (turned_away greeting c old.tables) old
     → Becomes frame c own old new
 turns_away frame greeting c own old new is =
     subst (Becomes frame c own old) (sym is)
     (shut_becomes frame c own old (with_tables (turned_away greeting c old.tables) old) (changes.says Quiet carries_quiet c _ old.tables) (shuts c _))
 
-pub returns : (frame : List ℕ) (greeting : ConnectRequest) (id : ℤ) (c : ℕ) (own : List ℕ) (old new : FrontView) → whole connect_request frame ≡ Ok greeting
-    → greeting.session_id ≡ id → new ≡ with_tables (returned old.clock.tick old.asker.known greeting id c old.tables) old → Becomes frame c own old new
+pub returns : (frame : List ℕ) (greeting : ConnectRequest) (id : ℤ) (c : ℕ) (own : List ℕ) (old new : FrontView)
+    → whole connect_request frame ≡ Ok greeting
+    → greeting.session_id ≡ id → new ≡ with_tables (returned old.clock.tick old.asker.known greeting id c old.tables) old
+    → Becomes frame c own old new
 returns frame greeting (negsuc n) c own old new spelled names is = turns_away frame greeting c own old new is
 returns frame greeting (pos session) c own old new spelled names is = known (get old.asker.known.sessions session) is
   where
     came : (timeout : ℤ) (b : Bool) → passes old.tables.sittings session (given greeting) ≡ b
-        → new ≡ with_tables (if b then session_told greeting session timeout (given greeting) c (taken_up session c old.tables) else turned_away greeting c old.tables) old
+        → new ≡ with_tables (if b then session_told greeting session timeout (given greeting) c (taken_up session c old.tables)
+        else turned_away greeting c old.tables) old
         → Becomes frame c own old new
     came timeout true passed so = takes_up frame greeting session c own _ old new spelled names passed so
     came timeout false passed so = turns_away frame greeting c own old new so
 
-    known : (o : Option Session) → new ≡ with_tables (option_map_or (λ s. came_back greeting session (millis_told old.clock.tick s.timeout) c old.tables) o (turned_away greeting c old.tables)) old
+    known : (o : Option Session)
+        → new ≡ with_tables (option_map_or (λ s. came_back greeting session (millis_told old.clock.tick s.timeout) c old.tables)
+        o (turned_away greeting c old.tables)) old
         → Becomes frame c own old new
     known None so = turns_away frame greeting c own old new so
     known (Some s) so = came (millis_told old.clock.tick s.timeout) (passes old.tables.sittings session (given greeting)) refl so

@@ -1,7 +1,8 @@
 -- What frames of a connection do: the first may be a greeting, and no other gives a session.
 use Rattle.zcalls.specs.declared.reply.Reply.{Reply}
 use Rattle.zcalls.specs.declared.call.Call.{Call}
-use Rattle.std.proofs.Common.{◌≡◌, ◌⊎◌, inl, inr, ◌∙◌, ℕ, Bool, true, false, List, [], ◌∷◌, ◌++◌, Option, None, Some, refl, sym, ap, subst, append_assoc}
+use Rattle.std.proofs.Common.{◌≡◌, ◌⊎◌, inl, inr, ◌∙◌, ℕ, Bool, true, false, List, [], ◌∷◌, ◌++◌, Option, None, Some}
+use Rattle.std.proofs.Common.{refl, sym, ap, subst, append_assoc}
 use Rattle.std.specs.Prelude.{is_some}
 use Rattle.std.specs.FinMap.{get}
 use Rattle.ztree.proofs.Maps.{same_some}
@@ -38,7 +39,8 @@ sound_on old new step sound =
 stays_loud : (c : ℕ) (t u : TablesView) → Quiet t u → NotSilent c t → NotSilent c u
 stays_loud c t u calm loud password is = loud password (was_in t.streams u.streams c (Silent password) (calm.streams c) (silent_on password) is)
 
-is_silent : (c : ℕ) (t : TablesView) (p : Option Phase) → phase_of t.streams c ≡ p → ((password : List ℕ) → p ≡ Some (Silent password) → ⊥) → NotSilent c t
+is_silent : (c : ℕ) (t : TablesView) (p : Option Phase) → phase_of t.streams c ≡ p → ((password : List ℕ) → p ≡ Some (Silent password) → ⊥)
+    → NotSilent c t
 is_silent c t p is other password has = other password (sym is ∙ has)
 
 -- ---- a frame of a connection that isn't silent gives nothing
@@ -53,7 +55,8 @@ serves_in None bytes c old new loud is = working.same Quiet carries_quiet old ne
 closes_by : (c : ℕ) (old new : FrontView) → new ≡ with_tables (closed c old.tables) old → Quiet old.tables new.tables
 closes_by c old new is = working.becomes Quiet carries_quiet old (with_tables (closed c old.tables) old) new is (carries_quiet.closes c old.tables)
 
-serves_unless : (late : Bool) (bytes : List ℕ) (c : ℕ) (old new : FrontView) → NotSilent c old.tables → HandlesUnless late bytes c old new → Quiet old.tables new.tables
+serves_unless : (late : Bool) (bytes : List ℕ) (c : ℕ) (old new : FrontView) → NotSilent c old.tables
+    → HandlesUnless late bytes c old new → Quiet old.tables new.tables
 serves_unless true bytes c old new loud is = closes_by c old new is
 serves_unless false bytes c old new loud has = serves_in (phase_of old.tables.streams c) bytes c old new loud has
 
@@ -63,7 +66,8 @@ serves_one bytes c old new loud has =
     carries_quiet.both old.tables has.0.tables new.tables ready
     (serves_unless (is_some has.0.late) bytes c has.0 new (stays_loud c old.tables has.0.tables ready loud) has.2)
 
-pub serves_all : (frames : List (List ℕ)) (c : ℕ) (old new : FrontView) → NotSilent c old.tables → HandlesAll frames c old new → Quiet old.tables new.tables
+pub serves_all : (frames : List (List ℕ)) (c : ℕ) (old new : FrontView) → NotSilent c old.tables → HandlesAll frames c old new
+    → Quiet old.tables new.tables
 serves_all [] c old new loud is = working.same Quiet carries_quiet old new is
 serves_all (bytes ∷ frames) c old new loud has =
     let first = serves_one bytes c old has.1 loud has.2 in
@@ -78,7 +82,8 @@ between {A} a b c r d x =
     append_assoc (a ++ b) (c ++ x ∷ r) d ∙ append_assoc a b ((c ++ x ∷ r) ++ d)
     ∙ ap (λ (l : List A). a ++ (b ++ l)) (append_assoc c (x ∷ r) d) ∙ ap (λ (l : List A). a ++ l) (sym (append_assoc b c (x ∷ (r ++ d))))
 
-stands_wider : (session : ℕ) (first old new last : FrontView) → GoesOn first old → OpenStands session old new → GoesOn new last → OpenStands session first last
+stands_wider : (session : ℕ) (first old new last : FrontView) → GoesOn first old → OpenStands session old new
+    → GoesOn new last → OpenStands session first last
 stands_wider session first old new last before stands behind log waiting is =
     let one = before log waiting is in
     let two = stands (log ++ one.0) one.1 one.2 in
@@ -92,7 +97,8 @@ stands_wider session first old new last before stands behind log waiting is =
       subst (λ l. IsLog last l three.1) (between log one.0 two.0 two.3 three.0 call) three.2,
     )
 
-pub gains_wider : (session : ℕ) (greeting : ConnectRequest) (own password : List ℕ) (first old new last : FrontView) → GoesOn first old → GoesOn new last
+pub gains_wider : (session : ℕ) (greeting : ConnectRequest) (own password : List ℕ) (first old new last : FrontView)
+    → GoesOn first old → GoesOn new last
     → Gains session greeting own password old new → Gains session greeting own password first last
 gains_wider session greeting own password first old new last before behind (inl opens) =
     inl (opens.0, opens.1, stands_wider session first old new last before opens.2 behind)
@@ -171,26 +177,32 @@ first_in (Some (Silent own)) frames frame c old ready middle new step calm is fr
 first_in (Some (Speaking session)) frames frame c old ready middle new step calm is free sound has more sound_new =
     let loud = is_silent c ready.tables (Some (Speaking session)) is (λ password no_one. cc) in
     let next = working.serves Quiet carries_quiet frame session c ready middle has in
-    behind frames frame c old middle new (carries_quiet.both old.tables ready.tables middle.tables calm next) (stays_loud c ready.tables middle.tables next loud) more
+    behind frames frame c old middle new (carries_quiet.both old.tables ready.tables middle.tables calm next)
+    (stays_loud c ready.tables middle.tables next loud) more
 first_in (Some Closing) frames frame c old ready middle new step calm is free sound has more sound_new =
     let loud = is_silent c ready.tables (Some Closing) is (λ password no_one. cc) in
     let next = working.same Quiet carries_quiet ready middle has in
-    behind frames frame c old middle new (carries_quiet.both old.tables ready.tables middle.tables calm next) (stays_loud c ready.tables middle.tables next loud) more
+    behind frames frame c old middle new (carries_quiet.both old.tables ready.tables middle.tables calm next)
+    (stays_loud c ready.tables middle.tables next loud) more
 first_in None frames frame c old ready middle new step calm is free sound has more sound_new =
     let loud = is_silent c ready.tables None is (λ password no_one. cc) in
     let next = working.same Quiet carries_quiet ready middle has in
-    behind frames frame c old middle new (carries_quiet.both old.tables ready.tables middle.tables calm next) (stays_loud c ready.tables middle.tables next loud) more
+    behind frames frame c old middle new (carries_quiet.both old.tables ready.tables middle.tables calm next)
+    (stays_loud c ready.tables middle.tables next loud) more
 
 first_unless : (late : Bool) (frames : List (List ℕ)) (frame : List ℕ) (c : ℕ) (old ready middle new : FrontView) → (late ≡ false → ready.late ≡ None)
-    → Step old ready → Quiet old.tables ready.tables → Sound ready → HandlesUnless late frame c ready middle → HandlesAll frames c middle new → Sound new
+    → Step old ready → Quiet old.tables ready.tables → Sound ready → HandlesUnless late frame c ready middle
+    → HandlesAll frames c middle new → Sound new
     → FramesGive (frame ∷ frames) c old new
 first_unless true frames frame c old ready middle new free step calm sound is more sound_new =
     behind frames frame c old middle new (carries_quiet.both old.tables ready.tables middle.tables calm (closes_by c ready middle is))
-    (subst (λ (v : FrontView). NotSilent c v.tables) (sym is) (λ password. shut_silent (closed c ready.tables) c password (shuts c ready.tables))) more
+    (subst (λ (v : FrontView). NotSilent c v.tables) (sym is) (λ password. shut_silent (closed c ready.tables) c password
+    (shuts c ready.tables))) more
 first_unless false frames frame c old ready middle new free step calm sound has more sound_new =
     first_in (phase_of ready.tables.streams c) frames frame c old ready middle new step calm refl (free refl) sound has more sound_new
 
-pub frames_give : (frames : List (List ℕ)) (c : ℕ) (old new : FrontView) → Sound old → Sound new → HandlesAll frames c old new → FramesGive frames c old new
+pub frames_give : (frames : List (List ℕ)) (c : ℕ) (old new : FrontView) → Sound old → Sound new → HandlesAll frames c old new
+    → FramesGive frames c old new
 frames_give [] c old new sound sound_new is = inl (working.same Quiet carries_quiet old new is, inl (refl, is))
 frames_give (frame ∷ frames) c old new sound sound_new has =
     let step = calls.is_ready old has.2.0 has.2.1 in

@@ -1,5 +1,6 @@
 -- What the bytes that come on a connection give it.
-use Rattle.std.proofs.Common.{◌≡◌, ◌≢◌, ◌⊎◌, inl, inr, ◌∙◌, ℕ, Bool, true, false, List, [], ◌∷◌, ◌++◌, Option, None, Some, refl, sym, ap, subst, arith, ◌≤◌}
+use Rattle.std.proofs.Common.{◌≡◌, ◌≢◌, ◌⊎◌, inl, inr, ◌∙◌, ℕ, Bool, true, false, List, [], ◌∷◌, ◌++◌, Option, None}
+use Rattle.std.proofs.Common.{Some, refl, sym, ap, subst, arith, ◌≤◌}
 use Rattle.std.proofs.lemmas.Bool.{eq-eqb, ne_eqb}
 use Rattle.std.specs.FinMap.{get}
 use Rattle.std.specs.Option.{option_map}
@@ -152,7 +153,8 @@ module _ (c : ℕ) (bytes rest : List ℕ) (old middle new : FrontView) (few : K
       })
 
   -- where no frame was whole, all that came is kept
-  all_kept : (frames : List (List ℕ)) → frames ≡ [] → Cuts (bytes_of old.tables.streams c ++ bytes) frames rest → bytes_of old.tables.streams c ++ bytes ≡ rest
+  all_kept : (frames : List (List ℕ)) → frames ≡ [] → Cuts (bytes_of old.tables.streams c ++ bytes) frames rest
+      → bytes_of old.tables.streams c ++ bytes ≡ rest
   all_kept [] none cut = cut
   all_kept (frame ∷ frames) none cut = absurd (cc none)
 
@@ -161,7 +163,8 @@ module _ (c : ℕ) (bytes rest : List ℕ) (old middle new : FrontView) (few : K
       → (phase_of old.tables.streams c ≡ Some (Silent own) → since ≡ Some (record { password = own; bytes = bytes_of old.tables.streams c }))
       → option_map (λ (s : Since). record s { bytes = s.bytes ++ bytes }) since ≡ Some (record { password = own; bytes = rest })
   silent_in calm (inl nothing) own since silent before =
-      let was = phase_kept old.tables.streams c [] (Silent own) (was_in v.tables.streams middle.tables.streams c (Silent own) (calm.streams c) (silent_on own) silent) in
+      let was = phase_kept old.tables.streams c [] (Silent own) (was_in v.tables.streams middle.tables.streams c
+      (Silent own) (calm.streams c) (silent_on own) silent) in
       ap (option_map (λ (s : Since). record s { bytes = s.bytes ++ bytes })) (before was)
       ∙ ap (λ b. Some (record { password = own; bytes = b })) (all_kept reads.frames nothing.0 reads.cuts)
   silent_in calm (inr loud) own since silent before = absurd (loud own silent)
@@ -186,9 +189,11 @@ module _ (c : ℕ) (bytes rest : List ℕ) (old middle new : FrontView) (few : K
   silent_so d own since (inl same) silent before =
       let here : phase_of new.tables.streams c ≡ Some (Silent own) = ap (phase_of new.tables.streams) (sym same) ∙ silent in
       let kept = rests.here (Silent own) (silent_on own) here in
-      let was = subst (λ e. phase_of old.tables.streams e ≡ Some (Silent own) → since ≡ Some (record { password = own; bytes = bytes_of old.tables.streams e })) same before in
+      let was = subst (λ e. phase_of old.tables.streams e ≡ Some (Silent own)
+      → since ≡ Some (record { password = own; bytes = bytes_of old.tables.streams e })) same before in
       rw (eq-eqb c d (sym same))
-      (silent_by gives own since kept.0 was ∙ ap (λ b. Some (record { password = own; bytes = b })) (sym kept.1 ∙ ap (bytes_of new.tables.streams) (sym same)))
+      (silent_by gives own since kept.0 was ∙ ap (λ b. Some (record { password = own; bytes = b })) (sym kept.1
+      ∙ ap (bytes_of new.tables.streams) (sym same)))
   silent_so d own since (inr away) silent before = away_silent c d bytes own since old new away (stays d away) silent before
 
   pub frames_gives : Gives (Came c bytes) old new
@@ -198,7 +203,8 @@ module _ (c : ℕ) (bytes rest : List ℕ) (old middle new : FrontView) (few : K
   }
 
 -- few bytes are kept, so the rest is
-pub keeps_now : (rest : List ℕ) (c : ℕ) (old middle new : FrontView) → KeepsFew old → Step (emptied c old) middle → Keeps rest c middle new → new ≡ keeps rest c middle
+pub keeps_now : (rest : List ℕ) (c : ℕ) (old middle new : FrontView) → KeepsFew old → Step (emptied c old) middle
+    → Keeps rest c middle new → new ≡ keeps rest c middle
 keeps_now rest c old middle new few went keep =
     let little : held_of (emptied c old).tables.streams ≤ MAX_KEPT = emptied_few c old few in
     keep (omega (arith, little, went.few))

@@ -1,9 +1,11 @@
 -- How many bytes the streams hold, where one of them is changed.
-use Rattle.std.proofs.Common.{◌≡◌, ◌∙◌, ℕ, ◌+◌, ◌≤◌, Bool, true, false, cond, T, List, [], ◌∷◌, length, Option, None, Some, refl, sym, ap, subst, arith}
+use Rattle.std.proofs.Common.{◌≡◌, ◌∙◌, ℕ, ◌+◌, ◌≤◌, Bool, true, false, cond, T, List, [], ◌∷◌, length, Option, None}
+use Rattle.std.proofs.Common.{Some, refl, sym, ap, subst, arith}
 use Rattle.std.specs.declared.cmp.Ordering.{Ordering}
 use Rattle.std.specs.declared.cmp.Ordering.TheVariants.{Less, Equal, Greater}
 use Rattle.std.specs.Cmp.{nat_cmp_total}
-use Rattle.std.specs.FinMap.{entries, entries_sorted, entries-insert, empty, get, get-entries, insert, len-empty, len-entries, remove, nat_cmp-IsAntisymmetric}
+use Rattle.std.specs.FinMap.{entries, entries_sorted, entries-insert, empty, get, get-entries, insert, len-empty}
+use Rattle.std.specs.FinMap.{len-entries, remove, nat_cmp-IsAntisymmetric}
 use Rattle.std.specs.FinMap.Entries.{by_order, find, is_sorted, put, where_key}
 use Rattle.std.specs.Map.{values_of}
 use Rattle.std.specs.Option.{option_map_or}
@@ -39,7 +41,8 @@ placed : (k : ℕ) (v s : StreamView) (es : Rows) → T (is_sorted nat_cmp es) �
     → size_of_all (put nat_cmp k v es) + size_of s ≡ size_of_all es + size_of v
 placed k v s [] sorted found = absurd (cc found)
 placed k v s (e ∷ es) sorted found =
-    placed_by (nat_cmp k e.0) k v s e es (λ less. find_below nat_cmp nat_cmp_total k e.0 es less ((both_parts _ _ sorted).0)) (placed k v s es ((both_parts _ _ sorted).1)) found
+    placed_by (nat_cmp k e.0) k v s e es (λ less. find_below nat_cmp nat_cmp_total k e.0 es less ((both_parts _ _ sorted).0))
+    (placed k v s es ((both_parts _ _ sorted).1)) found
 
 -- an entry that is new
 new_by : (r : Ordering) (k : ℕ) (v : StreamView) (e : ℕ × StreamView) (es : Rows)

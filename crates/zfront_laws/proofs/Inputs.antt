@@ -101,7 +101,10 @@ InputGoes input old new = GoesOn old new × KeepsFew new × Seats old new × Tak
 pub goes_with_few : (input : run.Input) (old new : FrontView) → KeepsFew old → Does input old new → InputGoes input old new
 goes_with_few (run.Opened c password) old new few is =
     let t = record old.tables { streams = finite.insert old.tables.streams c (streams.opened password) } in
-    with_few old new few (retabled t old new is (none_more _ _ (held-insert old.tables.streams c (streams.opened password)), opens_kept c password old.tables))
+    with_few old new few (retabled t old new is (
+      none_more _ _ (held-insert old.tables.streams c (streams.opened password)),
+      opens_kept c password old.tables,
+    ))
 goes_with_few (run.Came c bytes) old new few has = comes bytes c old new few has
 goes_with_few (run.Ended c) old new few is =
     with_few old new few (retabled (tables.ended c old.tables) old new is (held-remove old.tables.streams c, ends_kept c old.tables))

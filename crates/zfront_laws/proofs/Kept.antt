@@ -21,7 +21,8 @@ use Rattle.zsittings.proofs.Changed.{each_rests}
 use Rattle.ztables.specs.Tables.{TablesView, is_open, session_in, without_seat, closing, closed, ended, connection_of, moved, taken_up}
 use Rattle.ztables.specs.Sweeping.{owner_in, made_by, made_by_parts, noted, swept}
 use Rattle.zfront_laws.specs.Seats.{IsSeated}
-use Rattle.zfront_laws.proofs.Seated.{Has, connection_in, same_number, phase_elsewhere, phase_here, seat_elsewhere, seat_here, closes, ends, moves, sweeps, takes_up}
+use Rattle.zfront_laws.proofs.Seated.{Has, connection_in, same_number, phase_elsewhere, phase_here, seat_elsewhere}
+use Rattle.zfront_laws.proofs.Seated.{seat_here, closes, ends, moves, sweeps, takes_up}
 
 abbrev pub Kept : TablesView → TablesView → Type 0
 Kept old new = (IsSeated old → IsSeated new) × ((id : ℕ) → Has new.sittings id → Has old.sittings id)
@@ -95,12 +96,15 @@ takes_up_kept session c given t is = (
 pub bytes_kept : (c : ℕ) (bytes : List ℕ) (t : TablesView) → Kept t (record t { streams = with_bytes t.streams c bytes })
 bytes_kept c bytes t = (λ seated d session speaks. seated d session (spoke d session speaks), λ id has. has)
   where
-    here : (d session : ℕ) → d ≡ c → phase_of (with_bytes t.streams c bytes) d ≡ Some (Speaking session) → phase_of t.streams d ≡ Some (Speaking session)
+    here : (d session : ℕ) → d ≡ c → phase_of (with_bytes t.streams c bytes) d ≡ Some (Speaking session)
+        → phase_of t.streams d ≡ Some (Speaking session)
     here d session same has =
-        let row = phase_here (λ s. record s { bytes = bytes }) t.streams c (Speaking session) (ap (phase_of (with_bytes t.streams c bytes)) (sym same) ∙ has) in
+        let row = phase_here (λ s. record s { bytes = bytes }) t.streams c (Speaking session)
+        (ap (phase_of (with_bytes t.streams c bytes)) (sym same) ∙ has) in
         ap (phase_of t.streams) same ∙ ap (option_map (λ (s : StreamView). s.phase)) row.1 ∙ ap (λ p. Some p) row.2
 
-    near : (d session : ℕ) → (d ≡ c) ⊎ (d ≢ c) → phase_of (with_bytes t.streams c bytes) d ≡ Some (Speaking session) → phase_of t.streams d ≡ Some (Speaking session)
+    near : (d session : ℕ) → (d ≡ c) ⊎ (d ≢ c) → phase_of (with_bytes t.streams c bytes) d ≡ Some (Speaking session)
+        → phase_of t.streams d ≡ Some (Speaking session)
     near d session (inl same) has = here d session same has
     near d session (inr other) has = sym (phase_elsewhere (λ s. record s { bytes = bytes }) t.streams c d other) ∙ has
 
@@ -113,14 +117,16 @@ silent_phase password session is = cc
 pub opens_kept : (c : ℕ) (password : List ℕ) (t : TablesView) → Kept t (record t { streams = insert t.streams c (opened password) })
 opens_kept c password t = (λ seated d session speaks. seated d session (near d session (same_number d c) speaks), λ id has. has)
   where
-    near : (d session : ℕ) → (d ≡ c) ⊎ (d ≢ c) → phase_of (insert t.streams c (opened password)) d ≡ Some (Speaking session) → phase_of t.streams d ≡ Some (Speaking session)
+    near : (d session : ℕ) → (d ≡ c) ⊎ (d ≢ c) → phase_of (insert t.streams c (opened password)) d ≡ Some (Speaking session)
+        → phase_of t.streams d ≡ Some (Speaking session)
     near d session (inl same) has =
         absurd (silent_phase password session (
         sym (ap (option_map (λ (s : StreamView). s.phase)) (get-insert-here nat_cmp_total nat_cmp-IsAntisymmetric t.streams c (opened password)))
         ∙ ap (phase_of (insert t.streams c (opened password))) (sym same) ∙ has
         ))
     near d session (inr other) has =
-        sym (ap (option_map (λ (s : StreamView). s.phase)) (get-insert-elsewhere nat_cmp_total nat_cmp-IsAntisymmetric t.streams c (opened password) d other)) ∙ has
+        sym (ap (option_map (λ (s : StreamView). s.phase)) (get-insert-elsewhere nat_cmp_total nat_cmp-IsAntisymmetric
+        t.streams c (opened password) d other)) ∙ has
 
 -- sittings with the same connections
 abbrev pub Alike : SittingsView → SittingsView → Type 0
@@ -129,7 +135,8 @@ Alike m n = ((id : ℕ) → connection_of n id ≡ connection_of m id) × ((id :
 alike_kept : (t : TablesView) (m : SittingsView) → Alike t.sittings m → Kept t (record t { sittings = m })
 alike_kept t m alike = (λ seated d session speaks. alike.0 session ∙ seated d session speaks, alike.1)
 
-pub changed_alike : (to : Sitting → Sitting) → ((s : Sitting) → (to s).connection ≡ s.connection) → (m : SittingsView) (key : ℕ) → Alike m (with_changed to m key)
+pub changed_alike : (to : Sitting → Sitting) → ((s : Sitting) → (to s).connection ≡ s.connection) → (m : SittingsView) (key : ℕ)
+    → Alike m (with_changed to m key)
 changed_alike to keeps m key = (λ id. near id (same_number id key), changed_ids to m key)
   where
     there : (o : Option Sitting) → get m key ≡ o → connection_of (with_changed to m key) key ≡ connection_of m key
@@ -155,7 +162,8 @@ made_alike l m = elim (owner_in l) as (λ o. Alike m (option_map_or (λ session.
 parts_alike : (parts : List Part) (m : SittingsView) → Alike m (made_by_parts parts m)
 parts_alike [] m = (λ id. refl, λ id has. has)
 parts_alike (part.Create create ∷ parts) m =
-    both_alike m (made_by create.kind.lifetime m) (made_by_parts parts (made_by create.kind.lifetime m)) (made_alike create.kind.lifetime m) (parts_alike parts (made_by create.kind.lifetime m))
+    both_alike m (made_by create.kind.lifetime m) (made_by_parts parts (made_by create.kind.lifetime m))
+    (made_alike create.kind.lifetime m) (parts_alike parts (made_by create.kind.lifetime m))
 parts_alike (other ∷ parts) m = parts_alike parts m
 
 pub noted_alike : (update : Update) (told : Reply) (m : SittingsView) → Alike m (noted update told m)

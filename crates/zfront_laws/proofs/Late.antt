@@ -22,7 +22,8 @@ Outcome old new log waiting call =
     × IsLog new (log ++ (call, reply) ∷ []) None)
 
 late_by : (told : Option Reply) (old new : FrontView) (log : Log) (waiting : Option Call) (call : Call) (asker : AloneView) → IsLog old log waiting
-    → old.late ≡ Some call → TellsSettled old.asker asker told → new ≡ heard call told (record old { asker = asker }) → Outcome old new log waiting call
+    → old.late ≡ Some call → TellsSettled old.asker asker told → new ≡ heard call told (record old { asker = asker })
+    → Outcome old new log waiting call
 late_by None old new log waiting call asker has late tells is =
     inl (subst (λ (v : FrontView). IsLog v log waiting) (sym is) (record { told = tells log waiting has.told; late = has.late }))
 late_by (Some reply) old new log None call asker has late tells is = absurd (tells log None has.told)

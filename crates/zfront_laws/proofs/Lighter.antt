@@ -105,7 +105,8 @@ absorbs_all (call ∷ calls) (reply ∷ replies) t =
 -- an answer
 pub replies_to : (known : KnownView) (c : ℕ) (xid : ℤ) (answer : Answer) (t : TablesView) → Lighter t (replied known c xid answer t)
 replies_to known c xid answer t =
-    elim (ends_connection answer.code) as (λ b. Lighter t (if b then closed c (sent c (answer_frame known xid answer) t) else sent c (answer_frame known xid answer) t)) [
+    elim (ends_connection answer.code) as (λ b. Lighter t (if b then closed c (sent c (answer_frame known xid answer) t)
+    else sent c (answer_frame known xid answer) t)) [
       | true ↦ says c (answer_frame known xid answer) t
       | false ↦ sends c (answer_frame known xid answer) t
     ]
@@ -135,7 +136,11 @@ takes_up session c password t is =
 welcomes : (tick : ℕ) (greeting : ConnectRequest) (session ticks : ℕ) (password : List ℕ) (c : ℕ) (t : TablesView)
     → held_of (welcomed tick greeting session ticks password c t).streams ≤ held_of t.streams
 welcomes tick greeting session ticks password c t =
-    omega (arith, phase_lighter t.streams c (Speaking session), (sends c (response_frame greeting (millis_told tick ticks) (long_of session) password) (sitting session password c t)).0)
+    omega (
+      arith,
+      phase_lighter t.streams c (Speaking session),
+      (sends c (response_frame greeting (millis_told tick ticks) (long_of session) password) (sitting session password c t)).0,
+    )
 
 turns_away : (greeting : ConnectRequest) (c : ℕ) (t : TablesView) → Lighter t (turned_away greeting c t)
 turns_away greeting c t = says c _ t
@@ -153,7 +158,8 @@ comes_back greeting session timeout c t = by (passes t.sittings session (given g
 pub returns : (tick : ℕ) (known : KnownView) (greeting : ConnectRequest) (id : ℤ) (c : ℕ) (t : TablesView)
     → Lighter t (returned tick known greeting id c t)
 returns tick known greeting (pos session) c t =
-    elim (finite.get known.sessions session) as (λ o. Lighter t (option_map_or (λ s. came_back greeting session (millis_told tick s.timeout) c t) o (turned_away greeting c t))) [
+    elim (finite.get known.sessions session) as
+    (λ o. Lighter t (option_map_or (λ s. came_back greeting session (millis_told tick s.timeout) c t) o (turned_away greeting c t))) [
       | None ↦ turns_away greeting c t
       | Some s ↦ comes_back greeting session (millis_told tick s.timeout) c t
     ]

@@ -49,13 +49,15 @@ use Rattle.zfront_laws.proofs.Steps.{Fine, none_late, seats_kept, seats_on}
 
 -- ---- frames
 
-handles_in : (phase : Option Phase) (bytes : List ℕ) (c : ℕ) (old new : FrontView) → old.late ≡ None → HandlesIn phase bytes c old new → LivesOn old new
+handles_in : (phase : Option Phase) (bytes : List ℕ) (c : ℕ) (old new : FrontView) → old.late ≡ None → HandlesIn phase bytes c old new
+    → LivesOn old new
 handles_in (Some (Silent password)) bytes c old new free has = greets_by (whole connect_request bytes) password c old new free has
 handles_in (Some (Speaking session)) bytes c old new free has = requests (whole request bytes) session c old new free has
 handles_in (Some Closing) bytes c old new free is = same old new is
 handles_in None bytes c old new free is = same old new is
 
-handles_unless : (late : Bool) (bytes : List ℕ) (c : ℕ) (old new : FrontView) → (late ≡ false → old.late ≡ None) → HandlesUnless late bytes c old new → LivesOn old new
+handles_unless : (late : Bool) (bytes : List ℕ) (c : ℕ) (old new : FrontView) → (late ≡ false → old.late ≡ None)
+    → HandlesUnless late bytes c old new → LivesOn old new
 handles_unless true bytes c old new free is = closes c old new is
 handles_unless false bytes c old new free has = handles_in (phase_of old.tables.streams c) bytes c old new (free refl) has
 
@@ -88,19 +90,23 @@ ticks_unless false old new free has = ticks_by (tick_calls (touched_ids old.tabl
 
 ticks : (old new : FrontView) → Ticks old new → LivesOn old new
 ticks old new has =
-    lives_both old has.0 new (calls.is_ready old has.0 has.1).goes (is_ready old has.0 has.1) (ticks_unless (is_some has.0.late) has.0 new (none_late has.0.late) has.2)
+    lives_both old has.0 new (calls.is_ready old has.0 has.1).goes (is_ready old has.0 has.1)
+    (ticks_unless (is_some has.0.late) has.0 new (none_late has.0.late) has.2)
 
 -- ---- lines of the operator
 
 is_given : (given : ChainOrder) (old new : FrontView) → IsGiven given old new → LivesOn old new
 is_given given old new has told waiting is alive =
     subst Alive (sym has.told) (λ none id there.
-    ap (λ (k : KnownView). contains_key k.sessions id) (same_log old.asker has.asker told waiting waiting is.told (has.tells told waiting is.told)) ∙ alive none id there)
+    ap (λ (k : KnownView). contains_key k.sessions id) (same_log old.asker has.asker told waiting waiting is.told
+    (has.tells told waiting is.told)) ∙ alive none id there)
 
-settles_alone : (answer : Option Reply) (old : FrontView) (asker : AloneView) → old.late ≡ None → TellsSettled old.asker asker answer → LivesOn old (record old { asker = asker })
+settles_alone : (answer : Option Reply) (old : FrontView) (asker : AloneView) → old.late ≡ None → TellsSettled old.asker asker answer
+    → LivesOn old (record old { asker = asker })
 settles_alone (Some reply) old asker free tells told waiting is alive none id there = absurd (tells told None (no_wait old told waiting free is))
 settles_alone None old asker free tells told waiting is alive none id there =
-    ap (λ (k : KnownView). contains_key k.sessions id) (same_log old.asker asker told waiting waiting is.told (tells told waiting is.told)) ∙ alive none id there
+    ap (λ (k : KnownView). contains_key k.sessions id) (same_log old.asker asker told waiting waiting is.told (tells told waiting is.told))
+    ∙ alive none id there
 
 settles_if : (late : Option Call) (old new : FrontView) → old.late ≡ late → SettlesIf late old new → LivesOn old new
 settles_if None old new free has = subst (LivesOn old) (sym has.4) (settles_alone has.1 old has.0 free has.3)
@@ -142,11 +148,13 @@ empties c v = retables (emptied c v).tables v (emptied c v) refl (bytes_kept c [
 keeps_lives : (rest : List ℕ) (c : ℕ) (old new : FrontView) → new ≡ keeps rest c old → LivesOn old new
 keeps_lives rest c old new is =
     let kept = keeps_rest rest c old in
-    subst (LivesOn old) (sym is) (lives_kept old (keeps rest c old) (late_kept rest c old) (ap (λ (a : AloneView). a.known.sessions) (asker_kept rest c old)) (λ id has.
+    subst (LivesOn old) (sym is) (lives_kept old (keeps rest c old) (late_kept rest c old)
+    (ap (λ (a : AloneView). a.known.sessions) (asker_kept rest c old)) (λ id has.
     let key = kept.keys id has.0 has.1 in
     (key.0, key.1)))
 
-comes_by : (word : _) (came : List ℕ) (c : ℕ) (old new : FrontView) → KeepsFew old → ComesBy word came c (emptied c old) new → LivesOn (emptied c old) new
+comes_by : (word : _) (came : List ℕ) (c : ℕ) (old new : FrontView) → KeepsFew old → ComesBy word came c (emptied c old) new
+    → LivesOn (emptied c old) new
 comes_by (Some word) came c old new few is =
     let v = emptied c old in
     retables (said word c v).tables v new is (tables.says c (text_of_word word v) v.tables).1
@@ -193,13 +201,18 @@ runs_lively (input ∷ inputs) old new all has =
 
 pub who_speaks_is_alive : WhoSpeaksIsAlive
 who_speaks_is_alive last times tree seats before first at c d session restored left stands free speaks =
-    let begun : Lively first =
-    (is_few last times tree seats first restored, (before, None, is_quiet last times tree seats first restored before left), is_fine last times tree seats first restored, is_alive last times tree seats first restored) in
+    let begun : Lively first = (
+      is_few last times tree seats first restored,
+      (before, None, is_quiet last times tree seats first restored before left),
+      is_fine last times tree seats first restored,
+      is_alive last times tree seats first restored,
+    ) in
     let old = runs_lively stands.inputs first stands.stood begun stands.ran in
     let is = old.1 in
     let v = emptied c stands.stood in
     let emptying = log.same stands.stood v refl refl is.0 is.1 is.2 in
-    let fine = seats_on stands.stood v (seats_kept stands.stood v (chain.same stands.stood v refl refl) (bytes_kept c [] stands.stood.tables)) is.0 is.1 is.2 old.2 in
+    let fine = seats_on stands.stood v (seats_kept stands.stood v (chain.same stands.stood v refl refl) (bytes_kept c [] stands.stood.tables))
+    is.0 is.1 is.2 old.2 in
     let alive = empties c stands.stood is.0 is.1 is.2 old.3 in
     let step = coming.handles_all stands.frames c v stands.middle stands.handled in
     let there = is.0 ++ emptying.0 in

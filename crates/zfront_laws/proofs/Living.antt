@@ -38,7 +38,8 @@ sweeps_away : (ids : List ℕ) (t : TablesView) (id : ℕ) → list_any (eq_by_c
 sweeps_away [] t id is has = cc
 sweeps_away (session ∷ ids) t id is has = by (λ some. sweeps_away ids (swept session t) id some has) (eq_by_cmp nat_cmp id session) refl is
   where
-    by : (list_any (eq_by_cmp nat_cmp id) ids ≡ true → ⊥) → (b : Bool) → eq_by_cmp nat_cmp id session ≡ b → b || list_any (eq_by_cmp nat_cmp id) ids ≡ true → ⊥
+    by : (list_any (eq_by_cmp nat_cmp id) ids ≡ true → ⊥) → (b : Bool) → eq_by_cmp nat_cmp id session ≡ b
+        → b || list_any (eq_by_cmp nat_cmp id) ids ≡ true → ⊥
     by later true same some =
         let kept = (tables.sweeps_all ids (swept session t)).1.1 id has in
         (get-removed nat_cmp_total nat_cmp-IsAntisymmetric (moved session t).sittings session id kept.0 kept.1).0
@@ -46,11 +47,13 @@ sweeps_away (session ∷ ids) t id is has = by (λ some. sweeps_away ids (swept 
     by later false other some = later some
 
 -- a key that passes a test is among those that do
-among : (test : ℕ → Bool) (id : ℕ) → test id ≡ true → (ids : List ℕ) → list_any (eq_by_cmp nat_cmp id) ids ≡ true → list_any (eq_by_cmp nat_cmp id) (filter test ids) ≡ true
+among : (test : ℕ → Bool) (id : ℕ) → test id ≡ true → (ids : List ℕ) → list_any (eq_by_cmp nat_cmp id) ids ≡ true
+    → list_any (eq_by_cmp nat_cmp id) (filter test ids) ≡ true
 among test id passes [] is = is
 among test id passes (first ∷ ids) is = by (among test id passes ids) (eq_by_cmp nat_cmp id first) refl (test first) refl is
   where
-    by : (list_any (eq_by_cmp nat_cmp id) ids ≡ true → list_any (eq_by_cmp nat_cmp id) (filter test ids) ≡ true) → (same : Bool) → eq_by_cmp nat_cmp id first ≡ same → (b : Bool) → test first ≡ b → same || list_any (eq_by_cmp nat_cmp id) ids ≡ true
+    by : (list_any (eq_by_cmp nat_cmp id) ids ≡ true → list_any (eq_by_cmp nat_cmp id) (filter test ids) ≡ true)
+        → (same : Bool) → eq_by_cmp nat_cmp id first ≡ same → (b : Bool) → test first ≡ b → same || list_any (eq_by_cmp nat_cmp id) ids ≡ true
         → list_any (eq_by_cmp nat_cmp id) (filter test (first ∷ ids)) ≡ true
     by later true are true taken some = rw (taken, are) refl
     by later true are false left some =
@@ -60,7 +63,8 @@ among test id passes (first ∷ ids) is = by (among test id passes ids) (eq_by_c
     by later false are false left some = rw left (later some)
 
 -- so behind a sweep each sitting is of a session of the tree
-pub swept_lives : (sessions : Sessions) (t : TablesView) (id : ℕ) → Has (swept_all (gone sessions t.sittings) t).sittings id → contains_key sessions id ≡ true
+pub swept_lives : (sessions : Sessions) (t : TablesView) (id : ℕ) → Has (swept_all (gone sessions t.sittings) t).sittings id
+    → contains_key sessions id ≡ true
 swept_lives sessions t id has = by (contains_key sessions id) refl
   where
     sat : Has t.sittings id
@@ -121,8 +125,10 @@ tidies_up took v none id has = swept_lives v.asker.known.sessions v.tables id ha
 hears_by : (answer : Option Reply) (call : Call) (old : FrontView) (asker : AloneView) → TellsSettled old.asker asker answer
     → LivesOn old (heard call answer (record old { asker = asker }))
 hears_by None call old asker tells told waiting is alive none id has =
-    ap (λ (k : KnownView). contains_key k.sessions id) (same_log old.asker asker told waiting waiting is.told (tells told waiting is.told)) ∙ alive none id has
-hears_by (Some reply) call old asker tells told waiting is alive none id has = tidies_up (takes_nodes reply) (record old { asker = asker; tables = absorbed call reply old.tables; late = None }) none id has
+    ap (λ (k : KnownView). contains_key k.sessions id) (same_log old.asker asker told waiting waiting is.told (tells told waiting is.told))
+    ∙ alive none id has
+hears_by (Some reply) call old asker tells told waiting is alive none id has = tidies_up (takes_nodes reply)
+    (record old { asker = asker; tables = absorbed call reply old.tables; late = None }) none id has
 
 pub hears_if : (late : Option Call) (old new : FrontView) → HearsIf late old new → LivesOn old new
 hears_if None old new is = same old new is
@@ -153,7 +159,8 @@ looks_by places old new free has told waiting is alive = subst Alive (sym has.to
         let before = no_wait old told waiting free is in
         let after = log.asks_with old.asker (looks_at places) middle.asker has.replies has.asks.tells told before in
         known_tree middle.asker (told ++ zip (looks_at places) has.replies) after.0 after.1
-        ∙ ap known_of (after_more opening_tree told (zip (looks_at places) has.replies) ∙ tree_looked (tree_after opening_tree (calls_of told)) places has.replies)
+        ∙ ap known_of (after_more opening_tree told (zip (looks_at places) has.replies)
+        ∙ tree_looked (tree_after opening_tree (calls_of told)) places has.replies)
         ∙ sym (known_tree old.asker told None before)
 
     lives : Alive (record middle { tables = told_all events middle.tables; must_look = is_some middle.late })
@@ -174,7 +181,8 @@ is_ready old new has =
     lives_both old has.0 new (calls.hears_if old.late old has.0 has.1).goes (hears_if old.late old has.0 has.1) (looks has.0 new has.2)
 
 -- what came before doesn't matter
-pub tidies_alive : (replies : List Reply) (old new : FrontView) → Tidies replies old new → (told : Log) (waiting : Option Call) → IsLog old told waiting → Alive new
+pub tidies_alive : (replies : List Reply) (old new : FrontView) → Tidies replies old new → (told : Log) (waiting : Option Call)
+    → IsLog old told waiting → Alive new
 tidies_alive replies old new has told waiting is =
     let took = list_any takes_nodes replies in
     let next = (calls.tidies_up took old).goes told waiting is in

@@ -9,7 +9,8 @@ use Rattle.zalone.specs.declared.made.Made.{Made}
 use Rattle.zalone.specs.Changes.{AreLeft, ChangesView, KeepsIf, Keeps, made_in}
 use Rattle.zfront.specs.Front.{FrontView}
 use Rattle.zfront.specs.Restoring.{all_taken}
-use Rattle.zfront_laws.specs.Making.{ANewServerIsRestored, EveryChangeIsMade, EveryInputMakesMore, EverySessionIsRestored, KeepsMade, MakesMore, took_at, took_in}
+use Rattle.zfront_laws.specs.Making.{ANewServerIsRestored, EveryChangeIsMade, EveryInputMakesMore}
+use Rattle.zfront_laws.specs.Making.{EverySessionIsRestored, KeepsMade, MakesMore, took_at, took_in}
 use Rattle.zfront_laws.specs.Runs.{Does, IsLog, KeepsFew, Runs}
 use Rattle.zfront_laws.specs.Runs as run
 use Rattle.zfront_laws.proofs.GoingOn.{taken}
@@ -73,7 +74,8 @@ all_made left one two took rest middle last first second =
     sym (append_assoc left one two) ∙ ap (λ made. made ++ two) first ∙ append_assoc took middle two ∙ ap (λ made. took ++ made) second
     ∙ sym (append_assoc took rest last)
 
-run_makes : (inputs : List run.Input) (old new : FrontView) → KeepsFew old → KeepsMade old → (runs : Runs inputs old new) → MakesMore (took_in inputs old new runs) old new
+run_makes : (inputs : List run.Input) (old new : FrontView) → KeepsFew old → KeepsMade old → (runs : Runs inputs old new)
+    → MakesMore (took_in inputs old new runs) old new
 run_makes [] old new few kept is log waiting has = (
   [],
   waiting,
@@ -90,7 +92,8 @@ run_makes (input ∷ inputs) old new few kept runs log waiting has =
       rest.1,
       subst (λ (l : Log). IsLog new l rest.1) (append_assoc log first.0 rest.0) rest.2,
       ap (λ made. old.asker.changes.made ++ made) (made_both first.0 rest.0)
-          ∙ all_made old.asker.changes.made (made_in first.0) (made_in rest.0) (took_at input old) (took_in inputs middle new runs.2) middle.asker.changes.made new.asker.changes.made
+          ∙ all_made old.asker.changes.made (made_in first.0) (made_in rest.0) (took_at input old) (took_in inputs middle new runs.2)
+          middle.asker.changes.made new.asker.changes.made
           first.3 rest.3,
     )
 

@@ -35,14 +35,16 @@ every_run_keeps_alike (input ∷ inputs) old new few has =
 
 -- so it is in the world in which an order is done
 keeps_as_first : (last : ℕ) (times : Clock) (tree : Tree) (seats : List Seat) (inputs : List run.Input) (first v ready : FrontView) (b : Bool)
-    → IsRestored last times tree seats first → first.asker.changes.is_kept ≡ b → Runs inputs first v → IsReady v ready → ready.asker.changes.is_kept ≡ b
+    → IsRestored last times tree seats first → first.asker.changes.is_kept ≡ b → Runs inputs first v → IsReady v ready
+    → ready.asker.changes.is_kept ≡ b
 keeps_as_first last times tree seats inputs first v ready b restored kept runs behind =
     (is_ready v ready behind).making.0.0
     ∙ every_run_keeps_alike inputs first v (is_few last times tree seats first restored) runs
     ∙ kept
 
 -- an order that is refused
-refused : (order : ChainOrder) (old new : FrontView) (given : IsGiven order old new) → GivesIf true old.asker order given.asker given.did → new ≡ told_operator (codes "no Last") old
+refused : (order : ChainOrder) (old new : FrontView) (given : IsGiven order old new) → GivesIf true old.asker order given.asker given.did
+    → new ≡ told_operator (codes "no Last") old
 refused order old new given is = given.told ∙ (λ i. told_operator (did_text (is.0 i)) (record old { asker = is.1 i }))
 
 pub no_order_takes_the_last : NoOrderTakesTheLast

@@ -48,7 +48,8 @@ row_here to rows c row is = each (get rows c) refl is
 pub row_of : (rows : StreamRows) (c : ℕ) (p : Phase) → phase_of rows c ≡ Some p → (row : StreamView) × (get rows c ≡ Some row) × (row.phase ≡ p)
 row_of rows c p is = each (get rows c) refl is
   where
-    each : (o : Option StreamView) → get rows c ≡ o → option_map (λ (s : StreamView). s.phase) o ≡ Some p → (row : StreamView) × (get rows c ≡ Some row) × (row.phase ≡ p)
+    each : (o : Option StreamView) → get rows c ≡ o → option_map (λ (s : StreamView). s.phase) o ≡ Some p
+        → (row : StreamView) × (get rows c ≡ Some row) × (row.phase ≡ p)
     each None found has = absurd (none_some p has)
     each (Some s) found has = (s, found, same_some s.phase p has)
 
@@ -73,7 +74,8 @@ closed_stays rows c d row is going = each (same_number d c)
   where
     each : (d ≡ c) ⊎ (d ≢ c) → get rows d ≡ Some row
     each (inl same) =
-        absurd (going (sym (ap (λ (s : StreamView). s.phase) (row_here (λ s. empty_in Closing) rows c row (ap (get (stream.closed rows c)) (sym same) ∙ is)).2)))
+        absurd (going (sym (ap (λ (s : StreamView). s.phase) (row_here (λ s. empty_in Closing) rows c row
+        (ap (get (stream.closed rows c)) (sym same) ∙ is)).2)))
     each (inr other) = sym (row_elsewhere (λ s. empty_in Closing) rows c d other) ∙ is
 
 -- ---- passwords
@@ -90,7 +92,8 @@ keys_both a b c one two id s is =
     let first = one id middle.0 middle.1 in
     (first.0, first.1, first.2 ∙ middle.2)
 
-pub changed_keys : (to : Sitting → Sitting) → ((s : Sitting) → (to s).password ≡ s.password) → (m : SittingsView) (key : ℕ) → Keys m (with_changed to m key)
+pub changed_keys : (to : Sitting → Sitting) → ((s : Sitting) → (to s).password ≡ s.password) → (m : SittingsView) (key : ℕ)
+    → Keys m (with_changed to m key)
 changed_keys to keeps m key id s has = each (get m key) refl has
   where
     near : (was : Sitting) → get m key ≡ Some was → ((id ≡ key) × (to was ≡ s)) ⊎ ((id ≢ key) × (get m id ≡ Some s)) → HasPassword m id s.password
@@ -114,7 +117,8 @@ made_keys l m = elim (owner_in l) as (λ o. Keys m (option_map_or (λ session. w
 parts_keys : (parts : List Part) (m : SittingsView) → Keys m (made_by_parts parts m)
 parts_keys [] m = same_keys m
 parts_keys (part.Create create ∷ parts) m =
-    keys_both m (made_by create.kind.lifetime m) (made_by_parts parts (made_by create.kind.lifetime m)) (made_keys create.kind.lifetime m) (parts_keys parts (made_by create.kind.lifetime m))
+    keys_both m (made_by create.kind.lifetime m) (made_by_parts parts (made_by create.kind.lifetime m))
+    (made_keys create.kind.lifetime m) (parts_keys parts (made_by create.kind.lifetime m))
 parts_keys (other ∷ parts) m = parts_keys parts m
 
 noted_keys : (update : Update) (told : Reply) (m : SittingsView) → Keys m (noted update told m)

@@ -39,7 +39,8 @@ log_steps : (t : Tree) (log more : Log) (call : Call) (reply : Reply)
 log_steps t [] more call reply = after_rises (tree_after t (call ∷ [])) (calls_of more)
 log_steps t (told ∷ log) more call reply = log_steps (tree_after t (told.0 ∷ [])) log more call reply
 
-pub zxid_rises : (t : Tree) (old new : FrontView) (log more : Log) (waiting later : Option Call) → IsSince t old log waiting → IsSince t new (log ++ more) later
+pub zxid_rises : (t : Tree) (old new : FrontView) (log more : Log) (waiting later : Option Call) → IsSince t old log waiting
+    → IsSince t new (log ++ more) later
     → old.asker.known.zxid ≤ new.asker.known.zxid
 zxid_rises t old new log more waiting later has after =
     let before = ap (λ (k : KnownView). k.zxid) has.told.known in
@@ -62,7 +63,8 @@ opens_by t u id timeout granted false false is =
 pub step_opens : (t : Tree) (ticks id timeout : ℕ) → (step t 0 (Open ticks)).1 ≡ Opened id timeout → id ≡ t.zxid + 1
 unfolding step
 step_opens t ticks id timeout is =
-    opens_by t (with_next_zxid (with_session t 0 (granted_timeout ticks))) id timeout (granted_timeout ticks) (is_exhausted t (Open ticks)) (nat_le MAX_SESSIONS (finite.len t.sessions)) is
+    opens_by t (with_next_zxid (with_session t 0 (granted_timeout ticks))) id timeout (granted_timeout ticks)
+    (is_exhausted t (Open ticks)) (nat_le MAX_SESSIONS (finite.len t.sessions)) is
 
 first_same : (a b : Reply) (more rest : List Reply) → a ∷ more ≡ b ∷ rest → a ≡ b
 first_same a b more rest is = cc is
@@ -72,7 +74,8 @@ rest_same a b more rest is = cc is
 
 -- the reply in its place in the log
 pub placed : (t : Tree) (log more : Log) (call : Call) (reply : Reply)
-    → replies_of (log ++ (call, reply) ∷ more) ≡ served t (calls_of (log ++ (call, reply) ∷ more)) → reply ≡ (serve (tree_after t (calls_of log)) 0 call).1
+    → replies_of (log ++ (call, reply) ∷ more) ≡ served t (calls_of (log ++ (call, reply) ∷ more))
+    → reply ≡ (serve (tree_after t (calls_of log)) 0 call).1
 placed t [] more call reply is = first_same _ _ _ _ is
 placed t (told ∷ log) more call reply is = placed (tree_after t (told.0 ∷ [])) log more call reply (rest_same _ _ _ _ is)
 

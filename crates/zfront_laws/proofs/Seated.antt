@@ -15,7 +15,8 @@ use Rattle.zsittings.specs.declared.sitting.Sitting.{Sitting}
 use Rattle.zsittings.specs.Sittings.{SittingsView, left, new_sitting, passes, with_changed}
 use Rattle.zsittings.specs.Sittings as seats
 use Rattle.zwatches.specs.Events as watches
-use Rattle.ztables.specs.Tables.{TablesView, may_send, is_open, session_in, without_seat, closing, closed, ended, sent, piece, with_piece, connection_of, moved, taken_up, sitting}
+use Rattle.ztables.specs.Tables.{TablesView, may_send, is_open, session_in, without_seat, closing, closed, ended, sent}
+use Rattle.ztables.specs.Tables.{piece, with_piece, connection_of, moved, taken_up, sitting}
 use Rattle.ztables.specs.Telling.{event_frame, sent_on, unwatched, in_order, told, told_all}
 use Rattle.ztables.specs.Sweeping.{swept, swept_all}
 use Rattle.zfront_laws.specs.Seats.{IsSeated, OneSpeaks, SeatsAreKept}
@@ -41,7 +42,8 @@ module _ (to : StreamView → StreamView) (rows : StreamRows) (c : ℕ) where
       each (Some s) found has = (
         s,
         found,
-        same_some (to s).phase q (sym (ap (option_map (λ (s : StreamView). s.phase)) (get-insert-here nat_cmp_total nat_cmp-IsAntisymmetric rows c (to s))) ∙ has),
+        same_some (to s).phase q
+            (sym (ap (option_map (λ (s : StreamView). s.phase)) (get-insert-here nat_cmp_total nat_cmp-IsAntisymmetric rows c (to s))) ∙ has),
       )
 
 never_speaks : (session : ℕ) → Closing ≡ Speaking session → ⊥
@@ -110,7 +112,8 @@ pub one_speaks : OneSpeaks
 one_speaks t c d session seated one two = same_some c d (sym (seated c session one) ∙ seated d session two)
 
 -- where one connection leaves its session, the others keep theirs
-left_seat : (c d mine session : ℕ) (t : TablesView) → IsSeated t → d ≢ c → phase_of t.streams c ≡ Some (Speaking mine) → phase_of t.streams d ≡ Some (Speaking session)
+left_seat : (c d mine session : ℕ) (t : TablesView) → IsSeated t → d ≢ c → phase_of t.streams c ≡ Some (Speaking mine)
+    → phase_of t.streams d ≡ Some (Speaking session)
     → connection_of (with_changed left t.sittings mine) session ≡ Some d
 left_seat c d mine session t seated other is speaks = each (same_number session mine)
   where
@@ -203,7 +206,8 @@ moves session t seated = elim (connection_of t.sittings session) as (λ o. IsSea
 nobody : (session : ℕ) (t : TablesView) → IsSeated t → (d : ℕ) → phase_of (moved session t).streams d ≡ Some (Speaking session) → ⊥
 nobody session t seated d speaks = each (connection_of t.sittings session) refl speaks
   where
-    each : (o : Option ℕ) → connection_of t.sittings session ≡ o → phase_of (option_map_or (λ c. closed c t) o t).streams d ≡ Some (Speaking session) → ⊥
+    each : (o : Option ℕ) → connection_of t.sittings session ≡ o → phase_of (option_map_or (λ c. closed c t) o t).streams d
+        ≡ Some (Speaking session) → ⊥
     each None is has = none_some d (sym is ∙ seated d session has)
     each (Some c) is has =
         let before = spoke c t d session has in
@@ -244,7 +248,8 @@ takes_seat session c t m here elsewhere free seated d other speaks = near (same_
         ap (connection_of m) (sym (same_session session other row.2)) ∙ here ∙ ap (λ n. Some n) (sym same)
     near (inr away) = far (sym (phase_elsewhere same_rows t.streams c d away) ∙ speaks) (same_number other session)
 
-pub takes_up : (session c : ℕ) (given : List ℕ) (t : TablesView) → passes t.sittings session given ≡ true → IsSeated t → IsSeated (taken_up session c t)
+pub takes_up : (session c : ℕ) (given : List ℕ) (t : TablesView) → passes t.sittings session given ≡ true → IsSeated t
+    → IsSeated (taken_up session c t)
 takes_up session c given t is seated =
     let u = moved session t in
     let has = moved_has session t (passes_has t.sittings session given is) in
@@ -253,11 +258,13 @@ takes_up session c given t is seated =
     (λ other apart. ap connection_in (seat_elsewhere (seats.taken_up c) u.sittings session other apart))
     (nobody session t seated) (moves session t seated)
 
-pub opens : (session c : ℕ) (password : List ℕ) (t : TablesView) → connection_of t.sittings session ≡ None → IsSeated t → IsSeated (sitting session password c t)
+pub opens : (session c : ℕ) (password : List ℕ) (t : TablesView) → connection_of t.sittings session ≡ None → IsSeated t
+    → IsSeated (sitting session password c t)
 opens session c password t none seated =
     takes_seat session c t (insert t.sittings session (new_sitting password c))
     (ap connection_in (get-insert-here nat_cmp_total nat_cmp-IsAntisymmetric t.sittings session (new_sitting password c)))
-    (λ other apart. ap connection_in (get-insert-elsewhere nat_cmp_total nat_cmp-IsAntisymmetric t.sittings session (new_sitting password c) other apart))
+    (λ other apart. ap connection_in (get-insert-elsewhere nat_cmp_total nat_cmp-IsAntisymmetric t.sittings session
+    (new_sitting password c) other apart))
     (λ d speaks. none_some d (sym none ∙ seated d session speaks)) seated
 
 pub seats_are_kept : SeatsAreKept

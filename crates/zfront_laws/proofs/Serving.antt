@@ -1,5 +1,6 @@
 -- A step at greetings and at requests.
-use Rattle.std.proofs.Common.{None, Option, Some, ◌≡◌, ◌≢◌, ◌⊎◌, inl, inr, ◌∙◌, ◌+◌, ◌≤◌, ap, sym, subst, arith, ℕ, Bool, true, false, List, [], ◌∷◌, Result, Ok, Err, refl}
+use Rattle.std.proofs.Common.{None, Option, Some, ◌≡◌, ◌≢◌, ◌⊎◌, inl, inr, ◌∙◌, ◌+◌, ◌≤◌, ap, sym, subst, arith, ℕ}
+use Rattle.std.proofs.Common.{Bool, true, false, List, [], ◌∷◌, Result, Ok, Err, refl}
 use Rattle.std.specs.Prelude.{is_some, pos}
 use Rattle.std.specs.Ordering.{int_eq}
 use Rattle.zforms.specs.Readers.{whole}
@@ -115,8 +116,10 @@ seated_by tick greeting password c bound (Opened session ticks ∷ replies) v se
 seated_by tick greeting password c bound [] v seated below more fresh = closes_fine c bound v seated below more
 seated_by tick greeting password c bound (other ∷ replies) v seated below more fresh = closes_fine c bound v seated below more
 
-opened_fine : (from : Tree) (greeting : ConnectRequest) (password : List ℕ) (c : ℕ) (old middle : FrontView) (replies : List Reply) (told : Log) (waiting : Option Call)
-    → old.late ≡ None → Asks old (opening old.clock.tick greeting ∷ []) middle replies → GoesOnSince old middle → IsSince from old told waiting → Fine old
+opened_fine : (from : Tree) (greeting : ConnectRequest) (password : List ℕ) (c : ℕ) (old middle : FrontView)
+    (replies : List Reply) (told : Log) (waiting : Option Call)
+    → old.late ≡ None → Asks old (opening old.clock.tick greeting ∷ []) middle replies → GoesOnSince old middle
+    → IsSince from old told waiting → Fine old
     → Fine (with_tables (opened middle.clock.tick greeting password c replies middle.tables) middle)
 opened_fine from greeting password c old middle replies told (Some call) free asked goes is fine =
     let clash : None ≡ Some call = sym free ∙ is.late call refl in
@@ -131,7 +134,8 @@ opened_fine from greeting password c old middle replies told None free asked goe
     new_id from old middle (ticks_asked old.clock.tick greeting.timeout) told id ticks rest is.told
     (subst (λ all. Asks old (opening old.clock.tick greeting ∷ []) middle all) are asked))
 
-opens : (greeting : ConnectRequest) (password : List ℕ) (c : ℕ) (old new : FrontView) → old.late ≡ None → Opens greeting password c old new → Step old new
+opens : (greeting : ConnectRequest) (password : List ℕ) (c : ℕ) (old new : FrontView) → old.late ≡ None
+    → Opens greeting password c old new → Step old new
 opens greeting password c old new free has =
     let middle = has.0 in
     let first = asks old (opening old.clock.tick greeting ∷ []) middle has.1 free has.2 in

@@ -1,5 +1,6 @@
 -- The log since a chain began goes on, whatever tree it began with. So the whole log does.
-use Rattle.std.proofs.Common.{◌≡◌, ◌∙◌, Bool, true, false, List, [], ◌∷◌, ◌++◌, length, drop, Option, None, Some, inl, inr, refl, sym, ap, subst, append_assoc}
+use Rattle.std.proofs.Common.{◌≡◌, ◌∙◌, Bool, true, false, List, [], ◌∷◌, ◌++◌, length, drop, Option, None, Some, inl}
+use Rattle.std.proofs.Common.{inr, refl, sym, ap, subst, append_assoc}
 use Rattle.std.proofs.lemmas.List.{append-nil}
 use Rattle.std.specs.List.{slice_get}
 use Rattle.std.specs.Prelude.{zip}
@@ -79,7 +80,8 @@ both old middle new one two t log waiting has =
     (first.0 ++ second.0, second.1, subst (λ l. IsSince t new l second.1) (append_assoc log first.0 second.0) second.2)
 
 -- calls are made while none is late: those that were answered stand in the log with their replies
-stopped : (t : Tree) (new : FrontView) (log : Log) (calls : List Call) → ((call : Call) (rest : List Call) → calls ≡ call ∷ rest → new.late ≡ Some call)
+stopped : (t : Tree) (new : FrontView) (log : Log) (calls : List Call)
+    → ((call : Call) (rest : List Call) → calls ≡ call ∷ rest → new.late ≡ Some call)
     → StopsBefore (HasToldFrom t new.asker) log calls → (later : Option Call) × IsSince t new log later
 stopped t new log [] late has = (None, quiet t new log has)
 stopped t new log (call ∷ calls) late (inl has) = (Some call, record { told = has; late = λ c is. late call calls refl ∙ is })
@@ -116,7 +118,8 @@ settled t old new log waiting None kept has goes =
 settled t old new log None (Some reply) kept has goes = absurd goes
 settled t old new log (Some call) (Some reply) kept has goes = ((call, reply) ∷ [], None, quiet t new (log ++ (call, reply) ∷ []) goes)
 
-pub settles : (old new : FrontView) (told : Option Reply) → (told ≡ None → new.late ≡ old.late) → Settles old.asker new.asker told → GoesOnSince old new
+pub settles : (old new : FrontView) (told : Option Reply) → (told ≡ None → new.late ≡ old.late) → Settles old.asker new.asker told
+    → GoesOnSince old new
 settles old new told kept has t log waiting is =
     settled t old new log waiting told kept is (settles_tell t old.asker new.asker told has log waiting is.told)
 
@@ -126,7 +129,8 @@ given : (t : Tree) (refused : Bool) (old new : AloneView) (order : ChainOrder) (
 given t true old new order did has same log waiting told = subst (λ v. HasToldFrom t v log waiting) (sym has.1) told
 given t false old new order did has same log waiting told = orders_tell t old new order did has.0 same log waiting told
 
-pub ordered : (old new : FrontView) (order : ChainOrder) (did : Did) → new.late ≡ old.late → Gives old.asker order new.asker did → SameCall old.asker new.asker
+pub ordered : (old new : FrontView) (order : ChainOrder) (did : Did) → new.late ≡ old.late → Gives old.asker order new.asker did
+    → SameCall old.asker new.asker
     → GoesOnSince old new
 ordered old new order did kept has same t log waiting is =
     stays t new log waiting (record {

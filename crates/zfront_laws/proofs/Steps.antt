@@ -71,7 +71,8 @@ both old middle new one two = record {
 }
 
 -- what a server became
-pub becomes : (old new like : FrontView) → new ≡ like → GoesOnSince old like → SameTaking old.asker like.asker → Lighter old.tables like.tables → Step old new
+pub becomes : (old new like : FrontView) → new ≡ like → GoesOnSince old like → SameTaking old.asker like.asker
+    → Lighter old.tables like.tables → Step old new
 becomes old new like is goes taking light = subst (λ (v : FrontView). Step old v) (sym is) (steps old like goes taking light)
 
 -- nothing is made, and nothing taken

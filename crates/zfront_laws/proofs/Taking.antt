@@ -31,11 +31,13 @@ waits old new told has =
     let same = heard_keeps old.changes new.world.history in
     (ap (λ (c : ChangesView). c.is_kept) has.made ∙ same.0, ap (λ (c : ChangesView). c.taken) has.made ∙ same.1)
 
-goes_on_if : (idle : Bool) (old : AloneView) (began : WorldView) (new : AloneView) (told : Option Reply) → GoesOnIf idle old began new told → SameTaking old new
+goes_on_if : (idle : Bool) (old : AloneView) (began : WorldView) (new : AloneView) (told : Option Reply)
+    → GoesOnIf idle old began new told → SameTaking old new
 goes_on_if true old began new told has = same_taking old new has.2.made
 goes_on_if false old began new told has = waits (record old { world = began }) new told has
 
-asks_if : (waiting : Bool) (old : AloneView) (call : Call) (new : AloneView) (told : Option Reply) → AsksIf waiting old call new told → SameTaking old new
+asks_if : (waiting : Bool) (old : AloneView) (call : Call) (new : AloneView) (told : Option Reply) → AsksIf waiting old call new told
+    → SameTaking old new
 asks_if true old call new told has = same_asker old new has.1
 asks_if false old call new told has = goes_on_if (is_idle has.0) old has.1 new told has.3
 

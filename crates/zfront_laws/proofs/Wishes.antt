@@ -43,7 +43,8 @@ module _ {W : Type 0} (one : W → TablesView → TablesView) (all : List W → 
 -- what is so where nothing is done, of one thing behind another, where a watch waits and where an
 -- event is told: so it is of all wishes of a request
 module _ (Is : TablesView → TablesView → Type 0) (same : (t : TablesView) → Is t t) (both : (t u w : TablesView) → Is t u → Is u w → Is t w) (c : ℕ)
-    (waits : (kind : Kind) (path : Path) (t : TablesView) → Is t (waiting c kind path t)) (tells : (e : Event) (t : TablesView) → Is t (sent c (event_frame e) t)) where
+    (waits : (kind : Kind) (path : Path) (t : TablesView) → Is t (waiting c kind path t)) (tells : (e : Event) (t : TablesView)
+    → Is t (sent c (event_frame e) t)) where
   behind : {W : Type 0} (one : W → TablesView → TablesView) (all : List W → TablesView → TablesView) → ((t : TablesView) → all [] t ≡ t)
       → ((w : W) (ws : List W) (t : TablesView) → all (w ∷ ws) t ≡ all ws (one w t)) → (xs ys : List W) (t : TablesView) → Is t (all xs t)
       → ((u : TablesView) → Is u (all ys u)) → Is t (all (xs ++ ys) t)
@@ -138,4 +139,6 @@ module _ (R : TablesView → TablesView → Type 0) (carry : Carries R) where
       let granting = granted_all c wanted absorbing in
       let answer = answer_unless (some_lacked c wanted absorbing) clock known request.asked calls replies in
       carry.both t absorbing (replied known c request.xid answer granting) (absorbs_all R carry calls replies t)
-      (carry.both absorbing granting (replied known c request.xid answer granting) (wished R carry.none carry.both c (waits c) (λ e u. sends R carry c (event_frame e) u) request.asked calls replies absorbing) (replies_to R carry known c request.xid answer granting))
+      (carry.both absorbing granting (replied known c request.xid answer granting)
+      (wished R carry.none carry.both c (waits c) (λ e u. sends R carry c (event_frame e) u) request.asked calls replies absorbing)
+      (replies_to R carry known c request.xid answer granting))

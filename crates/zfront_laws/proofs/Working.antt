@@ -69,7 +69,8 @@ module _ (R : TablesView → TablesView → Type 0) (carry : Carries R) where
   looks_by places calls old new has =
       let events = seen has.middle.asker.known.zxid places has.replies in
       joins old has.middle new (asks old calls has.middle has.replies has.asks)
-      (becomes has.middle (record has.middle { tables = told_all events has.middle.tables; must_look = is_some has.middle.late }) new has.told (tells_all R carry events has.middle.tables))
+      (becomes has.middle (record has.middle { tables = told_all events has.middle.tables; must_look = is_some has.middle.late })
+      new has.told (tells_all R carry events has.middle.tables))
 
   looks_if : (must : Bool) (old new : FrontView) → LooksIf must old new → From R old new
   looks_if false old new is = same old new is
@@ -92,7 +93,8 @@ module _ (R : TablesView → TablesView → Type 0) (carry : Carries R) where
   ends_if true c asked calls replies old new is = becomes old (with_tables (closed c old.tables) old) new is (carry.closes c old.tables)
   ends_if false c asked calls replies old new has =
       let t = answered old.clock old.asker.known c asked calls replies old.tables in
-      joins old (with_tables t old) new (answers R carry old.clock old.asker.known c asked calls replies old.tables) (tidies replies (with_tables t old) new has)
+      joins old (with_tables t old) new (answers R carry old.clock old.asker.known c asked calls replies old.tables)
+      (tidies replies (with_tables t old) new has)
 
   acts : (meaning : Meaning (List Call)) (c : ℕ) (asked : Request) (old new : FrontView) → Acts meaning c asked old new → From R old new
   acts (Err (Refused code)) c asked old new is =

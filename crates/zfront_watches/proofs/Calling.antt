@@ -1,7 +1,8 @@
 -- A server at a scene: where it makes calls, where sessions are swept, and where it looks.
 use Rattle.zjute.specs.declared.event.EventKind.TheVariants.{NodeDeleted}
 use Rattle.zfront_watches.proofs.Changing.{fired_at_path, gone_changed, tells_of}
-use Rattle.std.proofs.Common.{◌≡◌, ◌∙◌, ◌≤◌, ℕ, zero, suc, Bool, true, false, List, [], ◌∷◌, ◌++◌, length, Option, Some, None, refl, sym, ap, subst, inl, inr, arith}
+use Rattle.std.proofs.Common.{◌≡◌, ◌∙◌, ◌≤◌, ℕ, zero, suc, Bool, true, false, List, [], ◌∷◌, ◌++◌, length, Option, Some}
+use Rattle.std.proofs.Common.{None, refl, sym, ap, subst, inl, inr, arith}
 use Rattle.std.specs.Prelude.{◌⊎◌, ◌||◌, ◌&&◌, map, zip, is_some, is_none}
 use Rattle.std.specs.List.{slice_get, AllByRecursion}
 use Rattle.std.specs.FinMap as finite
@@ -72,11 +73,13 @@ pub record Queried (must : Bool) (new : FrontView) (s : Scene) (calls : List Cal
   pub there : AtIf must new (logged s (zip calls replies))
   pub are : AreOf (tree_of s) calls replies
 
-pub queries : RepliesAreTheTrees → (must : Bool) (old : FrontView) (calls : List Call) (new : FrontView) (replies : List Reply) (s : Scene) → AreQueries calls
+pub queries : RepliesAreTheTrees → (must : Bool) (old : FrontView) (calls : List Call) (new : FrontView) (replies : List Reply) (s : Scene)
+    → AreQueries calls
     → old.late ≡ None → AtIf must old s → Asks old calls new replies → Queried must new s calls replies
 queries law must old calls new replies s all free there has =
     let did = asked law old calls new replies s there.waiting free there.log has in
-    let late : (call : Call) → new.late ≡ Some call → IsQuery call = λ call is. late_query calls (length replies) call all (sym (ap (λ (v : FrontView). v.late) has.rest) ∙ is) in
+    let late : (call : Call) → new.late ≡ Some call → IsQuery call = λ call is. late_query calls (length replies) call
+    all (sym (ap (λ (v : FrontView). v.late) has.rest) ∙ is) in
     record {
       happens = served_happens calls replies s did.1;
       there = record {
@@ -140,7 +143,8 @@ moves_away must id v s there =
       | Some c ↦ closes must v s c there
     ]
 
-sweeps : (must : Bool) (ids : List ℕ) (v : FrontView) (s : Scene) → v.late ≡ None → AllByRecursion (λ id. is_gone v.asker.known.sessions id ≡ true) ids → AtIf must v s
+sweeps : (must : Bool) (ids : List ℕ) (v : FrontView) (s : Scene) → v.late ≡ None
+    → AllByRecursion (λ id. is_gone v.asker.known.sessions id ≡ true) ids → AtIf must v s
     → Arrives must (with_tables (swept_all ids v.tables) v) s
 sweeps must [] v s none all there = stays must v s there
 sweeps must (id ∷ ids) v s none all there =
@@ -171,7 +175,8 @@ no_more [] n is = omega arith
 no_more (x ∷ xs) zero is = absurd (none_some x (sym is))
 no_more (x ∷ xs) (suc n) is = let rest = no_more xs n is in omega (arith, rest)
 
-pub looks_by : RepliesAreTheTrees → (places : List Place) (old new : FrontView) (s : Scene) → Lists places (node_places old.tables.watches) → old.late ≡ None
+pub looks_by : RepliesAreTheTrees → (places : List Place) (old new : FrontView) (s : Scene) → Lists places (node_places old.tables.watches)
+    → old.late ≡ None
     → AtIf true old s → LooksBy places (looks_at places) old new → Reaches new s
 looks_by law places old new s lists free there has =
     subst (λ (v : FrontView). Reaches v s) (sym has.told) (record {
@@ -224,14 +229,17 @@ looks_by law places old new s lists free there has =
     cause e among =
         subst (λ u. IsSeenIn u e) (sym same) (seen_caused t places replies e did.are (subst (λ z. Among e (seen z places replies)) zxid among))
 
-    changed : (e : Event) (w : Watch) → In s.tables w → e.kind ≡ NodeDeleted → finite.get (tree_of middle_scene).nodes e.path ≡ None → fires e.kind e.path w ≡ true
+    changed : (e : Event) (w : Watch) → In s.tables w → e.kind ≡ NodeDeleted → finite.get (tree_of middle_scene).nodes e.path ≡ None
+        → fires e.kind e.path w ≡ true
         → IsUnchanged middle_scene w → ⊥
     changed e w stands deleted none fired unchanged =
         let at = fired_at_path e.kind e.path w fired in
-        gone_changed (s.set_at w) (tree_of middle_scene).nodes w.path w.kind (there.holds.right w stands) (ap (finite.get (tree_of middle_scene).nodes) (sym at.0) ∙ none)
+        gone_changed (s.set_at w) (tree_of middle_scene).nodes w.path w.kind (there.holds.right w stands)
+        (ap (finite.get (tree_of middle_scene).nodes) (sym at.0) ∙ none)
         (ap (tells_of w.kind) (sym deleted) ∙ at.1) unchanged
 
-    may : (e : Event) (t : TablesView) → Fewer middle_scene.tables t → IsSeenIn (tree_of middle_scene) e → May (Fired e) (record middle_scene { tables = t })
+    may : (e : Event) (t : TablesView) → Fewer middle_scene.tables t → IsSeenIn (tree_of middle_scene) e
+        → May (Fired e) (record middle_scene { tables = t })
     may e t fewer (inl (deleted, none)) =
         inl (inr (deleted, none), λ w stands fired. inl (λ unchanged. changed e w (fewer w stands) deleted none fired unchanged))
     may e t fewer (inr lost) = inr lost
@@ -261,7 +269,8 @@ none_of_two false late is = absurd (cc is)
 abbrev pub Quiet : FrontView → Type 0
 Quiet v = v.late ≡ None → v.must_look ≡ false
 
-looks_if : RepliesAreTheTrees → (due : Bool) (old new : FrontView) (s : Scene) → old.must_look && is_none old.late ≡ due → At old s → LooksIf due old new → Reaches new s
+looks_if : RepliesAreTheTrees → (due : Bool) (old new : FrontView) (s : Scene) → old.must_look && is_none old.late ≡ due
+    → At old s → LooksIf due old new → Reaches new s
 looks_if law false old new s is there same = subst (λ (v : FrontView). Reaches v s) (sym same) (stays old.must_look old s there)
 looks_if law true old new s is there has =
     let both = none_of_two old.must_look old.late is in
@@ -283,7 +292,8 @@ pub looks_quiet : (old new : FrontView) → Looks old new → Quiet new
 looks_quiet old new has = by (old.must_look && is_none old.late) refl has
   where
     by : (due : Bool) → old.must_look && is_none old.late ≡ due → LooksIf due old new → Quiet new
-    by false is same none = ap (λ (v : FrontView). v.must_look) same ∙ not_due old.must_look old.late is (sym (ap (λ (v : FrontView). v.late) same) ∙ none)
+    by false is same none = ap (λ (v : FrontView). v.must_look) same
+        ∙ not_due old.must_look old.late is (sym (ap (λ (v : FrontView). v.late) same) ∙ none)
     by true is (places, lists, looked) none =
         ap (λ (v : FrontView). v.must_look) looked.told
         ∙ late_or_not looked.middle.late (sym (ap (λ (v : FrontView). v.late) looked.told) ∙ none)

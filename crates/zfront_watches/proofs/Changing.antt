@@ -1,5 +1,6 @@
 -- A watch that an update's event fires has a change: what it waits for differs from when it was set.
-use Rattle.std.proofs.Common.{◌≡◌, ◌∙◌, ◌+◌, ◌<◌, ℕ, Bool, true, false, List, Option, Some, None, refl, sym, ap, subst, inl, inr, arith, if◌then◌else◌}
+use Rattle.std.proofs.Common.{◌≡◌, ◌∙◌, ◌+◌, ◌<◌, ℕ, Bool, true, false, List, Option, Some, None, refl, sym, ap, subst}
+use Rattle.std.proofs.Common.{inl, inr, arith, if◌then◌else◌}
 use Rattle.std.specs.Prelude.{◌⊎◌, ◌||◌, is_some}
 use Rattle.std.specs.Option.{option_map}
 use Rattle.std.specs.FinMap as finite
@@ -97,15 +98,18 @@ late_and_early a b c z late same early next = absurd (omega (arith, late, same, 
 abbrev pub OfMulti : Act → Type 0
 OfMulti u = (parts : List Part) × (u ≡ act.Multi parts)
 
-no_creation : {P : Type 0} (path : Path) (e : Event) (k : EventKind) (at : Path) → tells_creation k ≡ false → event k at ≡ e → tells_creation e.kind ≡ true → P
+no_creation : {P : Type 0} (path : Path) (e : Event) (k : EventKind) (at : Path) → tells_creation k ≡ false → event k at ≡ e
+    → tells_creation e.kind ≡ true → P
 no_creation path e k at none is does = absurd (clash (sym does ∙ ap (λ (e : Event). tells_creation e.kind) (sym is) ∙ none))
 
 -- only a create and a multi tell of a new node
-creates : (u : Act) (told : Reply) (path : Path) → Tells tells_creation path (events_of u told) → ((create : Create) × (u ≡ act.Create create)) ⊎ OfMulti u
+creates : (u : Act) (told : Reply) (path : Path) → Tells tells_creation path (events_of u told)
+    → ((create : Create) × (u ≡ act.Create create)) ⊎ OfMulti u
 creates (act.Create create) told path tells = inl (create, refl)
 creates (act.Multi parts) told path tells = inr (parts, refl)
 creates (act.Delete delete) reply.Deleted path (e, inl is, does, same) = no_creation path e kind.NodeDeleted delete.path refl is does
-creates (act.Delete delete) reply.Deleted path (e, inr (inl is), does, same) = no_creation path e kind.NodeChildrenChanged (parent_of delete.path) refl is does
+creates (act.Delete delete) reply.Deleted path (e, inr (inl is), does, same) = no_creation path e kind.NodeChildrenChanged
+    (parent_of delete.path) refl is does
 creates (act.Delete delete) reply.Deleted path (e, inr (inr none), does, same) = absurd none
 creates (act.SetData set) (reply.Set stat) path (e, inl is, does, same) = no_creation path e kind.NodeDataChanged set.path refl is does
 creates (act.SetData set) (reply.Set stat) path (e, inr none, does, same) = absurd none
@@ -124,7 +128,8 @@ module _ (s : Scene) (u : Act) (path : Path) (before : Nodes) where
   next : is_change (step t 0 u).1 ≡ true → (step t 0 u).0.zxid ≡ t.zxid + 1
   next is = changes_take_one_zxid t 0 u ∙ ap (λ b. t.zxid + (if b then 1 else 0)) is
 
-  data_changed : has_node before path ≡ true → data_at t.nodes path ≡ data_at before path → Tells tells_data path es → data_at now path ≡ data_at before path → ⊥
+  data_changed : has_node before path ≡ true → data_at t.nodes path ≡ data_at before path → Tells tells_data path es
+      → data_at now path ≡ data_at before path → ⊥
   data_changed there same tells still =
       let change = changes_with_events u (step t 0 u).1 tells.0 tells.1 in
       let was = has_some (finite.get t.nodes path) (sym (there_data t.nodes path) ∙ ap is_some same ∙ there_data before path ∙ there) in
@@ -137,14 +142,17 @@ module _ (s : Scene) (u : Act) (path : Path) (before : Nodes) where
   children_changed there same tells still =
       let change = changes_with_events u (step t 0 u).1 tells.0 tells.1 in
       let was = has_some (finite.get t.nodes path) (sym (there_children t.nodes path) ∙ ap is_some same ∙ there_children before path ∙ there) in
-      let is = same_read (λ (n : Node). n.pzxid) (finite.get now path) was.0 (sym (ap (option_map (λ (n : Node). n.pzxid)) was.1) ∙ same ∙ sym still) in
+      let is = same_read (λ (n : Node). n.pzxid) (finite.get now path) was.0 (sym (ap (option_map (λ (n : Node). n.pzxid)) was.1)
+      ∙ same ∙ sym still) in
       late_and_early is.0.pzxid was.0.pzxid (step t 0 u).0.zxid t.zxid ((update_touches t u path).1 tells is.0 is.1) is.2
       (is_older s u path was.0 change was.1).pzxid (next change)
 
-  made_since : has_node before path ≡ false → (create : Create) × (u ≡ act.Create create) → Tells tells_creation path es → data_at now path ≡ data_at before path → ⊥
+  made_since : has_node before path ≡ false → (create : Create) × (u ≡ act.Create create) → Tells tells_creation path es
+      → data_at now path ≡ data_at before path → ⊥
   made_since none (create, is) tells still =
       let made : has_node now path ≡ true =
-      subst (λ (v : Act). has_node (step t 0 v).0.nodes path ≡ true) (sym is) (create_leaves t create path (subst (λ (v : Act). Tells tells_creation path (events_of v (step t 0 v).1)) is tells)) in
+      subst (λ (v : Act). has_node (step t 0 v).0.nodes path ≡ true) (sym is)
+      (create_leaves t create path (subst (λ (v : Act). Tells tells_creation path (events_of v (step t 0 v).1)) is tells)) in
       clash (sym made ∙ sym (there_data now path) ∙ ap is_some still ∙ there_data before path ∙ none)
 
   missing_changed : has_node before path ≡ false → Tells tells_creation path es → ((data_at now path ≡ data_at before path → ⊥)) ⊎ OfMulti u

@@ -13,7 +13,8 @@ use Rattle.zpieces.specs.Streams.{bytes_of, held_of, phase_of, with_bytes}
 use Rattle.ztables.specs.Tables.{TablesView, closed, sent, is_open}
 use Rattle.zfront.specs.declared.limits.TheConstants.{MAX_KEPT}
 use Rattle.zfront.specs.Front.{FrontView, with_tables}
-use Rattle.zfront.specs.Reading.{HandlesIn, HandlesUnless, Handles, HandlesAll, Reads, is_too_long, kept, keeps, Keeps, word_asked, ComesBy, ComesBehind, ComesIf, Comes, emptied}
+use Rattle.zfront.specs.Reading.{HandlesIn, HandlesUnless, Handles, HandlesAll, Reads, is_too_long, kept, keeps, Keeps}
+use Rattle.zfront.specs.Reading.{word_asked, ComesBy, ComesBehind, ComesIf, Comes, emptied}
 use Rattle.zfront.specs.Words.{text_of_word}
 use Rattle.zfront_laws.specs.Runs.{KeepsFew}
 use Rattle.zfront_laws.specs.Seats.{IsSeated}
@@ -50,7 +51,8 @@ seat_there (Some s) c is = (s, refl)
 sits : (t : TablesView) (c session : ℕ) → IsSeated t → phase_of t.streams c ≡ Some (Speaking session) → Has t.sittings session
 sits t c session seated speaks = seat_there (finite.get t.sittings session) c (seated c session speaks)
 
-handles_in : RepliesAreTheTrees → (phase : Option Phase) (bytes : List ℕ) (c : ℕ) (old new : FrontView) (s : Scene) → phase_of old.tables.streams c ≡ phase
+handles_in : RepliesAreTheTrees → (phase : Option Phase) (bytes : List ℕ) (c : ℕ) (old new : FrontView) (s : Scene)
+    → phase_of old.tables.streams c ≡ phase
     → old.late ≡ None → old.must_look ≡ false → Fine old → AtIf false old s → HandlesIn phase bytes c old new → Reaches new s
 handles_in law (Some (Silent password)) bytes c old new s is free calm fine there has = greets law password c old new s free calm fine there bytes has
 handles_in law (Some (Speaking session)) bytes c old new s is free calm fine there has =
@@ -59,7 +61,8 @@ handles_in law (Some (Speaking session)) bytes c old new s is free calm fine the
 handles_in law (Some Closing) bytes c old new s is free calm fine there same = unmoved old new s calm there same
 handles_in law None bytes c old new s is free calm fine there same = unmoved old new s calm there same
 
-handles_unless : RepliesAreTheTrees → (late : Bool) (bytes : List ℕ) (c : ℕ) (old new : FrontView) (s : Scene) → (late ≡ false → old.late ≡ None) → Quiet old
+handles_unless : RepliesAreTheTrees → (late : Bool) (bytes : List ℕ) (c : ℕ) (old new : FrontView) (s : Scene)
+    → (late ≡ false → old.late ≡ None) → Quiet old
     → Fine old → At old s → HandlesUnless late bytes c old new → Reaches new s
 handles_unless law true bytes c old new s free quiet fine there is =
     subst (λ (v : FrontView). Reaches v s) (sym is) (closes old.must_look old s c there)
@@ -68,12 +71,14 @@ handles_unless law false bytes c old new s free quiet fine there has =
     let calm = quiet none in
     handles_in law (phase_of old.tables.streams c) bytes c old new s refl none calm fine (subst (λ must. AtIf must old s) calm there) has
 
-handles : RepliesAreTheTrees → (bytes : List ℕ) (c : ℕ) (old new : FrontView) (s : Scene) → Fine old → At old s → Handles bytes c old new → Reaches new s
+handles : RepliesAreTheTrees → (bytes : List ℕ) (c : ℕ) (old new : FrontView) (s : Scene) → Fine old → At old s
+    → Handles bytes c old new → Reaches new s
 handles law bytes c old new s fine there has =
     let ready = has.0 in
     let fine_then : Fine ready = seats_on old ready (calling.is_ready old ready has.1).seats s.log there.waiting there.log fine in
     behind ready.must_look new.must_look ready new s (is_ready law old ready s there has.1)
-    (λ next here. handles_unless law (is_some ready.late) bytes c ready new next (none_late ready.late) (ready_quiet old ready has.1) fine_then here has.2)
+    (λ next here. handles_unless law (is_some ready.late) bytes c ready new next (none_late ready.late)
+    (ready_quiet old ready has.1) fine_then here has.2)
 
 -- the seats and the log at a frame
 step_in : (phase : Option Phase) (bytes : List ℕ) (c : ℕ) (old new : FrontView) → old.late ≡ None → HandlesIn phase bytes c old new → Step old new
@@ -82,18 +87,21 @@ step_in (Some (Speaking session)) bytes c old new free has = serving.serves byte
 step_in (Some Closing) bytes c old new free is = same old new is
 step_in None bytes c old new free is = same old new is
 
-step_unless : (late : Bool) (bytes : List ℕ) (c : ℕ) (old new : FrontView) → (late ≡ false → old.late ≡ None) → HandlesUnless late bytes c old new → Step old new
+step_unless : (late : Bool) (bytes : List ℕ) (c : ℕ) (old new : FrontView) → (late ≡ false → old.late ≡ None)
+    → HandlesUnless late bytes c old new → Step old new
 step_unless true bytes c old new free is = retabled (closed c old.tables) old new is (lighter.closes c old.tables)
 step_unless false bytes c old new free has = step_in (phase_of old.tables.streams c) bytes c old new (free refl) has
 
 step : (bytes : List ℕ) (c : ℕ) (old new : FrontView) → Handles bytes c old new → Step old new
-step bytes c old new has = both old has.0 new (calling.is_ready old has.0 has.1) (step_unless (is_some has.0.late) bytes c has.0 new (none_late has.0.late) has.2)
+step bytes c old new has = both old has.0 new (calling.is_ready old has.0 has.1)
+    (step_unless (is_some has.0.late) bytes c has.0 new (none_late has.0.late) has.2)
 
 steps : (frames : List (List ℕ)) (c : ℕ) (old new : FrontView) → HandlesAll frames c old new → Step old new
 steps [] c old new is = same old new is
 steps (bytes ∷ frames) c old new has = both old has.1 new (step bytes c old has.1 has.2) (steps frames c has.1 new has.3)
 
-handles_all : RepliesAreTheTrees → (frames : List (List ℕ)) (c : ℕ) (old new : FrontView) (s : Scene) → Fine old → At old s → HandlesAll frames c old new → Reaches new s
+handles_all : RepliesAreTheTrees → (frames : List (List ℕ)) (c : ℕ) (old new : FrontView) (s : Scene) → Fine old → At old s
+    → HandlesAll frames c old new → Reaches new s
 handles_all law [] c old new s fine there is = subst (λ (v : FrontView). Reaches v s) (sym is) (stays old.must_look old s there)
 handles_all law (bytes ∷ frames) c old new s fine there has =
     let middle = has.1 in
@@ -122,7 +130,8 @@ reads law came rest c old middle new s few fine there has after_it =
     let did = steps has.frames c old middle has.handles in
     let is : new ≡ keeps rest c middle = after_it (omega (arith, few, did.few)) in
     subst (λ (v : FrontView). Reaches v s) (sym is)
-    (behind middle.must_look (keeps rest c middle).must_look middle (keeps rest c middle) s (handles_all law has.frames c old middle s fine there has.handles)
+    (behind middle.must_look (keeps rest c middle).must_look middle (keeps rest c middle) s
+    (handles_all law has.frames c old middle s fine there has.handles)
     (λ next here. keeps_rest rest c middle next here))
 
 -- a word is answered, and its connection closed
@@ -133,10 +142,12 @@ says text c v s there = record {
   happens = (tt, refl);
   there =
       let t = sent c text s.tables in
-      shuts v.must_look (with_tables (sent c text v.tables) v) (record s { tables = t }) (closed c) (sends v.must_look v s c text there) (closed_fewer c t) (closed_keeps c t);
+      shuts v.must_look (with_tables (sent c text v.tables) v) (record s { tables = t }) (closed c) (sends v.must_look v s c text there)
+      (closed_fewer c t) (closed_keeps c t);
 }
 
-comes_behind : RepliesAreTheTrees → (came : List ℕ) (c : ℕ) (old new : FrontView) (s : Scene) → KeepsFew old → Fine old → At old s → ComesBehind came c old new
+comes_behind : RepliesAreTheTrees → (came : List ℕ) (c : ℕ) (old new : FrontView) (s : Scene) → KeepsFew old → Fine old
+    → At old s → ComesBehind came c old new
     → Reaches new s
 comes_behind law came c old new s few fine there has =
     elim (word_asked (phase_of old.tables.streams c) came) as (λ word. ComesBy word came c old new → Reaches new s) [
@@ -147,7 +158,8 @@ comes_behind law came c old new s few fine there has =
 emptied_few : (c : ℕ) (v : FrontView) → KeepsFew v → KeepsFew (emptied c v)
 emptied_few c v few = omega (arith, held-changed v.tables.streams c (λ s. record s { bytes = [] }) 0 (λ s. omega arith), few)
 
-comes_if : RepliesAreTheTrees → (on : Bool) (bytes : List ℕ) (c : ℕ) (old new : FrontView) (s : Scene) → KeepsFew old → Fine old → At old s → ComesIf on bytes c old new
+comes_if : RepliesAreTheTrees → (on : Bool) (bytes : List ℕ) (c : ℕ) (old new : FrontView) (s : Scene) → KeepsFew old
+    → Fine old → At old s → ComesIf on bytes c old new
     → Reaches new s
 comes_if law false bytes c old new s few fine there is = subst (λ (v : FrontView). Reaches v s) (sym is) (stays old.must_look old s there)
 comes_if law true bytes c old new s few fine there has =
@@ -158,5 +170,6 @@ comes_if law true bytes c old new s few fine there has =
     behind old.must_look new.must_look v new s (moves old.must_look old s v.tables there (bytes_move old.tables c []) (unchanged old.tables.sittings))
     (λ next here. comes_behind law came c v new next (emptied_few c old few) fine_then here has)
 
-pub comes : RepliesAreTheTrees → (bytes : List ℕ) (c : ℕ) (old new : FrontView) (s : Scene) → KeepsFew old → Fine old → At old s → Comes bytes c old new → Reaches new s
+pub comes : RepliesAreTheTrees → (bytes : List ℕ) (c : ℕ) (old new : FrontView) (s : Scene) → KeepsFew old → Fine old
+    → At old s → Comes bytes c old new → Reaches new s
 comes law bytes c old new s few fine there has = comes_if law (is_open old.tables c) bytes c old new s few fine there has

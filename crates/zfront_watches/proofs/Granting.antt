@@ -1,5 +1,6 @@
 -- The wishes of a request are granted, and it is answered.
-use Rattle.std.proofs.Common.{◌≡◌, ◌∙◌, ℕ, Bool, true, false, List, [], ◌∷◌, ◌++◌, length, take, drop, Option, Some, None, refl, sym, ap, subst, inl, inr}
+use Rattle.std.proofs.Common.{◌≡◌, ◌∙◌, ℕ, Bool, true, false, List, [], ◌∷◌, ◌++◌, length, take, drop, Option, Some}
+use Rattle.std.proofs.Common.{None, refl, sym, ap, subst, inl, inr}
 use Rattle.std.specs.Prelude.{◌⊎◌, ℤ, int_lt, is_some, ◌&&◌, not, if◌then◌else◌}
 use Rattle.std.specs.FinMap as finite
 use Rattle.std.specs.FinSet.{contains, insert}
@@ -62,13 +63,15 @@ module _ (s : Scene) (c : ℕ) (kind : Kind) (path : Path) where
 
   -- a watch that stands is the one that was set, or stood before
   stood : (w : Watch) → In (waiting c kind path t) w → (eq_by_cmp watch_cmp w mine ≡ true) ⊎ In t w
-  stood w = elim (is_full t.watches mine) as (λ b. In (if b then t else record t { watches = insert t.watches mine }) w → (eq_by_cmp watch_cmp w mine ≡ true) ⊎ In t w) [
-    | true ↦ λ is. inr is
-    | false ↦ λ is. insert_leaves t.watches mine w is
-  ]
+  stood w = elim (is_full t.watches mine) as (λ b. In (if b then t else record t { watches = insert t.watches mine }) w
+      → (eq_by_cmp watch_cmp w mine ≡ true) ⊎ In t w) [
+        | true ↦ λ is. inr is
+        | false ↦ λ is. insert_leaves t.watches mine w is
+      ]
 
   -- it was set now, or it was set before
-  set_case : (P : Nodes → Type 0) (w : Watch) → (w ≡ mine → P (tree_of s).nodes) → (In t w → P (s.set_at w)) → In (waiting c kind path t) w → P (set_now mine s w)
+  set_case : (P : Nodes → Type 0) (w : Watch) → (w ≡ mine → P (tree_of s).nodes) → (In t w → P (s.set_at w))
+      → In (waiting c kind path t) w → P (set_now mine s w)
   set_case P w now before stands = by (eq_by_cmp watch_cmp w mine) refl (contains t.watches mine) refl
     where
       same : eq_by_cmp watch_cmp w mine ≡ true → w ≡ mine
@@ -78,7 +81,8 @@ module _ (s : Scene) (c : ℕ) (kind : Kind) (path : Path) where
       other is (inl ties) = absurd (clash (sym ties ∙ is))
       other is (inr stood) = stood
 
-      by : (a : Bool) → eq_by_cmp watch_cmp w mine ≡ a → (b : Bool) → contains t.watches mine ≡ b → P (if a && not b then (tree_of s).nodes else s.set_at w)
+      by : (a : Bool) → eq_by_cmp watch_cmp w mine ≡ a → (b : Bool) → contains t.watches mine ≡ b
+          → P (if a && not b then (tree_of s).nodes else s.set_at w)
       by true is false none = now (same is)
       by true is true there = before (ap (contains t.watches) (same is) ∙ there)
       by false is b there = before (other is (stood w stands))
@@ -134,7 +138,8 @@ grants_watch c kind path nodes may must v s is there =
       there = waits s c kind path must v there here;
     }
 
-grants_event : (c : ℕ) (k : EventKind) (path : Path) (nodes : Nodes) → has_node nodes path ≡ tells_node k → Grants (sent c (event_frame (event k path))) nodes
+grants_event : (c : ℕ) (k : EventKind) (path : Path) (nodes : Nodes) → has_node nodes path ≡ tells_node k
+    → Grants (sent c (event_frame (event k path))) nodes
 grants_event c k path nodes may must v s is there =
     record {
       happenings = Missed c (event k path) ∷ [];
@@ -144,7 +149,8 @@ grants_event c k path nodes may must v s is there =
       there = sends must v s c (event_frame (event k path)) there;
     }
 
-grants_both : (first second : TablesView → TablesView) (nodes : Nodes) → Grants first nodes → Grants second nodes → Grants (λ t. second (first t)) nodes
+grants_both : (first second : TablesView → TablesView) (nodes : Nodes) → Grants first nodes → Grants second nodes
+    → Grants (λ t. second (first t)) nodes
 grants_both first second nodes one two must v s is there =
     let a = one must v s is there in
     let b = two must (with_tables (first v.tables) v) a.scene (ap (λ log. (tree_of (record s { log = log })).nodes) a.same ∙ is) a.there in
@@ -189,7 +195,8 @@ query_grants c t (query.GetChildren path) = by (finite.get t.nodes path) refl
     by None is = grants_nothing t.nodes
     by (Some n) is = grants_watch c Children path t.nodes (ap is_some is)
 
-first_grants : (c : ℕ) (t : Tree) (calls : List Call) (replies : List Reply) → AreOf t calls replies → Grants (granted_all c (first_wish calls replies)) t.nodes
+first_grants : (c : ℕ) (t : Tree) (calls : List Call) (replies : List Reply) → AreOf t calls replies
+    → Grants (granted_all c (first_wish calls replies)) t.nodes
 first_grants c t [] replies all = grants_nothing t.nodes
 first_grants c t (Update update ∷ calls) replies all = grants_nothing t.nodes
 first_grants c t (Query q ∷ calls) [] all = grants_nothing t.nodes
@@ -209,7 +216,8 @@ data_again : (c : ℕ) (t : Tree) (seen : ℤ) (path : Path) (n : Node) → has_
     → Grants (granted_all c (wish_again Data seen path (reply.Exists (stat_of t.nodes path n)))) t.nodes
 data_again c t seen path n there = by (int_lt seen (long_of n.mzxid)) refl
   where
-    by : (b : Bool) → int_lt seen (long_of n.mzxid) ≡ b → Grants (granted_all c (wish_again Data seen path (reply.Exists (stat_of t.nodes path n)))) t.nodes
+    by : (b : Bool) → int_lt seen (long_of n.mzxid) ≡ b
+        → Grants (granted_all c (wish_again Data seen path (reply.Exists (stat_of t.nodes path n)))) t.nodes
     by true is = rw is (grants_event c NodeDataChanged path t.nodes there)
     by false is = rw is (grants_watch c Data path t.nodes there)
 
@@ -217,11 +225,13 @@ children_again : (c : ℕ) (t : Tree) (seen : ℤ) (path : Path) (n : Node) → 
     → Grants (granted_all c (wish_again Children seen path (reply.Exists (stat_of t.nodes path n)))) t.nodes
 children_again c t seen path n there = by (int_lt seen (long_of n.pzxid)) refl
   where
-    by : (b : Bool) → int_lt seen (long_of n.pzxid) ≡ b → Grants (granted_all c (wish_again Children seen path (reply.Exists (stat_of t.nodes path n)))) t.nodes
+    by : (b : Bool) → int_lt seen (long_of n.pzxid) ≡ b
+        → Grants (granted_all c (wish_again Children seen path (reply.Exists (stat_of t.nodes path n)))) t.nodes
     by true is = rw is (grants_event c NodeChildrenChanged path t.nodes there)
     by false is = rw is (grants_watch c Children path t.nodes there)
 
-again_grants : (c : ℕ) (t : Tree) (kind : Kind) (seen : ℤ) (path : Path) → Grants (granted_all c (wish_again kind seen path (query_reply t (query.Exists path)))) t.nodes
+again_grants : (c : ℕ) (t : Tree) (kind : Kind) (seen : ℤ) (path : Path)
+    → Grants (granted_all c (wish_again kind seen path (query_reply t (query.Exists path)))) t.nodes
 unfolding query_reply
 again_grants c t kind seen path = by kind (finite.get t.nodes path) refl
   where
@@ -234,7 +244,8 @@ again_grants c t kind seen path = by kind (finite.get t.nodes path) refl
     by Children None is = grants_event c NodeDeleted path t.nodes (ap is_some is)
     by Children (Some n) is = children_again c t seen path n (ap is_some is)
 
-call_grants : (c : ℕ) (t : Tree) (kind : Kind) (seen : ℤ) (call : Call) → Grants (granted_all c (call_again kind seen call (serve t 0 call).1)) t.nodes
+call_grants : (c : ℕ) (t : Tree) (kind : Kind) (seen : ℤ) (call : Call)
+    → Grants (granted_all c (call_again kind seen call (serve t 0 call).1)) t.nodes
 call_grants c t kind seen (Query (query.Exists path)) = again_grants c t kind seen path
 call_grants c t kind seen (Query (query.GetData path)) = grants_nothing t.nodes
 call_grants c t kind seen (Query (query.GetChildren path)) = grants_nothing t.nodes
@@ -245,7 +256,8 @@ calls_grant : (c : ℕ) (t : Tree) (kind : Kind) (seen : ℤ) (calls : List Call
 calls_grant c t kind seen [] replies all = grants_nothing t.nodes
 calls_grant c t kind seen (call ∷ calls) [] all = grants_nothing t.nodes
 calls_grant c t kind seen (call ∷ calls) (told ∷ replies) all =
-    grants_append (granted c) (granted_all c) (λ u. refl) (λ w ws u. refl) (call_again kind seen call told) (wishes_again kind seen calls replies) t.nodes
+    grants_append (granted c) (granted_all c) (λ u. refl) (λ w ws u. refl) (call_again kind seen call told)
+    (wishes_again kind seen calls replies) t.nodes
     (subst (λ told. Grants (granted_all c (call_again kind seen call told)) t.nodes) (sym all.0) (call_grants c t kind seen call))
     (calls_grant c t kind seen calls replies all.1)
 
@@ -256,7 +268,8 @@ set_grants c t set calls replies all =
     let missing_count = length set.exist_watches in
     let seen = set.relative_zxid in
     let rest = left data_count t calls replies all in
-    grants_append (granted c) (granted_all c) (λ u. refl) (λ w ws u. refl) (wishes_again Data seen (take data_count calls) (take data_count replies)) _ t.nodes
+    grants_append (granted c) (granted_all c) (λ u. refl) (λ w ws u. refl)
+    (wishes_again Data seen (take data_count calls) (take data_count replies)) _ t.nodes
     (calls_grant c t Data seen (take data_count calls) (take data_count replies) (taken data_count t calls replies all))
     (grants_append (granted c) (granted_all c) (λ u. refl) (λ w ws u. refl)
     (wishes_again Missing seen (take missing_count (drop data_count calls)) (take missing_count (drop data_count replies)))

@@ -1,5 +1,6 @@
 -- A server at a scene, where a connection greets.
-use Rattle.std.proofs.Common.{◌≡◌, ◌≢◌, ◌∙◌, ◌+◌, ◌≤◌, ℕ, Bool, true, false, List, [], ◌∷◌, Option, Some, None, Result, Ok, Err, refl, sym, ap, subst, inl, inr, arith}
+use Rattle.std.proofs.Common.{◌≡◌, ◌≢◌, ◌∙◌, ◌+◌, ◌≤◌, ℕ, Bool, true, false, List, [], ◌∷◌, Option, Some, None, Result}
+use Rattle.std.proofs.Common.{Ok, Err, refl, sym, ap, subst, inl, inr, arith}
 use Rattle.std.specs.Prelude.{ℤ, pos, negsuc, replicate, if◌then◌else◌}
 use Rattle.std.specs.Cmp.{nat_cmp_total}
 use Rattle.std.specs.FinMap as finite
@@ -57,7 +58,8 @@ module _ (m : SittingsView) (session : ℕ) (new : Sitting) (fresh : Has m sessi
   mark_stays : (id : ℕ) → made_one m id ≡ true → made_one (finite.insert m session new) id ≡ true
   mark_stays id is =
       let there = made_there m id is in
-      marked_in (finite.insert m session new) id there.0 (get-insert-elsewhere nat_cmp_total nat_cmp-IsAntisymmetric m session new id (apart id there) ∙ there.1)
+      marked_in (finite.insert m session new) id there.0 (get-insert-elsewhere nat_cmp_total nat_cmp-IsAntisymmetric m
+      session new id (apart id there) ∙ there.1)
       ∙ sym (marked_in m id there.0 there.1) ∙ is
 
   pub marks_stay : (id : ℕ) → Marked m id → Marked (finite.insert m session new) id
@@ -65,7 +67,8 @@ module _ (m : SittingsView) (session : ℕ) (new : Sitting) (fresh : Has m sessi
   marks_stay id (inr is) = inr (mark_stays id is)
 
 welcomes : (tick : ℕ) (greeting : ConnectRequest) (session ticks : ℕ) (password : List ℕ) (c : ℕ) (v : FrontView) (s : Scene) → v.late ≡ None
-    → (Has v.tables.sittings session → ⊥) → AtIf false v s → Arrives false (with_tables (welcomed tick greeting session ticks password c v.tables) v) s
+    → (Has v.tables.sittings session → ⊥) → AtIf false v s
+    → Arrives false (with_tables (welcomed tick greeting session ticks password c v.tables) v) s
 welcomes tick greeting session ticks password c v s none fresh there =
     let t = sitting session password c v.tables in
     behind false false (with_tables t v) (with_tables (welcomed tick greeting session ticks password c v.tables) v) s
@@ -77,10 +80,12 @@ welcomes tick greeting session ticks password c v s none fresh there =
 opened_with : (tick : ℕ) (greeting : ConnectRequest) (password : List ℕ) (c : ℕ) (told : Reply) (v : FrontView) (s : Scene) → v.late ≡ None
     → ((session ticks : ℕ) → told ≡ Opened session ticks → Has v.tables.sittings session → ⊥) → AtIf false v s
     → Arrives false (with_tables (opened tick greeting password c (told ∷ []) v.tables) v) s
-opened_with tick greeting password c (Opened session ticks) v s none fresh there = welcomes tick greeting session ticks password c v s none (fresh session ticks refl) there
+opened_with tick greeting password c (Opened session ticks) v s none fresh there = welcomes tick greeting session ticks
+    password c v s none (fresh session ticks refl) there
 opened_with tick greeting password c other v s none fresh there = closes false v s c there
 
-opens : RepliesAreTheTrees → (greeting : ConnectRequest) (password : List ℕ) (c : ℕ) (old new : FrontView) (s : Scene) → old.late ≡ None → old.must_look ≡ false
+opens : RepliesAreTheTrees → (greeting : ConnectRequest) (password : List ℕ) (c : ℕ) (old new : FrontView) (s : Scene)
+    → old.late ≡ None → old.must_look ≡ false
     → Fine old → AtIf false old s → Opens greeting password c old new → Reaches new s
 opens law greeting password c old new s free calm fine there has =
     subst (λ (v : FrontView). Reaches v s) (sym has.3)
@@ -114,14 +119,16 @@ opens law greeting password c old new s free calm fine there has =
     by : OneUpdate middle s (act.Open (ticks_asked old.clock.tick greeting.timeout)) replies
         → Arrives false (with_tables (opened middle.clock.tick greeting password c replies middle.tables) middle) s
     by (inl (none, waits, here)) =
-        subst (λ rs. Arrives false (with_tables (opened middle.clock.tick greeting password c rs middle.tables) middle) s) (sym none) (closes false middle s c here)
+        subst (λ rs. Arrives false (with_tables (opened middle.clock.tick greeting password c rs middle.tables) middle) s)
+        (sym none) (closes false middle s c here)
     by (inr (told, one, did)) =
         let v = with_tables (opened middle.clock.tick greeting password c (told ∷ []) middle.tables) middle in
         subst (λ rs. Arrives false (with_tables (opened middle.clock.tick greeting password c rs middle.tables) middle) s) (sym one)
         (behind false false middle v s (absorbs middle s (act.Open (ticks_asked old.clock.tick greeting.timeout)) told refl tt there.holds did)
         (λ next here. opened_with middle.clock.tick greeting password c told middle next did.none (fresh told one) here))
 
-turns_away : (greeting : ConnectRequest) (c : ℕ) (v : FrontView) (s : Scene) → AtIf false v s → Arrives false (with_tables (turned_away greeting c v.tables) v) s
+turns_away : (greeting : ConnectRequest) (c : ℕ) (v : FrontView) (s : Scene) → AtIf false v s
+    → Arrives false (with_tables (turned_away greeting c v.tables) v) s
 turns_away greeting c v s there =
     let t = sent c (response_frame greeting (pos 0) (pos 0) (replicate 16 0)) v.tables in
     behind false false (with_tables t v) (with_tables (closed c t) v) s (greets_with false v s c greeting (pos 0) (pos 0) (replicate 16 0) there)
@@ -139,7 +146,8 @@ comes_back greeting session timeout c v s there =
           let done = with_tables (session_told greeting session timeout (given greeting) c t) v in
           behind false false (with_tables u v) done s (moves_away false session v s there)
           (λ next here.
-          behind false false (with_tables t v) done next (moves false (with_tables u v) next t here (speaks_moves u c session t.sittings) (seated_keeps session c v.tables))
+          behind false false (with_tables t v) done next (moves false (with_tables u v) next t here
+          (speaks_moves u c session t.sittings) (seated_keeps session c v.tables))
           (λ last this. greets_with false (with_tables t v) last c greeting timeout (long_of session) (given greeting) this))
       | false ↦ turns_away greeting c v s there
     ]
@@ -156,10 +164,12 @@ returns tick known greeting (pos session) c v s there =
 returns tick known greeting (negsuc n) c v s there = turns_away greeting c v s there
 
 -- what a server becomes where no look was due
-becomes : (t : TablesView) (old new : FrontView) (s : Scene) → old.must_look ≡ false → new ≡ with_tables t old → Arrives false (with_tables t old) s → Reaches new s
+becomes : (t : TablesView) (old new : FrontView) (s : Scene) → old.must_look ≡ false → new ≡ with_tables t old
+    → Arrives false (with_tables t old) s → Reaches new s
 becomes t old new s calm is has = subst (λ (v : FrontView). Reaches v s) (sym is) (subst (λ must. Arrives must (with_tables t old) s) (sym calm) has)
 
-module _ (law : RepliesAreTheTrees) (password : List ℕ) (c : ℕ) (old new : FrontView) (s : Scene) (free : old.late ≡ None) (calm : old.must_look ≡ false)
+module _ (law : RepliesAreTheTrees) (password : List ℕ) (c : ℕ) (old new : FrontView) (s : Scene) (free : old.late
+    ≡ None) (calm : old.must_look ≡ false)
     (fine : Fine old) (there : AtIf false old s) where
   greets_if : (is_new : Bool) (greeting : ConnectRequest) → GreetsIf is_new greeting password c old new → Reaches new s
   greets_if true greeting has = opens law greeting password c old new s free calm fine there has

@@ -41,7 +41,8 @@ last_right : (t : Tree) (log : Log) (call : Call) (told : Reply)
 last_right t [] call told is = head_same _ _ _ _ is
 last_right t (first ∷ log) call told is = last_right (serve t 0 first.0).0 log call told (tail_same _ _ _ _ is)
 
-one_tree : (a : AloneView) (log : Log) (call : Call) (told : Reply) → HasTold a (log ++ (call, told) ∷ []) None → told ≡ (serve (tree_after opening_tree (calls_of log)) 0 call).1
+one_tree : (a : AloneView) (log : Log) (call : Call) (told : Reply) → HasTold a (log ++ (call, told) ∷ []) None
+    → told ≡ (serve (tree_after opening_tree (calls_of log)) 0 call).1
 one_tree a log call told has = last_right opening_tree log call told (is_one_tree a (log ++ (call, told) ∷ []) None has)
 
 still_due : (must took some : Bool) → must ≡ true → (must || (took || some)) ≡ true
@@ -61,7 +62,8 @@ hears_query : (old : FrontView) (asker : AloneView) (call : Call) (told : Reply)
 hears_query old asker call told s same has there =
     let v = freed old asker in
     let next = after (Served call told) s in
-    precede (tidied (takes_nodes told) v).must_look (tidied (takes_nodes told) v) s next (Served call told ∷ []) (one_tree asker s.log call told has, refl)
+    precede (tidied (takes_nodes told) v).must_look (tidied (takes_nodes told) v) s next (Served call told ∷ [])
+    (one_tree asker s.log call told has, refl)
     (tidies_up old.must_look (takes_nodes told) v next (record {
       tables = there.tables;
       waiting = None;
@@ -147,7 +149,8 @@ hears_if (Some call) old new s is there has =
 -- the server gets ready
 pub is_ready : RepliesAreTheTrees → (old new : FrontView) (s : Scene) → At old s → IsReady old new → Reaches new s
 is_ready law old new s there has =
-    behind has.0.must_look new.must_look has.0 new s (hears_if old.late old has.0 s refl there has.1) (λ next here. looks law has.0 new next here has.2)
+    behind has.0.must_look new.must_look has.0 new s (hears_if old.late old has.0 s refl there has.1)
+    (λ next here. looks law has.0 new next here has.2)
 
 pub ready_quiet : (old new : FrontView) → IsReady old new → Quiet new
 ready_quiet old new has = looks_quiet has.0 new has.2

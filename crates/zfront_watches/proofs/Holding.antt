@@ -95,13 +95,15 @@ module _ (t : Tree) (u : Update) (stays : takes_away u ≡ false) (before : Node
   data_stays : w.kind ≡ Data → data_at t.nodes w.path ≡ data_at before w.path → data_at now w.path ≡ data_at before w.path
   data_stays is same = (events_tell_every_change t 0 u w.path stays).of_data (misses tells_data w (λ k. fires_data w k is) es unfired) ∙ same
 
-  missing_stays : w.kind ≡ Missing → has_node before w.path ≡ false → data_at t.nodes w.path ≡ data_at before w.path → data_at now w.path ≡ data_at before w.path
+  missing_stays : w.kind ≡ Missing → has_node before w.path ≡ false → data_at t.nodes w.path ≡ data_at before w.path
+      → data_at now w.path ≡ data_at before w.path
   missing_stays is none same =
       let was : has_node t.nodes w.path ≡ false = sym (there_data t.nodes w.path) ∙ ap is_some same ∙ there_data before w.path ∙ none in
       let still = (update_leaves t 0 u w.path stays).missing was (misses tells_creation w (λ k. fires_missing w k is) es unfired) in
       no_data now w.path still ∙ sym (no_data before w.path none)
 
-  children_stay : w.kind ≡ Children → has_node before w.path ≡ true → children_at t.nodes w.path ≡ children_at before w.path → children_at now w.path ≡ children_at before w.path
+  children_stay : w.kind ≡ Children → has_node before w.path ≡ true → children_at t.nodes w.path ≡ children_at before w.path
+      → children_at now w.path ≡ children_at before w.path
   children_stay is some same =
       let was : has_node t.nodes w.path ≡ true = sym (there_children t.nodes w.path) ∙ ap is_some same ∙ there_children before w.path ∙ some in
       ((update_leaves t 0 u w.path stays).there was (misses tells_loss w (λ k. fires_children w k is) es unfired)).1 ∙ same
@@ -140,14 +142,16 @@ create_owned m t create all names = by (first_that_holds (create_refusals t 0 cr
     )))
     by (Some refusal) = all
     by None =
-        made (Marked (made_by create.kind.lifetime m)) t at create.bytes (owner_of create.kind.lifetime) (ttl_of create.kind.lifetime) create.kind.is_sequential
+        made (Marked (made_by create.kind.lifetime m)) t at create.bytes (owner_of create.kind.lifetime)
+        (ttl_of create.kind.lifetime) create.kind.is_sequential
         (owners_kept m (made_by create.kind.lifetime m) t.nodes (made_keeps create.kind.lifetime m) all) (made_marked create.kind.lifetime m names)
 
 -- where nothing is noted
 abbrev Still : (ℕ → Type 0) → Tree × Reply → Type 0
 Still Q did = OwnersAre Q did.0.nodes
 
-change_owned : (Q : ℕ → Type 0) (t : Tree) (r : Result (Tree × ChangeReply) Refusal) → OwnersAre Q t.nodes → Leaves (λ u. OwnersAre Q u.nodes) r → Still Q (change_result t r)
+change_owned : (Q : ℕ → Type 0) (t : Tree) (r : Result (Tree × ChangeReply) Refusal) → OwnersAre Q t.nodes
+    → Leaves (λ u. OwnersAre Q u.nodes) r → Still Q (change_result t r)
 change_owned Q t (Err refusal) all left = all
 change_owned Q t (Ok (u, did)) all left = left
 
@@ -156,11 +160,13 @@ multi_owned : (m : SittingsView) (t : Tree) (parts : List Part) (r : Run) → Ow
 multi_owned m t parts (Err (number, refusal)) all left = all
 multi_owned m t parts (Ok (u, told)) all left = left
 
-either : (m : SittingsView) (u : Update) (t : Tree) (why : Reply) (did : Tree × Reply) (b : Bool) → Own m u (t, why) → Own m u did → Own m u (if b then (t, why) else did)
+either : (m : SittingsView) (u : Update) (t : Tree) (why : Reply) (did : Tree × Reply) (b : Bool) → Own m u (t, why)
+    → Own m u did → Own m u (if b then (t, why) else did)
 either m u t why did true first second = first
 either m u t why did false first second = second
 
-result_owned : (m : SittingsView) (t : Tree) (u : Update) → takes_away u ≡ false → OwnersAre (Marked m) t.nodes → UpdateNames (Known m) u → Own m u (update_result t 0 u)
+result_owned : (m : SittingsView) (t : Tree) (u : Update) → takes_away u ≡ false → OwnersAre (Marked m) t.nodes
+    → UpdateNames (Known m) u → Own m u (update_result t 0 u)
 result_owned m t (Create create) stays all names = create_owned m t create all names
 result_owned m t (Delete delete) stays all names = change_owned (Marked m) t (delete_step t delete) all (deleted (Marked m) t delete all)
 result_owned m t (SetData to) stays all names = change_owned (Marked m) t (set_step t to) all (set (Marked m) t to all)
@@ -178,24 +184,28 @@ refused_owned m t (Create create) refusal all = all
 refused_owned m t (Multi parts) refusal all = all
 refused_owned m t u refusal all = all
 
-update_owned : (m : SittingsView) (t : Tree) (u : Update) → takes_away u ≡ false → OwnersAre (Marked m) t.nodes → UpdateNames (Known m) u → Own m u (step t 0 u)
+update_owned : (m : SittingsView) (t : Tree) (u : Update) → takes_away u ≡ false → OwnersAre (Marked m) t.nodes
+    → UpdateNames (Known m) u → Own m u (step t 0 u)
 unfolding step
 update_owned m t u stays all names =
-    either m u t (reply.Refused Exhausted) (update_result t 0 u) (is_exhausted t u) (refused_owned m t u Exhausted all) (result_owned m t u stays all names)
+    either m u t (reply.Refused Exhausted) (update_result t 0 u) (is_exhausted t u) (refused_owned m t u Exhausted all)
+    (result_owned m t u stays all names)
 
 -- tables that took up an update and its reply
 abbrev pub absorbing : Update → Reply → TablesView → TablesView
 absorbing u told tables = told_all (events_of u told) (record tables { sittings = noted u told tables.sittings })
 
 -- behind an update that takes nothing away, and its events, all holds again
-pub update_holds : (t : Tree) (set_at : Watch → Nodes) (tables : TablesView) (u : Update) → takes_away u ≡ false → UpdateNames (Known tables.sittings) u
+pub update_holds : (t : Tree) (set_at : Watch → Nodes) (tables : TablesView) (u : Update) → takes_away u ≡ false
+    → UpdateNames (Known tables.sittings) u
     → Holds false t set_at tables → Holds false (step t 0 u).0 set_at (absorbing u (step t 0 u).1 tables)
 update_holds t set_at tables u stays names holds = record {
   right = λ w stands. holds.right w (left w stands).0;
   seen = λ w stands.
       let was = left w stands in
       inl (unfired_stays t u stays (set_at w) w was.1 (holds.right w was.0) (settled t (set_at w) w.kind w.path (holds.seen w was.0)));
-  owners = subst (λ m. OwnersAre (Marked m) (step t 0 u).0.nodes) (sym (told_all_sittings es middle)) (update_owned tables.sittings t u stays holds.owners names);
+  owners = subst (λ m. OwnersAre (Marked m) (step t 0 u).0.nodes) (sym (told_all_sittings es middle))
+      (update_owned tables.sittings t u stays holds.owners names);
 }
   where
     middle : TablesView
@@ -241,7 +251,8 @@ lost zxid before a b u Missing path nodes is loses right same = by loses.of_data
     by (inr none) = inl (ap (λ ns. data_at ns path) nodes ∙ none ∙ sym (no_data before path right))
 lost zxid before a b u Children path nodes is loses right same = by loses.of_children
   where
-    by : (children_at b path ≡ children_at a path) ⊎ ((children_at b path ≡ None) ⊎ (children_at b path ≡ Some zxid)) → Pending true u before Children path
+    by : (children_at b path ≡ children_at a path) ⊎ ((children_at b path ≡ None) ⊎ (children_at b path ≡ Some zxid))
+        → Pending true u before Children path
     by (inl still) = inl (ap (λ ns. children_at ns path) nodes ∙ still ∙ same)
     by (inr (inl none)) = inr (refl, inl (ap (λ ns. children_at ns path) nodes ∙ none))
     by (inr (inr last)) = inr (refl, inr (ap (λ ns. children_at ns path) nodes ∙ last ∙ ap (λ z. Some z) (sym is)))
@@ -262,7 +273,8 @@ lost_owner Q zxid a b loses all path n found = by (loses path).of_data
         subst Q was.2 (all path was.0 was.1)
     by (inr none) = absurd (none_some (but_children n) (sym none ∙ here))
 
-pub lost_holds : (t u : Tree) (set_at : Watch → Nodes) (tables : TablesView) → u.zxid ≡ t.zxid + 1 → ((path : Path) → Loses (t.zxid + 1) t.nodes u.nodes path)
+pub lost_holds : (t u : Tree) (set_at : Watch → Nodes) (tables : TablesView) → u.zxid ≡ t.zxid + 1
+    → ((path : Path) → Loses (t.zxid + 1) t.nodes u.nodes path)
     → Holds false t set_at tables → Holds true u set_at tables
 lost_holds t u set_at tables zxid loses holds = record {
   right = holds.right;
@@ -273,7 +285,8 @@ lost_holds t u set_at tables zxid loses holds = record {
 }
 
 -- a look is due, or stays due
-pub more_due : (m n : Bool) (t : Tree) (set_at : Watch → Nodes) (tables : TablesView) → (m ≡ true → n ≡ true) → Holds m t set_at tables → Holds n t set_at tables
+pub more_due : (m n : Bool) (t : Tree) (set_at : Watch → Nodes) (tables : TablesView) → (m ≡ true → n ≡ true)
+    → Holds m t set_at tables → Holds n t set_at tables
 more_due m n t set_at tables more holds = record {
   right = holds.right;
   seen = λ w stands. each (set_at w) w.kind w.path (holds.seen w stands);
@@ -302,7 +315,8 @@ told_holds must t set_at tables es holds =
 
 -- and no watch that stands behind them waits in vain
 pub look_holds : (t : Tree) (set_at : Watch → Nodes) (tables : TablesView) (es : List Event)
-    → ((w : Watch) → In tables w → Unfired w es → WentAway w.kind w.path t → ⊥) → Holds true t set_at tables → Holds false t set_at (told_all es tables)
+    → ((w : Watch) → In tables w → Unfired w es → WentAway w.kind w.path t → ⊥) → Holds true t set_at tables
+    → Holds false t set_at (told_all es tables)
 look_holds t set_at tables es settles holds = record {
   right = told.right;
   seen = λ w stands. let left = told_all_leaves es tables w stands in each (set_at w) w (told.seen w stands) (settles w left.0 left.1);

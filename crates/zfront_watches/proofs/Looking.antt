@@ -1,5 +1,6 @@
 -- What a look sees, and that no watch that stands behind it waits in vain.
-use Rattle.std.proofs.Common.{◌≡◌, ◌∙◌, ◌≤◌, ℕ, suc, Bool, true, false, List, [], ◌∷◌, ◌++◌, length, Option, Some, None, refl, sym, ap, subst, inl, inr, arith}
+use Rattle.std.proofs.Common.{◌≡◌, ◌∙◌, ◌≤◌, ℕ, suc, Bool, true, false, List, [], ◌∷◌, ◌++◌, length, Option, Some, None}
+use Rattle.std.proofs.Common.{refl, sym, ap, subst, inl, inr, arith}
 use Rattle.std.specs.Prelude.{◌⊎◌, ◌||◌, ◌==◌, if◌then◌else◌}
 use Rattle.std.proofs.lemmas.Bool.Decides.{nat_tests}
 use Rattle.std.specs.List.{list_any}
@@ -45,7 +46,8 @@ as_many_looks (p ∷ places) = ap suc (as_many_looks places)
 -- ---- the cause of what is told
 
 abbrev pub IsSeenIn : Tree → Event → Type 0
-IsSeenIn t e = ((e.kind ≡ NodeDeleted) × (finite.get t.nodes e.path ≡ None)) ⊎ ((e.kind ≡ NodeChildrenChanged) × (children_at t.nodes e.path ≡ Some t.zxid))
+IsSeenIn t e = ((e.kind ≡ NodeDeleted) × (finite.get t.nodes e.path ≡ None))
+    ⊎ ((e.kind ≡ NodeChildrenChanged) × (children_at t.nodes e.path ≡ Some t.zxid))
 
 among_append : {A : Type 0} (x : A) (xs ys : List A) → Among x (xs ++ ys) → Among x xs ⊎ Among x ys
 among_append x [] ys is = inr is
@@ -82,12 +84,14 @@ place_caused : (t : Tree) (p : Place) (e : Event) → Among e (seen_at t.zxid p 
 unfolding query_reply
 place_caused t p e among = by (finite.get t.nodes p.path) refl among
   where
-    by : (o : Option Node) → finite.get t.nodes p.path ≡ o → Among e (seen_at t.zxid p (on_node o (λ n. reply.Exists (stat_of t.nodes p.path n)))) → IsSeenIn t e
+    by : (o : Option Node) → finite.get t.nodes p.path ≡ o
+        → Among e (seen_at t.zxid p (on_node o (λ n. reply.Exists (stat_of t.nodes p.path n)))) → IsSeenIn t e
     by None is (inl here) = subst (IsSeenIn t) here (inl (refl, is))
     by None is (inr none) = absurd none
     by (Some n) is among = node_caused t p p.kind n (stat_of t.nodes p.path n) e is refl among
 
-pub seen_caused : (t : Tree) (places : List Place) (replies : List Reply) (e : Event) → AreOf t (looks_at places) replies → Among e (seen t.zxid places replies)
+pub seen_caused : (t : Tree) (places : List Place) (replies : List Reply) (e : Event) → AreOf t (looks_at places) replies
+    → Among e (seen t.zxid places replies)
     → IsSeenIn t e
 seen_caused t [] replies e all none = absurd none
 seen_caused t (p ∷ places) [] e all none = absurd none
@@ -130,20 +134,24 @@ settled_there t p w n Children is at there unfired (inr last) =
     subst (λ b. Unfired w (if b then event NodeChildrenChanged p.path ∷ [] else [])) (level n.pzxid t.zxid z) unfired in
     clash (sym (fires_children w NodeChildrenChanged is refl) ∙ ap (λ (q : Place). fires NodeChildrenChanged q.path w) at ∙ told.0)
 
-look_settles : (t : Tree) (p : Place) (w : Watch) → place_of w ≡ p → is_of_node w.kind ≡ true → Unfired w (seen_at t.zxid p (query_reply t (Exists p.path)))
+look_settles : (t : Tree) (p : Place) (w : Watch) → place_of w ≡ p → is_of_node w.kind ≡ true
+    → Unfired w (seen_at t.zxid p (query_reply t (Exists p.path)))
     → WentAway w.kind w.path t → ⊥
 unfolding query_reply
 look_settles t p w at of_node unfired away = by (finite.get t.nodes p.path) refl unfired
   where
-    by : (o : Option Node) → finite.get t.nodes p.path ≡ o → Unfired w (seen_at t.zxid p (on_node o (λ n. reply.Exists (stat_of t.nodes p.path n)))) → ⊥
+    by : (o : Option Node) → finite.get t.nodes p.path ≡ o
+        → Unfired w (seen_at t.zxid p (on_node o (λ n. reply.Exists (stat_of t.nodes p.path n)))) → ⊥
     by None is told =
         clash (sym (deleted_fires w w.kind refl of_node) ∙ ap (λ (q : Place). fires NodeDeleted q.path w) at ∙ told.0)
     by (Some n) is told =
         settled_there t p w n w.kind refl at (ap (λ (q : Place). finite.get t.nodes q.path) at ∙ is)
         (subst (λ k. Unfired w (node_seen t.zxid k p (stat_of t.nodes p.path n))) (ap (λ (q : Place). q.kind) (sym at)) told) away
 
-looks_settle : (t : Tree) (places : List Place) (replies : List Reply) (w : Watch) → AreOf t (looks_at places) replies → length places ≤ length replies
-    → list_any (eq_by_cmp place_cmp (place_of w)) places ≡ true → is_of_node w.kind ≡ true → Unfired w (seen t.zxid places replies) → WentAway w.kind w.path t → ⊥
+looks_settle : (t : Tree) (places : List Place) (replies : List Reply) (w : Watch) → AreOf t (looks_at places) replies
+    → length places ≤ length replies
+    → list_any (eq_by_cmp place_cmp (place_of w)) places ≡ true → is_of_node w.kind ≡ true → Unfired w (seen t.zxid places replies)
+    → WentAway w.kind w.path t → ⊥
 looks_settle t [] replies w all enough among of_node unfired away = clash (sym among)
 looks_settle t (p ∷ places) [] w all enough among of_node unfired away = absurd (omega (arith, enough))
 looks_settle t (p ∷ places) (told ∷ replies) w all enough among of_node unfired away =
@@ -154,7 +162,8 @@ looks_settle t (p ∷ places) (told ∷ replies) w all enough among of_node unfi
 
     by : (b : Bool) → eq_by_cmp place_cmp (place_of w) p ≡ b → (list_any (eq_by_cmp place_cmp (place_of w)) places ≡ true → ⊥) → ⊥
     by true is rest =
-        look_settles t p w (tied_same places_total same_place (place_of w) p is) of_node (subst (λ told. Unfired w (seen_at t.zxid p told)) all.0 parts.0) away
+        look_settles t p w (tied_same places_total same_place (place_of w) p is) of_node
+        (subst (λ told. Unfired w (seen_at t.zxid p told)) all.0 parts.0) away
     by false is rest = rest (sym (ap (λ b. b || list_any (eq_by_cmp place_cmp (place_of w)) places) is) ∙ among)
 
 -- each watch of a node is at one of the places

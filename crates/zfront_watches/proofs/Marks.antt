@@ -63,7 +63,8 @@ pub marked_in : (m : SittingsView) (id : ℕ) (s : Sitting) → finite.get m id 
 marked_in m id s there = ap (λ o. option_map_or (λ (s : Sitting). s.made_ephemeral) o false) there
 
 -- a sitting is changed
-module _ (to : Sitting → Sitting) (keeps_mark : (s : Sitting) → s.made_ephemeral ≡ true → (to s).made_ephemeral ≡ true) (m : SittingsView) (key : ℕ) where
+module _ (to : Sitting → Sitting) (keeps_mark : (s : Sitting) → s.made_ephemeral ≡ true → (to s).made_ephemeral ≡ true)
+    (m : SittingsView) (key : ℕ) where
   pub changed : Keeps m (with_changed to m key)
   changed = record {
     has = λ id there. near id (same_number id key) there;
@@ -75,9 +76,11 @@ module _ (to : Sitting → Sitting) (keeps_mark : (s : Sitting) → s.made_ephem
           (to has.0, ap (finite.get (with_changed to m key)) same ∙ seat_here to m key has.0 (ap (finite.get m) (sym same) ∙ has.1))
       near id (inr apart) has = (has.0, seat_elsewhere to m key id apart ∙ has.1)
 
-      still : (id : ℕ) (s : Sitting) → finite.get m id ≡ Some s → s.made_ephemeral ≡ true → (id ≡ key) ⊎ (id ≢ key) → made_one (with_changed to m key) id ≡ true
+      still : (id : ℕ) (s : Sitting) → finite.get m id ≡ Some s → s.made_ephemeral ≡ true → (id ≡ key) ⊎ (id ≢ key)
+          → made_one (with_changed to m key) id ≡ true
       still id s there is (inl same) =
-          marked_in (with_changed to m key) id (to s) (ap (finite.get (with_changed to m key)) same ∙ seat_here to m key s (ap (finite.get m) (sym same) ∙ there))
+          marked_in (with_changed to m key) id (to s) (ap (finite.get (with_changed to m key)) same
+          ∙ seat_here to m key s (ap (finite.get m) (sym same) ∙ there))
           ∙ keeps_mark s is
       still id s there is (inr apart) =
           marked_in (with_changed to m key) id s (seat_elsewhere to m key id apart ∙ there) ∙ is
@@ -132,7 +135,8 @@ made_marked (Ephemeral session) m mine = here_marked m session mine
 pub parts_keep : (parts : List Part) (m : SittingsView) → Keeps m (made_by_parts parts m)
 parts_keep [] m = unchanged m
 parts_keep (part.Create create ∷ parts) m =
-    keeps m (made_by create.kind.lifetime m) (made_by_parts parts (made_by create.kind.lifetime m)) (made_keeps create.kind.lifetime m) (parts_keep parts (made_by create.kind.lifetime m))
+    keeps m (made_by create.kind.lifetime m) (made_by_parts parts (made_by create.kind.lifetime m)) (made_keeps create.kind.lifetime m)
+    (parts_keep parts (made_by create.kind.lifetime m))
 parts_keep (part.Delete delete ∷ parts) m = parts_keep parts m
 parts_keep (part.SetData set ∷ parts) m = parts_keep parts m
 parts_keep (part.Check check ∷ parts) m = parts_keep parts m
@@ -143,7 +147,8 @@ part_known m n kept (part.Delete delete) names = tt
 part_known m n kept (part.SetData set) names = tt
 part_known m n kept (part.Check check) names = tt
 
-pub parts_known : (m n : SittingsView) → Keeps m n → (parts : List Part) → AllByRecursion (PartNames (Known m)) parts → AllByRecursion (PartNames (Known n)) parts
+pub parts_known : (m n : SittingsView) → Keeps m n → (parts : List Part) → AllByRecursion (PartNames (Known m)) parts
+    → AllByRecursion (PartNames (Known n)) parts
 parts_known m n kept [] names = tt
 parts_known m n kept (p ∷ parts) names = (part_known m n kept p names.0, parts_known m n kept parts names.1)
 
@@ -162,7 +167,8 @@ parts_marked (part.Check check ∷ parts) m names = (tt, parts_marked parts m na
 -- a session is forgotten: the others keep their marks
 pub removed_mark : (m : SittingsView) (session id : ℕ) → id ≢ session → made_one (finite.remove m session) id ≡ made_one m id
 removed_mark m session id apart =
-    ap (λ o. option_map_or (λ (s : Sitting). s.made_ephemeral) o false) (get-remove-elsewhere nat_cmp_total nat_cmp-IsAntisymmetric m session id apart)
+    ap (λ o. option_map_or (λ (s : Sitting). s.made_ephemeral) o false)
+    (get-remove-elsewhere nat_cmp_total nat_cmp-IsAntisymmetric m session id apart)
 
 clash : true ≡ false → ⊥
 clash is = cc
@@ -202,11 +208,13 @@ any_kept test p id (first ∷ ids) passes has among =
     by : (tie : Bool) → eq_by_cmp nat_cmp id first ≡ tie → (b : Bool) → test first ≡ b
         → (list_any (eq_by_cmp nat_cmp id) ids ≡ true → list_any p (filter test ids) ≡ true)
         → list_any p (if b then first ∷ filter test ids else filter test ids) ≡ true
-    by true ties true is rest = ap (λ b. b || list_any p (filter test ids)) (ap p (sym (tied_same nat_cmp_total nat_cmp-IsAntisymmetric id first ties)) ∙ has)
+    by true ties true is rest = ap (λ b. b || list_any p (filter test ids))
+        (ap p (sym (tied_same nat_cmp_total nat_cmp-IsAntisymmetric id first ties)) ∙ has)
     by true ties false is rest = absurd (clash (sym passes ∙ ap test (tied_same nat_cmp_total nat_cmp-IsAntisymmetric id first ties) ∙ is))
     by false ties b is rest = any_more p first (filter test ids) b (rest (sym (ap (λ b. b || list_any (eq_by_cmp nat_cmp id) ids) ties) ∙ among))
 
-pub gone_made : (sessions : Sessions) (m : SittingsView) (id : ℕ) → finite.get sessions id ≡ None → made_one m id ≡ true → some_made_one m (gone sessions m) ≡ true
+pub gone_made : (sessions : Sessions) (m : SittingsView) (id : ℕ) → finite.get sessions id ≡ None → made_one m id ≡ true
+    → some_made_one m (gone sessions m) ≡ true
 gone_made sessions m id none is =
     let there = made_there m id is in
     any_kept (is_gone sessions) (made_one m) id (finite.keys m) (ap (λ o. not (is_some o)) none) is

@@ -14,7 +14,8 @@ use Rattle.zfront_laws.proofs.Seated.{phase_elsewhere}
 use Rattle.zfront_watches.specs.Watching.{IsMoved}
 
 -- a stream that is changed stays open
-module _ (to : StreamView → StreamView) (stays : (s : StreamView) → may_send (Some s.phase) ≡ true → may_send (Some (to s).phase) ≡ true) (rows : StreamRows)
+module _ (to : StreamView → StreamView) (stays : (s : StreamView) → may_send (Some s.phase) ≡ true
+    → may_send (Some (to s).phase) ≡ true) (rows : StreamRows)
     (c d : ℕ) where
   pub stays_open : may_send (phase_of rows d) ≡ true → may_send (phase_of (changed to rows c) d) ≡ true
   stays_open opens = near (same_or_other nat_cmp_total nat_cmp-IsAntisymmetric d c)
@@ -25,7 +26,8 @@ module _ (to : StreamView → StreamView) (stays : (s : StreamView) → may_send
           (ap (finite.get (finite.insert rows c (to s))) same ∙ get-insert-here nat_cmp_total nat_cmp-IsAntisymmetric rows c (to s))
           ∙ stays s (sym (ap (λ o. may_send (option_map (λ (s : StreamView). s.phase) o)) (ap (finite.get rows) same ∙ is)) ∙ opens)
 
-      by : (o : Option StreamView) → finite.get rows c ≡ o → d ≡ c → may_send (phase_of (option_map_or (λ s. finite.insert rows c (to s)) o rows) d) ≡ true
+      by : (o : Option StreamView) → finite.get rows c ≡ o → d ≡ c
+          → may_send (phase_of (option_map_or (λ s. finite.insert rows c (to s)) o rows) d) ≡ true
       by None is same = opens
       by (Some s) is same = there s is same
 
@@ -46,7 +48,8 @@ bytes_move t c bytes = record {
 }
 
 -- a connection speaks for a session
-pub speaks_moves : (t : TablesView) (c session : ℕ) (m : SittingsView) → IsMoved t (record t { streams = with_phase t.streams c (Speaking session); sittings = m })
+pub speaks_moves : (t : TablesView) (c session : ℕ) (m : SittingsView)
+    → IsMoved t (record t { streams = with_phase t.streams c (Speaking session); sittings = m })
 speaks_moves t c session m = record {
   watches = refl;
   unsent = refl;

@@ -13,7 +13,8 @@ use Rattle.zcalls.specs.declared.call.Part.TheVariants as part
 use Rattle.zcalls.specs.Part.{create_step, delete_step, set_step, part_step, made_path, owner_of, ttl_of}
 use Rattle.zcalls.specs.Multi.{run}
 use Rattle.zcalls.proofs.Bounds.{all_insert, all_remove, all_changed}
-use Rattle.zcalls.proofs.Leaving.{Leaves, create_step-leaves, delete_step-leaves, set_step-leaves, check_step-leaves, told_as_part-leaves, and_then-leaves}
+use Rattle.zcalls.proofs.Leaving.{Leaves, create_step-leaves, delete_step-leaves, set_step-leaves, check_step-leaves}
+use Rattle.zcalls.proofs.Leaving.{told_as_part-leaves, and_then-leaves}
 
 -- each node's owner has the property
 abbrev pub OwnersAre : (ℕ → Type 0) → Nodes → Type 0
@@ -27,19 +28,23 @@ module _ (Q : ℕ → Type 0) where
       let P : Node → Type 0 = λ n. Q n.owner in
       let new = new_node bytes owner ttl (t.zxid + 1) t.time in
       let more = all_insert P t.nodes at new all mine in
-      all_changed P P (finite.insert t.nodes at new) (parent_of at) (with_child (t.zxid + 1) sequential) more (λ n has. has) (λ n is. more (parent_of at) n is)
+      all_changed P P (finite.insert t.nodes at new) (parent_of at) (with_child (t.zxid + 1) sequential) more (λ n has. has)
+      (λ n is. more (parent_of at) n is)
 
-  pub created : (t : Tree) (client : ℕ) (create : Create) → OwnersAre Q t.nodes → Q (owner_of create.kind.lifetime) → Leaves (λ u. OwnersAre Q u.nodes) (create_step t client create)
+  pub created : (t : Tree) (client : ℕ) (create : Create) → OwnersAre Q t.nodes → Q (owner_of create.kind.lifetime)
+      → Leaves (λ u. OwnersAre Q u.nodes) (create_step t client create)
   created t client create all mine =
       create_step-leaves (λ u. OwnersAre Q u.nodes) t client create
-      (λ none. made t (made_path t.nodes create.kind create.path) create.bytes (owner_of create.kind.lifetime) (ttl_of create.kind.lifetime) create.kind.is_sequential all mine)
+      (λ none. made t (made_path t.nodes create.kind create.path) create.bytes (owner_of create.kind.lifetime)
+      (ttl_of create.kind.lifetime) create.kind.is_sequential all mine)
 
   pub deleted : (t : Tree) (delete : Delete) → OwnersAre Q t.nodes → Leaves (λ u. OwnersAre Q u.nodes) (delete_step t delete)
   deleted t delete all =
       let P : Node → Type 0 = λ n. Q n.owner in
       let fewer = all_remove P t.nodes delete.path all in
       delete_step-leaves (λ u. OwnersAre Q u.nodes) t delete
-      (λ none. all_changed P P (finite.remove t.nodes delete.path) (parent_of delete.path) (without_child (t.zxid + 1)) fewer (λ n has. has) (λ n is. fewer (parent_of delete.path) n is))
+      (λ none. all_changed P P (finite.remove t.nodes delete.path) (parent_of delete.path) (without_child (t.zxid + 1))
+      fewer (λ n has. has) (λ n is. fewer (parent_of delete.path) n is))
 
   pub set : (t : Tree) (to : SetData) → OwnersAre Q t.nodes → Leaves (λ u. OwnersAre Q u.nodes) (set_step t to)
   set t to all =
@@ -53,13 +58,16 @@ module _ (Q : ℕ → Type 0) where
   PartNames other = Unit {0}
 
   part_done : (t : Tree) (client : ℕ) (p : Part) → PartNames p → OwnersAre Q t.nodes → Leaves (λ u. OwnersAre Q u.nodes) (part_step t client p)
-  part_done t client (part.Create create) names all = told_as_part-leaves (λ u. OwnersAre Q u.nodes) (create_step t client create) (created t client create all names)
+  part_done t client (part.Create create) names all = told_as_part-leaves (λ u. OwnersAre Q u.nodes) (create_step t client create)
+      (created t client create all names)
   part_done t client (part.Delete delete) names all = told_as_part-leaves (λ u. OwnersAre Q u.nodes) (delete_step t delete) (deleted t delete all)
   part_done t client (part.SetData to) names all = told_as_part-leaves (λ u. OwnersAre Q u.nodes) (set_step t to) (set t to all)
   part_done t client (part.Check check) names all = check_step-leaves (λ u. OwnersAre Q u.nodes) t check all
 
-  pub ran : (parts : List Part) (t : Tree) (client : ℕ) → AllByRecursion PartNames parts → OwnersAre Q t.nodes → Leaves (λ u. OwnersAre Q u.nodes) (run t client parts)
+  pub ran : (parts : List Part) (t : Tree) (client : ℕ) → AllByRecursion PartNames parts → OwnersAre Q t.nodes
+      → Leaves (λ u. OwnersAre Q u.nodes) (run t client parts)
   unfolding run
   ran [] t client names all = all
   ran (p ∷ parts) t client names all =
-      and_then-leaves (λ u. OwnersAre Q u.nodes) (part_step t client p) (λ u. run u client parts) (part_done t client p names.0 all) (λ u left. ran parts u client names.1 left)
+      and_then-leaves (λ u. OwnersAre Q u.nodes) (part_step t client p) (λ u. run u client parts) (part_done t client p names.0 all)
+      (λ u left. ran parts u client names.1 left)

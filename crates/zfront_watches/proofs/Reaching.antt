@@ -149,7 +149,8 @@ shuts must v s to there fewer kept = record {
   tables = ap to there.tables;
   waiting = there.waiting;
   log = record { told = there.log.told; late = there.log.late };
-  holds = fewer_holds must (tree_of s) s.set_at s.tables (to s.tables) fewer (owners_kept s.tables.sittings (to s.tables).sittings (tree_of s).nodes kept) there.holds;
+  holds = fewer_holds must (tree_of s) s.set_at s.tables (to s.tables) fewer
+      (owners_kept s.tables.sittings (to s.tables).sittings (tree_of s).nodes kept) there.holds;
   late = λ call is. call_known s.tables.sittings (to s.tables).sittings kept call (there.late call is);
   free = there.free;
 }

@@ -76,10 +76,12 @@ absorbed_queries (Query query ∷ calls) (reply ∷ told) t all = absorbed_queri
 absorbed_queries (Update update ∷ calls) (reply ∷ told) t all = absurd all.0
 
 module _ (law : RepliesAreTheTrees) (c : ℕ) (asks : Request) where
-  ends_queries : (late : Bool) (calls : List Call) (told : List Reply) (old new : FrontView) (s : Scene) → (late ≡ false → old.late ≡ None) → old.must_look ≡ false
+  ends_queries : (late : Bool) (calls : List Call) (told : List Reply) (old new : FrontView) (s : Scene)
+      → (late ≡ false → old.late ≡ None) → old.must_look ≡ false
       → AreQueries calls → AtIf false old s → AreOf (tree_of s) calls told → EndsIf late c asks calls told old new → Reaches new s
   ends_queries true calls told old new s free calm all there are is =
-      subst (λ (v : FrontView). Reaches v s) (sym is) (subst (λ must. Arrives must (with_tables (closed c old.tables) old) s) (sym calm) (closes false old s c there))
+      subst (λ (v : FrontView). Reaches v s) (sym is) (subst (λ must. Arrives must (with_tables (closed c old.tables) old) s)
+      (sym calm) (closes false old s c there))
   ends_queries false calls told old new s free calm all there are has =
       let same = absorbed_queries calls told old.tables all in
       let t = answered old.clock old.asker.known c asks calls told old.tables in
@@ -89,26 +91,31 @@ module _ (law : RepliesAreTheTrees) (c : ℕ) (asks : Request) where
       behind false new.must_look (with_tables t old) new s done
       (λ next here. tidies law false told (with_tables t old) new next here (free refl) (λ due. never_due due) has)
 
-  makes_queries : (calls : List Call) (old new : FrontView) (s : Scene) → old.late ≡ None → old.must_look ≡ false → AreQueries calls → AtIf false old s
+  makes_queries : (calls : List Call) (old new : FrontView) (s : Scene) → old.late ≡ None → old.must_look ≡ false
+      → AreQueries calls → AtIf false old s
       → Makes calls c asks old new → Reaches new s
   makes_queries calls old new s free calm all there has =
       let did = queries law false old calls has.0 has.1 s all free there has.2 in
       let next = logged s (zip calls has.1) in
       precede new.must_look new s next (servings calls has.1) did.happens
-      (ends_queries (is_some has.0.late) calls has.1 has.0 new next (none_late has.0.late) (ap (λ (v : FrontView). v.must_look) has.2.rest ∙ calm) all did.there
+      (ends_queries (is_some has.0.late) calls has.1 has.0 new next (none_late has.0.late) (ap (λ (v : FrontView). v.must_look) has.2.rest
+      ∙ calm) all did.there
       (subst (λ t. AreOf t calls has.1) (sym (same_tree s calls has.1 all)) did.are) has.3)
 
   -- an update that takes nothing away
   ends_update : (u : Act) (told : Reply) (middle new : FrontView) (s : Scene) → takes_away u ≡ false → UpdateNames (Known s.tables.sittings) u
-      → ((replies : List Reply) → wishes asks.asked (Update u ∷ []) replies ≡ []) → Holds false (tree_of s) s.set_at s.tables → Updated middle s u told
-      → Tidies (told ∷ []) (with_tables (answered middle.clock middle.asker.known c asks (Update u ∷ []) (told ∷ []) middle.tables) middle) new → Reaches new s
+      → ((replies : List Reply) → wishes asks.asked (Update u ∷ []) replies ≡ []) → Holds false (tree_of s) s.set_at s.tables
+      → Updated middle s u told
+      → Tidies (told ∷ []) (with_tables (answered middle.clock middle.asker.known c asks (Update u ∷ []) (told ∷ []) middle.tables) middle) new
+      → Reaches new s
   ends_update u told middle new s stays names no_watch holds did has =
       let calls = Update u ∷ [] in
       let v = with_tables (absorbing u told middle.tables) middle in
       let w = with_tables (answered middle.clock middle.asker.known c asks calls (told ∷ []) middle.tables) middle in
       behind false new.must_look v new s (absorbs middle s u told stays names holds did)
       (λ next here. behind false new.must_look w new next
-      (granted_answers v next c asks calls (told ∷ []) here (no_wish_grants c asks.asked calls (told ∷ []) (tree_of next).nodes (no_watch (told ∷ []))))
+      (granted_answers v next c asks calls (told ∷ []) here (no_wish_grants c asks.asked calls (told ∷ []) (tree_of next).nodes
+      (no_watch (told ∷ []))))
       (λ last there. tidies law false (told ∷ []) w new last there did.none (λ due. never_due due) has))
 
   -- what a close takes away
@@ -134,7 +141,8 @@ module _ (law : RepliesAreTheTrees) (c : ℕ) (asks : Request) where
       why answer (inl took) = inl (ap (λ b. b || false) took)
       why answer (inr (id, gone, made)) = inr (id, gone, (replied_keeps middle.asker.known asks.xid answer middle.tables).marks id made)
 
-  ends_close : (session : ℕ) (told : Reply) (middle new : FrontView) (s : Scene) → Holds false (tree_of s) s.set_at s.tables → Updated middle s (act.Close session) told → (answer : Answer)
+  ends_close : (session : ℕ) (told : Reply) (middle new : FrontView) (s : Scene) → Holds false (tree_of s) s.set_at s.tables
+      → Updated middle s (act.Close session) told → (answer : Answer)
       → Tidies (told ∷ []) (with_tables (replied middle.asker.known c asks.xid answer middle.tables) middle) new → Reaches new s
   ends_close session told middle new s holds did answer has =
       precede new.must_look new s next (Served (Update u) told ∷ []) (did.right, refl) (by (close_does (tree_of s) session))
@@ -158,14 +166,16 @@ module _ (law : RepliesAreTheTrees) (c : ℕ) (asks : Request) where
           (inr (s.log, session, ap (λ r. s.log ++ (Update u, r) ∷ []) (did.right ∙ ended))) answer has
 
   -- an update is made
-  no_tidying : (late : Bool) (u : Act) (told : List Reply) (middle new : FrontView) (s : Scene) → late ≡ true → middle.must_look ≡ false → AtIf false middle s
+  no_tidying : (late : Bool) (u : Act) (told : List Reply) (middle new : FrontView) (s : Scene) → late ≡ true
+      → middle.must_look ≡ false → AtIf false middle s
       → EndsIf late c asks (Update u ∷ []) told middle new → Reaches new s
   no_tidying true u told middle new s is calm there same =
       subst (λ (v : FrontView). Reaches v s) (sym same)
       (subst (λ must. Arrives must (with_tables (closed c middle.tables) middle) s) (sym calm) (closes false middle s c there))
   no_tidying false u told middle new s is calm there has = absurd (cc is)
 
-  answered_unless : (late : Bool) (u : Act) (told : Reply) (middle new : FrontView) → late ≡ false → EndsIf late c asks (Update u ∷ []) (told ∷ []) middle new
+  answered_unless : (late : Bool) (u : Act) (told : Reply) (middle new : FrontView) → late ≡ false
+      → EndsIf late c asks (Update u ∷ []) (told ∷ []) middle new
       → Tidies (told ∷ []) (with_tables (answered middle.clock middle.asker.known c asks (Update u ∷ []) (told ∷ []) middle.tables) middle) new
   answered_unless true u told middle new is has = absurd (cc is)
   answered_unless false u told middle new is has = has
@@ -179,11 +189,16 @@ module _ (law : RepliesAreTheTrees) (c : ℕ) (asks : Request) where
   updates : (session : ℕ) (u : Act) → UpdateIsFor session u → ((replies : List Reply) → wishes asks.asked (Update u ∷ []) replies ≡ [])
       → (told : Reply) (middle new : FrontView) (s : Scene) → UpdateNames (Known s.tables.sittings) u
       → Holds false (tree_of s) s.set_at s.tables → Updated middle s u told
-      → Tidies (told ∷ []) (with_tables (answered middle.clock middle.asker.known c asks (Update u ∷ []) (told ∷ []) middle.tables) middle) new → Reaches new s
-  updates session (act.Create create) is no_watch told middle new s names holds did has = ends_update (act.Create create) told middle new s refl names no_watch holds did has
-  updates session (act.Delete delete) is no_watch told middle new s names holds did has = ends_update (act.Delete delete) told middle new s refl names no_watch holds did has
-  updates session (act.SetData set) is no_watch told middle new s names holds did has = ends_update (act.SetData set) told middle new s refl names no_watch holds did has
-  updates session (act.Multi parts) is no_watch told middle new s names holds did has = ends_update (act.Multi parts) told middle new s refl names no_watch holds did has
+      → Tidies (told ∷ []) (with_tables (answered middle.clock middle.asker.known c asks (Update u ∷ []) (told ∷ []) middle.tables) middle) new
+      → Reaches new s
+  updates session (act.Create create) is no_watch told middle new s names holds did has = ends_update (act.Create create)
+      told middle new s refl names no_watch holds did has
+  updates session (act.Delete delete) is no_watch told middle new s names holds did has = ends_update (act.Delete delete)
+      told middle new s refl names no_watch holds did has
+  updates session (act.SetData set) is no_watch told middle new s names holds did has = ends_update (act.SetData set)
+      told middle new s refl names no_watch holds did has
+  updates session (act.Multi parts) is no_watch told middle new s names holds did has = ends_update (act.Multi parts)
+      told middle new s refl names no_watch holds did has
   updates session (act.Open ticks) is no_watch told middle new s names holds did has = absurd is
   updates session (act.Ping id) is no_watch told middle new s names holds did has = absurd is
   updates session (act.Close id) is no_watch told middle new s names holds did has =
@@ -201,7 +216,8 @@ module _ (law : RepliesAreTheTrees) (c : ℕ) (asks : Request) where
       let made : Makes (Update u ∷ []) c asks old new = subst (λ cs. Makes cs c asks old new) is has in
       by made.0 made.1 made.2 made.3 (one_update law u old made.0 made.1 s names free there made.2)
     where
-      by : (middle : FrontView) (replies : List Reply) → Asks old (Update u ∷ []) middle replies → EndsIf (is_some middle.late) c asks (Update u ∷ []) replies middle new
+      by : (middle : FrontView) (replies : List Reply) → Asks old (Update u ∷ []) middle replies
+          → EndsIf (is_some middle.late) c asks (Update u ∷ []) replies middle new
           → OneUpdate middle s u replies → Reaches new s
       by middle replies asked ends (inl (none, waits, here)) =
           no_tidying (is_some middle.late) u replies middle new s (ap is_some waits) (ap (λ (v : FrontView). v.must_look) asked.rest ∙ calm) here ends
@@ -212,14 +228,19 @@ module _ (law : RepliesAreTheTrees) (c : ℕ) (asks : Request) where
 
 -- ---- what a request names
 
-lifetime_names : (m : SittingsView) (session : ℕ) → Has m session → (lifetime : Lifetime) → IsForSession session lifetime → Known m (owner_of lifetime)
+lifetime_names : (m : SittingsView) (session : ℕ) → Has m session → (lifetime : Lifetime) → IsForSession session lifetime
+    → Known m (owner_of lifetime)
 lifetime_names m session has Persistent for = inl refl
 lifetime_names m session has (WithTtl ttl) for = inl refl
 lifetime_names m session has (Ephemeral owner) for = inr (subst (Has m) (sym for) has)
 
-parts_names : (m : SittingsView) (session : ℕ) → Has m session → (parts : List Part) → AllByRecursion (PartIsFor session) parts → AllByRecursion (PartNames (Known m)) parts
+parts_names : (m : SittingsView) (session : ℕ) → Has m session → (parts : List Part) → AllByRecursion (PartIsFor session) parts
+    → AllByRecursion (PartNames (Known m)) parts
 parts_names m session has [] for = tt
-parts_names m session has (part.Create create ∷ parts) for = (lifetime_names m session has create.kind.lifetime for.0, parts_names m session has parts for.1)
+parts_names m session has (part.Create create ∷ parts) for = (
+  lifetime_names m session has create.kind.lifetime for.0,
+  parts_names m session has parts for.1,
+)
 parts_names m session has (part.Delete delete ∷ parts) for = (tt, parts_names m session has parts for.1)
 parts_names m session has (part.SetData set ∷ parts) for = (tt, parts_names m session has parts for.1)
 parts_names m session has (part.Check check ∷ parts) for = (tt, parts_names m session has parts for.1)
@@ -237,17 +258,21 @@ update_names m session has act.Tick for = tt
 -- ---- a request
 
 module _ (law : RepliesAreTheTrees) (c session : ℕ) (asks : Request) where
-  makes : (calls : List Call) → Sorts asks.asked calls → AllByRecursion (CallIsFor session) calls → (old new : FrontView) (s : Scene) → old.late ≡ None
+  makes : (calls : List Call) → Sorts asks.asked calls → AllByRecursion (CallIsFor session) calls → (old new : FrontView) (s : Scene)
+      → old.late ≡ None
       → old.must_look ≡ false → Has s.tables.sittings session → AtIf false old s
       → Makes calls c asks old new → Reaches new s
   makes calls (inl all) for old new s free calm sits there has = makes_queries law c asks calls old new s free calm all there has
   makes calls (inr (u, is, no_watch)) for old new s free calm sits there has =
       let own : UpdateIsFor session u = (subst (AllByRecursion (CallIsFor session)) is for).0 in
-      makes_update law c asks session u calls is own (λ replies. ap (λ cs. wishes asks.asked cs replies) (sym is) ∙ no_watch replies) old new s free calm
+      makes_update law c asks session u calls is own (λ replies. ap (λ cs. wishes asks.asked cs replies) (sym is)
+      ∙ no_watch replies) old new s free calm
       (update_names s.tables.sittings session sits u own) there has
 
-  acts : (meaning : Meaning (List Call)) → ((calls : List Call) → meaning ≡ Ok calls → Sorts asks.asked calls × AllByRecursion (CallIsFor session) calls)
-      → (old new : FrontView) (s : Scene) → old.late ≡ None → old.must_look ≡ false → Has s.tables.sittings session → AtIf false old s → Acts meaning c asks old new → Reaches new s
+  acts : (meaning : Meaning (List Call)) → ((calls : List Call) → meaning ≡ Ok calls
+      → Sorts asks.asked calls × AllByRecursion (CallIsFor session) calls)
+      → (old new : FrontView) (s : Scene) → old.late ≡ None → old.must_look ≡ false → Has s.tables.sittings session
+      → AtIf false old s → Acts meaning c asks old new → Reaches new s
   acts (Err (Refused code)) each old new s free calm sits there is =
       subst (λ (v : FrontView). Reaches v s) (sym is)
       (subst (λ must. Arrives must (with_tables (replied old.asker.known c asks.xid (failed code) old.tables) old) s) (sym calm)
@@ -258,7 +283,8 @@ module _ (law : RepliesAreTheTrees) (c session : ℕ) (asks : Request) where
       makes calls sorted.0 sorted.1 old new s free calm sits there has
 
 -- a frame of a session
-requests : RepliesAreTheTrees → (read : Result Request Fault) (session c : ℕ) (old new : FrontView) (s : Scene) → old.late ≡ None → old.must_look ≡ false
+requests : RepliesAreTheTrees → (read : Result Request Fault) (session c : ℕ) (old new : FrontView) (s : Scene)
+    → old.late ≡ None → old.must_look ≡ false
     → Has s.tables.sittings session → AtIf false old s → Requests read session c old new → Reaches new s
 requests law (Err fault) session c old new s free calm sits there is =
     subst (λ (v : FrontView). Reaches v s) (sym is)

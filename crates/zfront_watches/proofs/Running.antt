@@ -49,7 +49,8 @@ Brought input v s = (t : Scene) × Brings input s t × At v t
 became : (input : run.Input) (v new : FrontView) (s : Scene) → new ≡ v → Brought input v s → Brought input new s
 became input v new s is has = subst (λ (w : FrontView). Brought input w s) (sym is) has
 
-brings : RepliesAreTheTrees → (input : run.Input) (old new : FrontView) (s : Scene) → KeepsFew old → Fine old → At old s → Does input old new → Brought input new s
+brings : RepliesAreTheTrees → (input : run.Input) (old new : FrontView) (s : Scene) → KeepsFew old → Fine old → At old s
+    → Does input old new → Brought input new s
 brings law (run.Opened c password) old new s few fine there is =
     let to : TablesView → TablesView = λ t. record t { streams = finite.insert t.streams c (streams.opened password) } in
     became (run.Opened c password) (with_tables (to old.tables) old) new s is
@@ -88,7 +89,8 @@ brings law run.Took old new s few fine there is =
       },
     )
 
-brings_all : RepliesAreTheTrees → (inputs : List run.Input) (old new : FrontView) (s : Scene) → KeepsFew old → Fine old → At old s → Runs inputs old new
+brings_all : RepliesAreTheTrees → (inputs : List run.Input) (old new : FrontView) (s : Scene) → KeepsFew old → Fine old
+    → At old s → Runs inputs old new
     → (t : Scene) × BringsAll inputs s t × At new t
 brings_all law [] old new s few fine there is = (s, refl, subst (λ (v : FrontView). At v s) (sym is) there)
 brings_all law (input ∷ inputs) old new s few fine there has =

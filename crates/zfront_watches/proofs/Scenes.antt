@@ -2,7 +2,8 @@
 use Rattle.ztables.specs.Tables.{TablesView}
 use Rattle.ztree.specs.declared.node.Node.{Node}
 use Rattle.std.specs.FinMap.{get}
-use Rattle.std.proofs.Common.{◌≡◌, ◌∙◌, ℕ, zero, suc, List, [], ◌∷◌, ◌++◌, length, take, drop, Option, Some, None, refl, sym, ap, subst, inl, inr, append_assoc, true}
+use Rattle.std.proofs.Common.{◌≡◌, ◌∙◌, ℕ, zero, suc, List, [], ◌∷◌, ◌++◌, length, take, drop, Option, Some, None, refl}
+use Rattle.std.proofs.Common.{sym, ap, subst, inl, inr, append_assoc, true}
 use Rattle.std.specs.Prelude.{map, zip}
 use Rattle.std.specs.List.{slice_get}
 use Rattle.std.proofs.lemmas.List.{append-nil}
@@ -89,8 +90,11 @@ served_happens (call ∷ calls) (reply ∷ replies) s is =
     let next = after (Served call reply) s in
     let here : reply ≡ (serve (tree_of s) 0 call).1 = head_same _ _ _ _ is in
     let rest : replies ≡ served (tree_of next) (take (length replies) calls) =
-    tail_same _ _ _ _ is ∙ ap (λ t. served t (take (length replies) calls)) (sym (tree_goes_on opening_tree s.log call reply)) in
-    (here, subst (λ log. Happens (servings calls replies) next (record s { log = log })) (append_assoc s.log ((call, reply) ∷ []) (zip calls replies)) (served_happens calls replies next rest))
+    tail_same _ _ _ _ is ∙ ap (λ t. served t (take (length replies) calls)) (sym (tree_goes_on opening_tree s.log call reply)) in (
+      here,
+      subst (λ log. Happens (servings calls replies) next (record s { log = log }))
+          (append_assoc s.log ((call, reply) ∷ []) (zip calls replies)) (served_happens calls replies next rest),
+    )
 
 -- events are told, one after the other
 pub fired_happens : (es : List Event) (s : Scene)

@@ -21,7 +21,8 @@ use Rattle.zasking.specs.declared.fault.Unasked.{Unasked}
 use Rattle.zasking.specs.declared.fault.Unasked.TheVariants.{Refused}
 use Rattle.zasking.specs.declared.limits.TheConstants.{MAX_PATHS}
 use Rattle.zasking.specs.Asking.{Meaning, then_means, each_in, path_in}
-use Rattle.zasking.specs.Requests.{create_in, timed_create_in, delete_in, check_in, set_in, part_in, one, one_of_parts, multi_in, query_in, look_in, looks_in, watch_in, watched_in, look_alone, calls_in}
+use Rattle.zasking.specs.Requests.{create_in, timed_create_in, delete_in, check_in, set_in, part_in, one, one_of_parts}
+use Rattle.zasking.specs.Requests.{multi_in, query_in, look_in, looks_in, watch_in, watched_in, look_alone, calls_in}
 use Rattle.zasking.proofs.Meanings.{meant, unmeant, behind, choice, done, each_for, never, through}
 use Rattle.zserving.specs.Wishes.{wishes}
 use Rattle.zfront_watches.proofs.Wishing.{AreQueries, IsQuery}
@@ -44,7 +45,8 @@ module _ (asks : Asked) where
   none : (calls : List Call) → meant [] ≡ meant calls → Sorts asks calls
   none = done (Sorts asks) [] (inl tt)
 
-  queries : (m : Meaning (List Call)) → ((calls : List Call) → m ≡ Ok calls → AreQueries calls) → (calls : List Call) → m ≡ Ok calls → Sorts asks calls
+  queries : (m : Meaning (List Call)) → ((calls : List Call) → m ≡ Ok calls → AreQueries calls) → (calls : List Call)
+      → m ≡ Ok calls → Sorts asks calls
   queries m all calls is = inl (all calls is)
 
   alone : (query : Path → Question) (path : Option (List ℕ)) (calls : List Call) → look_alone query path ≡ Ok calls → Sorts asks calls
@@ -54,27 +56,33 @@ module _ (asks : Asked) where
   refused : (fault : Unasked) (calls : List Call) → unmeant fault ≡ meant calls → Sorts asks calls
   refused fault = never (Sorts asks) fault
 
-  update : (u : Act) → ((replies : List Reply) → wishes asks (Update u ∷ []) replies ≡ []) → (calls : List Call) → one (Update u) ≡ Ok calls → Sorts asks calls
+  update : (u : Act) → ((replies : List Reply) → wishes asks (Update u ∷ []) replies ≡ []) → (calls : List Call)
+      → one (Update u) ≡ Ok calls → Sorts asks calls
   update u no_watch = done (Sorts asks) (Update u ∷ []) (inr (u, refl, no_watch))
 
 multi_sorts : (tick session : ℕ) (asks : Asked) → ((u : Act) (replies : List Reply) → wishes asks (Update u ∷ []) replies ≡ [])
     → (parts : List AskedPart) (calls : List Call) → multi_in tick session parts ≡ Ok calls → Sorts asks calls
 multi_sorts tick session asks no_watch [] = none asks
 multi_sorts tick session asks no_watch (first ∷ parts) =
-    choice (Sorts asks) (nat_lt MAX_PARTS (length (first ∷ parts))) (Err (Refused BadArguments)) (then_means (each_in (part_in tick session) (first ∷ parts)) one_of_parts)
+    choice (Sorts asks) (nat_lt MAX_PARTS (length (first ∷ parts))) (Err (Refused BadArguments)) (then_means
+    (each_in (part_in tick session) (first ∷ parts)) one_of_parts)
     (refused asks (Refused BadArguments))
-    (behind (Sorts asks) (each_in (part_in tick session) (first ∷ parts)) one_of_parts (λ parts. update asks (act.Multi parts) (no_watch (act.Multi parts))))
+    (behind (Sorts asks) (each_in (part_in tick session) (first ∷ parts)) one_of_parts
+    (λ parts. update asks (act.Multi parts) (no_watch (act.Multi parts))))
 
 pub sorts : (tick session : ℕ) (asks : Asked) (calls : List Call) → calls_in tick session asks ≡ Ok calls → Sorts asks calls
 sorts tick session (asked.Create create) =
     let asks = asked.Create create in
-    behind (Sorts asks) (create_in session create) (λ create. one (Update (act.Create create))) (λ create. update asks (act.Create create) (λ replies. refl))
+    behind (Sorts asks) (create_in session create) (λ create. one (Update (act.Create create)))
+    (λ create. update asks (act.Create create) (λ replies. refl))
 sorts tick session (asked.Create2 create) =
     let asks = asked.Create2 create in
-    behind (Sorts asks) (create_in session create) (λ create. one (Update (act.Create create))) (λ create. update asks (act.Create create) (λ replies. refl))
+    behind (Sorts asks) (create_in session create) (λ create. one (Update (act.Create create)))
+    (λ create. update asks (act.Create create) (λ replies. refl))
 sorts tick session (asked.CreateTtl timed) =
     let asks = asked.CreateTtl timed in
-    behind (Sorts asks) (timed_create_in tick timed) (λ create. one (Update (act.Create create))) (λ create. update asks (act.Create create) (λ replies. refl))
+    behind (Sorts asks) (timed_create_in tick timed) (λ create. one (Update (act.Create create)))
+    (λ create. update asks (act.Create create) (λ replies. refl))
 sorts tick session (asked.Delete at) =
     let asks = asked.Delete at in
     behind (Sorts asks) (delete_in at) (λ delete. one (Update (act.Delete delete))) (λ delete. update asks (act.Delete delete) (λ replies. refl))
@@ -83,7 +91,8 @@ sorts tick session (asked.SetData set) =
     behind (Sorts asks) (set_in set) (λ set. one (Update (act.SetData set))) (λ set. update asks (act.SetData set) (λ replies. refl))
 sorts tick session (asked.Check at) =
     let asks = asked.Check at in
-    behind (Sorts asks) (check_in at) (λ check. one_of_parts (part.Check check ∷ [])) (λ check. update asks (act.Multi (part.Check check ∷ [])) (λ replies. refl))
+    behind (Sorts asks) (check_in at) (λ check. one_of_parts (part.Check check ∷ []))
+    (λ check. update asks (act.Multi (part.Check check ∷ [])) (λ replies. refl))
 sorts tick session (asked.Multi parts) = multi_sorts tick session (asked.Multi parts) (λ u replies. refl) parts
 sorts tick session (asked.Exists look) = alone (asked.Exists look) Exists look.path
 sorts tick session (asked.GetData look) = alone (asked.GetData look) GetData look.path
@@ -95,11 +104,13 @@ sorts tick session (asked.GetChildren2 look) =
 sorts tick session (asked.GetAcl path) = alone (asked.GetAcl path) Exists path
 sorts tick session (asked.MultiRead looks) =
     queries (asked.MultiRead looks) (looks_in looks)
-    (choice AreQueries (nat_lt MAX_PARTS (length looks)) (Err (Refused BadArguments)) (each_in look_in looks) (never AreQueries (Refused BadArguments))
+    (choice AreQueries (nat_lt MAX_PARTS (length looks)) (Err (Refused BadArguments)) (each_in look_in looks)
+    (never AreQueries (Refused BadArguments))
     (each_for IsQuery look_in look_sorts looks))
 sorts tick session (asked.SetWatches set) =
     queries (asked.SetWatches set) _
-    (choice AreQueries (nat_lt MAX_PATHS (length (watched_in set))) (Err (Refused BadArguments)) (each_in watch_in (watched_in set)) (never AreQueries (Refused BadArguments))
+    (choice AreQueries (nat_lt MAX_PATHS (length (watched_in set))) (Err (Refused BadArguments)) (each_in watch_in (watched_in set))
+    (never AreQueries (Refused BadArguments))
     (each_for IsQuery watch_in (λ path. query_sorts Exists (Some path)) (watched_in set)))
 sorts tick session (asked.Sync None) = refused (asked.Sync None) (Refused BadArguments)
 sorts tick session (asked.Sync (Some path)) = none (asked.Sync (Some path))

@@ -89,8 +89,10 @@ placed : (w : Watch) (k : Kind) → w.kind ≡ k → place_of w ≡ place w.path
 placed w k is = ap (place w.path) is
 
 pub fires_data : (w : Watch) (k : EventKind) → w.kind ≡ Data → tells_data k ≡ true → fires k w.path w ≡ true
-fires_data w kind.NodeCreated is tells = ap (λ b. b || list_any (λ at. is_at at w) (place w.path Missing ∷ [])) (at_place w w.path Data (placed w Data is))
-fires_data w kind.NodeDeleted is tells = ap (λ b. b || list_any (λ at. is_at at w) (place w.path Children ∷ [])) (at_place w w.path Data (placed w Data is))
+fires_data w kind.NodeCreated is tells = ap (λ b. b || list_any (λ at. is_at at w) (place w.path Missing ∷ []))
+    (at_place w w.path Data (placed w Data is))
+fires_data w kind.NodeDeleted is tells = ap (λ b. b || list_any (λ at. is_at at w) (place w.path Children ∷ []))
+    (at_place w w.path Data (placed w Data is))
 fires_data w kind.NodeDataChanged is tells = ap (λ b. b || false) (at_place w w.path Data (placed w Data is))
 fires_data w other is tells = absurd (cc tells)
 

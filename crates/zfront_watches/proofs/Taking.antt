@@ -1,5 +1,6 @@
 -- What a close and a tick take away: nodes, and children of others.
-use Rattle.std.proofs.Common.{◌≡◌, ◌≢◌, ◌∙◌, ◌+◌, ◌<◌, ℕ, cond, Bool, true, false, List, [], ◌∷◌, length, Option, Some, None, refl, sym, ap, subst, inl, inr, arith, if◌then◌else◌}
+use Rattle.std.proofs.Common.{◌≡◌, ◌≢◌, ◌∙◌, ◌+◌, ◌<◌, ℕ, cond, Bool, true, false, List, [], ◌∷◌, length, Option, Some}
+use Rattle.std.proofs.Common.{None, refl, sym, ap, subst, inl, inr, arith, if◌then◌else◌}
 use Rattle.std.specs.Prelude.{◌⊎◌, ◌||◌, nat_lt}
 use Rattle.std.proofs.lemmas.Bool.Decides.{nat_tests}
 use Rattle.std.specs.List.{list_any, AllByRecursion}
@@ -62,13 +63,15 @@ removed zxid nodes at path = near (same_or_other paths_total same_path path at)
   where
     near : (path ≡ at) ⊎ (path ≢ at) → Loses zxid nodes (finite.remove nodes at) path
     near (inl here) =
-        let gone : finite.get (finite.remove nodes at) path ≡ None = ap (finite.get (finite.remove nodes at)) here ∙ get-remove-here paths_total same_path nodes at in
+        let gone : finite.get (finite.remove nodes at) path ≡ None = ap (finite.get (finite.remove nodes at)) here
+        ∙ get-remove-here paths_total same_path nodes at in
         record {
           of_data = inr (ap (option_map but_children) gone);
           of_children = inr (inl (ap (option_map (λ (n : Node). n.pzxid)) gone));
         }
     near (inr apart) =
-        let same : finite.get (finite.remove nodes at) path ≡ finite.get nodes path = get-remove-elsewhere paths_total same_path nodes at path apart in
+        let same : finite.get (finite.remove nodes at) path ≡ finite.get nodes path = get-remove-elsewhere paths_total
+        same_path nodes at path apart in
         record {
           of_data = inl (ap (option_map but_children) same);
           of_children = inl (ap (option_map (λ (n : Node). n.pzxid)) same);
@@ -83,7 +86,8 @@ less_a_child zxid nodes at path = by (finite.get nodes at) refl
 
     here : (n : Node) → finite.get nodes at ≡ Some n → path ≡ at → Loses zxid nodes (finite.insert nodes at (f n)) path
     here n is same =
-        let there : finite.get (finite.insert nodes at (f n)) path ≡ Some (f n) = ap (finite.get (finite.insert nodes at (f n))) same ∙ get-insert-here paths_total same_path nodes at (f n) in
+        let there : finite.get (finite.insert nodes at (f n)) path ≡ Some (f n) = ap (finite.get (finite.insert nodes at (f n))) same
+        ∙ get-insert-here paths_total same_path nodes at (f n) in
         let was : finite.get nodes path ≡ Some n = ap (finite.get nodes) same ∙ is in
         record {
           of_data = inl (ap (option_map but_children) there ∙ sym (ap (option_map but_children) was));
@@ -109,7 +113,8 @@ dropped t at path =
 all_dropped : (paths : List Path) (t : Tree) (path : Path) → Loses (t.zxid + 1) t.nodes (without_nodes t paths).nodes path
 all_dropped [] t path = loses_nothing (t.zxid + 1) t.nodes path
 all_dropped (at ∷ paths) t path =
-    both (t.zxid + 1) t.nodes (without_node t at).nodes (without_nodes t (at ∷ paths)).nodes path (dropped t at path) (all_dropped paths (without_node t at) path)
+    both (t.zxid + 1) t.nodes (without_node t at).nodes (without_nodes t (at ∷ paths)).nodes path (dropped t at path)
+    (all_dropped paths (without_node t at) path)
 
 all_ended : (ids : List ℕ) (t : Tree) (path : Path) → Loses (t.zxid + 1) t.nodes (without_sessions t ids).nodes path
 all_ended [] t path = loses_nothing (t.zxid + 1) t.nodes path
@@ -118,7 +123,8 @@ all_ended (id ∷ ids) t path =
     both (t.zxid + 1) t.nodes u.nodes (without_sessions u ids).nodes path (all_dropped (ephemerals t.nodes id) t path)
     (subst (λ z. Loses (z + 1) u.nodes (without_sessions u ids).nodes path) (ended-ends t id).zxid (all_ended ids u path))
 
-all_gone : (ids : List ℕ) (paths : List Path) (t : Tree) (path : Path) → Loses (t.zxid + 1) t.nodes (without_nodes (without_sessions t ids) paths).nodes path
+all_gone : (ids : List ℕ) (paths : List Path) (t : Tree) (path : Path)
+    → Loses (t.zxid + 1) t.nodes (without_nodes (without_sessions t ids) paths).nodes path
 all_gone ids paths t path =
     let u = without_sessions t ids in
     both (t.zxid + 1) t.nodes u.nodes (without_nodes u paths).nodes path (all_ended ids t path)
@@ -139,7 +145,8 @@ ended_or_owned [] t above = inl refl
 ended_or_owned (first ∷ ids) t above = by (ephemerals t.nodes first) refl (ended_or_owned ids (without_session t first) above.1)
   where
     Outcome : Type 0
-    Outcome = ((without_sessions t (first ∷ ids)).nodes ≡ t.nodes) ⊎ ((id : ℕ) × (list_any (eq_by_cmp nat_cmp id) (first ∷ ids) ≡ true) × Owned t.nodes id)
+    Outcome = ((without_sessions t (first ∷ ids)).nodes ≡ t.nodes)
+        ⊎ ((id : ℕ) × (list_any (eq_by_cmp nat_cmp id) (first ∷ ids) ≡ true) × Owned t.nodes id)
 
     rest : (without_session t first).nodes ≡ t.nodes
         → ((without_sessions (without_session t first) ids).nodes ≡ (without_session t first).nodes)
@@ -156,7 +163,11 @@ ended_or_owned (first ∷ ids) t above = by (ephemerals t.nodes first) refl (end
     by [] none further = rest (ap (λ paths. (without_nodes t paths).nodes) none) further
     by (path ∷ paths) some further =
         let found = first_is_there first t.nodes path paths some in
-        inr (first, ap (λ b. b || list_any (eq_by_cmp nat_cmp first) ids) (tied nat_cmp_total nat_cmp-IsAntisymmetric first), (above.0, path, found.0, found.1, found.2))
+        inr (
+          first,
+          ap (λ b. b || list_any (eq_by_cmp nat_cmp first) ids) (tied nat_cmp_total nat_cmp-IsAntisymmetric first),
+          (above.0, path, found.0, found.1, found.2),
+        )
 
 -- all nodes stay, or the change takes some away: then the reply tells it, or a session that is gone owned one
 abbrev pub TakesTo : Tree → Tree → Bool → Type 0
@@ -207,7 +218,8 @@ ticked_takes t ids paths above = by (is_busy ids paths) refl
     told : Reply
     told = reply.Ticked (t.time + 1) (length ids) (length paths)
 
-    owned : (is_busy ids paths ≡ true) → (paths ≡ []) → ((without_sessions t ids).nodes ≡ t.nodes) ⊎ ((id : ℕ) × (list_any (eq_by_cmp nat_cmp id) ids ≡ true) × Owned t.nodes id)
+    owned : (is_busy ids paths ≡ true) → (paths ≡ []) → ((without_sessions t ids).nodes ≡ t.nodes)
+        ⊎ ((id : ℕ) × (list_any (eq_by_cmp nat_cmp id) ids ≡ true) × Owned t.nodes id)
         → Takes t (with_next_zxid (after_tick t ids paths), told)
     owned busy none (inl same) = inl (ap (λ ps. (without_nodes (without_sessions t ids) ps).nodes) none ∙ same)
     owned busy none (inr (id, among, has)) =

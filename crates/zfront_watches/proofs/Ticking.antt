@@ -1,5 +1,6 @@
 -- A server at a scene, where a tick goes by, and where the operator gives a line.
-use Rattle.std.proofs.Common.{◌≡◌, ◌∙◌, ℕ, zero, suc, Bool, true, false, List, [], ◌∷◌, ◌++◌, length, take, Option, Some, None, Result, Ok, Err, refl, sym, ap, subst, inl, inr}
+use Rattle.std.proofs.Common.{◌≡◌, ◌∙◌, ℕ, zero, suc, Bool, true, false, List, [], ◌∷◌, ◌++◌, length, take, Option}
+use Rattle.std.proofs.Common.{Some, None, Result, Ok, Err, refl, sym, ap, subst, inl, inr}
 use Rattle.std.specs.Prelude.{◌⊎◌, zip, codes, is_some}
 use Rattle.std.specs.List.{list_any, slice_get}
 use Rattle.ztree.proofs.Maps.{none_some, same_some}
@@ -66,14 +67,16 @@ module _ (law : RepliesAreTheTrees) (sessions : List ℕ) (old middle new : Fron
     tables = tables;
     waiting = did.0.0;
     log = did.0.1;
-    holds = still_holds false (tree_of s) (tree_of next) s.set_at s.tables (pings_leave sessions replies s call (sym late ∙ is) did.1) (λ due. absurd (cc due)) there.holds;
+    holds = still_holds false (tree_of s) (tree_of next) s.set_at s.tables (pings_leave sessions replies s call (sym late ∙ is) did.1)
+        (λ due. absurd (cc due)) there.holds;
     late = λ other same. late_names sessions (length replies) other (Known s.tables.sittings) (sym late ∙ same);
     free = λ update same. refl;
   }
 
   -- all calls were answered
   went : middle.late ≡ None → Taken middle next (list_any takes_nodes replies)
-  went none = taken middle s next (list_any takes_nodes replies) did.0.0 refl refl tables did.0.1 none there.holds (tick_taken sessions replies s did.1)
+  went none = taken middle s next (list_any takes_nodes replies) did.0.0 refl refl tables did.0.1 none there.holds
+      (tick_taken sessions replies s did.1)
 
   rests : middle.late ≡ None → Taken middle next (list_any takes_nodes replies) → Tidies replies (rested middle) new → Reaches new next
   rests none took tidied =
@@ -95,9 +98,11 @@ module _ (law : RepliesAreTheTrees) (sessions : List ℕ) (old middle new : Fron
 
   pub ticked : TicksIf (is_some middle.late) replies middle new → Reaches new s
   ticked ended =
-      precede new.must_look new s next (servings (tick_calls sessions) replies) (served_happens (tick_calls sessions) replies s did.1) (ends middle.late refl ended)
+      precede new.must_look new s next (servings (tick_calls sessions) replies) (served_happens (tick_calls sessions) replies s did.1)
+      (ends middle.late refl ended)
 
-ticks_unless : RepliesAreTheTrees → (late : Bool) (old new : FrontView) (s : Scene) → (late ≡ false → old.late ≡ None) → Quiet old → At old s → TicksUnless late old new
+ticks_unless : RepliesAreTheTrees → (late : Bool) (old new : FrontView) (s : Scene) → (late ≡ false → old.late ≡ None)
+    → Quiet old → At old s → TicksUnless late old new
     → Reaches new s
 ticks_unless law true old new s free quiet there same = subst (λ (v : FrontView). Reaches v s) (sym same) (stays old.must_look old s there)
 ticks_unless law false old new s free quiet there has =
@@ -121,7 +126,8 @@ tells_operator text v s there = record {
 }
 
 -- the client's log stays
-same_log : (old : FrontView) (asker : AloneView) (s : Scene) → ((log : _) (waiting : Option Call) → HasTold old.asker log waiting → HasTold asker log waiting)
+same_log : (old : FrontView) (asker : AloneView) (s : Scene) → ((log : _) (waiting : Option Call) → HasTold old.asker log waiting
+    → HasTold asker log waiting)
     → At old s → At (record old { asker = asker }) s
 same_log old asker s tells there = record {
   tables = there.tables;
@@ -137,7 +143,8 @@ is_given given old new s there has =
     subst (λ (v : FrontView). Reaches v s) (sym has.told)
     (tells_operator (did_text has.did) (record old { asker = has.asker }) s (same_log old has.asker s has.tells there))
 
-settles_alone : (old new : FrontView) (asker : AloneView) (told : Option Reply) (s : Scene) (waiting : Option Call) → old.late ≡ None → IsLog old s.log waiting
+settles_alone : (old new : FrontView) (asker : AloneView) (told : Option Reply) (s : Scene) (waiting : Option Call)
+    → old.late ≡ None → IsLog old s.log waiting
     → TellsSettled old.asker asker told → new ≡ record old { asker = asker } → At old s → Reaches new s
 settles_alone old new asker told s (Some call) free is tells same there = absurd (none_some call (sym free ∙ is.late call refl))
 settles_alone old new asker None s None free is tells same there =
@@ -176,4 +183,5 @@ obeys_line (Err fault) old new s there is = bad_line old new s there is
 
 pub hears : RepliesAreTheTrees → (text : List ℕ) (old new : FrontView) (s : Scene) → At old s → Hears text old new → Reaches new s
 hears law text old new s there has =
-    behind has.0.must_look new.must_look has.0 new s (is_ready law old has.0 s there has.1) (λ next here. obeys_line (line_of text) has.0 new next here has.2)
+    behind has.0.must_look new.must_look has.0 new s (is_ready law old has.0 s there has.1)
+    (λ next here. obeys_line (line_of text) has.0 new next here has.2)

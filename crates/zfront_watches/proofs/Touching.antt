@@ -1,11 +1,13 @@
 -- What an event of an update tells has changed: the node is gone, or has the zxid of this change.
-use Rattle.std.proofs.Common.{◌≡◌, ◌≢◌, ◌∙◌, ◌+◌, ℕ, Bool, true, false, List, [], ◌∷◌, ◌++◌, Option, Some, None, Result, Ok, Err, refl, sym, ap, subst, inl, inr, if◌then◌else◌}
+use Rattle.std.proofs.Common.{◌≡◌, ◌≢◌, ◌∙◌, ◌+◌, ℕ, Bool, true, false, List, [], ◌∷◌, ◌++◌, Option, Some, None, Result}
+use Rattle.std.proofs.Common.{Ok, Err, refl, sym, ap, subst, inl, inr, if◌then◌else◌}
 use Rattle.std.specs.Prelude.{◌⊎◌, is_some}
 use Rattle.std.specs.Option.{option_map_or}
 use Rattle.std.specs.FinMap as finite
 use Rattle.zpath.specs.First.{first_that_holds}
 use Rattle.ztree.specs.declared.node.Node.{Node}
-use Rattle.ztree.specs.Tree.{Tree, Path, Nodes, has_node, parent_of, new_node, with_node, without_node, with_child, without_child, with_data, with_change_at}
+use Rattle.ztree.specs.Tree.{Tree, Path, Nodes, has_node, parent_of, new_node, with_node, without_node, with_child}
+use Rattle.ztree.specs.Tree.{without_child, with_data, with_change_at}
 use Rattle.ztree.proofs.Sorted.{paths_total, same_path}
 use Rattle.ztree.proofs.Maps.{same_or_other, get-insert-here, get-remove-here, get-remove-elsewhere}
 use Rattle.ztree.proofs.Nodes.{get-insert-other}
@@ -28,7 +30,9 @@ use Rattle.zcalls.specs.declared.change.ChangeReply.{ChangeReply}
 use Rattle.zcalls.specs.declared.change.ChangeReply.TheVariants.{Created, Deleted, Set}
 use Rattle.zcalls.specs.declared.reply.PartReply.{PartReply}
 use Rattle.zcalls.specs.declared.reply.PartReply.TheVariants as part_reply
-use Rattle.zcalls.specs.Part.{create_step, delete_step, set_step, check_step, part_step, told_as_part, create_refusals, delete_refusals, unless_refused, made_path, owner_of, ttl_of, on_version, has_other_version, with_node_set}
+use Rattle.zcalls.specs.Part.{create_step, delete_step, set_step, check_step, part_step, told_as_part, create_refusals}
+use Rattle.zcalls.specs.Part.{delete_refusals, unless_refused, made_path, owner_of, ttl_of, on_version}
+use Rattle.zcalls.specs.Part.{has_other_version, with_node_set}
 use Rattle.zcalls.specs.Multi.{Run, run, behind, and_then}
 use Rattle.zcalls.proofs.Leaving.{Leaves, create_step-leaves, delete_step-leaves, set_step-leaves, part_step-leaves, run-leaves}
 use Rattle.zjute.specs.declared.event.EventKind.{EventKind}
@@ -47,12 +51,14 @@ module _ (of_node : Node → ℕ) (zxid : ℕ) (path : Path) where
   abbrev At : Nodes → Type 0
   At nodes = Dated of_node zxid nodes path
 
-  changed : (nodes : Nodes) (q : Path) (f : Node → Node) → ((n : Node) → of_node n ≡ zxid → of_node (f n) ≡ zxid) → At nodes → At (with_change_at nodes q f)
+  changed : (nodes : Nodes) (q : Path) (f : Node → Node) → ((n : Node) → of_node n ≡ zxid → of_node (f n) ≡ zxid)
+      → At nodes → At (with_change_at nodes q f)
   changed nodes q f keeps dated = by (finite.get nodes q) refl
     where
       near : (n : Node) → finite.get nodes q ≡ Some n → (path ≡ q) ⊎ (path ≢ q) → At (finite.insert nodes q (f n))
       near n is (inl same) m found =
-          let here : Some (f n) ≡ Some m = sym (ap (finite.get (finite.insert nodes q (f n))) same ∙ get-insert-here paths_total same_path nodes q (f n)) ∙ found in
+          let here : Some (f n) ≡ Some m = sym (ap (finite.get (finite.insert nodes q (f n))) same
+          ∙ get-insert-here paths_total same_path nodes q (f n)) ∙ found in
           let that : f n ≡ m = cc here in
           ap of_node (sym that) ∙ keeps n (dated n (ap (finite.get nodes) same ∙ is))
       near n is (inr apart) m found = dated m (sym (get-insert-other nodes q (f n) path apart) ∙ found)
@@ -66,7 +72,8 @@ module _ (of_node : Node → ℕ) (zxid : ℕ) (path : Path) where
     where
       near : (path ≡ q) ⊎ (path ≢ q) → At (finite.insert nodes q new)
       near (inl same) m found =
-          let here : Some new ≡ Some m = sym (ap (finite.get (finite.insert nodes q new)) same ∙ get-insert-here paths_total same_path nodes q new) ∙ found in
+          let here : Some new ≡ Some m = sym (ap (finite.get (finite.insert nodes q new)) same
+          ∙ get-insert-here paths_total same_path nodes q new) ∙ found in
           let that : new ≡ m = cc here in
           ap of_node (sym that) ∙ is
       near (inr apart) m found = dated m (sym (get-insert-other nodes q new path apart) ∙ found)
@@ -89,13 +96,15 @@ module _ (of_node : Node → ℕ) (zxid : ℕ) (path : Path) where
           let none : None ≡ Some m = sym (ap (finite.get nodes) (sym same) ∙ is) ∙ found in
           absurd (cc none)
       by (Some n) is m found =
-          let here : Some (f n) ≡ Some m = sym (ap (finite.get (finite.insert nodes q (f n))) (sym same) ∙ get-insert-here paths_total same_path nodes q (f n)) ∙ found in
+          let here : Some (f n) ≡ Some m = sym (ap (finite.get (finite.insert nodes q (f n))) (sym same)
+          ∙ get-insert-here paths_total same_path nodes q (f n)) ∙ found in
           let that : f n ≡ m = cc here in
           ap of_node (sym that) ∙ now n
 
   made_here : (nodes : Nodes) (q : Path) (new : Node) → of_node new ≡ zxid → q ≡ path → At (finite.insert nodes q new)
   made_here nodes q new is same m found =
-      let here : Some new ≡ Some m = sym (ap (finite.get (finite.insert nodes q new)) (sym same) ∙ get-insert-here paths_total same_path nodes q new) ∙ found in
+      let here : Some new ≡ Some m = sym (ap (finite.get (finite.insert nodes q new)) (sym same)
+      ∙ get-insert-here paths_total same_path nodes q new) ∙ found in
       let that : new ≡ m = cc here in
       ap of_node (sym that) ∙ is
 
@@ -140,7 +149,8 @@ module _ (zxid : ℕ) (path : Path) where
       (dated.0, changed written_at zxid path t.nodes set.path (with_data set.bytes (t.zxid + 1) t.time) (λ n is. dated.0) dated.1))
       dated
 
-  children_kept : (t : Tree) (client : ℕ) (p : Part) → IsDated children_changed_at zxid path t → Leaves (IsDated children_changed_at zxid path) (part_step t client p)
+  children_kept : (t : Tree) (client : ℕ) (p : Part) → IsDated children_changed_at zxid path t
+      → Leaves (IsDated children_changed_at zxid path) (part_step t client p)
   children_kept t client p dated =
       part_step-leaves (IsDated children_changed_at zxid path) t client p
       (λ create.
@@ -149,14 +159,16 @@ module _ (zxid : ℕ) (path : Path) where
       let at = made_path t.nodes create.kind create.path in
       let new = new_node create.bytes (owner_of create.kind.lifetime) (ttl_of create.kind.lifetime) (t.zxid + 1) t.time in (
         dated.0,
-        changed children_changed_at zxid path (finite.insert t.nodes at new) (parent_of at) (with_child (t.zxid + 1) create.kind.is_sequential) (λ n is. dated.0)
+        changed children_changed_at zxid path (finite.insert t.nodes at new) (parent_of at) (with_child (t.zxid + 1) create.kind.is_sequential)
+            (λ n is. dated.0)
             (inserted children_changed_at zxid path t.nodes at new dated.0 dated.1),
       )))
       (λ delete.
       delete_step-leaves (IsDated children_changed_at zxid path) t delete
       (λ none. (
         dated.0,
-        changed children_changed_at zxid path (finite.remove t.nodes delete.path) (parent_of delete.path) (without_child (t.zxid + 1)) (λ n is. dated.0)
+        changed children_changed_at zxid path (finite.remove t.nodes delete.path) (parent_of delete.path)
+            (without_child (t.zxid + 1)) (λ n is. dated.0)
             (removed children_changed_at zxid path t.nodes delete.path dated.1),
       )))
       (λ set.
@@ -168,7 +180,8 @@ module _ (zxid : ℕ) (path : Path) where
 abbrev pub Tells : (EventKind → Bool) → Path → List Event → Type 0
 Tells tells path events = (e : Event) × Among e events × (tells e.kind ≡ true) × (e.path ≡ path)
 
-tells-append : (tells : EventKind → Bool) (path : Path) (events more : List Event) → Tells tells path (events ++ more) → Tells tells path events ⊎ Tells tells path more
+tells-append : (tells : EventKind → Bool) (path : Path) (events more : List Event) → Tells tells path (events ++ more)
+    → Tells tells path events ⊎ Tells tells path more
 tells-append tells path [] more has = inr has
 tells-append tells path (e ∷ events) more (it, inl here, does, at) = inl (it, inl here, does, at)
 tells-append tells path (e ∷ events) more (it, inr there, does, at) = by (tells-append tells path events more (it, there, does, at))
@@ -187,7 +200,8 @@ with_parent_data k at path here (e, inr (inl is), does, same) =
     absurd (cc (ap (λ (e : Event). tells_data e.kind) is ∙ does))
 with_parent_data k at path here (e, inr (inr none), does, same) = absurd none
 
-with_parent_children : {P : Type 0} (k : EventKind) (at path : Path) → (tells_loss k ≡ true → at ≡ path → P) → (parent_of at ≡ path → P) → Tells tells_loss path (with_parent k at) → P
+with_parent_children : {P : Type 0} (k : EventKind) (at path : Path) → (tells_loss k ≡ true → at ≡ path → P)
+    → (parent_of at ≡ path → P) → Tells tells_loss path (with_parent k at) → P
 with_parent_children k at path here above (e, inl is, does, same) =
     here (ap (λ (e : Event). tells_loss e.kind) is ∙ does) (ap (λ (e : Event). e.path) is ∙ same)
 with_parent_children k at path here above (e, inr (inl is), does, same) = above (ap (λ (e : Event). e.path) is ∙ same)
@@ -235,7 +249,8 @@ create_did t client create path = by (first_that_holds (create_refusals t client
     by (Some refusal) = tt
     by None = (
       with_parent_data NodeCreated at path
-          (λ same. changed written_at (t.zxid + 1) path more (parent_of at) f (λ n is. is) (made_here written_at (t.zxid + 1) path t.nodes at new refl same)),
+          (λ same. changed written_at (t.zxid + 1) path more (parent_of at) f (λ n is. is)
+          (made_here written_at (t.zxid + 1) path t.nodes at new refl same)),
       with_parent_children NodeCreated at path (λ never same. absurd (cc never))
           (λ same. set_here children_changed_at (t.zxid + 1) path more (parent_of at) f (λ n. refl) same),
     )
@@ -254,9 +269,11 @@ delete_did t delete path = by (first_that_holds (delete_refusals t.nodes delete)
     by (Some refusal) = tt
     by None = (
       with_parent_data NodeDeleted delete.path path
-          (λ same. changed written_at (t.zxid + 1) path fewer (parent_of delete.path) f (λ n is. is) (gone_here written_at (t.zxid + 1) path t.nodes delete.path same)),
+          (λ same. changed written_at (t.zxid + 1) path fewer (parent_of delete.path) f (λ n is. is)
+          (gone_here written_at (t.zxid + 1) path t.nodes delete.path same)),
       with_parent_children NodeDeleted delete.path path
-          (λ does same. changed children_changed_at (t.zxid + 1) path fewer (parent_of delete.path) f (λ n is. refl) (gone_here children_changed_at (t.zxid + 1) path t.nodes delete.path same))
+          (λ does same. changed children_changed_at (t.zxid + 1) path fewer (parent_of delete.path) f (λ n is. refl)
+          (gone_here children_changed_at (t.zxid + 1) path t.nodes delete.path same))
           (λ same. set_here children_changed_at (t.zxid + 1) path fewer (parent_of delete.path) f (λ n. refl) same),
     )
 
@@ -275,7 +292,8 @@ set_did t set path = by (finite.get t.nodes set.path)
     write : Node → Node
     write = with_data set.bytes (t.zxid + 1) t.time
 
-    chosen : (n : Node) (test : Bool) → ChangeDid (t.zxid + 1) path (of_set set) (if test then Err BadVersion else Ok (with_node_set t set.path (write n)))
+    chosen : (n : Node) (test : Bool) → ChangeDid (t.zxid + 1) path (of_set set) (if test then Err BadVersion
+        else Ok (with_node_set t set.path (write n)))
     chosen n true = tt
     chosen n false = (
       written_data set.path path (λ same. made_here written_at (t.zxid + 1) path t.nodes set.path (write n) refl same),
@@ -293,7 +311,8 @@ PartDid zxid path p (Ok (u, told)) =
     (Tells tells_data path (part_events p told) → Dated written_at zxid u.nodes path)
     × (Tells tells_loss path (part_events p told) → Dated children_changed_at zxid u.nodes path)
 
-part_create : (zxid : ℕ) (path : Path) (create : Create) (r : Result (Tree × ChangeReply) Refusal) → ChangeDid zxid path of_create r → PartDid zxid path (part.Create create) (told_as_part r)
+part_create : (zxid : ℕ) (path : Path) (create : Create) (r : Result (Tree × ChangeReply) Refusal) → ChangeDid zxid path of_create r
+    → PartDid zxid path (part.Create create) (told_as_part r)
 part_create zxid path create (Err refusal) did = tt
 part_create zxid path create (Ok (u, Created at)) did = did
 part_create zxid path create (Ok (u, Deleted)) did = did
@@ -306,7 +325,8 @@ part_delete zxid path delete (Ok (u, Created at)) did = did
 part_delete zxid path delete (Ok (u, Deleted)) did = did
 part_delete zxid path delete (Ok (u, Set stat)) did = did
 
-part_set : (zxid : ℕ) (path : Path) (set : SetData) (r : Result (Tree × ChangeReply) Refusal) → ChangeDid zxid path (of_set set) r → PartDid zxid path (part.SetData set) (told_as_part r)
+part_set : (zxid : ℕ) (path : Path) (set : SetData) (r : Result (Tree × ChangeReply) Refusal) → ChangeDid zxid path (of_set set) r
+    → PartDid zxid path (part.SetData set) (told_as_part r)
 part_set zxid path set (Err refusal) did = tt
 part_set zxid path set (Ok (u, Created at)) did = did
 part_set zxid path set (Ok (u, Deleted)) did = did
@@ -361,7 +381,8 @@ run_behind zxid path v p parts first (Ok (u, told)) did by_data by_children rest
     of_data (inl now) = (by_data (did.0 now)).1
     of_data (inr later) = rest.0 later
 
-    of_children : Tells tells_loss path (part_events p first) ⊎ Tells tells_loss path (parts_events parts told) → Dated children_changed_at zxid u.nodes path
+    of_children : Tells tells_loss path (part_events p first) ⊎ Tells tells_loss path (parts_events parts told)
+        → Dated children_changed_at zxid u.nodes path
     of_children (inl now) = (by_children (did.1 now)).1
     of_children (inr later) = rest.1 later
 
@@ -401,7 +422,8 @@ create_touches zxid path t create (Ok (u, Created at)) did = did
 create_touches zxid path t create (Ok (u, Deleted)) did = did
 create_touches zxid path t create (Ok (u, Set stat)) did = did
 
-delete_touches : (zxid : ℕ) (path : Path) (t : Tree) (delete : Delete) (r : Result (Tree × ChangeReply) Refusal) → ChangeDid zxid path (of_delete delete) r
+delete_touches : (zxid : ℕ) (path : Path) (t : Tree) (delete : Delete) (r : Result (Tree × ChangeReply) Refusal)
+    → ChangeDid zxid path (of_delete delete) r
     → Touches zxid path (act.Delete delete) (change_result t r)
 delete_touches zxid path t delete (Err refusal) did = no_events zxid path (act.Delete delete) (t, reply.Refused refusal) refl
 delete_touches zxid path t delete (Ok (u, Created at)) did = did
@@ -415,11 +437,13 @@ set_touches zxid path t set (Ok (u, Created at)) did = did
 set_touches zxid path t set (Ok (u, Deleted)) did = did
 set_touches zxid path t set (Ok (u, Set stat)) did = did
 
-multi_touches : (zxid : ℕ) (path : Path) (t : Tree) (parts : List Part) (r : Run) → RunDid zxid path parts r → Touches zxid path (act.Multi parts) (multi_result t r)
+multi_touches : (zxid : ℕ) (path : Path) (t : Tree) (parts : List Part) (r : Run) → RunDid zxid path parts r
+    → Touches zxid path (act.Multi parts) (multi_result t r)
 multi_touches zxid path t parts (Err (number, refusal)) did = no_events zxid path (act.Multi parts) (t, reply.MultiRefused number refusal) refl
 multi_touches zxid path t parts (Ok (u, told)) did = did
 
-either : (zxid : ℕ) (path : Path) (u : Update) (b : Bool) (r s : Tree × Reply) → Touches zxid path u r → Touches zxid path u s → Touches zxid path u (if b then r else s)
+either : (zxid : ℕ) (path : Path) (u : Update) (b : Bool) (r s : Tree × Reply) → Touches zxid path u r → Touches zxid path u s
+    → Touches zxid path u (if b then r else s)
 either zxid path u true r s first second = first
 either zxid path u false r s first second = second
 
@@ -491,7 +515,8 @@ makes_if : (t : Tree) (create : Create) (path : Path) (b : Bool) (r : Tree × Re
 makes_if t create path true r makes tells = no_event tells_creation path tells
 makes_if t create path false r makes tells = makes tells
 
-pub create_leaves : (t : Tree) (create : Create) (path : Path) → Tells tells_creation path (events_of (act.Create create) (step t 0 (act.Create create)).1)
+pub create_leaves : (t : Tree) (create : Create) (path : Path)
+    → Tells tells_creation path (events_of (act.Create create) (step t 0 (act.Create create)).1)
     → has_node (step t 0 (act.Create create)).0.nodes path ≡ true
 unfolding step
 create_leaves t create path =

@@ -6,7 +6,8 @@ use Rattle.zwatches.specs.Events.{fires}
 use Rattle.zfront_watches.proofs.Standing.{In}
 use Rattle.zfront_watches.proofs.Touching.{Tells}
 use Rattle.zfront_watches.proofs.Changing.{OfMulti, fired_at_path, has_changed, tells_of}
-use Rattle.std.proofs.Common.{◌≡◌, ◌∙◌, ◌+◌, ℕ, Bool, true, false, List, [], ◌∷◌, ◌++◌, length, take, Option, Some, None, refl, sym, ap, subst, inl, inr, arith, append_assoc}
+use Rattle.std.proofs.Common.{◌≡◌, ◌∙◌, ◌+◌, ℕ, Bool, true, false, List, [], ◌∷◌, ◌++◌, length, take, Option, Some}
+use Rattle.std.proofs.Common.{None, refl, sym, ap, subst, inl, inr, arith, append_assoc}
 use Rattle.std.specs.Prelude.{◌⊎◌, ◌||◌, map, zip, if◌then◌else◌}
 use Rattle.std.specs.List.{list_any, slice_get}
 use Rattle.std.proofs.Math.Seq.{take-nil}
@@ -66,13 +67,21 @@ pub absorbs : (v : FrontView) (s : Scene) (u : Act) (told : Reply) → takes_awa
 absorbs v s u told stays names holds did = record {
   happenings = Served (Update u) told ∷ Moved middle ∷ map (λ e. Fired e) es;
   scene = last;
-  happens = (did.right, (sittings_move s.tables (noted u told s.tables.sittings), fired_happens es second (λ e t among fewer. inl (inl (s.log, u, told, refl, among), λ w stands fired. changed e t w among (fewer w stands) fired))));
+  happens = (
+    did.right,
+    (
+      sittings_move s.tables (noted u told s.tables.sittings),
+      fired_happens es second
+          (λ e t among fewer. inl (inl (s.log, u, told, refl, among), λ w stands fired. changed e t w among (fewer w stands) fired)),
+    ),
+  );
   there = record {
     tables = ap (absorbing u told) did.tables;
     waiting = did.later;
     log = record { told = did.log.told; late = did.log.late };
     holds = subst (λ t. Holds false t s.set_at last.tables) (sym (tree_after_update s u told))
-        (subst (λ r. Holds false (step (tree_of s) 0 u).0 s.set_at (absorbing u r s.tables)) (sym did.right) (update_holds (tree_of s) s.set_at s.tables u stays names holds));
+        (subst (λ r. Holds false (step (tree_of s) 0 u).0 s.set_at (absorbing u r s.tables)) (sym did.right)
+        (update_holds (tree_of s) s.set_at s.tables u stays names holds));
     late = λ call is. no_late v call did.none is;
     free = λ update is. refl;
   };
@@ -87,16 +96,20 @@ absorbs v s u told stays names holds did = record {
     second : Scene
     second = after (Moved middle) (after (Served (Update u) told) s)
 
-    tells : (e : Event) (w : Watch) → Among e es → fires e.kind e.path w ≡ true → Tells (tells_of w.kind) w.path (events_of u (step (tree_of s) 0 u).1)
+    tells : (e : Event) (w : Watch) → Among e es → fires e.kind e.path w ≡ true
+        → Tells (tells_of w.kind) w.path (events_of u (step (tree_of s) 0 u).1)
     tells e w among fired =
         let at = fired_at_path e.kind e.path w fired in
         (e, subst (λ r. Among e (events_of u r)) did.right among, at.1, at.0)
 
-    changed : (e : Event) (t : TablesView) (w : Watch) → Among e es → In s.tables w → fires e.kind e.path w ≡ true → HasChanged (record second { tables = t }) w
+    changed : (e : Event) (t : TablesView) (w : Watch) → Among e es → In s.tables w → fires e.kind e.path w ≡ true
+        → HasChanged (record second { tables = t }) w
     changed e t w among stands fired =
-        by (has_changed s u w.path (s.set_at w) w.kind (holds.right w stands) (settled (tree_of s) (s.set_at w) w.kind w.path (holds.seen w stands)) (tells e w among fired))
+        by (has_changed s u w.path (s.set_at w) w.kind (holds.right w stands) (settled (tree_of s) (s.set_at w) w.kind
+        w.path (holds.seen w stands)) (tells e w among fired))
       where
-        by : (IsSameAt w.kind w.path (s.set_at w) (step (tree_of s) 0 u).0.nodes → ⊥) ⊎ ((w.kind ≡ Missing) × OfMulti u) → HasChanged (record second { tables = t }) w
+        by : (IsSameAt w.kind w.path (s.set_at w) (step (tree_of s) 0 u).0.nodes → ⊥) ⊎ ((w.kind ≡ Missing) × OfMulti u)
+            → HasChanged (record second { tables = t }) w
         by (inl differs) =
             inl (λ same. differs (subst (λ (v : Tree). IsSameAt w.kind w.path (s.set_at w) v.nodes) (tree_after_update s u told) same))
         by (inr (missing, (parts, is))) = inr (missing, (s.log, parts, told, ap (λ (v : Act). s.log ++ (Update v, told) ∷ []) is))
@@ -118,7 +131,8 @@ owner_made m nodes id all (above, path, n, found, is) = by (all path n found)
     by (inr made) = ap (made_one m) (sym is) ∙ made
 
 -- where the nodes are the same, nothing was taken
-pub nothing_taken : (v : FrontView) (s u : Scene) (later : Option Call) → u.tables ≡ s.tables → u.set_at ≡ s.set_at → s.tables ≡ v.tables → IsLog v u.log later
+pub nothing_taken : (v : FrontView) (s u : Scene) (later : Option Call) → u.tables ≡ s.tables → u.set_at ≡ s.set_at
+    → s.tables ≡ v.tables → IsLog v u.log later
     → v.late ≡ None → Holds false (tree_of s) s.set_at s.tables → (tree_of u).nodes ≡ (tree_of s).nodes → AtIf false v u
 nothing_taken v s u later tables set_at is log none holds nodes = record {
   tables = tables ∙ is;
@@ -132,7 +146,8 @@ nothing_taken v s u later tables set_at is log none holds nodes = record {
 }
 
 -- the scenes before and behind it
-pub taken : (v : FrontView) (s u : Scene) (took : Bool) (later : Option Call) → u.tables ≡ s.tables → u.set_at ≡ s.set_at → s.tables ≡ v.tables → IsLog v u.log later
+pub taken : (v : FrontView) (s u : Scene) (took : Bool) (later : Option Call) → u.tables ≡ s.tables → u.set_at ≡ s.set_at
+    → s.tables ≡ v.tables → IsLog v u.log later
     → v.late ≡ None → Holds false (tree_of s) s.set_at s.tables → TakesTo (tree_of s) (tree_of u) took → Taken v u took
 taken v s u took later tables set_at is log none holds (inl nodes) = record {
   must = false;
@@ -166,7 +181,8 @@ taken v s u took later tables set_at is log none holds (inr (zxid, loses, reason
         )
 
 -- an update by what it takes
-pub update_taken : (v : FrontView) (s : Scene) (u : Act) (told : Reply) → Holds false (tree_of s) s.set_at s.tables → Updated v s u told → Takes (tree_of s) (step (tree_of s) 0 u)
+pub update_taken : (v : FrontView) (s : Scene) (u : Act) (told : Reply) → Holds false (tree_of s) s.set_at s.tables
+    → Updated v s u told → Takes (tree_of s) (step (tree_of s) 0 u)
     → Taken v (after (Served (Update u) told) s) (takes_nodes told)
 update_taken v s u told holds did takes =
     taken v s (after (Served (Update u) told) s) (takes_nodes told) did.later refl refl did.tables did.log did.none holds
@@ -178,7 +194,8 @@ update_taken v s u told holds did takes =
 
 -- a close leaves the tree, or is told as closed
 closes_so : (t : Tree) (exhausted gone : Bool) (why other : Reply) (did : Tree × Reply) → did.1 ≡ reply.Closed
-    → ((if exhausted then (t, why) else if gone then (t, other) else did).0 ≡ t) ⊎ ((if exhausted then (t, why) else if gone then (t, other) else did).1 ≡ reply.Closed)
+    → ((if exhausted then (t, why) else if gone then (t, other) else did).0 ≡ t)
+    ⊎ ((if exhausted then (t, why) else if gone then (t, other) else did).1 ≡ reply.Closed)
 closes_so t true gone why other did is = inl refl
 closes_so t false true why other did is = inl refl
 closes_so t false false why other did is = inr is
@@ -241,7 +258,8 @@ tick_taken [] (told ∷ replies) s is =
     let right : told ≡ (step (tree_of s) 0 act.Tick).1 = head_same _ _ _ _ is in
     took_first (tree_of s) (tree_of (after (Served (Update act.Tick) told) s)) told replies
     (subst (λ r. TakesTo (tree_of s) (tree_of (after (Served (Update act.Tick) told) s)) (takes_nodes r)) (sym right)
-    (subst (λ t. TakesTo (tree_of s) t (takes_nodes (step (tree_of s) 0 act.Tick).1)) (sym (tree_after_update s act.Tick told)) (tick_takes (tree_of s) (is_lawful s))))
+    (subst (λ t. TakesTo (tree_of s) t (takes_nodes (step (tree_of s) 0 act.Tick).1)) (sym (tree_after_update s act.Tick told))
+    (tick_takes (tree_of s) (is_lawful s))))
 tick_taken (id ∷ sessions) [] s is = same_nodes s false
 tick_taken (id ∷ sessions) (told ∷ replies) s is =
     let next = after (Served (ping id) told) s in
@@ -251,7 +269,8 @@ tick_taken (id ∷ sessions) (told ∷ replies) s is =
     let left = ping_leaves (tree_of s) id in
     behind_ping (tree_of s) (tree_of next) (tree_of (logged s (zip (ping id ∷ calls) (told ∷ replies)))) told replies
     (ap (λ (t : Tree). t.nodes) goes ∙ left.0) (ap (λ (t : Tree). t.zxid) goes ∙ left.1)
-    (subst (λ (log : Log). TakesTo (tree_of next) (tree_of (record s { log = log })) (list_any takes_nodes replies)) (append_assoc s.log ((ping id, told) ∷ []) (zip calls replies)) rest)
+    (subst (λ (log : Log). TakesTo (tree_of next) (tree_of (record s { log = log })) (list_any takes_nodes replies))
+    (append_assoc s.log ((ping id, told) ∷ []) (zip calls replies)) rest)
 
 -- where a call of a tick is late, no tick was made
 pub pings_leave : (sessions : List ℕ) (replies : List Reply) (s : Scene) (call : Call) → slice_get (tick_calls sessions) (length replies) ≡ Some call
@@ -280,7 +299,8 @@ one_update law u old new replies s names free there has = by replies refl
     tables : s.tables ≡ new.tables
     tables = there.tables ∙ sym (ap (λ (v : FrontView). v.tables) has.rest)
 
-    did : ((later : Option Call) × IsLog new (s.log ++ zip (Update u ∷ []) replies) later) × (replies ≡ served (tree_of s) (take (length replies) (Update u ∷ [])))
+    did : ((later : Option Call) × IsLog new (s.log ++ zip (Update u ∷ []) replies) later)
+        × (replies ≡ served (tree_of s) (take (length replies) (Update u ∷ [])))
     did = asked law old (Update u ∷ []) new replies s there.waiting free there.log has
 
     late : new.late ≡ slice_get (Update u ∷ []) (length replies)
@@ -295,7 +315,8 @@ one_update law u old new replies s names free there has = by replies refl
           record {
             tables = tables;
             waiting = did.0.0;
-            log = subst (λ (log : Log). IsLog new log did.0.0) (ap (λ (rs : List Reply). s.log ++ zip (Update u ∷ []) rs) is ∙ append-nil s.log) did.0.1;
+            log = subst (λ (log : Log). IsLog new log did.0.0) (ap (λ (rs : List Reply). s.log ++ zip (Update u ∷ []) rs) is
+                ∙ append-nil s.log) did.0.1;
             holds = there.holds;
             late = λ call same. subst (CallNames (Known s.tables.sittings)) (same_some (Update u) call (sym waits ∙ same)) names;
             free = λ update same. refl;

@@ -1,5 +1,6 @@
 -- What no event of an update tells stays: a path without a node, and a node with its children.
-use Rattle.std.proofs.Common.{◌≡◌, ◌≢◌, ◌∙◌, ◌+◌, ℕ, Bool, true, false, cond, List, [], ◌∷◌, ◌++◌, Option, Some, None, Result, Ok, Err, refl, sym, ap, inl, inr, if◌then◌else◌}
+use Rattle.std.proofs.Common.{◌≡◌, ◌≢◌, ◌∙◌, ◌+◌, ℕ, Bool, true, false, cond, List, [], ◌∷◌, ◌++◌, Option, Some, None}
+use Rattle.std.proofs.Common.{Result, Ok, Err, refl, sym, ap, inl, inr, if◌then◌else◌}
 use Rattle.std.specs.Prelude.{◌⊎◌, is_some}
 use Rattle.std.specs.Option.{option_map, option_map_or}
 use Rattle.std.specs.Ordering.{eq_by_cmp}
@@ -8,7 +9,8 @@ use Rattle.zpath.specs.Grammar.{path_cmp}
 use Rattle.zpath.specs.First.{first_that_holds}
 use Rattle.zpath.proofs.First.{no_test_holds}
 use Rattle.ztree.specs.declared.node.Node.{Node}
-use Rattle.ztree.specs.Tree.{Tree, Path, Nodes, has_node, parent_of, new_node, with_node, without_node, with_child, without_child, with_data, with_change_at}
+use Rattle.ztree.specs.Tree.{Tree, Path, Nodes, has_node, parent_of, new_node, with_node, without_node, with_child}
+use Rattle.ztree.specs.Tree.{without_child, with_data, with_change_at}
 use Rattle.ztree.proofs.Sorted.{paths_total, same_path}
 use Rattle.ztree.proofs.Maps.{same_or_other, get-insert-here, get-remove-elsewhere, not_tied}
 use Rattle.ztree.proofs.Nodes.{get-insert-other}
@@ -29,7 +31,9 @@ use Rattle.zcalls.specs.declared.reply.PartReply.{PartReply}
 use Rattle.zcalls.specs.declared.reply.PartReply.TheVariants as part_reply
 use Rattle.zcalls.specs.declared.reply.Reply.{Reply}
 use Rattle.zcalls.specs.declared.reply.Reply.TheVariants as reply
-use Rattle.zcalls.specs.Part.{create_step, delete_step, set_step, check_step, part_step, told_as_part, create_refusals, delete_refusals, unless_refused, made_path, owner_of, ttl_of, on_version, has_other_version, with_node_set}
+use Rattle.zcalls.specs.Part.{create_step, delete_step, set_step, check_step, part_step, told_as_part, create_refusals}
+use Rattle.zcalls.specs.Part.{delete_refusals, unless_refused, made_path, owner_of, ttl_of, on_version}
+use Rattle.zcalls.specs.Part.{has_other_version, with_node_set}
 use Rattle.zcalls.specs.Multi.{Run, run, behind, and_then}
 use Rattle.zcalls.specs.Step.{step, is_exhausted, update_result, change_result, multi_result}
 use Rattle.zjute.specs.declared.event.EventKind.{EventKind}
@@ -58,7 +62,8 @@ untouched : (nodes : Nodes) (path : Path) (events : List Event) → Leaves nodes
 untouched nodes path events = record { missing = λ none misses. none; there = λ some misses. (some, refl) }
 
 -- a change of another node leaves when the children changed
-children_beside : (nodes : Nodes) (q : Path) (f : Node → Node) (path : Path) → path ≢ q → children_at (with_change_at nodes q f) path ≡ children_at nodes path
+children_beside : (nodes : Nodes) (q : Path) (f : Node → Node) (path : Path) → path ≢ q → children_at (with_change_at nodes q f) path
+    ≡ children_at nodes path
 children_beside nodes q f path other = by (finite.get nodes q)
   where
     by : (o : Option Node) → children_at (option_map_or (λ n. finite.insert nodes q (f n)) o nodes) path ≡ children_at nodes path
@@ -77,7 +82,8 @@ made t at new f path free = record {
   there = λ some misses.
       let apart : path ≢ at = λ e. clash (sym some ∙ ap (has_node t.nodes) e ∙ free) in (
         has_node-changed more (parent_of at) f path ∙ ap is_some (get-insert-other t.nodes at new path apart) ∙ some,
-        children_beside more (parent_of at) f path (λ e. misses.1.0 refl (sym e)) ∙ ap (option_map (λ (n : Node). n.pzxid)) (get-insert-other t.nodes at new path apart),
+        children_beside more (parent_of at) f path (λ e. misses.1.0 refl (sym e))
+            ∙ ap (option_map (λ (n : Node). n.pzxid)) (get-insert-other t.nodes at new path apart),
       );
 }
   where
@@ -129,13 +135,15 @@ written nodes at old new path is same = near (same_or_other paths_total same_pat
     }
 
 -- one change behind another
-misses-append : (tells : EventKind → Bool) (path : Path) (events more : List Event) → Misses tells path (events ++ more) → Misses tells path events × Misses tells path more
+misses-append : (tells : EventKind → Bool) (path : Path) (events more : List Event) → Misses tells path (events ++ more)
+    → Misses tells path events × Misses tells path more
 misses-append tells path [] more misses = (tt, misses)
 misses-append tells path (e ∷ events) more misses =
     let rest = misses-append tells path events more misses.1 in
     ((misses.0, rest.0), rest.1)
 
-joined : (first second third : Nodes) (path : Path) (events more : List Event) → Leaves first second path events → Leaves second third path more → Leaves first third path (events ++ more)
+joined : (first second third : Nodes) (path : Path) (events more : List Event) → Leaves first second path events
+    → Leaves second third path more → Leaves first third path (events ++ more)
 joined first second third path events more d e = record {
   missing = λ none misses. let parts = misses-append tells_creation path events more misses in e.missing (d.missing none parts.0) parts.1;
   there = λ some misses.
@@ -169,14 +177,16 @@ create_did t client create path = by (first_that_holds (create_refusals t client
     at : Path
     at = made_path t.nodes create.kind create.path
 
-    by : (refused : Option Refusal) → first_that_holds (create_refusals t client create) ≡ refused → ChangeDid t path of_create (unless_refused refused (
-      with_node t at create.bytes (owner_of create.kind.lifetime) (ttl_of create.kind.lifetime) create.kind.is_sequential,
-      Created at,
-    ))
+    by : (refused : Option Refusal) → first_that_holds (create_refusals t client create) ≡ refused
+        → ChangeDid t path of_create (unless_refused refused (
+          with_node t at create.bytes (owner_of create.kind.lifetime) (ttl_of create.kind.lifetime) create.kind.is_sequential,
+          Created at,
+        ))
     by (Some refusal) is = tt
     by None is =
         let tests = no_test_holds (create_refusals t client create) is in
-        made t at (new_node create.bytes (owner_of create.kind.lifetime) (ttl_of create.kind.lifetime) (t.zxid + 1) t.time) (with_child (t.zxid + 1) create.kind.is_sequential) path tests.1.1.1.1.1.1.0
+        made t at (new_node create.bytes (owner_of create.kind.lifetime) (ttl_of create.kind.lifetime) (t.zxid + 1) t.time)
+        (with_child (t.zxid + 1) create.kind.is_sequential) path tests.1.1.1.1.1.1.0
 
 delete_did : (t : Tree) (delete : Delete) (path : Path) → ChangeDid t path (of_delete delete) (delete_step t delete)
 unfolding delete_step
@@ -198,7 +208,8 @@ set_did t set path = by (finite.get t.nodes set.path) refl
     chosen n is true = tt
     chosen n is false = written t.nodes set.path n (write n) path is refl
 
-    by : (o : Option Node) → finite.get t.nodes set.path ≡ o → ChangeDid t path (of_set set) (on_version set.version o (λ n. with_node_set t set.path (write n)))
+    by : (o : Option Node) → finite.get t.nodes set.path ≡ o
+        → ChangeDid t path (of_set set) (on_version set.version o (λ n. with_node_set t set.path (write n)))
     by None is = tt
     by (Some n) is = chosen n is (has_other_version set.version n)
 
@@ -207,19 +218,22 @@ abbrev PartDid : Tree → Part → Path → Result (Tree × PartReply) Refusal �
 PartDid t p path (Err refusal) = Unit {0}
 PartDid t p path (Ok (u, told)) = Leaves t.nodes u.nodes path (part_events p told)
 
-part_create : (t : Tree) (create : Create) (path : Path) (r : Result (Tree × ChangeReply) Refusal) → ChangeDid t path of_create r → PartDid t (part.Create create) path (told_as_part r)
+part_create : (t : Tree) (create : Create) (path : Path) (r : Result (Tree × ChangeReply) Refusal) → ChangeDid t path of_create r
+    → PartDid t (part.Create create) path (told_as_part r)
 part_create t create path (Err refusal) did = tt
 part_create t create path (Ok (u, Created at)) did = did
 part_create t create path (Ok (u, Deleted)) did = did
 part_create t create path (Ok (u, Set stat)) did = did
 
-part_delete : (t : Tree) (delete : Delete) (path : Path) (r : Result (Tree × ChangeReply) Refusal) → ChangeDid t path (of_delete delete) r → PartDid t (part.Delete delete) path (told_as_part r)
+part_delete : (t : Tree) (delete : Delete) (path : Path) (r : Result (Tree × ChangeReply) Refusal)
+    → ChangeDid t path (of_delete delete) r → PartDid t (part.Delete delete) path (told_as_part r)
 part_delete t delete path (Err refusal) did = tt
 part_delete t delete path (Ok (u, Created at)) did = did
 part_delete t delete path (Ok (u, Deleted)) did = did
 part_delete t delete path (Ok (u, Set stat)) did = did
 
-part_set : (t : Tree) (set : SetData) (path : Path) (r : Result (Tree × ChangeReply) Refusal) → ChangeDid t path (of_set set) r → PartDid t (part.SetData set) path (told_as_part r)
+part_set : (t : Tree) (set : SetData) (path : Path) (r : Result (Tree × ChangeReply) Refusal) → ChangeDid t path (of_set set) r
+    → PartDid t (part.SetData set) path (told_as_part r)
 part_set t set path (Err refusal) did = tt
 part_set t set path (Ok (u, Created at)) did = did
 part_set t set path (Ok (u, Deleted)) did = did
@@ -251,7 +265,8 @@ RunDid t parts path (Ok (u, told)) = Leaves t.nodes u.nodes path (parts_events p
 run_behind : (t v : Tree) (p : Part) (parts : List Part) (path : Path) (first : PartReply) (r : Run)
     → Leaves t.nodes v.nodes path (part_events p first) → RunDid v parts path r → RunDid t (p ∷ parts) path (behind first r)
 run_behind t v p parts path first (Err (number, refusal)) did rest = tt
-run_behind t v p parts path first (Ok (u, told)) did rest = joined t.nodes v.nodes u.nodes path (part_events p first) (parts_events parts told) did rest
+run_behind t v p parts path first (Ok (u, told)) did rest = joined t.nodes v.nodes u.nodes path (part_events p first)
+    (parts_events parts told) did rest
 
 run_then : (t : Tree) (client : ℕ) (p : Part) (parts : List Part) (path : Path) (r : Result (Tree × PartReply) Refusal)
     → PartDid t p path r → ((v : Tree) → RunDid v parts path (run v client parts)) → RunDid t (p ∷ parts) path (and_then r (λ v. run v client parts))
@@ -268,19 +283,22 @@ run_did t client (p ∷ parts) path =
 abbrev Did : Tree → Update → Path → Tree × Reply → Type 0
 Did t update path s = Leaves t.nodes s.0.nodes path (events_of update s.1)
 
-create_told : (t : Tree) (create : Create) (path : Path) (r : Result (Tree × ChangeReply) Refusal) → ChangeDid t path of_create r → Did t (act.Create create) path (change_result t r)
+create_told : (t : Tree) (create : Create) (path : Path) (r : Result (Tree × ChangeReply) Refusal) → ChangeDid t path of_create r
+    → Did t (act.Create create) path (change_result t r)
 create_told t create path (Err refusal) did = untouched t.nodes path []
 create_told t create path (Ok (u, Created at)) did = did
 create_told t create path (Ok (u, Deleted)) did = did
 create_told t create path (Ok (u, Set stat)) did = did
 
-delete_told : (t : Tree) (delete : Delete) (path : Path) (r : Result (Tree × ChangeReply) Refusal) → ChangeDid t path (of_delete delete) r → Did t (act.Delete delete) path (change_result t r)
+delete_told : (t : Tree) (delete : Delete) (path : Path) (r : Result (Tree × ChangeReply) Refusal)
+    → ChangeDid t path (of_delete delete) r → Did t (act.Delete delete) path (change_result t r)
 delete_told t delete path (Err refusal) did = untouched t.nodes path []
 delete_told t delete path (Ok (u, Created at)) did = did
 delete_told t delete path (Ok (u, Deleted)) did = did
 delete_told t delete path (Ok (u, Set stat)) did = did
 
-set_told : (t : Tree) (set : SetData) (path : Path) (r : Result (Tree × ChangeReply) Refusal) → ChangeDid t path (of_set set) r → Did t (act.SetData set) path (change_result t r)
+set_told : (t : Tree) (set : SetData) (path : Path) (r : Result (Tree × ChangeReply) Refusal) → ChangeDid t path (of_set set) r
+    → Did t (act.SetData set) path (change_result t r)
 set_told t set path (Err refusal) did = untouched t.nodes path []
 set_told t set path (Ok (u, Created at)) did = did
 set_told t set path (Ok (u, Deleted)) did = did
@@ -290,7 +308,8 @@ multi_told : (t : Tree) (parts : List Part) (path : Path) (r : Run) → RunDid t
 multi_told t parts path (Err (number, refusal)) did = untouched t.nodes path []
 multi_told t parts path (Ok (u, told)) did = did
 
-either : (t : Tree) (update : Update) (path : Path) (test : Bool) (r s : Tree × Reply) → Did t update path r → Did t update path s → Did t update path (if test then r else s)
+either : (t : Tree) (update : Update) (path : Path) (test : Bool) (r s : Tree × Reply) → Did t update path r
+    → Did t update path s → Did t update path (if test then r else s)
 either t update path true r s first second = first
 either t update path false r s first second = second
 

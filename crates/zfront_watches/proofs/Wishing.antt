@@ -27,7 +27,8 @@ head_same x y xs ys is = cc is
 tail_same : {A : Type 0} (x y : A) (xs ys : List A) → x ∷ xs ≡ y ∷ ys → xs ≡ ys
 tail_same x y xs ys is = cc is
 
-pub served_are_of : (t : Tree) (calls : List Call) (replies : List Reply) → AreQueries calls → replies ≡ served t (take (length replies) calls) → AreOf t calls replies
+pub served_are_of : (t : Tree) (calls : List Call) (replies : List Reply) → AreQueries calls → replies ≡ served t (take (length replies) calls)
+    → AreOf t calls replies
 served_are_of t [] replies all is = tt
 served_are_of t (call ∷ calls) [] all is = tt
 served_are_of t (Query query ∷ calls) (told ∷ replies) all is = (head_same _ _ _ _ is, served_are_of t calls replies all.1 (tail_same _ _ _ _ is))

@@ -1,5 +1,5 @@
--- A client's events, from what its table did.
-use Rattle.std.proofs.Common.{◌≡◌, ◌<◌, ℕ, ◌+◌, Bool, true, false, List, [], ◌∷◌, Option, Some, None, is_some, if◌then◌else◌, nat_lt, refl, ap, max}
+-- What a client's caller is told.
+use Rattle.std.proofs.Common.{◌≡◌, ℕ, ◌+◌, Bool, true, false, Option, Some, None, is_some, if◌then◌else◌, nat_lt, refl, ap}
 use Rattle.std.specs.Prelude.{option_to_list}
 use Rattle.std.specs.Option.{option_map}
 use mathlib.Core.Bool.{true≢false}
@@ -13,13 +13,10 @@ use Rattle.zprotocol.specs.declared.message.Message.TheVariants as message
 use Rattle.zprotocol.specs.declared.process.Process.{Process}
 use Rattle.zprotocol.specs.declared.process.Process.TheVariants.{Master, Server, Client}
 use Rattle.zprotocol.specs.client.View.{ClientView}
-use Rattle.zprotocol.specs.client.Table.{begin_fault, begin_step, client_step, answer_row, config_row, is_waiting_for, retry_posts}
-use Rattle.zworld_model.specs.declared.outcome.Outcome.TheVariants.{Acted}
+use Rattle.zprotocol.specs.client.Table.{begin_step, client_step, answer_row, config_row, is_waiting_for}
 use Rattle.zworld_model.specs.declared.history.CallEvent.{CallEvent}
 use Rattle.zworld_model.specs.declared.history.CallEvent.TheVariants as call_event
-use Rattle.ztraces.specs.declared.trace.Act.TheVariants.{Took, Began, Retried}
-use Rattle.zworld_model.specs.Does.{AtClient, Effect, answer_told}
-use Rattle.zhost.specs.Desks.{IsEvent}
+use Rattle.zworld_model.specs.Does.{answer_told}
 use Rattle.zhost.specs.Steps.{answer_event}
 
 -- what the caller is told of a message
@@ -27,51 +24,35 @@ no_some : {A : Type 0} (x : A) → Some x ≡ None → ⊥
 no_some x e = true≢false (ap is_some e)
 
 answered : (v : ClientView) (c number : ℕ) (reply : Reply) (b : Bool) → is_waiting_for v number ≡ b
-    → option_to_list (if is_some (option_map (λ g. g.1) (answer_row {T = Transfer (KeptState Tree)} v number reply).2) then Some (call_event.Answer c number reply) else None)
+    → option_to_list (if is_some (option_map (λ g. g.1) (answer_row {T = Transfer (KeptState Tree)} v number reply).2)
+    then Some (call_event.Answer c number reply) else None)
     ≡ answer_told c (answer_row {T = Transfer (KeptState Tree)} v number reply).2
 unfolding answer_row
 answered v c number reply true e = rw e refl
 answered v c number reply false e = rw e refl
 
-configured : (v : ClientView) (c epoch : ℕ) (head tail : Option ℕ) (b : Bool) → nat_lt v.epoch epoch ≡ b → (config_row {T = Transfer (KeptState Tree)} v epoch head tail).2 ≡ None
+configured : (v : ClientView) (c epoch : ℕ) (head tail : Option ℕ) (b : Bool) → nat_lt v.epoch epoch ≡ b
+    → (config_row {T = Transfer (KeptState Tree)} v epoch head tail).2 ≡ None
 unfolding config_row
 configured v c epoch head tail true e = rw e refl
 configured v c epoch head tail false e = rw e refl
 
-none_told : (c : ℕ) (o : Option (ℕ × Reply)) (e : Option CallEvent) → o ≡ None → option_to_list (if is_some (option_map (λ g. g.1) o) then e else None) ≡ answer_told c o
+none_told : (c : ℕ) (o : Option (ℕ × Reply)) (e : Option CallEvent) → o ≡ None
+    → option_to_list (if is_some (option_map (λ g. g.1) o) then e else None) ≡ answer_told c o
 none_told c None e is = refl
 none_told c (Some g) e is = absurd (no_some g is)
 
 pub told : (v : ClientView) (c : ℕ) (from : Process) (m : TreeMessage)
-    → option_to_list (if is_some (option_map (λ g. g.1) (client_step v from m).2) then answer_event c m else None) ≡ answer_told c (client_step v from m).2
+    → option_to_list (if is_some (option_map (λ g. g.1) (client_step v from m).2) then answer_event c m else None)
+    ≡ answer_told c (client_step v from m).2
 unfolding client_step
 told v c (Server s) (message.Answer number reply) = answered v c number reply (is_waiting_for v number) refl
-told v c Master (message.Config epoch head tail) = none_told c (config_row v epoch head tail).2 None (configured v c epoch head tail (nat_lt v.epoch epoch) refl)
+told v c Master (message.Config epoch head tail) = none_told c (config_row v epoch head tail).2
+    None (configured v c epoch head tail (nat_lt v.epoch epoch) refl)
 told v c (Server s) other = refl
 told v c Master other = refl
 told v c (Client d) other = refl
 
-pub client_takes : (me : Process) (c last : ℕ) (v : ClientView) (from : Process) (stamp n : ℕ) (m : TreeMessage) (told_now : List CallEvent) → me ≡ Client c → max last stamp < n
-    → told_now ≡ answer_told c (client_step v from m).2
-    → IsEvent me last (AtClient v) (Some (from, (stamp, m))) (Took from Acted) n (AtClient (client_step v from m).0) (client_step v from m).1 told_now
-client_takes me c last v from stamp n m told_now is e t = record { row = rw is (rw t refl); from = λ p. refl; at = rw is e }
-
 pub begin_number : (v : ClientView) (call : Call) → (begin_step {T = Transfer (KeptState Tree)} v call).0.number ≡ v.number + 1
 unfolding begin_step
 begin_number v call = refl
-
-pub client_begins : (me : Process) (c last : ℕ) (v : ClientView) (n : ℕ) (call : Call) → me ≡ Client c → begin_fault v ≡ None → max last 0 < n
-    → IsEvent me last (AtClient v) None (Began call) n (AtClient (begin_step {T = Transfer (KeptState Tree)} v call).0) (begin_step v call).1 (call_event.Begin c (v.number + 1) call ∷ [])
-client_begins me c last v n call is none e = record { row = rw is (rw none (ap begun (begin_number v call))); from = λ p. refl; at = rw is e }
-  where
-    begun : ℕ → Option (Effect (KeptState Tree))
-    begun number =
-        Some (record {
-          left = AtClient (begin_step {T = Transfer (KeptState Tree)} v call).0;
-          posts = (begin_step v call).1;
-          told = call_event.Begin c number call ∷ [];
-        })
-
-pub client_retries : (me : Process) (c last : ℕ) (v : ClientView) (n : ℕ) → me ≡ Client c → is_some v.outstanding ≡ true → max last 0 < n
-    → IsEvent me last (AtClient v) None Retried n (AtClient v) (retry_posts v) []
-client_retries me c last v n is waits e = record { row = rw is (rw waits refl); from = λ p. refl; at = rw is e }

@@ -1,5 +1,6 @@
 -- What a desk leaves, where nothing waits on it.
-use Rattle.std.proofs.Common.{◌≡◌, Bool, true, false, ◌||◌, List, [], ◌++◌, Option, Some, None, IfNone, is_some, refl, sym, ap, ◌∙◌, append-nil, true≢false}
+use Rattle.std.proofs.Common.{◌≡◌, Bool, true, false, ◌||◌, List, [], ◌++◌, Option, Some, None, IfNone, is_some, refl}
+use Rattle.std.proofs.Common.{sym, ap, ◌∙◌, append-nil, true≢false}
 use Rattle.zworld_model.specs.Links.{messages_to}
 use Rattle.ztraces.specs.Deeds.{stamped}
 use Rattle.zprotocol.specs.Places.{process_at}

@@ -1,11 +1,11 @@
 -- An event, seen from where the endpoint was before it was made ready.
-use Rattle.std.proofs.Common.{◌≡◌, ◌<◌, ℕ, false, [], ◌∷◌, ◌++◌, refl, ap, ◌∙◌, subst, sym}
+use Rattle.std.proofs.Common.{◌≡◌, ◌<◌, ℕ, [], ◌∷◌, ◌++◌, refl, ap, ◌∙◌, subst, sym}
 use Rattle.zworld_model.specs.History.{History}
 use Rattle.ztraces.specs.declared.stamp.TheConstants.{MAX_STAMP}
 use Rattle.ztraces.specs.declared.trace.Act.{Act}
 use Rattle.ztraces.specs.declared.trace.TraceEvent.{TraceEvent}
 use Rattle.zhost.specs.declared.desk.Desk.{Desk}
-use Rattle.zhost.specs.Desks.{HasEntered, IsEntered, SameBooks, is_cut_of}
+use Rattle.zhost.specs.Desks.{HasEntered, IsEntered, SameBooks}
 
 -- an event was entered as this act, and the caller told of this
 pub is_entered : (a b : Desk) (stamp : ℕ) (x y : Act) (told seen : History)
@@ -20,20 +20,6 @@ is_entered a b stamp x y told seen e act same =
       seen = e.seen ∙ ap (λ l. a.seen.items ++ l) same;
       stamp = refl;
       early = subst (λ n. n < MAX_STAMP) (sym e.stamp) e.early;
-    }
-
--- an event that was entered is still the last one where its trace and record stay
-pub entered_still : (a z b : Desk) (act : Act) (told : History)
-    → IsEntered a z z.stamp act told → (is_cut_of b ≡ false → SameBooks z b) → IsEntered a b b.stamp act told
-entered_still a z b act told did kept whole =
-    let same = kept whole in
-    let e = did (sym same.is_cut ∙ whole) in
-    record {
-      whole = e.whole;
-      trace = same.trace ∙ e.trace ∙ ap (λ (n : ℕ). a.trace.items ++ record { stamp = n; act = act } ∷ []) (sym same.stamp);
-      seen = same.told ∙ e.seen;
-      stamp = refl;
-      early = subst (λ n. n < MAX_STAMP) (sym same.stamp) e.early;
     }
 
 module _ (a z b : Desk) (same : SameBooks a z) where

@@ -4,10 +4,13 @@ pub mod Pending
 pub mod Wires
 pub mod Waiting
 pub mod Entered
-pub mod ThreadRows
 mod Orders
 mod Outcomes
 mod Said
+mod Onward
 pub mod Books
 pub mod CallerRows
 pub mod Results
+pub mod ActorRows
+pub mod Hosted
+pub mod Roles

@@ -1,13 +1,13 @@
 -- Which orders the master has followed, after what it did.
-use Rattle.std.proofs.Common.{◌≡◌, Bool, true, false, List, [], ◌∷◌, ◌++◌, Option, IsTrue, IsFalse, refl, sym, ap, ◌∙◌, option_to_list, append-nil, append_assoc}
-use Rattle.zworld_model.specs.declared.outcome.Outcome.TheVariants.{Acted}
+use Rattle.std.proofs.Common.{◌≡◌, List, [], ◌∷◌, ◌++◌, Option, sym, ap, ◌∙◌}
+use Rattle.std.proofs.Common.{option_to_list, append-nil, append_assoc}
+use Rattle.zworld_model.specs.History.{History}
 use Rattle.ztraces.specs.declared.trace.Act.{Act}
-use Rattle.ztraces.specs.declared.trace.Act.TheVariants.{Took}
 use Rattle.ztraces.specs.declared.trace.TraceEvent.{TraceEvent}
 use Rattle.zprotocol.specs.declared.master.order.Order.{Order}
 use Rattle.zhost.specs.declared.desk.Desk.{Desk}
-use Rattle.zhost.specs.Desks.{SameBooks}
-use Rattle.zhost.specs.Acts.{DidNext, HasFollowed, MasterReceived, order_of, orders_in}
+use Rattle.zhost.specs.Desks.{IsEntered, SameBooks, stamp_of_desk}
+use Rattle.zhost.specs.Acts.{HasFollowed, order_of, orders_in}
 
 pub orders_more : (es : List TraceEvent) (e : TraceEvent) → orders_in (es ++ e ∷ []) ≡ orders_in es ++ order_of e.act
 orders_more [] e = append-nil (order_of e.act)
@@ -15,26 +15,20 @@ orders_more (x ∷ es) e =
     ap (λ l. order_of x.act ++ l) (orders_more es e) ∙ sym (append_assoc (order_of x.act) (orders_in es) (order_of e.act))
 
 module _ (a b : Desk) where
-  pub followed_same : (received : List Order) (waiting : Option Order) → SameBooks a b → HasFollowed a received waiting → HasFollowed b received waiting
+  pub followed_same : (received : List Order) (waiting : Option Order) → SameBooks a b → HasFollowed a received waiting
+      → HasFollowed b received waiting
   followed_same received waiting same followed cut =
       followed (sym same.is_cut ∙ cut) ∙ ap (λ l. orders_in l ++ option_to_list waiting) (sym same.trace)
 
   -- it did one thing more, which took the place of what waited
-  pub followed_more : (act : Act) (received : List Order) (waiting rest : Option Order) → DidNext a b act
+  pub followed_more : (act : Act) (told : History) (received : List Order) (waiting rest : Option Order)
+      → IsEntered a b (stamp_of_desk b) act told
       → option_to_list waiting ≡ order_of act ++ option_to_list rest
       → HasFollowed a received waiting → HasFollowed b received rest
-  followed_more act received waiting rest did is followed cut =
+  followed_more act told received waiting rest did is followed cut =
       let e = did cut in
       let event : TraceEvent = record { stamp = b.stamp; act = act } in
       followed e.whole
       ∙ ap (λ l. orders_in a.trace.items ++ l) is
       ∙ sym (append_assoc (orders_in a.trace.items) (order_of act) (option_to_list rest))
       ∙ ap (λ l. l ++ option_to_list rest) (sym (ap (λ l. orders_in l) e.trace ∙ orders_more a.trace.items event))
-
-  -- it received a message, or none
-  pub followed_heard : (heard : Bool) (received : List Order) (waiting : Option Order)
-      → (IsFalse heard → SameBooks a b) → (IsTrue heard → MasterReceived a b)
-      → HasFollowed a received waiting → HasFollowed b received waiting
-  followed_heard false received waiting idle did followed = followed_same received waiting (idle refl) followed
-  followed_heard true received waiting idle did followed =
-      followed_more (Took (did refl).0 Acted) received waiting waiting (did refl).1 refl followed

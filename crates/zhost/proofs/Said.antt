@@ -1,16 +1,14 @@
 -- What was said stays said while the trace goes on, and one thing more is said.
-use Rattle.std.proofs.Common.{Bool, true, false, List, [], ◌∷◌, ◌++◌, map, IsTrue, IsFalse, refl, sym, ap, ◌∙◌, subst, append_assoc}
+use Rattle.std.proofs.Common.{List, [], ◌∷◌, ◌++◌, map, sym, ap, ◌∙◌, subst, append_assoc}
 use Rattle.std.proofs.lemmas.List.{append-nil}
-use Rattle.zworld_model.specs.declared.outcome.Outcome.TheVariants.{Acted}
+use Rattle.zworld_model.specs.History.{History}
 use Rattle.ztraces.specs.declared.trace.Act.{Act}
-use Rattle.ztraces.specs.declared.trace.Act.TheVariants.{Took}
 use Rattle.zprotocol.specs.declared.master.order.Order.{Order}
 use Rattle.zshared.specs.declared.outcome.OrderOutcome.{OrderOutcome}
 use Rattle.zshared.specs.Outcomes.{order_of}
 use Rattle.zhost.specs.declared.desk.Desk.{Desk}
-use Rattle.zhost.specs.Desks.{SameBooks, SameDesk, trace_of}
+use Rattle.zhost.specs.Desks.{IsEntered, SameBooks, SameDesk, stamp_of_desk, trace_of}
 use Rattle.zhost.proofs.Wires.{same_desk}
-use Rattle.zhost.specs.Acts.{DidNext, MasterReceived}
 use Rattle.zhost.specs.declared.owed.Owed.{Owed}
 use Rattle.zhost.specs.declared.owed.Owed.TheVariants.{Nothing, Deed, Word}
 use Rattle.zhost.specs.Said.{GoesOn, spoken, WasSaid, WereSaid}
@@ -19,15 +17,10 @@ module _ (a b : Desk) where
   pub goes_same : SameBooks a b → GoesOn a b
   goes_same same cut = record { whole = sym same.is_cut ∙ cut; rest = []; trace = same.trace ∙ sym (append-nil (trace_of a)) }
 
-  pub goes_more : (act : Act) → DidNext a b act → GoesOn a b
-  goes_more act did cut =
+  pub goes_more : (act : Act) (told : History) → IsEntered a b (stamp_of_desk b) act told → GoesOn a b
+  goes_more act told did cut =
       let e = did cut in
       record { whole = e.whole; rest = record { stamp = b.stamp; act = act } ∷ []; trace = e.trace }
-
-  -- it received a message, or none
-  pub goes_heard : (heard : Bool) → (IsFalse heard → SameBooks a b) → (IsTrue heard → MasterReceived a b) → GoesOn a b
-  goes_heard false idle did = goes_same (idle refl)
-  goes_heard true idle did = goes_more (Took (did refl).0 Acted) (did refl).1
 
   still_said : (before : List Order) (outcome : OrderOutcome) → SameDesk a b → GoesOn a b → WasSaid a before outcome → WasSaid b before outcome
   still_said before outcome same goes was = record {
@@ -46,7 +39,8 @@ module _ (a b : Desk) where
         };
   }
 
-  pub all_still_said : (before : List Order) (outcomes : List OrderOutcome) → SameDesk a b → GoesOn a b → WereSaid a before outcomes → WereSaid b before outcomes
+  pub all_still_said : (before : List Order) (outcomes : List OrderOutcome) → SameDesk a b → GoesOn a b → WereSaid a before outcomes
+      → WereSaid b before outcomes
   all_still_said before [] same goes were = tt
   all_still_said before (o ∷ os) same goes were =
       (still_said before o same goes were.0, all_still_said (before ++ order_of o ∷ []) os same goes were.1)

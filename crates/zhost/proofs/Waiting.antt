@@ -35,11 +35,13 @@ module _ {M : Type 0} where
       ⊎_elim (λ h. subst IsEmpty h.1 mine) (λ h. none i t h.1) (at_set outs k i y t is)
 
   -- a link on which nothing more waits
-  pub nothing_more : (outs : List (Tx M)) (k : ℕ) (x y : Tx M) → get_elem? outs k ≡ some x → waiting y ≡ waiting x → NothingWaits outs → NothingWaits (set outs k y)
+  pub nothing_more : (outs : List (Tx M)) (k : ℕ) (x y : Tx M) → get_elem? outs k ≡ some x → waiting y ≡ waiting x
+      → NothingWaits outs → NothingWaits (set outs k y)
   nothing_more outs k x y at same none = nothing_there outs k y (same ∙ none k x at) none
 
   -- a link of which it is noticed whether something waits on it
-  pub nothing_noticed : (outs : List (Tx M)) (k : ℕ) (y : Tx M) (before there : Bool) → (before ≡ false → NothingWaits outs) → (there ≡ false → IsEmpty y)
+  pub nothing_noticed : (outs : List (Tx M)) (k : ℕ) (y : Tx M) (before there : Bool) → (before ≡ false → NothingWaits outs)
+      → (there ≡ false → IsEmpty y)
       → (before || there) ≡ false → NothingWaits (set outs k y)
   nothing_noticed outs k y before there none mine is =
       let each = neither before there is in nothing_there outs k y (mine each.1) (none each.0)

@@ -1,5 +1,7 @@
 -- One link of many changes.
-use Rattle.std.proofs.Common.{◌+◌, ◌≡◌, ◌≢◌, ◌==◌, ◌<◌, ◌≤◌, ◌-◌, ℕ, zero, suc, Bool, true, false, if◌then◌else◌, List, [], ◌∷◌, ◌++◌, Some, None, map, length, set, get_or, sym, refl, ap, ◌∙◌, subst, ⊎_elim, ne_eqb, nat_le, append-nil, append_assoc, length-set, arith}
+use Rattle.std.proofs.Common.{◌+◌, ◌≡◌, ◌≢◌, ◌==◌, ◌<◌, ◌≤◌, ◌-◌, ℕ, zero, suc, Bool, true, false, if◌then◌else◌, List}
+use Rattle.std.proofs.Common.{[], ◌∷◌, ◌++◌, Some, None, map, length, set, get_or, sym, refl, ap, ◌∙◌, subst, ⊎_elim}
+use Rattle.std.proofs.Common.{ne_eqb, nat_le, append-nil, append_assoc, length-set, arith}
 use Rattle.std.proofs.lemmas.Bool.Decides.{nat_tests}
 use Rattle.zprotocol.specs.declared.limits.TheConstants.{MAX_SERVERS}
 use mathlib.Core.Option.{some, some-ne-none}
@@ -15,7 +17,8 @@ use Rattle.zshared.specs.declared.rings.Rx.{Rx}
 use Rattle.zshared.specs.Rings.{put_of, taken_of}
 use Rattle.ztraces.specs.Deeds.{takes, puts, stamped}
 use Rattle.zprotocol.specs.Places.{process_at}
-use Rattle.zhost.specs.Desks.{TreeDeed, TreeStanding, TreeStamped, TreeTaken, TreePost, Each, Self, Books, Accounts, took_from, IsOutside, SameBooks, SameDesk}
+use Rattle.zhost.specs.Desks.{TreeDeed, TreeStanding, TreeStamped, TreeTaken, TreePost, Each, Self, Books, Accounts}
+use Rattle.zhost.specs.Desks.{took_from, IsOutside, SameBooks, SameDesk}
 use Rattle.zhost.specs.declared.desk.Desk.{Desk}
 
 module _ {A B : Type 0} (f : A → B) where
@@ -24,21 +27,40 @@ module _ {A B : Type 0} (f : A → B) where
   map_same (z ∷ xs) zero x y lt is e = ap (λ b. b ∷ map f xs) (e ∙ ap f is)
   map_same (z ∷ xs) (suc i) x y lt is e = ap (λ bs. f z ∷ bs) (map_same xs i x y (omega arith) is e)
 
-pub each_set : {X : Type 0} (P Q : ℕ → X → Type 0) (xs : List X) (i : ℕ) (y : X) → Each P xs → Q i y → ((j : ℕ) (x : X) → j ≢ i → P j x → Q j x) → Each Q (set xs i y)
+pub each_set : {X : Type 0} (P Q : ℕ → X → Type 0) (xs : List X) (i : ℕ) (y : X) → Each P xs → Q i y
+    → ((j : ℕ) (x : X) → j ≢ i → P j x → Q j x) → Each Q (set xs i y)
 each_set {X} P Q xs i y each mine other j x at =
     ⊎_elim (λ h. subst (λ (p : ℕ × X). Q p.0 p.1) (λ k. (sym h.0 k, h.1 k)) mine) (λ h. other j x h.0 (each j x h.1)) (at_set xs i j y x at)
 
 pub same_desk : (a b c : Desk) → SameDesk a b → SameDesk b c → SameDesk a c
-same_desk a b c x y = record { me = y.me ∙ x.me; last = y.last ∙ x.last; clients = y.clients ∙ x.clients; traced = y.traced ∙ x.traced; links = y.links ∙ x.links; ins = y.ins ∙ x.ins; outs = y.outs ∙ x.outs }
+same_desk a b c x y = record {
+  me = y.me ∙ x.me;
+  last = y.last ∙ x.last;
+  clients = y.clients ∙ x.clients;
+  traced = y.traced
+      ∙ x.traced;
+  links = y.links ∙ x.links;
+  ins = y.ins ∙ x.ins;
+  outs = y.outs ∙ x.outs;
+}
 
 pub same_books : (a b c : Desk) → SameBooks a b → SameBooks b c → SameBooks a c
-same_books a b c x y = record { trace = y.trace ∙ x.trace; told = y.told ∙ x.told; stamp = y.stamp ∙ x.stamp; is_cut = y.is_cut ∙ x.is_cut; lost = y.lost ∙ x.lost; room = λ r. y.room (x.room r) }
+same_books a b c x y = record {
+  trace = y.trace ∙ x.trace;
+  told = y.told ∙ x.told;
+  stamp = y.stamp ∙ x.stamp;
+  is_cut = y.is_cut
+      ∙ x.is_cut;
+  lost = y.lost ∙ x.lost;
+  room = λ r. y.room (x.room r);
+}
 
 -- processes at two places are two
 abbrev pick : Bool → Bool → ℕ → Process
 pick a b i = if a then Master else if b then Server i else Client (i - (MAX_SERVERS + 1))
 
-apart_by : (i j : ℕ) (a b c d : Bool) → (i == 0) ≡ a → nat_le i MAX_SERVERS ≡ b → (j == 0) ≡ c → nat_le j MAX_SERVERS ≡ d → i ≢ j → is_same (pick a b i) (pick c d j) ≡ false
+apart_by : (i j : ℕ) (a b c d : Bool) → (i == 0) ≡ a → nat_le i MAX_SERVERS ≡ b → (j == 0) ≡ c → nat_le j MAX_SERVERS ≡ d
+    → i ≢ j → is_same (pick a b i) (pick c d j) ≡ false
 apart_by i j true b true d p q r s ne = absurd (ne (grind (arith, nat_tests)))
 apart_by i j true b false true p q r s ne = refl
 apart_by i j true b false false p q r s ne = refl
@@ -90,8 +112,10 @@ module _ (who : Self) (b : Books) (s : TreeStanding) (deeds : List TreeDeed) whe
   out_same t w k x x' a at e = out_set t w w k x' a (ap (λ l. l ++ stamped b.stamp (messages_to (process_at k) w)) e ∙ a.put k x at) (λ j ne. refl)
 
   -- the first of what waits goes onto its link
-  pub out_more : (t : TreeTaken) (to : Process) (m : TreeMessage) (w : List TreePost) (k : ℕ) (x x' : Tx TreeStamped) → Accounts who b s t ((to, m) ∷ w) deeds
-      → get_elem? b.outs k ≡ some x → process_at k ≡ to → put_of x' ≡ put_of x ++ (b.stamp, m) ∷ [] → Accounts who (record b { outs = set b.outs k x' }) s t w deeds
+  pub out_more : (t : TreeTaken) (to : Process) (m : TreeMessage) (w : List TreePost) (k : ℕ) (x x' : Tx TreeStamped)
+      → Accounts who b s t ((to, m) ∷ w) deeds
+      → get_elem? b.outs k ≡ some x → process_at k ≡ to → put_of x' ≡ put_of x ++ (b.stamp, m) ∷ []
+      → Accounts who (record b { outs = set b.outs k x' }) s t w deeds
   out_more t to m w k x x' a at is e =
       let p = process_at k in
       let rest = stamped b.stamp (messages_to p w) in
@@ -158,7 +182,8 @@ module _ (who : Self) (b : Books) (s : TreeStanding) (deeds : List TreeDeed) whe
 
   -- a message was taken
   pub in_some : (w : List TreePost) (k : ℕ) (r r' : Rx TreeStamped) (m : TreeStamped) → Accounts who b s None w deeds
-      → k < length b.ins → get_elem? b.ins k ≡ some r → taken_of r' ≡ taken_of r ++ m ∷ [] → Accounts who (record b { ins = set b.ins k r' }) s (Some (process_at k, m)) w deeds
+      → k < length b.ins → get_elem? b.ins k ≡ some r → taken_of r' ≡ taken_of r ++ m ∷ []
+      → Accounts who (record b { ins = set b.ins k r' }) s (Some (process_at k, m)) w deeds
   in_some w k r r' m a lt at e =
       let T : ℕ → List TreeStamped = λ i. takes (process_at i) deeds in
       let P : ℕ → Rx TreeStamped → Type 0 = λ i y. taken_of y ≡ T i ++ [] in
@@ -170,7 +195,8 @@ module _ (who : Self) (b : Books) (s : TreeStanding) (deeds : List TreeDeed) whe
         traced = a.traced;
         told = a.told;
         taken = each_set P Q b.ins k r' a.taken
-            (e ∙ ap (λ l. l ++ m ∷ []) (a.taken k r at ∙ append-nil (T k)) ∙ ap (λ x. T k ++ (if x then m ∷ [] else [])) (sym (same_itself (process_at k))))
+            (e ∙ ap (λ l. l ++ m ∷ []) (a.taken k r at ∙ append-nil (T k)) ∙ ap (λ x. T k ++ (if x then m ∷ [] else []))
+            (sym (same_itself (process_at k))))
             (λ j y ne h. h ∙ ap (λ x. T j ++ (if x then m ∷ [] else [])) (sym (apart j k ne)));
         others = λ p out.
             let out' : IsOutside p (length b.ins) = λ i l. out i (let n = length-set b.ins k r' in omega arith) in

@@ -1,10 +1,7 @@
 -- What a clause says of what a thread did, and of the orders that the master followed.
-use Rattle.std.specs.Prelude.{◌≡◌, ◌⊎◌, false, List, [], ◌∷◌, ◌++◌, Option, option_to_list}
-use Rattle.zprotocol.specs.declared.process.Process.{Process}
-use Rattle.zworld_model.specs.declared.outcome.Outcome.{Outcome}
-use Rattle.zworld_model.specs.declared.outcome.Outcome.TheVariants.{Acted}
+use Rattle.std.specs.Prelude.{◌≡◌, false, List, [], ◌∷◌, ◌++◌, Option, option_to_list}
 use Rattle.ztraces.specs.declared.trace.Act.{Act}
-use Rattle.ztraces.specs.declared.trace.Act.TheVariants.{Took, Ordered, Left}
+use Rattle.ztraces.specs.declared.trace.Act.TheVariants.{Ordered}
 use Rattle.ztraces.specs.declared.trace.TraceEvent.{TraceEvent}
 use Rattle.zprotocol.specs.declared.master.order.Order.{Order}
 use Rattle.zhost.specs.declared.desk.Desk.{Desk}
@@ -13,14 +10,6 @@ use Rattle.zhost.specs.Desks.{IsEntered, is_cut_of, stamp_of_desk, trace_of}
 -- it did this as its next event, unless its trace is cut
 abbrev pub DidNext : Desk → Desk → Act → Type 0
 DidNext a b act = IsEntered a b (stamp_of_desk b) act []
-
--- the master received a message, and acted on it
-abbrev pub MasterReceived : Desk → Desk → Type 0
-MasterReceived a b = (from : Process) × DidNext a b (Took from Acted)
-
--- a server received a message, or left at one
-abbrev pub ServerReceived : Desk → Desk → Type 0
-ServerReceived a b = ((from : Process) × (outcome : Outcome) × DidNext a b (Took from outcome)) ⊎ DidNext a b Left
 
 -- the order that the master followed by doing that, if it was one
 abbrev pub order_of : Act → List Order

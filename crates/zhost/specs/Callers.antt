@@ -11,6 +11,8 @@ use Rattle.ztraces.specs.Stamps.{next_stamp}
 use Rattle.zhost.specs.declared.desk.Desk.{Desk}
 use Rattle.zhost.specs.Desks.{IsCutForNeed, IsLostForNeed, SameBooks, TreeStamped, is_cut_of, stamp_of_desk}
 use Rattle.zhost.specs.Steps.{Begins, Heard, HeardNothing, SendsAgain}
+use Rattle.zhost.specs.Hosts.{host_desk, host_learnt, host_stamp, host_standing}
+use Rattle.zhost.specs.Standings.{client_known}
 use Rattle.zhost.specs.declared.caller.Caller.{Caller}
 
 -- its number, desk and view, and the last stamp that it knows
@@ -18,17 +20,17 @@ abbrev pub caller_id : Caller → ℕ
 caller_id c = c.id
 
 abbrev pub caller_desk : Caller → Desk
-caller_desk c = c.desk
+caller_desk c = host_desk c.host
 
 abbrev pub caller_view : Caller → ClientView
-caller_view c = c.core
+caller_view c = client_known (host_standing c.host)
 
 abbrev pub caller_stamp : Caller → ℕ
-caller_stamp c = max (stamp_of_desk c.desk) c.learnt
+caller_stamp c = host_stamp c.host
 
 -- the last stamp that it was told of
 abbrev pub learnt_of : Caller → ℕ
-learnt_of c = c.learnt
+learnt_of c = host_learnt c.host
 
 -- it was told of no other stamp, and forgot none
 abbrev pub SameLearnt : Caller → Caller → Type 0
@@ -36,15 +38,15 @@ SameLearnt a b = learnt_of b ≡ learnt_of a
 
 -- nothing was done
 abbrev pub SameCaller : Caller → Caller → Type 0
-SameCaller a b = SameBooks a.desk b.desk × (b.core ≡ a.core)
+SameCaller a b = SameBooks (caller_desk a) (caller_desk b) × (caller_view b ≡ caller_view a)
 
 -- the event is later than all that it knew, unless the trace is cut
 abbrev pub IsLater : Caller → Caller → Type 0
-IsLater a b = is_cut_of b.desk ≡ false → caller_stamp a < stamp_of_desk b.desk
+IsLater a b = is_cut_of (caller_desk b) ≡ false → caller_stamp a < stamp_of_desk (caller_desk b)
 
 -- the event has the stamp behind all that it knew
 abbrev pub IsNext : Caller → Caller → Type 0
-IsNext a b = stamp_of_desk b.desk ≡ next_stamp (caller_stamp a)
+IsNext a b = stamp_of_desk (caller_desk b) ≡ next_stamp (caller_stamp a)
 
 -- why a call isn't begun, by the first test that holds; or want of memory, where the client waits for no call
 abbrev pub MayRefuse : ClientView → BeginFault → Type 0
@@ -53,24 +55,24 @@ MayRefuse v fault = begin_fault v ≡ Some fault
 
 -- it began the call with that number
 abbrev pub Began : Caller → Caller → Call → ℕ → Type 0
-Began a b call number = Begins a.id a.desk a.core b.desk b.core call number × IsNext a b × IsLater a b
+Began a b call number = Begins a.id (caller_desk a) (caller_view a) (caller_desk b) (caller_view b) call number × IsNext a b × IsLater a b
 
 -- it sent its call once more, or had none to send
 abbrev pub Retried : Caller → Caller → Bool → Type 0
-Retried a b true = SendsAgain a.desk a.core b.desk b.core × IsNext a b × IsLater a b
-Retried a b false = (is_some a.core.outstanding ≡ false) × SameCaller a b
+Retried a b true = SendsAgain (caller_desk a) (caller_view a) (caller_desk b) (caller_view b) × IsNext a b × IsLater a b
+Retried a b false = (is_some (caller_view a).outstanding ≡ false) × SameCaller a b
 
 -- it took its turn: it heard a message, with the stamp behind that of the message and all that it knew, or nothing
 abbrev pub Turned : Caller → Caller → Option Reply → Type 0
 Turned a b reply =
-    HeardNothing a.desk a.core b.desk b.core reply
-    ⊎ ((from : Process) × (m : TreeStamped) × Heard a.id a.desk a.core b.desk b.core from m reply
-    × (stamp_of_desk b.desk ≡ next_stamp (max (stamp_of_desk a.desk) (max a.learnt m.0))))
+    HeardNothing (caller_desk a) (caller_view a) (caller_desk b) (caller_view b) reply
+    ⊎ ((from : Process) × (m : TreeStamped) × Heard a.id (caller_desk a) (caller_view a) (caller_desk b) (caller_view b) from m reply
+    × (stamp_of_desk (caller_desk b) ≡ next_stamp (max (stamp_of_desk (caller_desk a)) (max (learnt_of a) m.0))))
 
 -- its trace isn't cut without need
 abbrev pub IsUncut : Caller → Caller → Type 0
-IsUncut a b = IsCutForNeed a.desk b.desk (stamp_of_desk b.desk)
+IsUncut a b = IsCutForNeed (caller_desk a) (caller_desk b) (stamp_of_desk (caller_desk b))
 
 -- what it does isn't lost before the last timestamp
 abbrev pub IsUnlost : Caller → Caller → Type 0
-IsUnlost a b = IsLostForNeed a.desk b.desk (stamp_of_desk b.desk)
+IsUnlost a b = IsLostForNeed (caller_desk a) (caller_desk b) (stamp_of_desk (caller_desk b))

@@ -111,10 +111,6 @@ stamp_of_desk d = d.stamp
 abbrev pub wires_of : Desk → List (Rx TreeStamped) × List (Tx TreeStamped)
 wires_of d = (d.ins.items, d.outs.items)
 
--- the room that is reserved for more posts
-abbrev pub room_of : Desk → ℕ
-room_of d = d.out.room
-
 abbrev pub link_count : Desk → ℕ
 link_count d = length d.ins.items
 

@@ -7,5 +7,10 @@ pub mod Owned
 pub mod Acts
 pub mod Outcomes
 pub mod Said
+pub mod Rounds
 pub mod Callers
 pub mod Steps
+pub mod Told
+pub mod Hosting
+pub mod Hosts
+pub mod Standings

@@ -1,5 +1,5 @@
 -- What a clause says of a client that had this desk and stood there, and then has that desk and stands there.
-use Rattle.std.specs.Prelude.{◌≡◌, ◌⊎◌, ℕ, ◌+◌, true, [], ◌∷◌, Option, None, Some, is_some}
+use Rattle.std.specs.Prelude.{◌≡◌, ℕ, ◌+◌, true, [], ◌∷◌, Option, None, Some, is_some}
 use Rattle.std.specs.Option.{option_map}
 use Rattle.ztree.specs.Tree.{Tree}
 use Rattle.zcalls.specs.declared.call.Call.{Call}
@@ -15,22 +15,14 @@ use Rattle.zworld_model.specs.declared.history.CallEvent.{CallEvent}
 use Rattle.zworld_model.specs.declared.history.CallEvent.TheVariants as call_event
 use Rattle.zworld_model.specs.declared.outcome.Outcome.TheVariants.{Acted}
 use Rattle.ztraces.specs.declared.trace.Act.TheVariants as act
-use Rattle.zworld_model.specs.Does.{answer_told, AtClient}
+use Rattle.zworld_model.specs.Does.{answer_told}
 use Rattle.zhost.specs.declared.desk.Desk.{Desk}
-use Rattle.zhost.specs.Desks.{IsEntered, pending, SameBooks, Stands, stamp_of_desk, TreeStamped, TreeTaken}
+use Rattle.zhost.specs.Desks.{IsEntered, pending, SameBooks, stamp_of_desk, TreeStamped}
 
 -- the answer that a message brings
 abbrev pub answer_event : ℕ → TreeMessage → Option CallEvent
 answer_event c (message.Answer number reply) = Some (call_event.Answer c number reply)
 answer_event c other = None
-
--- where it stood there, with the one message taken, it stands here, with the other one taken
-abbrev pub Moves : Desk → ClientView → Desk → ClientView → TreeTaken → TreeTaken → Type 0
-Moves a v b w t u = Stands a (AtClient v) t [] → Stands b (AtClient w) u (pending b)
-
--- so it moves where it hears the message that was taken
-abbrev pub MovesAt : Desk → ClientView → Desk → ClientView → Process → TreeStamped → Type 0
-MovesAt a v b w from m = Moves a v b w (Some (from, m)) None
 
 -- it heard the message, and acted by its table: the reply that it gives out is the table's, and what the table puts is put or
 -- waits to be put
@@ -43,11 +35,6 @@ pub record Heard (c : ℕ) (a : Desk) (v : ClientView) (b : Desk) (w : ClientVie
 -- it heard nothing: it is as it was, and gives out no reply
 abbrev pub HeardNothing : Desk → ClientView → Desk → ClientView → Option Reply → Type 0
 HeardNothing a v b w reply = SameBooks a b × (w ≡ v) × (reply ≡ None)
-
--- it heard that message with this stamp, or nothing
-abbrev pub MayHear : ℕ → Desk → ClientView → Desk → ClientView → Process → TreeStamped → ℕ → Option Reply → Type 0
-MayHear c a v b w from m next reply =
-    HeardNothing a v b w reply ⊎ (Heard c a v b w from m reply × (stamp_of_desk b ≡ next))
 
 -- it began the call with that number, by its table
 pub record Begins (c : ℕ) (a : Desk) (v : ClientView) (b : Desk) (w : ClientView) (call : Call) (number : ℕ) : Type 0 where

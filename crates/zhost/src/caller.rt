@@ -3,37 +3,33 @@
 ghost use Rattle.std.specs.Prelude.{◌≡◌, IfErr, IfOk, OnErr, OnOk, max, true, false};
 ghost use Rattle.zprotocol.specs.declared.process.Process.TheVariants.{Client};
 ghost use Rattle.zworld_model.specs.Does.{AtClient};
-ghost use Rattle.zhost.specs.Desks.{is_cut_of, is_traced_of, IsAt, pending, process_of, SameDesk};
-ghost use Rattle.zhost.specs.Desks.{seen_of, self_of, stamp_of_desk, Stands, trace_of};
+ghost use Rattle.zhost.specs.Desks.{is_cut_of, is_traced_of, IsAt, process_of, SameDesk};
+ghost use Rattle.zhost.specs.Desks.{seen_of, self_of, stamp_of_desk, trace_of};
 ghost use Rattle.zhost.specs.Endings.{HasEnded, IsCutAsBefore, IsLostAsBefore};
 ghost use Rattle.zhost.specs.Endings.{LeavesNothing, SameWires};
+ghost use Rattle.zhost.specs.Hosts.{host_desk};
 
-use crate::asking::{begin_at, retry_at};
-use crate::hearing::{front_of, hear_or_keep};
-use crate::{Desk, Ending, Stamped};
-use std::alloc::Global;
+use crate::asking::{begin_fault_of, number_of};
+use crate::gate::Open;
+use crate::hearing::next_link;
+use crate::host::Host;
+use crate::{Desk, Ending};
+use zactor::{Actor, Handed, Input};
 use zalloc::Memory;
 use zcalls::{Call, CallNumber, ClientId, Reply};
 use zclient::{BeginFault, ClientCore};
-use zprotocol::{Process, ServerId};
+use zprotocol::ServerId;
 use ztraces::Stamp;
 
 /// A client with its desk. It went by the client table from its opening view, through its trace if
 /// it keeps one.
 #[derive(Drop)]
 pub struct Caller {
-    pub(crate) alloc: Global,
+    pub(crate) host: Host,
     pub(crate) id: ClientId,
-    pub(crate) desk: Desk,
-    pub(crate) core: ClientCore,
-    // the last stamp that it was told of
-    pub(crate) learnt: Stamp,
-    // a message that was taken, and counts as still in its ring: no memory was found for it
-    pub(crate) front: Option<(Process, Stamped)>,
-    // the link that it took from last
+    // the link that it received from last
     pub(crate) link: usize,
-    ghost is_client: { desk.me ≡ Client id },
-    ghost at: { Stands desk (AtClient core) front (pending desk) },
+    ghost is_client: { process_of (host_desk host) ≡ Client id },
 }
 
 impl Caller {
@@ -42,7 +38,7 @@ impl Caller {
     ghost use Rattle.zhost.specs.Callers.{learnt_of, MayRefuse, SameLearnt};
 
     /// The client with a desk that has done nothing.
-    pub fn new(alloc: Global, id: ClientId, desk: Desk, core: ClientCore) -> Caller
+    pub fn new(id: ClientId, desk: Desk, core: ClientCore) -> Caller
         requires me { process_of desk ≡ Client id }
         requires at { IsAt desk (AtClient core) }
         ensures desk { caller_desk result ≡ desk }
@@ -50,12 +46,8 @@ impl Caller {
         ensures stamp { caller_stamp result ≡ max (stamp_of_desk desk) 0 }
     {
         Caller {
-            alloc,
+            host: Host::new(desk, Actor::client(core)),
             id,
-            desk,
-            core,
-            learnt: Stamp::zero(),
-            front: None,
             link: 0,
         }
     }
@@ -72,21 +64,21 @@ impl Caller {
     pub fn head(&self) -> Option<ServerId>
         ensures { result ≡ (caller_view self.now).head }
     {
-        self.core.head()
+        self.core().head()
     }
 
     /// The tail of the chain, as the master last told it.
     pub fn tail(&self) -> Option<ServerId>
         ensures { result ≡ (caller_view self.now).tail }
     {
-        self.core.tail()
+        self.core().tail()
     }
 
     /// The last stamp of its events, or a later one that it was told of.
     pub fn stamp(&self) -> Stamp
         ensures { result ≡ caller_stamp self.now }
     {
-        self.desk.stamp().later(self.learnt)
+        self.host.stamp()
     }
 
     /// From now on its events have later stamps than this one. No later call forgets that.
@@ -96,7 +88,7 @@ impl Caller {
         ensures same { SameCaller self.old self.new }
         ensures desk { caller_desk self.new ≡ caller_desk self.old }
     {
-        self.learnt = self.learnt.later(stamp);
+        self.host.learn(stamp);
     }
 
     /// Invokes a call, and returns its number. Busy where a call is outstanding, Exhausted where no
@@ -111,27 +103,18 @@ impl Caller {
         ensures unlost { OnOk result (IsUnlost self.old self.new) }
         ensures learnt { SameLearnt self.old self.new }
     {
-        if self.core.outstanding().is_some() {
+        if self.core().outstanding().is_some() {
             drop(call);
             return Err(BeginFault::Busy);
         }
-        if !self.desk.settle() {
+        if !self.host.reserve() {
             drop(call);
             return Err(BeginFault::Memory);
         }
-        if !self.desk.reserve() {
-            drop(call);
-            return Err(BeginFault::Memory);
+        match self.host.give(Input::Begin(call)) {
+            Ok(done) => Ok(number_of(done)),
+            Err(fault) => Err(begin_fault_of(fault)),
         }
-        let next = self.desk.next_stamp(self.learnt);
-        begin_at(
-            self.alloc,
-            self.id,
-            &mut self.desk,
-            &mut self.core,
-            call,
-            next,
-        )
     }
 
     /// Sends the outstanding call once more. False where there is none.
@@ -143,17 +126,22 @@ impl Caller {
         ensures unlost { OnOk result (IsUnlost self.old self.new) }
         ensures learnt { SameLearnt self.old self.new }
     {
-        if self.core.outstanding().is_none() {
+        if self.core().outstanding().is_none() {
             return Ok(false);
         }
-        if !self.desk.settle() {
+        if !self.host.reserve() {
             return Err(Memory);
         }
-        if !self.desk.reserve() {
-            return Err(Memory);
+        match self.host.give(Input::Retry) {
+            Ok(done) => {
+                drop(done);
+                Ok(true)
+            }
+            Err(fault) => {
+                drop(fault);
+                Err(Memory)
+            }
         }
-        let again = self.desk.next_stamp(self.learnt);
-        retry_at(&mut self.desk, &self.core, again)
     }
 
     /// Moves what waits into the rings and receives at most one message. Returns the reply of the
@@ -166,29 +154,20 @@ impl Caller {
         ensures unlost { IsUnlost self.old self.new }
         ensures learnt { SameLearnt self.old self.new }
     {
-        if !self.desk.settle() {
+        self.host.flush();
+        if !self.host.reserve() {
             return None;
         }
-        self.desk.flush();
-        if !self.desk.reserve() {
-            return None;
-        }
-        let Some((from, stamped)) = front_of(&mut self.desk, &mut self.link, &mut self.front) else {
+        self.link = next_link(&mut self.host, self.link);
+        let mut handed = Handed::Nothing;
+        let Some(done) = self.host.turn(self.link, &mut Open, &mut handed) else {
+            drop(handed);
             return None;
         };
-        let (stamp, message) = stamped;
-        let next = self.desk.next_stamp(self.learnt.later(stamp));
-        hear_or_keep(
-            self.alloc,
-            self.id,
-            &mut self.desk,
-            &mut self.core,
-            &mut self.front,
-            from,
-            stamp,
-            message,
-            next,
-        )
+        drop(done);
+        let reply = handed.take_reply();
+        drop(handed);
+        reply
     }
 
     /// What it leaves, with its number.
@@ -203,15 +182,18 @@ impl Caller {
         ensures kept { IsLostAsBefore (caller_desk self) result.1 }
         ensures untraced { is_traced_of (caller_desk self) ≡ false → LeavesNothing result.1 }
     {
-        let Caller {
-            id,
-            desk,
-            core,
-            front,
-            ..
-        } = self;
-        drop(core);
-        drop(front);
-        (id, desk.into_ending())
+        let Caller { host, id, .. } = self;
+        (id, host.into_ending())
+    }
+
+    // What the client knows.
+    fn core(&self) -> &ClientCore
+        ensures { result.now ≡ caller_view self.now }
+    {
+        let Some(core) = self.host.actor.as_client() else {
+            // It is the process of a client.
+            unreachable!();
+        };
+        core
     }
 }

@@ -18,6 +18,7 @@ pub type Stamped = (Stamp, Message<Snapshot>);
 /// The endpoint of a process in a thread: what it has beside its view.
 #[derive(Drop)]
 pub struct Desk {
+    pub(crate) alloc: Global,
     pub(crate) me: Process,
     // the last server of the initial chain, and how many clients there are
     pub(crate) last: ServerId,
@@ -97,6 +98,7 @@ impl Desk {
             × (stamp_of_desk result ≡ 0) }
     {
         Desk {
+            alloc,
             me,
             last,
             clients,

@@ -1,6 +1,6 @@
 //! What a thread does that found nothing to do.
 
-use crate::Desk;
+use crate::host::Host;
 use std::sync::Wait;
 use std::thread;
 
@@ -21,21 +21,21 @@ impl Idle {
 
     /// Begins a round. A thread that has long found nothing to do lies down first, so that it is
     /// woken at all that comes while it looks.
-    pub(crate) fn begin_round(&self, desk: &Desk) {
+    pub(crate) fn begin_round(&self, host: &Host) {
         if self.rounds >= EAGER_ROUNDS {
-            desk.lie_down();
+            host.lie_down();
         }
     }
 
     /// Ends a round, in which it did something or not. A thread that lay down and found nothing
     /// sleeps.
-    pub(crate) fn end_round<R: Wait>(&mut self, rt: &R, desk: &Desk, was_busy: bool) {
+    pub(crate) fn end_round<R: Wait>(&mut self, rt: &R, host: &Host, was_busy: bool) {
         let was_lying = self.rounds >= EAGER_ROUNDS;
         if was_lying {
             if !was_busy {
-                desk.sleep(rt);
+                host.sleep(rt);
             }
-            desk.get_up();
+            host.get_up();
         }
         if was_busy {
             self.rounds = 0;

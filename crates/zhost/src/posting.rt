@@ -3,7 +3,7 @@
 ghost use Rattle.std.specs.Prelude.{◌≡◌, ◌∷◌, [], false, None, IfNone, IfSome, IsTrue};
 ghost use Rattle.zworld_model.specs.Does.{last_post};
 ghost use Rattle.zhost.specs.Desks.{HasPut, is_cut_of, IsSettled, Keeps, pending, SameBooks};
-ghost use Rattle.zhost.specs.Desks.{SameDesk};
+ghost use Rattle.zhost.specs.Desks.{SameDesk, stamp_of_desk};
 
 use crate::desk::Desk;
 use zprotocol::{Message, Process};
@@ -78,6 +78,7 @@ impl Desk {
         ensures stands { HasPut self.old self.new last_post [] }
         ensures books { is_cut_of self.new ≡ false → SameBooks self.old self.new }
         ensures rest { (self.new.held ≡ self.old.held) × (self.new.out ≡ self.old.out) }
+        ensures stamp { stamp_of_desk self.new ≡ stamp_of_desk self.old }
         ensures same { SameDesk self.old self.new }
     {
         self.waits = true;

@@ -10,12 +10,14 @@ ghost use Rattle.zshared.specs.declared.outcome.OrderOutcome.{OrderOutcome};
 ghost use Rattle.zhost.specs.Desks.{SameDesk};
 ghost use Rattle.zhost.specs.Acts.{HasFollowed};
 ghost use Rattle.zhost.specs.Outcomes.{unfollowed, unsaid};
-ghost use Rattle.zhost.specs.Said.{GoesOn, spoken, WereSaid};
+ghost use Rattle.zhost.specs.Said.{spoken, WereSaid};
 ghost use Rattle.zhost.specs.Owned.{master_desk};
 
+use crate::gate::Open;
 use crate::idle::Idle;
 use crate::master_thread::MasterThread;
 use crate::owed::Owed;
+use crate::rounds::go_round;
 use std::sync::Wait;
 use zprotocol::Order;
 use zshared::console::Inbox;
@@ -47,8 +49,8 @@ pub fn preside<R: Wait>(
     let mut idle = Idle::new();
     let mut owed = Owed::Nothing;
     for _ in rt.forever() {
-        idle.begin_round(&chief.desk);
-        let Some(has_heard) = go_round(&mut chief, halt, &mut seat) else {
+        idle.begin_round(&chief.host);
+        let Some(has_heard) = go_round(&mut chief.host, &mut Open, halt, &mut seat, None) else {
             return (chief, inbox);
         };
         inbox.flush();
@@ -57,39 +59,9 @@ pub fn preside<R: Wait>(
         owed = obey(&mut chief, owed);
         owed = say(&mut inbox, owed);
         let is_busy = has_heard | (has_owed & !owed.is_some());
-        idle.end_round(rt, &chief.desk, is_busy);
+        idle.end_round(rt, &chief.host, is_busy);
     }
     unreachable!()
-}
-
-// Goes over the links once. Whether a message was received; None where bit 0 is set.
-fn go_round(chief: &mut MasterThread, halt: &Halt, seat: &mut HaltSeat) -> Option<bool>
-    requires own { IsSeatOf halt.now seat.old }
-    ensures own { IsSeatOf halt.now seat.new }
-    ensures desk { SameDesk (master_desk chief.old) (master_desk chief.new) }
-    ensures orders { (received : List Order) (waiting : Option Order)
-        → HasFollowed (master_desk chief.old) received waiting
-        → HasFollowed (master_desk chief.new) received waiting }
-    ensures goes { GoesOn (master_desk chief.old) (master_desk chief.new) }
-{
-    chief.flush();
-    if halt.is_set(seat, 0) {
-        return None;
-    }
-    let links = chief.links();
-    let mut is_busy = false;
-    for link in 0..links {
-        if chief.is_empty(link) {
-            continue;
-        }
-        chief.flush();
-        let look = halt.look(seat);
-        if look.has(0) {
-            return None;
-        }
-        is_busy |= chief.turn(link, look);
-    }
-    Some(is_busy)
 }
 
 // Receives an order, unless something is owed for the last one.

@@ -1,12 +1,12 @@
 //! The body of a server's thread.
 
-ghost use Rattle.std.specs.Prelude.{◌≡◌};
 ghost use Rattle.zshared.specs.HaltSeats.{IsSeatOf};
 ghost use Rattle.zhost.specs.Desks.{SameDesk};
 ghost use Rattle.zhost.specs.Owned.{server_desk};
 
 use crate::gate::Gate;
 use crate::idle::Idle;
+use crate::rounds::go_round;
 use crate::server_thread::ServerThread;
 use std::sync::Wait;
 use zshared::halts::{Halt, HaltSeat};
@@ -26,51 +26,12 @@ pub fn serve<G: Gate, R: Wait>(
 {
     let mut idle = Idle::new();
     for _ in rt.forever() {
-        idle.begin_round(&member.desk);
-        let Some(is_busy) = go_round(&mut member, &mut gate, halt, &mut seat) else {
+        idle.begin_round(&member.host);
+        let bit = Some(member.bit());
+        let Some(is_busy) = go_round(&mut member.host, &mut gate, halt, &mut seat, bit) else {
             return member;
         };
-        idle.end_round(rt, &member.desk, is_busy);
+        idle.end_round(rt, &member.host, is_busy);
     }
     unreachable!()
-}
-
-// Goes over the links once. Whether a message was received; None where bit 0 is set.
-fn go_round<G: Gate>(
-    member: &mut ServerThread,
-    gate: &mut G,
-    halt: &Halt,
-    seat: &mut HaltSeat,
-) -> Option<bool>
-    requires own { IsSeatOf halt.now seat.old }
-    ensures own { IsSeatOf halt.now seat.new }
-    ensures desk { SameDesk (server_desk member.old) (server_desk member.new) }
-{
-    member.flush();
-    if halt.is_set(seat, 0) {
-        return None;
-    }
-    if halt.is_set(seat, member.bit()) {
-        // Where there is no memory for the notice, the next round tries again.
-        let _ = member.halt();
-    }
-    let links = member.links();
-    let mut is_busy = false;
-    for link in 0..links {
-        if member.is_empty(link) {
-            continue;
-        }
-        member.flush();
-        let look = halt.look(seat);
-        if look.has(0) {
-            return None;
-        }
-        if look.has(member.bit()) {
-            // Where there is no memory for the notice, the next link tries again.
-            let _ = member.halt();
-            continue;
-        }
-        is_busy |= member.turn(link, gate, look);
-    }
-    Some(is_busy)
 }

@@ -1,5 +1,7 @@
 -- Blocks one behind the other, and what they can't be mistaken for.
-use Rattle.std.proofs.Common.{◌≡◌, ◌≢◌, ℕ, ◌+◌, Bool, true, false, if◌then◌else◌, List, [], ◌∷◌, ◌++◌, length, map, drop, get_or, take, zero, suc, refl, sym, ◌∙◌, ap, subst, arith, append_assoc, length-append}
+use Rattle.std.proofs.Common.{◌≡◌, ◌≢◌, ℕ, ◌+◌, Bool, true, false, if◌then◌else◌, List, [], ◌∷◌, ◌++◌, length, map}
+use Rattle.std.proofs.Common.{drop, get_or, take, zero, suc, refl, sym, ◌∙◌, ap, subst, arith, append_assoc}
+use Rattle.std.proofs.Common.{length-append}
 use Rattle.std.proofs.lemmas.List.{append-nil}
 use Rattle.zjournal.specs.Blocks.{IsText, AreTexts, blocks, IsEnd}
 use Rattle.zjournal.specs.Checksum.{digit, stamped}
@@ -49,7 +51,8 @@ same_blocks [] [] e f ha hb he hf is = refl
 same_blocks [] (t ∷ b) e f ha hb he hf is = absurd (end_is_no_block t (blocks b ++ f) (subst IsEnd (is ∙ first_block t b f) he))
 same_blocks (s ∷ a) [] e f ha hb he hf is = absurd (end_is_no_block s (blocks a ++ e) (subst IsEnd (sym is ∙ first_block s a e) hf))
 same_blocks (s ∷ a) (t ∷ b) e f ha hb he hf is =
-    let r = first_zero s t (blocks a ++ e) (blocks b ++ f) ha.0 hb.0 (ap (λ (l : List ℕ). drop 1 l) (sym (first_block s a e) ∙ is ∙ first_block t b f)) in
+    let r = first_zero s t (blocks a ++ e) (blocks b ++ f) ha.0 hb.0 (ap (λ (l : List ℕ). drop 1 l) (sym (first_block s a e)
+    ∙ is ∙ first_block t b f)) in
     ap (λ (x : List ℕ). x ∷ a) r.0 ∙ ap (λ (l : List (List ℕ)). t ∷ l) (same_blocks a b e f ha.1 hb.1 he hf r.1)
 
 -- what stands behind some of the blocks, where something does
@@ -61,7 +64,8 @@ next_block (s ∷ a) [] e rest ha hb he some is =
     (s, blocks a ++ e, a, refl, ha.0, ap (λ (l : List ℕ). drop 1 l) (sym is ∙ first_block s a e))
 next_block [] (t ∷ b) e rest ha hb he some is = absurd (end_is_no_block t (blocks b ++ 1 ∷ rest) (subst IsEnd (is ∙ first_block t b (1 ∷ rest)) he))
 next_block (s ∷ a) (t ∷ b) e rest ha hb he some is =
-    let r = first_zero s t (blocks a ++ e) (blocks b ++ 1 ∷ rest) ha.0 hb.0 (ap (λ (l : List ℕ). drop 1 l) (sym (first_block s a e) ∙ is ∙ first_block t b (1 ∷ rest))) in
+    let r = first_zero s t (blocks a ++ e) (blocks b ++ 1 ∷ rest) ha.0 hb.0
+    (ap (λ (l : List ℕ). drop 1 l) (sym (first_block s a e) ∙ is ∙ first_block t b (1 ∷ rest))) in
     let n = next_block a b e rest ha.1 hb.1 he some r.1 in
     (n.0, n.1, n.2, ap (λ (x : List ℕ). x ∷ a) r.0 ∙ ap (λ (l : List (List ℕ)). t ∷ l) n.3, n.4, n.5)
 
@@ -86,14 +90,18 @@ pub digit_counts : (n : ℕ) → digit n ≢ 0
 digit_counts n = digit_is_none _ n
 
 pub stamped_text : (text : List ℕ) → IsText text → IsText (stamped text)
-stamped_text text h = (digit_counts _, (digit_counts _, (digit_counts _, (digit_counts _, (digit_counts _, (digit_counts _, (digit_counts _, (digit_counts _, h))))))))
+stamped_text text h = (
+  digit_counts _,
+  (digit_counts _, (digit_counts _, (digit_counts _, (digit_counts _, (digit_counts _, (digit_counts _, (digit_counts _, h))))))),
+)
 
 -- what stands behind the checksum
 pub unstamped : (batches : List (List ℕ)) → map (λ (t : List ℕ). drop 8 t) (map stamped batches) ≡ batches
 unstamped [] = refl
 unstamped (t ∷ batches) = ap (λ (l : List (List ℕ)). t ∷ l) (unstamped batches)
 
-pub stamped_among : (a b after : List (List ℕ)) (held : List ℕ) → map stamped a ≡ map stamped b ++ held ∷ after → (text : List ℕ) × (held ≡ stamped text)
+pub stamped_among : (a b after : List (List ℕ)) (held : List ℕ) → map stamped a ≡ map stamped b ++ held ∷ after
+    → (text : List ℕ) × (held ≡ stamped text)
 stamped_among [] [] after held is = absurd (none is)
   where
     none : [] ≡ held ∷ after → ⊥

@@ -1,5 +1,6 @@
 -- What files stand for while they are made, grow and are opened.
-use Rattle.std.proofs.Common.{◌≡◌, ◌≢◌, inl, inr, ℕ, zero, suc, ◌+◌, ◌-◌, ◌<◌, ◌≤◌, List, [], ◌∷◌, ◌++◌, length, map, take, drop, refl, sym, ◌∙◌, ap, subst, arith, length-append, length-take}
+use Rattle.std.proofs.Common.{◌≡◌, ◌≢◌, inl, inr, ℕ, zero, suc, ◌+◌, ◌-◌, ◌<◌, ◌≤◌, List, [], ◌∷◌, ◌++◌, length, map}
+use Rattle.std.proofs.Common.{take, drop, refl, sym, ◌∙◌, ap, subst, arith, length-append, length-take}
 use Rattle.std.proofs.lemmas.Bool.{cases_eq}
 use Rattle.std.proofs.lemmas.List.{take_at, drop_at, append-nil}
 use Rattle.zjournal.specs.Blocks.{IsText, AreTexts, blocks, at_rest, IsEnd}
@@ -37,7 +38,8 @@ module _ (servers : ℕ) (batches : List (List ℕ)) (file : List ℕ) (end : �
       record {
         texts = k.texts;
         end = take n (drop end file);
-        split = cut.2 ∙ ap (λ (l : List ℕ). take cut.0 l) k.split ∙ take_past (blocks (holdings servers batches)) (drop end file) cut.0 n (let le = cut.1 in omega (arith, le, k.long));
+        split = cut.2 ∙ ap (λ (l : List ℕ). take cut.0 l) k.split ∙ take_past (blocks (holdings servers batches))
+            (drop end file) cut.0 n (let le = cut.1 in omega (arith, le, k.long));
         counts_for_nothing = front_of_end n (drop end file) k.counts_for_nothing;
       }
   closing_keeps c (inr gate) =
@@ -55,23 +57,30 @@ module _ (servers : ℕ) (batches : List (List ℕ)) where
       map_more [] b = refl
       map_more (x ∷ bs) b = ap (λ (l : List (List ℕ)). stamped x ∷ l) (map_more bs b)
 
-  pub more_texts : AreTexts (holdings servers batches) → (batch : List ℕ) → IsText (stamped batch) → AreTexts (holdings servers (batches ++ batch ∷ []))
+  pub more_texts : AreTexts (holdings servers batches) → (batch : List ℕ) → IsText (stamped batch)
+      → AreTexts (holdings servers (batches ++ batch ∷ []))
   more_texts texts batch h = subst AreTexts (sym (more_holdings batch)) (texts-push (holdings servers batches) (stamped batch) texts h)
 
-  pub more_blocks : (batch rest : List ℕ) → blocks (holdings servers batches) ++ 1 ∷ (stamped batch ++ 0 ∷ rest) ≡ blocks (holdings servers (batches ++ batch ∷ [])) ++ rest
-  more_blocks batch rest = sym (ap (λ (l : List (List ℕ)). blocks l ++ rest) (more_holdings batch) ∙ blocks-push (holdings servers batches) (stamped batch) rest)
+  pub more_blocks : (batch rest : List ℕ) → blocks (holdings servers batches) ++ 1 ∷ (stamped batch ++ 0 ∷ rest)
+      ≡ blocks (holdings servers (batches ++ batch ∷ [])) ++ rest
+  more_blocks batch rest = sym (ap (λ (l : List (List ℕ)). blocks l ++ rest) (more_holdings batch)
+      ∙ blocks-push (holdings servers batches) (stamped batch) rest)
 
-  pub one_more : (batch : List ℕ) → blocks (holdings servers batches) ++ 1 ∷ (stamped batch ++ 0 ∷ []) ≡ blocks (holdings servers (batches ++ batch ∷ []))
+  pub one_more : (batch : List ℕ) → blocks (holdings servers batches) ++ 1 ∷ (stamped batch ++ 0 ∷ [])
+      ≡ blocks (holdings servers (batches ++ batch ∷ []))
   one_more batch = more_blocks batch [] ∙ append-nil (blocks (holdings servers (batches ++ batch ∷ [])))
 
-  pub more_size : (end : ℕ) → end ≡ length (blocks (holdings servers batches)) → (batch block : List ℕ) → block ≡ stamped batch ++ 0 ∷ 0 ∷ [] → end + length block ≡ length (blocks (holdings servers (batches ++ batch ∷ [])))
+  pub more_size : (end : ℕ) → end ≡ length (blocks (holdings servers batches)) → (batch block : List ℕ)
+      → block ≡ stamped batch ++ 0 ∷ 0 ∷ [] → end + length block ≡ length (blocks (holdings servers (batches ++ batch ∷ [])))
   more_size end ends batch block block_is =
       let size = ap length block_is in
-      let longer = ap (λ (l : List (List ℕ)). length (blocks l)) (more_holdings batch) ∙ length-blocks-push (holdings servers batches) (stamped batch) in
+      let longer = ap (λ (l : List (List ℕ)). length (blocks l)) (more_holdings batch)
+      ∙ length-blocks-push (holdings servers batches) (stamped batch) in
       omega (arith, ends, size, longer, length-append (stamped batch) (0 ∷ 0 ∷ []))
 
 -- a batch is put into a file at rest
-module _ (servers : ℕ) (batches : List (List ℕ)) (file : List ℕ) (end : ℕ) (texts : AreTexts (holdings servers batches)) (is : file ≡ at_rest (holdings servers batches)) (ends : end ≡ length (blocks (holdings servers batches))) where
+module _ (servers : ℕ) (batches : List (List ℕ)) (file : List ℕ) (end : ℕ) (texts : AreTexts (holdings servers batches))
+    (is : file ≡ at_rest (holdings servers batches)) (ends : end ≡ length (blocks (holdings servers batches))) where
   pub rest_front : take end file ≡ blocks (holdings servers batches)
   rest_front = ap (λ (l : List ℕ). take end l) is ∙ take_at (blocks (holdings servers batches)) (0 ∷ []) end (sym ends)
 
@@ -81,18 +90,21 @@ module _ (servers : ℕ) (batches : List (List ℕ)) (file : List ℕ) (end : �
   pub rest_keeps : Keeps servers batches file
   rest_keeps = record { texts = texts; end = 0 ∷ []; split = is; counts_for_nothing = tt }
 
-  any_gate : (batch : List ℕ) → IsText (stamped batch) → (gate : ℕ) (c : List ℕ) → c ≡ blocks (holdings servers batches) ++ gate ∷ (stamped batch ++ 0 ∷ 0 ∷ []) → IsWithOrWithout servers batches batch c
+  any_gate : (batch : List ℕ) → IsText (stamped batch) → (gate : ℕ) (c : List ℕ) → c ≡ blocks (holdings servers batches)
+      ++ gate ∷ (stamped batch ++ 0 ∷ 0 ∷ []) → IsWithOrWithout servers batches batch c
   any_gate batch h gate c at = elim (cases_eq gate 1) [
     | inl open_gate ↦ inr (record {
       texts = more_texts servers batches texts batch h;
       end = 0 ∷ [];
-      split = at ∙ ap (λ (g : ℕ). blocks (holdings servers batches) ++ g ∷ (stamped batch ++ 0 ∷ 0 ∷ [])) open_gate ∙ more_blocks servers batches batch (0 ∷ []);
+      split = at ∙ ap (λ (g : ℕ). blocks (holdings servers batches) ++ g ∷ (stamped batch ++ 0 ∷ 0 ∷ [])) open_gate
+          ∙ more_blocks servers batches batch (0 ∷ []);
       counts_for_nothing = tt;
     })
     | inr shut ↦ inl (record { texts = texts; end = gate ∷ (stamped batch ++ 0 ∷ 0 ∷ []); split = at; counts_for_nothing = shut })
   ]
 
-  pub adding_keeps : (batch block c : List ℕ) → IsText (stamped batch) → block ≡ stamped batch ++ 0 ∷ 0 ∷ [] → IsAdding (take end file) block c → IsWithOrWithout servers batches batch c
+  pub adding_keeps : (batch block c : List ℕ) → IsText (stamped batch) → block ≡ stamped batch ++ 0 ∷ 0 ∷ []
+      → IsAdding (take end file) block c → IsWithOrWithout servers batches batch c
   adding_keeps batch block c h block_is (inl staged) =
       inl (record {
         texts = texts;
@@ -101,16 +113,20 @@ module _ (servers : ℕ) (batches : List (List ℕ)) (file : List ℕ) (end : �
         counts_for_nothing = closed_end 0 staged.0 (omega arith);
       })
   adding_keeps batch block c h block_is (inr opened) =
-      any_gate batch h opened.0 c (opened.1 ∙ ap (λ (l : List ℕ). l ++ opened.0 ∷ block) rest_front ∙ ap (λ (l : List ℕ). blocks (holdings servers batches) ++ opened.0 ∷ l) block_is)
+      any_gate batch h opened.0 c (opened.1 ∙ ap (λ (l : List ℕ). l ++ opened.0 ∷ block) rest_front
+      ∙ ap (λ (l : List ℕ). blocks (holdings servers batches) ++ opened.0 ∷ l) block_is)
 
-  pub added_rests : (batch block c : List ℕ) → block ≡ stamped batch ++ 0 ∷ 0 ∷ [] → c ≡ take end file ++ 1 ∷ block → c ≡ at_rest (holdings servers (batches ++ batch ∷ []))
+  pub added_rests : (batch block c : List ℕ) → block ≡ stamped batch ++ 0 ∷ 0 ∷ [] → c ≡ take end file ++ 1 ∷ block
+      → c ≡ at_rest (holdings servers (batches ++ batch ∷ []))
   added_rests batch block c block_is at =
-      at ∙ ap (λ (l : List ℕ). l ++ 1 ∷ block) rest_front ∙ ap (λ (l : List ℕ). blocks (holdings servers batches) ++ 1 ∷ l) block_is ∙ more_blocks servers batches batch (0 ∷ [])
+      at ∙ ap (λ (l : List ℕ). l ++ 1 ∷ block) rest_front ∙ ap (λ (l : List ℕ). blocks (holdings servers batches) ++ 1 ∷ l) block_is
+      ∙ more_blocks servers batches batch (0 ∷ [])
 
   pub added_texts : (batch : List ℕ) → IsText (stamped batch) → AreTexts (holdings servers (batches ++ batch ∷ []))
   added_texts = more_texts servers batches texts
 
-  pub added_end : (batch block : List ℕ) → block ≡ stamped batch ++ 0 ∷ 0 ∷ [] → end + length block ≡ length (blocks (holdings servers (batches ++ batch ∷ [])))
+  pub added_end : (batch block : List ℕ) → block ≡ stamped batch ++ 0 ∷ 0 ∷ [] → end + length block
+      ≡ length (blocks (holdings servers (batches ++ batch ∷ [])))
   added_end = more_size servers batches end ends
 
 -- a file is made
@@ -131,7 +147,13 @@ module _ (servers : ℕ) (some : 0 < servers) where
 
   pub any_head_gate : (gate : ℕ) (c : List ℕ) → c ≡ gate ∷ (head servers ++ 0 ∷ 0 ∷ []) → StandsFor servers [] c
   any_head_gate gate c at = elim (cases_eq gate 1) [
-    | inl open_gate ↦ inl (record { texts = made_texts; end = 0 ∷ []; split = at ∙ ap (λ (g : ℕ). g ∷ (head servers ++ 0 ∷ 0 ∷ [])) open_gate; counts_for_nothing = tt })
+    | inl open_gate ↦ inl (record {
+      texts = made_texts;
+      end = 0 ∷ [];
+      split = at
+          ∙ ap (λ (g : ℕ). g ∷ (head servers ++ 0 ∷ 0 ∷ [])) open_gate;
+      counts_for_nothing = tt;
+    })
     | inr shut ↦ inr (inr (gate, shut, at), refl)
   ]
 
@@ -142,5 +164,9 @@ module _ (servers : ℕ) (some : 0 < servers) where
   pub adding_head : (block c : List ℕ) → block ≡ head servers ++ 0 ∷ 0 ∷ [] → IsAdding [] block c → StandsFor servers [] c
   adding_head block c block_is (inl staged) =
       let short = staged.2 in let size = ap length block_is in
-      inr (inl (subst (IsUnmade servers) (sym staged.1) (staged_unmade staged.0 (omega (arith, short, size, length-append (head servers) (0 ∷ 0 ∷ []))))), refl)
+      inr (
+        inl (subst (IsUnmade servers) (sym staged.1)
+            (staged_unmade staged.0 (omega (arith, short, size, length-append (head servers) (0 ∷ 0 ∷ []))))),
+        refl,
+      )
   adding_head block c block_is (inr opened) = any_head_gate opened.0 c (opened.1 ∙ ap (λ (l : List ℕ). opened.0 ∷ l) block_is)

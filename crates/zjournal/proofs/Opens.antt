@@ -11,8 +11,10 @@ use Rattle.zjournal.proofs.Files.{keeps, closing_keeps, closed_rests, any_head_g
 use Rattle.zjournal.proofs.Readings.{files_have_one_reading}
 
 -- what was found of the bytes is found of the file
-pub found_of : (servers : ℕ) (bytes file : List ℕ) (found variant : Found) → bytes ≡ file → found ≡ variant → IsFound servers bytes found → IsFound servers file variant
-found_of servers bytes file found variant same is h = subst (λ (f : Found). IsFound servers file f) is (subst (λ (b : List ℕ). IsFound servers b found) same h)
+pub found_of : (servers : ℕ) (bytes file : List ℕ) (found variant : Found) → bytes ≡ file → found ≡ variant
+    → IsFound servers bytes found → IsFound servers file variant
+found_of servers bytes file found variant same is h = subst (λ (f : Found). IsFound servers file f) is
+    (subst (λ (b : List ℕ). IsFound servers b found) same h)
 
 -- the head's gate is opened
 module _ (servers : ℕ) (some : 0 < servers) (file mid : List ℕ) (same : mid ≡ file) (unopened : IsUnopened servers file) where
@@ -26,40 +28,61 @@ module _ (servers : ℕ) (some : 0 < servers) (file mid : List ℕ) (same : mid 
   opened_head new is = is ∙ ap (λ (l : List ℕ). 1 ∷ l) back
 
 -- the end is closed
-closing_stands : (servers : ℕ) (batches : List (List ℕ)) (end : ℕ) (file mid : List ℕ) → mid ≡ file → KeepsTo servers batches end file → (c : List ℕ) → IsClosing mid end c → StandsFor servers batches c
-closing_stands servers batches end file mid same k c closing = inl (closing_keeps servers batches file end k c (subst (λ (f : List ℕ). IsClosing f end c) same closing))
+closing_stands : (servers : ℕ) (batches : List (List ℕ)) (end : ℕ) (file mid : List ℕ) → mid ≡ file → KeepsTo servers batches end file
+    → (c : List ℕ) → IsClosing mid end c → StandsFor servers batches c
+closing_stands servers batches end file mid same k c closing = inl (closing_keeps servers batches file end k c
+    (subst (λ (f : List ℕ). IsClosing f end c) same closing))
 
-pub closed_stands : (servers : ℕ) (batches : List (List ℕ)) (end : ℕ) (file mid : List ℕ) → mid ≡ file → KeepsTo servers batches end file → (new : List ℕ) → new ≡ take end mid ++ 0 ∷ [] → new ≡ at_rest (holdings servers batches)
-closed_stands servers batches end file mid same k new is = closed_rests servers batches file end k new (is ∙ ap (λ (l : List ℕ). take end l ++ 0 ∷ []) same)
+pub closed_stands : (servers : ℕ) (batches : List (List ℕ)) (end : ℕ) (file mid : List ℕ) → mid ≡ file
+    → KeepsTo servers batches end file → (new : List ℕ) → new ≡ take end mid ++ 0 ∷ [] → new ≡ at_rest (holdings servers batches)
+closed_stands servers batches end file mid same k new is = closed_rests servers batches file end k new (is
+    ∙ ap (λ (l : List ℕ). take end l ++ 0 ∷ []) same)
 
 -- a file is read
-module _ {D : Type 0} (seen : D → List ℕ) (may_leave : D → List ℕ → Type 0) (moment : D → ℕ) (left_since : D → ℕ → List ℕ → Type 0) (old mid : D) (only : Only (seen old) (may_leave old)) (crash : (c : List ℕ) → may_leave mid c → may_leave old c) where
-  pub only_read : ((c : List ℕ) → left_since old (moment old) c → may_leave old c) → Elapses (moment old) (moment mid) (left_since old) (left_since mid) (may_leave mid) → LeavesOnly moment left_since old mid (λ c. c ≡ seen old)
+module _ {D : Type 0} (seen : D → List ℕ) (may_leave : D → List ℕ → Type 0) (moment : D → ℕ) (left_since : D → ℕ → List ℕ
+    → Type 0) (old mid : D) (only : Only (seen old) (may_leave old)) (crash : (c : List ℕ) → may_leave mid c → may_leave old c) where
+  pub only_read : ((c : List ℕ) → left_since old (moment old) c → may_leave old c)
+      → Elapses (moment old) (moment mid) (left_since old) (left_since mid) (may_leave mid) → LeavesOnly moment left_since old mid (λ c. c ≡ seen old)
   only_read now time =
       let P : List ℕ → Type 0 = λ c. c ≡ seen old in
-      goes_on moment left_since old old mid P (may_leave mid) (started moment left_since old P (λ c left. only c (now c left))) time (λ c left. only c (crash c left))
+      goes_on moment left_since old old mid P (may_leave mid) (started moment left_since old P (λ c left. only c (now c left)))
+      time (λ c left. only c (crash c left))
 
   pub only_left : seen mid ≡ seen old → Only (seen mid) (may_leave mid)
   only_left same c left = only c (crash c left) ∙ sym same
 
 -- a file that stands for batches is read, and then changed
-module _ {D : Type 0} (seen : D → List ℕ) (may_leave : D → List ℕ → Type 0) (moment : D → ℕ) (left_since : D → ℕ → List ℕ → Type 0) (old mid : D) (only : Only (seen old) (may_leave old)) (now : (c : List ℕ) → left_since old (moment old) c → may_leave old c) (crash : (c : List ℕ) → may_leave mid c → may_leave old c) (time : Elapses (moment old) (moment mid) (left_since old) (left_since mid) (may_leave mid)) (same : seen mid ≡ seen old) (servers : ℕ) (batches : List (List ℕ)) (stands : StandsFor servers batches (seen old)) where
+module _ {D : Type 0} (seen : D → List ℕ) (may_leave : D → List ℕ → Type 0) (moment : D → ℕ) (left_since : D → ℕ → List ℕ
+    → Type 0) (old mid : D) (only : Only (seen old) (may_leave old)) (now : (c : List ℕ) → left_since old (moment old) c
+    → may_leave old c) (crash : (c : List ℕ) → may_leave mid c → may_leave old c)
+    (time : Elapses (moment old) (moment mid) (left_since old) (left_since mid) (may_leave mid)) (same : seen mid ≡ seen old)
+    (servers : ℕ) (batches : List (List ℕ)) (stands : StandsFor servers batches (seen old)) where
   read_leaves : LeavesOnly moment left_since old mid (StandsFor servers batches)
   read_leaves =
       let P : List ℕ → Type 0 = StandsFor servers batches in
-      goes_on moment left_since old old mid P (may_leave mid) (started moment left_since old P (λ c left. subst P (sym (only c (now c left))) stands)) time (λ c left. subst P (sym (only c (crash c left))) stands)
+      goes_on moment left_since old old mid P (may_leave mid)
+      (started moment left_since old P (λ c left. subst P (sym (only c (now c left))) stands)) time
+      (λ c left. subst P (sym (only c (crash c left))) stands)
 
   -- what goes on leaves what stands for the batches that were found, and these are the same
-  then_leaves : (found : List (List ℕ)) → StandsFor servers found (seen old) → (new : D) (Q : List ℕ → Type 0) → LeavesOnly moment left_since mid new Q → ((c : List ℕ) → Q c → StandsFor servers found c) → LeavesOnly moment left_since old new (StandsFor servers batches)
+  then_leaves : (found : List (List ℕ)) → StandsFor servers found (seen old) → (new : D) (Q : List ℕ → Type 0)
+      → LeavesOnly moment left_since mid new Q → ((c : List ℕ) → Q c → StandsFor servers found c)
+      → LeavesOnly moment left_since old new (StandsFor servers batches)
   then_leaves found finds new Q second implies =
       joined_runs moment left_since old mid new (StandsFor servers batches) read_leaves
       (weaker moment left_since mid new Q (StandsFor servers batches) second
-      (λ c q. subst (λ (b : List (List ℕ)). StandsFor servers b c) (files_have_one_reading servers (seen old) found batches finds stands) (implies c q)))
+      (λ c q. subst (λ (b : List (List ℕ)). StandsFor servers b c) (files_have_one_reading servers (seen old) found batches finds stands)
+      (implies c q)))
 
-  pub unopened_leaves : 0 < servers → IsUnopened servers (seen old) → (new : D) → LeavesOnly moment left_since mid new (IsOpening (take 0 (seen mid)) (drop 1 (seen mid))) → LeavesOnly moment left_since old new (StandsFor servers batches)
+  pub unopened_leaves : 0 < servers → IsUnopened servers (seen old) → (new : D)
+      → LeavesOnly moment left_since mid new (IsOpening (take 0 (seen mid)) (drop 1 (seen mid)))
+      → LeavesOnly moment left_since old new (StandsFor servers batches)
   unopened_leaves some unopened new second =
-      then_leaves [] (inr (inr unopened, refl)) new (IsOpening (take 0 (seen mid)) (drop 1 (seen mid))) second (opening_head servers some (seen old) (seen mid) same unopened)
+      then_leaves [] (inr (inr unopened, refl)) new (IsOpening (take 0 (seen mid)) (drop 1 (seen mid))) second
+      (opening_head servers some (seen old) (seen mid) same unopened)
 
-  pub kept_leaves : (found : List (List ℕ)) (end : ℕ) → KeepsTo servers found end (seen old) → (new : D) → LeavesOnly moment left_since mid new (IsClosing (seen mid) end) → LeavesOnly moment left_since old new (StandsFor servers batches)
+  pub kept_leaves : (found : List (List ℕ)) (end : ℕ) → KeepsTo servers found end (seen old) → (new : D)
+      → LeavesOnly moment left_since mid new (IsClosing (seen mid) end) → LeavesOnly moment left_since old new (StandsFor servers batches)
   kept_leaves found end k new second =
-      then_leaves found (inl (keeps servers found (seen old) end k)) new (IsClosing (seen mid) end) second (closing_stands servers found end (seen old) (seen mid) same k)
+      then_leaves found (inl (keeps servers found (seen old) end k)) new (IsClosing (seen mid) end) second
+      (closing_stands servers found end (seen old) (seen mid) same k)

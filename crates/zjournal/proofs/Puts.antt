@@ -31,25 +31,32 @@ tested_zero text is h = true≢false (sym is ∙ none text h)
     none [] h = refl
     none (b ∷ text) h = rw (ne_eqb b 0 h.0) (none text h.1)
 
-module _ {D : Type 0} (seen : D → List ℕ) (may_leave : D → List ℕ → Type 0) (moment : D → ℕ) (left_since : D → ℕ → List ℕ → Type 0) (journal : Journal D) (servers : ℕ) (batches : List (List ℕ)) (rest : IsAtRest seen may_leave servers batches journal) where
+module _ {D : Type 0} (seen : D → List ℕ) (may_leave : D → List ℕ → Type 0) (moment : D → ℕ) (left_since : D → ℕ → List ℕ
+    → Type 0) (journal : Journal D) (servers : ℕ) (batches : List (List ℕ)) (rest : IsAtRest seen may_leave servers batches journal) where
   -- nothing was asked of the device
-  pub stays : (batch : List ℕ) → ((c : List ℕ) → left_since journal.device (moment journal.device) c → may_leave journal.device c) → LeavesOnly moment left_since journal.device journal.device (IsWithOrWithout servers batches batch)
+  pub stays : (batch : List ℕ) → ((c : List ℕ) → left_since journal.device (moment journal.device) c → may_leave journal.device c)
+      → LeavesOnly moment left_since journal.device journal.device (IsWithOrWithout servers batches batch)
   stays batch now = started moment left_since journal.device (IsWithOrWithout servers batches batch)
-      (λ c left. inl (subst (Keeps servers batches) (sym (rest.durable c (now c left))) (rest_keeps servers batches (seen journal.device) journal.end rest.texts rest.file rest.end)))
+      (λ c left. inl (subst (Keeps servers batches) (sym (rest.durable c (now c left)))
+      (rest_keeps servers batches (seen journal.device) journal.end rest.texts rest.file rest.end)))
 
   module _ (batch block : List ℕ) (passed : list_any (λ b. b == 0) batch ≡ false) (block_is : block ≡ stamped batch ++ 0 ∷ 0 ∷ []) where
     text : IsText (stamped batch)
     text = stamped_text batch (tested_text batch passed)
 
-    pub leaves : (new : D) → LeavesOnly moment left_since journal.device new (IsAdding (take journal.end (seen journal.device)) block) → LeavesOnly moment left_since journal.device new (IsWithOrWithout servers batches batch)
-    leaves new run = weaker moment left_since journal.device new (IsAdding (take journal.end (seen journal.device)) block) (IsWithOrWithout servers batches batch) run
+    pub leaves : (new : D) → LeavesOnly moment left_since journal.device new (IsAdding (take journal.end (seen journal.device)) block)
+        → LeavesOnly moment left_since journal.device new (IsWithOrWithout servers batches batch)
+    leaves new run = weaker moment left_since journal.device new (IsAdding (take journal.end (seen journal.device)) block)
+        (IsWithOrWithout servers batches batch) run
         (λ c adding. adding_keeps servers batches (seen journal.device) journal.end rest.texts rest.file rest.end batch block c text block_is adding)
 
-    pub rests : (later : Journal D) → later.servers ≡ journal.servers → seen later.device ≡ take journal.end (seen journal.device) ++ 1 ∷ block → later.end ≡ journal.end + length block → Only (seen later.device) (may_leave later.device)
+    pub rests : (later : Journal D) → later.servers ≡ journal.servers → seen later.device ≡ take journal.end (seen journal.device) ++ 1 ∷ block
+        → later.end ≡ journal.end + length block → Only (seen later.device) (may_leave later.device)
         → IsAtRest seen may_leave servers (batches ++ batch ∷ []) later
     rests later same file end only = record {
       texts = added_texts servers batches (seen journal.device) journal.end rest.texts rest.file rest.end batch text;
-      file = added_rests servers batches (seen journal.device) journal.end rest.texts rest.file rest.end batch block (seen later.device) block_is file;
+      file = added_rests servers batches (seen journal.device) journal.end rest.texts rest.file rest.end batch block
+          (seen later.device) block_is file;
       head_is = same ∙ rest.head_is;
       end = end ∙ added_end servers batches (seen journal.device) journal.end rest.texts rest.file rest.end batch block block_is;
       durable = only;

@@ -15,7 +15,8 @@ begun_is_made servers version given rest file begins (inl unmade) = let h = subs
 begun_is_made servers version given rest file begins (inr unopened) = unopened.1 (ap (λ (l : List ℕ). get_or l 0 0) (sym unopened.2 ∙ begins))
 
 -- blocks begin with the head
-pub blocks_begin : (servers : ℕ) (batches : List (List ℕ)) (rest : List ℕ) → Begins version_now servers (room ++ 0 ∷ (blocks (map stamped batches) ++ rest)) (blocks (holdings servers batches) ++ rest)
+pub blocks_begin : (servers : ℕ) (batches : List (List ℕ)) (rest : List ℕ)
+    → Begins version_now servers (room ++ 0 ∷ (blocks (map stamped batches) ++ rest)) (blocks (holdings servers batches) ++ rest)
 blocks_begin servers batches rest = first_block (head servers) (map stamped batches) rest
 
 module _ (servers : ℕ) (file : List ℕ) (batches : List (List ℕ)) (k : Keeps servers batches file) where
@@ -26,7 +27,8 @@ module _ (servers : ℕ) (file : List ℕ) (batches : List (List ℕ)) (k : Keep
   not_damaged at (inl other) = other.1.2 (blocks (map stamped batches) ++ k.end) (ap (λ (l : List ℕ). drop 21 l) (sym other.1.1 ∙ begins))
   not_damaged at (inr h) =
       let other = h.3 in
-      let n = next_block (holdings servers batches) (holdings servers h.0) k.end other.0 k.texts h.1 k.counts_for_nothing other.2 (sym k.split ∙ other.1) in
+      let n = next_block (holdings servers batches) (holdings servers h.0) k.end other.0 k.texts h.1 k.counts_for_nothing
+      other.2 (sym k.split ∙ other.1) in
       let s = stamped_among batches h.0 n.2 n.0 (ap (λ (l : List (List ℕ)). drop 1 l) n.3) in
       other.3 s.0 n.1 (subst IsText s.1 n.4) (n.5 ∙ ap (λ (l : List ℕ). l ++ 0 ∷ n.1) s.1)
 
@@ -43,7 +45,8 @@ module _ (servers : ℕ) (file : List ℕ) (made : IsBeingMade servers file) whe
   unmade_is_whole at (inl other) = begun_is_made servers version_now servers other.1.0 file other.1.1 made
   unmade_is_whole at (inr h) =
       let other = h.3 in
-      begun_is_made servers version_now servers (room ++ 0 ∷ (blocks (map stamped h.0) ++ 1 ∷ other.0)) file (other.1 ∙ blocks_begin servers h.0 (1 ∷ other.0)) made
+      begun_is_made servers version_now servers (room ++ 0 ∷ (blocks (map stamped h.0) ++ 1 ∷ other.0)) file (other.1
+      ∙ blocks_begin servers h.0 (1 ∷ other.0)) made
 
   unmade_has_none : (e : OpenError) → IsOfContent e → IsSuch servers file e → ⊥
   unmade_has_none Memory content such = content
@@ -59,10 +62,13 @@ what_stands_has_no_fault servers file batches e (inr made) content such = unmade
 
 pub files_have_one_reading : FilesHaveOneReading
 files_have_one_reading servers file batches others (inl k) (inl l) =
-    let same = same_blocks (holdings servers batches) (holdings servers others) k.end l.end k.texts l.texts k.counts_for_nothing l.counts_for_nothing (sym k.split ∙ l.split) in
+    let same = same_blocks (holdings servers batches) (holdings servers others) k.end l.end k.texts l.texts k.counts_for_nothing
+    l.counts_for_nothing (sym k.split ∙ l.split) in
     sym (unstamped batches)
     ∙ ap (λ (holds : List (List ℕ)). map (λ (t : List ℕ). drop 8 t) (drop 1 holds)) same
     ∙ unstamped others
-files_have_one_reading servers file batches others (inl k) (inr made) = absurd (begun_is_made servers version_now servers _ file (begins servers file batches k) made.0)
-files_have_one_reading servers file batches others (inr made) (inl l) = absurd (begun_is_made servers version_now servers _ file (begins servers file others l) made.0)
+files_have_one_reading servers file batches others (inl k) (inr made) = absurd
+    (begun_is_made servers version_now servers _ file (begins servers file batches k) made.0)
+files_have_one_reading servers file batches others (inr made) (inl l) = absurd
+    (begun_is_made servers version_now servers _ file (begins servers file others l) made.0)
 files_have_one_reading servers file batches others (inr made) (inr also) = made.1 ∙ sym also.1

@@ -1,5 +1,6 @@
 -- What the steps of a renewal leave.
-use Rattle.std.proofs.Common.{◌≡◌, ◌-◌, inl, inr, ⊎_elim, ℕ, ◌+◌, List, [], ◌∷◌, ◌++◌, length, take, refl, sym, ◌∙◌, ap, subst, arith, append_assoc, length-append}
+use Rattle.std.proofs.Common.{◌≡◌, ◌-◌, inl, inr, ⊎_elim, ℕ, ◌+◌, List, [], ◌∷◌, ◌++◌, length, take, refl, sym, ◌∙◌, ap}
+use Rattle.std.proofs.Common.{subst, arith, append_assoc, length-append}
 use Rattle.std.proofs.lemmas.List.{take_at}
 use Rattle.zjournal.specs.declared.journal.Journal.{Journal}
 use Rattle.zjournal.specs.Device.{Only, Elapses, LeavesOnly, IsEither}
@@ -20,7 +21,8 @@ without_gate held block is =
     ap (λ (l : List ℕ). take (length block - 1) l) whole ∙ take_at (held ++ 0 ∷ []) (0 ∷ []) (length block - 1) (sym size)
 
 -- the gate, and then the block
-pub open_block_added : (old mid new held block : List ℕ) → block ≡ held ++ 0 ∷ 0 ∷ [] → mid ≡ old ++ 1 ∷ [] → new ≡ mid ++ take (length block - 1) block → new ≡ old ++ 1 ∷ (held ++ 0 ∷ [])
+pub open_block_added : (old mid new held block : List ℕ) → block ≡ held ++ 0 ∷ 0 ∷ [] → mid ≡ old ++ 1 ∷ []
+    → new ≡ mid ++ take (length block - 1) block → new ≡ old ++ 1 ∷ (held ++ 0 ∷ [])
 open_block_added old mid new held block is gate rest =
     rest
     ∙ ap (λ (l : List ℕ). mid ++ l) (without_gate held block is)
@@ -29,7 +31,8 @@ open_block_added old mid new held block is gate rest =
 
 module _ {D : Type 0} (seen : D → List ℕ) (may_leave : D → List ℕ → Type 0) (moment : D → ℕ) (left_since : D → ℕ → List ℕ → Type 0) where
   -- one call that leaves the file
-  pub untouched_call : (old new : D) → Only (seen old) (may_leave old) → ((c : List ℕ) → left_since old (moment old) c → may_leave old c) → seen new ≡ seen old → ((c : List ℕ) → may_leave new c → may_leave old c)
+  pub untouched_call : (old new : D) → Only (seen old) (may_leave old) → ((c : List ℕ) → left_since old (moment old) c → may_leave old c)
+      → seen new ≡ seen old → ((c : List ℕ) → may_leave new c → may_leave old c)
       → Elapses (moment old) (moment new) (left_since old) (left_since new) (may_leave new) → IsUntouched seen may_leave moment left_since old new
   untouched_call old new only now same crash time = record {
     same = same;
@@ -38,7 +41,8 @@ module _ {D : Type 0} (seen : D → List ℕ) (may_leave : D → List ℕ → Ty
   }
 
   -- and one more
-  pub untouched_both : (old mid new : D) → IsUntouched seen may_leave moment left_since old mid → IsUntouched seen may_leave moment left_since mid new → IsUntouched seen may_leave moment left_since old new
+  pub untouched_both : (old mid new : D) → IsUntouched seen may_leave moment left_since old mid
+      → IsUntouched seen may_leave moment left_since mid new → IsUntouched seen may_leave moment left_since old new
   untouched_both old mid new first second = record {
     same = second.same ∙ first.same;
     durable = second.durable;
@@ -47,28 +51,37 @@ module _ {D : Type 0} (seen : D → List ℕ) (may_leave : D → List ℕ → Ty
   }
 
   -- nothing is taken yet
-  pub taking_not : (old new : D) (next : List ℕ) → IsUntouched seen may_leave moment left_since old new → LeavesOnly moment left_since old new (IsTaking (seen old) next)
-  taking_not old new next untouched = weaker moment left_since old new (λ c. c ≡ seen old) (IsTaking (seen old) next) untouched.any_moment (λ c is. inl is)
+  pub taking_not : (old new : D) (next : List ℕ) → IsUntouched seen may_leave moment left_since old new
+      → LeavesOnly moment left_since old new (IsTaking (seen old) next)
+  taking_not old new next untouched = weaker moment left_since old new (λ c. c ≡ seen old) (IsTaking (seen old) next)
+      untouched.any_moment (λ c is. inl is)
 
   -- the new file is closed, and takes the place
-  pub taking : (old mid new : D) (next whole : List ℕ) → IsUntouched seen may_leave moment left_since old mid → whole ≡ next ++ 0 ∷ [] → ((c : List ℕ) → may_leave new c → IsEither (may_leave mid) whole c)
-      → Elapses (moment mid) (moment new) (left_since mid) (left_since new) (may_leave new) → LeavesOnly moment left_since old new (IsTaking (seen old) next)
+  pub taking : (old mid new : D) (next whole : List ℕ) → IsUntouched seen may_leave moment left_since old mid
+      → whole ≡ next ++ 0 ∷ [] → ((c : List ℕ) → may_leave new c → IsEither (may_leave mid) whole c)
+      → Elapses (moment mid) (moment new) (left_since mid) (left_since new) (may_leave new)
+      → LeavesOnly moment left_since old new (IsTaking (seen old) next)
   taking old mid new next whole untouched is either time =
       goes_on moment left_since old mid new (IsTaking (seen old) next) (may_leave new) (taking_not old mid next untouched) time
       (λ c left. ⊎_elim (λ before. inl (untouched.durable c before ∙ untouched.same)) (λ now. inr (now ∙ is)) (either c left))
 
   module _ (journal : Journal D) (servers : ℕ) (batches : List (List ℕ)) (rest : IsAtRest seen may_leave servers batches journal) where
     keeps_old : (c : List ℕ) → c ≡ seen journal.device → Keeps servers batches c
-    keeps_old c is = subst (Keeps servers batches) (sym is) (rest_keeps servers batches (seen journal.device) journal.end rest.texts rest.file rest.end)
+    keeps_old c is = subst (Keeps servers batches) (sym is) (rest_keeps servers batches (seen journal.device) journal.end
+        rest.texts rest.file rest.end)
 
     -- nothing was asked of the device
-    pub not_asked : ((c : List ℕ) → left_since journal.device (moment journal.device) c → may_leave journal.device c) → LeavesOnly moment left_since journal.device journal.device (Keeps servers batches)
+    pub not_asked : ((c : List ℕ) → left_since journal.device (moment journal.device) c → may_leave journal.device c)
+        → LeavesOnly moment left_since journal.device journal.device (Keeps servers batches)
     not_asked now = started moment left_since journal.device (Keeps servers batches) (λ c left. keeps_old c (rest.durable c (now c left)))
 
-    pub untouched_keeps : (new : D) → IsUntouched seen may_leave moment left_since journal.device new → LeavesOnly moment left_since journal.device new (Keeps servers batches)
-    untouched_keeps new untouched = weaker moment left_since journal.device new (λ c. c ≡ seen journal.device) (Keeps servers batches) untouched.any_moment keeps_old
+    pub untouched_keeps : (new : D) → IsUntouched seen may_leave moment left_since journal.device new
+        → LeavesOnly moment left_since journal.device new (Keeps servers batches)
+    untouched_keeps new untouched = weaker moment left_since journal.device new (λ c. c ≡ seen journal.device)
+        (Keeps servers batches) untouched.any_moment keeps_old
 
-    pub still_rests : (later : Journal D) → later.servers ≡ journal.servers → later.end ≡ journal.end → IsUntouched seen may_leave moment left_since journal.device later.device → IsAtRest seen may_leave servers batches later
+    pub still_rests : (later : Journal D) → later.servers ≡ journal.servers → later.end ≡ journal.end
+        → IsUntouched seen may_leave moment left_since journal.device later.device → IsAtRest seen may_leave servers batches later
     still_rests later same end untouched = record {
       texts = rest.texts;
       file = untouched.same ∙ rest.file;
@@ -78,8 +91,10 @@ module _ {D : Type 0} (seen : D → List ℕ) (may_leave : D → List ℕ → Ty
     }
 
     -- the new file has its head
-    pub renewal_begun : (beside : D → List ℕ) (later : Journal D) → later.servers ≡ journal.servers → later.end ≡ journal.end → IsUntouched seen may_leave moment left_since journal.device later.device
-        → beside later.device ≡ blocks (head journal.servers ∷ []) → later.renewed_end ≡ 34 → IsRenewing seen may_leave beside servers batches [] later
+    pub renewal_begun : (beside : D → List ℕ) (later : Journal D) → later.servers ≡ journal.servers → later.end ≡ journal.end
+        → IsUntouched seen may_leave moment left_since journal.device later.device
+        → beside later.device ≡ blocks (head journal.servers ∷ []) → later.renewed_end ≡ 34
+        → IsRenewing seen may_leave beside servers batches [] later
     renewal_begun beside later same end untouched begun size = record {
       rest = still_rests later same end untouched;
       texts = (rest.texts.0, tt);
@@ -90,10 +105,13 @@ module _ {D : Type 0} (seen : D → List ℕ) (may_leave : D → List ℕ → Ty
         size_of_head : 34 ≡ length (blocks (holdings servers []))
         size_of_head = refl
 
-  module _ (beside : D → List ℕ) (journal : Journal D) (servers : ℕ) (batches next : List (List ℕ)) (renewing : IsRenewing seen may_leave beside servers batches next journal) where
+  module _ (beside : D → List ℕ) (journal : Journal D) (servers : ℕ) (batches next : List (List ℕ)) (renewing : IsRenewing
+      seen may_leave beside servers batches next journal) where
     -- one batch more
-    pub renewal_added : (batch : List ℕ) (later : Journal D) → IsText (stamped batch) → later.servers ≡ journal.servers → later.end ≡ journal.end → IsUntouched seen may_leave moment left_since journal.device later.device
-        → beside later.device ≡ beside journal.device ++ 1 ∷ (stamped batch ++ 0 ∷ []) → (block : List ℕ) → block ≡ stamped batch ++ 0 ∷ 0 ∷ [] → later.renewed_end ≡ journal.renewed_end + length block
+    pub renewal_added : (batch : List ℕ) (later : Journal D) → IsText (stamped batch) → later.servers ≡ journal.servers
+        → later.end ≡ journal.end → IsUntouched seen may_leave moment left_since journal.device later.device
+        → beside later.device ≡ beside journal.device ++ 1 ∷ (stamped batch ++ 0 ∷ []) → (block : List ℕ)
+        → block ≡ stamped batch ++ 0 ∷ 0 ∷ [] → later.renewed_end ≡ journal.renewed_end + length block
         → IsRenewing seen may_leave beside servers batches (next ++ batch ∷ []) later
     renewal_added batch later text same end untouched added block is size = record {
       rest = still_rests journal servers batches renewing.rest later same end untouched;
@@ -103,7 +121,9 @@ module _ {D : Type 0} (seen : D → List ℕ) (may_leave : D → List ℕ → Ty
     }
 
     -- and the new file has taken the place
-    pub renewed : (later : Journal D) → later.servers ≡ journal.servers → later.end ≡ journal.renewed_end → seen later.device ≡ beside journal.device ++ 0 ∷ [] → Only (seen later.device) (may_leave later.device) → IsAtRest seen may_leave servers next later
+    pub renewed : (later : Journal D) → later.servers ≡ journal.servers → later.end ≡ journal.renewed_end
+        → seen later.device ≡ beside journal.device ++ 0 ∷ [] → Only (seen later.device) (may_leave later.device)
+        → IsAtRest seen may_leave servers next later
     renewed later same end taken only = record {
       texts = renewing.texts;
       file = taken ∙ ap (λ (l : List ℕ). l ++ 0 ∷ []) renewing.so_far;
@@ -113,12 +133,21 @@ module _ {D : Type 0} (seen : D → List ℕ) (may_leave : D → List ℕ → Ty
     }
 
     keeps_new : (c : List ℕ) → c ≡ beside journal.device ++ 0 ∷ [] → Keeps servers next c
-    keeps_new c is = record { texts = renewing.texts; end = 0 ∷ []; split = is ∙ ap (λ (l : List ℕ). l ++ 0 ∷ []) renewing.so_far; counts_for_nothing = tt }
+    keeps_new c is = record {
+      texts = renewing.texts;
+      end = 0 ∷ [];
+      split = is
+          ∙ ap (λ (l : List ℕ). l ++ 0 ∷ []) renewing.so_far;
+      counts_for_nothing = tt;
+    }
 
-    pub old_or_new : (new : D) → LeavesOnly moment left_since journal.device new (IsTaking (seen journal.device) (beside journal.device)) → LeavesOnly moment left_since journal.device new (IsOldOrNew servers batches next)
-    old_or_new new run = weaker moment left_since journal.device new (IsTaking (seen journal.device) (beside journal.device)) (IsOldOrNew servers batches next) run
+    pub old_or_new : (new : D) → LeavesOnly moment left_since journal.device new (IsTaking (seen journal.device) (beside journal.device))
+        → LeavesOnly moment left_since journal.device new (IsOldOrNew servers batches next)
+    old_or_new new run = weaker moment left_since journal.device new (IsTaking (seen journal.device) (beside journal.device))
+        (IsOldOrNew servers batches next) run
         (λ c left. ⊎_elim (λ is. inl (keeps_old journal servers batches renewing.rest c is)) (λ is. inr (keeps_new c is)) left)
 
-    pub old_not_asked : ((c : List ℕ) → left_since journal.device (moment journal.device) c → may_leave journal.device c) → LeavesOnly moment left_since journal.device journal.device (IsOldOrNew servers batches next)
+    pub old_not_asked : ((c : List ℕ) → left_since journal.device (moment journal.device) c → may_leave journal.device c)
+        → LeavesOnly moment left_since journal.device journal.device (IsOldOrNew servers batches next)
     old_not_asked now = started moment left_since journal.device (IsOldOrNew servers batches next)
         (λ c left. inl (keeps_old journal servers batches renewing.rest c (renewing.rest.durable c (now c left))))

@@ -9,38 +9,50 @@ use Rattle.zjournal.proofs.Files.{closing_unmade, adding_head}
 
 module _ {D : Type 0} (moment : D → ℕ) (left_since : D → ℕ → List ℕ → Type 0) (old mid : D) (file : List ℕ) where
   -- the end is cut
-  pub cut_leaves : (end : ℕ) → end ≤ length file → LeavesOnly moment left_since old mid (Cut end file) → LeavesOnly moment left_since old mid (IsClosing file end)
+  pub cut_leaves : (end : ℕ) → end ≤ length file → LeavesOnly moment left_since old mid (Cut end file)
+      → LeavesOnly moment left_since old mid (IsClosing file end)
   cut_leaves end within run = weaker moment left_since old mid (Cut end file) (IsClosing file end) run (closing_cut file end within)
 
   -- and closed
-  pub close_leaves : (end : ℕ) (within : end ≤ length file) (front : List ℕ) → front ≡ take end file → LeavesOnly moment left_since old mid (Cut end file)
+  pub close_leaves : (end : ℕ) (within : end ≤ length file) (front : List ℕ) → front ≡ take end file
+      → LeavesOnly moment left_since old mid (Cut end file)
       → (new : D) → LeavesOnly moment left_since mid new (Torn end 1 front) → LeavesOnly moment left_since old new (IsClosing file end)
   close_leaves end within front is first new second =
       joined_runs moment left_since old mid new (IsClosing file end) (cut_leaves end within first)
       (weaker moment left_since mid new (Torn end 1 front) (IsClosing file end) second (λ c torn. closing_gate file end within front c is torn))
 
   -- a gate is opened
-  pub open_leaves : (gate : ℕ) → gate < length file → LeavesOnly moment left_since old mid (Torn gate 1 file) → LeavesOnly moment left_since old mid (IsOpening (take gate file) (drop (gate + 1) file))
-  open_leaves gate within run = weaker moment left_since old mid (Torn gate 1 file) (IsOpening (take gate file) (drop (gate + 1) file)) run (opening_gate file gate within)
+  pub open_leaves : (gate : ℕ) → gate < length file → LeavesOnly moment left_since old mid (Torn gate 1 file)
+      → LeavesOnly moment left_since old mid (IsOpening (take gate file) (drop (gate + 1) file))
+  open_leaves gate within run = weaker moment left_since old mid (Torn gate 1 file) (IsOpening (take gate file) (drop (gate + 1) file))
+      run (opening_gate file gate within)
 
   -- a block is written behind the closed gate
   module _ (gate : ℕ) (closed : drop gate file ≡ 0 ∷ []) (block : List ℕ) where
-    pub stage_leaves : LeavesOnly moment left_since old mid (Torn (gate + 1) (length block) file) → LeavesOnly moment left_since old mid (IsAdding (take gate file) block)
-    stage_leaves run = weaker moment left_since old mid (Torn (gate + 1) (length block) file) (IsAdding (take gate file) block) run (λ c torn. inl (staging file gate closed (length block) c torn))
+    pub stage_leaves : LeavesOnly moment left_since old mid (Torn (gate + 1) (length block) file)
+        → LeavesOnly moment left_since old mid (IsAdding (take gate file) block)
+    stage_leaves run = weaker moment left_since old mid (Torn (gate + 1) (length block) file) (IsAdding (take gate file) block)
+        run (λ c torn. inl (staging file gate closed (length block) c torn))
 
     -- and its gate is opened
     pub add_leaves : (wrote : List ℕ) → Holds file (gate + 1) block wrote → LeavesOnly moment left_since old mid (Torn (gate + 1) (length block) file)
-        → (new : D) → LeavesOnly moment left_since mid new (IsOpening (take gate wrote) (drop (gate + 1) wrote)) → LeavesOnly moment left_since old new (IsAdding (take gate file) block)
+        → (new : D) → LeavesOnly moment left_since mid new (IsOpening (take gate wrote) (drop (gate + 1) wrote))
+        → LeavesOnly moment left_since old new (IsAdding (take gate file) block)
     add_leaves wrote holds first new second =
         let is = staged file gate closed block wrote holds in
         joined_runs moment left_since old mid new (IsAdding (take gate file) block) (stage_leaves first)
         (weaker moment left_since mid new (IsOpening (take gate wrote) (drop (gate + 1) wrote)) (IsAdding (take gate file) block) second
-        (λ c o. inr (o.0, o.1 ∙ ap (λ (l : List ℕ). l ++ o.0 ∷ drop (gate + 1) wrote) (staged_front file gate closed block wrote is) ∙ ap (λ (l : List ℕ). take gate file ++ o.0 ∷ l) (staged_back file gate closed block wrote is))))
+        (λ c o. inr (
+          o.0,
+          o.1 ∙ ap (λ (l : List ℕ). l ++ o.0 ∷ drop (gate + 1) wrote) (staged_front file gate closed block wrote is)
+              ∙ ap (λ (l : List ℕ). take gate file ++ o.0 ∷ l) (staged_back file gate closed block wrote is),
+        )))
 
   -- a file is made
   module _ (servers : ℕ) (some : 0 < servers) (unmade : IsUnmade servers file) where
     pub clear_leaves : LeavesOnly moment left_since old mid (IsClosing file 0) → LeavesOnly moment left_since old mid (StandsFor servers [])
-    clear_leaves run = weaker moment left_since old mid (IsClosing file 0) (StandsFor servers []) run (λ c closing. closing_unmade servers some file c unmade closing)
+    clear_leaves run = weaker moment left_since old mid (IsClosing file 0) (StandsFor servers []) run
+        (λ c closing. closing_unmade servers some file c unmade closing)
 
     pub make_leaves : (block : List ℕ) → block ≡ head servers ++ 0 ∷ 0 ∷ [] → LeavesOnly moment left_since old mid (IsClosing file 0)
         → (new : D) → LeavesOnly moment left_since mid new (IsAdding [] block) → LeavesOnly moment left_since old new (StandsFor servers [])
@@ -53,4 +65,5 @@ module _ (file : List ℕ) (gate : ℕ) (closed : drop gate file ≡ 0 ∷ []) (
   pub block_added : Holds file (gate + 1) block wrote → new ≡ take gate wrote ++ 1 ∷ drop (gate + 1) wrote → new ≡ take gate file ++ 1 ∷ block
   block_added holds opened =
       let is = staged file gate closed block wrote holds in
-      opened ∙ ap (λ (l : List ℕ). l ++ 1 ∷ drop (gate + 1) wrote) (staged_front file gate closed block wrote is) ∙ ap (λ (l : List ℕ). take gate file ++ 1 ∷ l) (staged_back file gate closed block wrote is)
+      opened ∙ ap (λ (l : List ℕ). l ++ 1 ∷ drop (gate + 1) wrote) (staged_front file gate closed block wrote is)
+      ∙ ap (λ (l : List ℕ). take gate file ++ 1 ∷ l) (staged_back file gate closed block wrote is)

@@ -1,5 +1,6 @@
 -- How the blocks of a file are found, one behind the other.
-use Rattle.std.proofs.Common.{◌≡◌, ◌≢◌, ℕ, ◌+◌, ◌-◌, ◌<◌, ◌≤◌, List, [], ◌∷◌, ◌++◌, length, map, get_or, take, drop, zero, suc, refl, sym, ◌∙◌, ap, subst, arith, append_assoc, length-append}
+use Rattle.std.proofs.Common.{◌≡◌, ◌≢◌, ℕ, ◌+◌, ◌-◌, ◌<◌, ◌≤◌, List, [], ◌∷◌, ◌++◌, length, map, get_or, take, drop}
+use Rattle.std.proofs.Common.{zero, suc, refl, sym, ◌∙◌, ap, subst, arith, append_assoc, length-append}
 use Rattle.std.proofs.lemmas.List.{append-nil, take_at, drop_all, drop_more}
 use Rattle.zjournal.specs.Blocks.{IsText, AreTexts, blocks, IsEnd}
 use Rattle.zjournal.specs.Checksum.{stamped}
@@ -41,12 +42,14 @@ pub endless_is_none : (bytes : List ℕ) (gate : ℕ) → IsText (drop (gate + 1
 endless_is_none bytes gate text batch more h is = no_zero (stamped batch) more (subst IsText is text)
 
 -- a text behind no checksum of its own is no batch
-pub other_is_none : (bytes : List ℕ) (gate at : ℕ) → (ends : EndsAt bytes (gate + 1) at) → ((text : List ℕ) → ends.1.0 ≡ stamped text → ⊥) → IsNoBatch bytes gate
+pub other_is_none : (bytes : List ℕ) (gate at : ℕ) → (ends : EndsAt bytes (gate + 1) at) → ((text : List ℕ) → ends.1.0 ≡ stamped text → ⊥)
+    → IsNoBatch bytes gate
 other_is_none bytes gate at ends none batch more h is =
     none batch (first_zero ends.1.0 (stamped batch) (drop (at + 1) bytes) more ends.1.3 h (sym ends.1.1 ∙ is)).0
 
 -- a text behind its checksum is one
-pub checked_is_batch : (bytes : List ℕ) (gate at : ℕ) (ends : EndsAt bytes (gate + 1) at) (text : List ℕ) → ends.1.0 ≡ stamped text → IsBatch bytes gate text (at + 1)
+pub checked_is_batch : (bytes : List ℕ) (gate at : ℕ) (ends : EndsAt bytes (gate + 1) at) (text : List ℕ)
+    → ends.1.0 ≡ stamped text → IsBatch bytes gate text (at + 1)
 checked_is_batch bytes gate at ends text is =
     let within = ends.0 in let place = ends.1.2 in
     record {
@@ -65,14 +68,16 @@ map_more [] b = refl
 map_more (x ∷ bs) b = ap (λ (l : List (List ℕ)). stamped x ∷ l) (map_more bs b)
 
 -- one batch more
-pub more_batches : (bytes : List ℕ) (start gate end : ℕ) (batches : List (List ℕ)) (batch : List ℕ) → AreBatches bytes start batches gate → gate < length bytes → get_or bytes gate 0 ≡ 1
+pub more_batches : (bytes : List ℕ) (start gate end : ℕ) (batches : List (List ℕ)) (batch : List ℕ)
+    → AreBatches bytes start batches gate → gate < length bytes → get_or bytes gate 0 ≡ 1
     → IsBatch bytes gate batch end → AreBatches bytes start (batches ++ batch ∷ []) end
 more_batches bytes start gate end batches batch so_far within open_gate one = record {
   texts = subst AreTexts (sym (map_more batches batch)) (texts-push (map stamped batches) (stamped batch) so_far.texts one.text);
   within = one.within;
   stand =
       so_far.stand
-      ∙ ap (λ (l : List ℕ). blocks (map stamped batches) ++ l) (drop_more bytes gate 0 within ∙ ap (λ (g : ℕ). g ∷ drop (gate + 1) bytes) open_gate ∙ ap (λ (l : List ℕ). 1 ∷ l) one.stands)
+      ∙ ap (λ (l : List ℕ). blocks (map stamped batches) ++ l) (drop_more bytes gate 0 within
+      ∙ ap (λ (g : ℕ). g ∷ drop (gate + 1) bytes) open_gate ∙ ap (λ (l : List ℕ). 1 ∷ l) one.stands)
       ∙ sym (blocks-push (map stamped batches) (stamped batch) (drop end bytes))
       ∙ ap (λ (l : List (List ℕ)). blocks l ++ drop end bytes) (sym (map_more batches batch));
   long =

@@ -1,5 +1,7 @@
 -- What a crash leaves in each step that changes a file, and what the step leaves.
-use Rattle.std.proofs.Common.{◌≡◌, inl, inr, ℕ, ◌+◌, ◌<◌, ◌≤◌, List, [], ◌∷◌, ◌++◌, length, get_or, take, drop, refl, sym, ◌∙◌, ap, arith, append_assoc, length-append, length-take, length-drop, take-append-drop}
+use Rattle.std.proofs.Common.{◌≡◌, inl, inr, ℕ, ◌+◌, ◌<◌, ◌≤◌, List, [], ◌∷◌, ◌++◌, length, get_or, take, drop, refl}
+use Rattle.std.proofs.Common.{sym, ◌∙◌, ap, arith, append_assoc, length-append, length-take, length-drop}
+use Rattle.std.proofs.Common.{take-append-drop}
 use Rattle.std.proofs.lemmas.List.{take_at, drop_at, drop_more, take_all, drop_all, append-nil}
 use Rattle.zjournal.specs.Device.{Holds, Torn, Cut}
 use Rattle.zjournal.specs.Gates.{IsClosing, IsOpening, IsStaging}
@@ -47,7 +49,8 @@ module _ (file : List ℕ) (gate : ℕ) (within : gate < length file) where
   opening_gate c torn = (
     get_or c gate 0,
     sym (take-append-drop gate c) ∙ ap (λ (l : List ℕ). l ++ drop gate c) (torn.before gate (omega arith) (omega (arith, within)))
-        ∙ ap (λ (l : List ℕ). take gate file ++ l) (drop_more c gate 0 (omega (arith, within, torn.no_shorter)) ∙ ap (λ (l : List ℕ). get_or c gate 0 ∷ l) torn.behind),
+        ∙ ap (λ (l : List ℕ). take gate file ++ l) (drop_more c gate 0 (omega (arith, within, torn.no_shorter))
+        ∙ ap (λ (l : List ℕ). get_or c gate 0 ∷ l) torn.behind),
   )
 
   pub opened_gate : (new : List ℕ) → Holds file gate (1 ∷ []) new → new ≡ take gate file ++ 1 ∷ drop (gate + 1) file
@@ -68,7 +71,8 @@ module _ (file : List ℕ) (gate : ℕ) (closed : drop gate file ≡ 0 ∷ []) w
   staging n c torn = (
     drop (gate + 1) c,
     sym (take-append-drop (gate + 1) c)
-        ∙ ap (λ (l : List ℕ). l ++ drop (gate + 1) c) (torn.before (gate + 1) (omega arith) (omega (arith, long_is)) ∙ take_all (gate + 1) file (omega (arith, long_is)) ∙ front_is)
+        ∙ ap (λ (l : List ℕ). l ++ drop (gate + 1) c) (torn.before (gate + 1) (omega arith) (omega (arith, long_is))
+        ∙ take_all (gate + 1) file (omega (arith, long_is)) ∙ front_is)
         ∙ append_assoc (take gate file) (0 ∷ []) (drop (gate + 1) c),
     omega (arith, length-drop (gate + 1) c, long_is, torn.no_longer),
   )

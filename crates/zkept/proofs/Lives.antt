@@ -77,7 +77,8 @@ module _ (s : State) (so_far told : Log) (entries kept way : List Entry) (lives 
 module _ (servers : ℕ) (s : State) (log : Log) (entries : List Entry) (life : Life) (lives : List Life) (found : State) (left : List ℕ)
     (told_one : IsOneTrees (log ++ life.told)) (kept : updates_in life.told ≡ entry_updates life.kept) (were : updates_in log ≡ entry_updates entries)
     (behind : (more : List Entry) → after found more ≡ after opening_state (entries ++ more))
-    (rest : (next : Log) (more : List Entry) → FileKeeps servers (after opening_state more) left → updates_in next ≡ entry_updates more → IsOneTrees next → Stands s next more lives) where
+    (rest : (next : Log) (more : List Entry) → FileKeeps servers (after opening_state more) left → updates_in next ≡ entry_updates more
+    → IsOneTrees next → Stands s next more lives) where
   then_acted : (acted : List Entry) → (acted ≡ []) ⊎ (acted ≡ life.under_way) → FileKeeps servers (after found (life.kept ++ acted)) left
       → Stands s log entries (life ∷ lives)
   then_acted acted choice leaves =
@@ -86,12 +87,14 @@ module _ (servers : ℕ) (s : State) (log : Log) (entries : List Entry) (life : 
       (updates_more s log life.told entries life.kept life.under_way lives told_one kept acted choice were)
       (one_more s log life.told entries life.kept life.under_way lives told_one kept acted choice))
 
-  stands_then : FileKeeps servers (after found life.kept) left ⊎ FileKeeps servers (after found (life.kept ++ life.under_way)) left → Stands s log entries (life ∷ lives)
+  stands_then : FileKeeps servers (after found life.kept) left ⊎ FileKeeps servers (after found (life.kept ++ life.under_way)) left
+      → Stands s log entries (life ∷ lives)
   stands_then (inl leaves) = then_acted [] (inl refl) (subst (λ es. FileKeeps servers (after found es) left) (sym (append-nil life.kept)) leaves)
   stands_then (inr leaves) = then_acted life.under_way (inr refl) leaves
 
 -- the state that a life finds is the one behind the log so far
-module _ (servers : ℕ) (file : List ℕ) (log : Log) (entries : List Entry) (found : State) (finds : FileKeeps servers found file) (now : FileKeeps servers (after opening_state entries) file)
+module _ (servers : ℕ) (file : List ℕ) (log : Log) (entries : List Entry) (found : State) (finds : FileKeeps servers found file)
+    (now : FileKeeps servers (after opening_state entries) file)
     (were : updates_in log ≡ entry_updates entries) where
   same : found ≡ after opening_state entries
   same = file_keeps_one servers file found (after opening_state entries) finds now
@@ -104,7 +107,8 @@ module _ (servers : ℕ) (file : List ℕ) (log : Log) (entries : List Entry) (f
 
 -- all lives
 stands : (servers : ℕ) (lives : List Life) (file last : List ℕ) (s : State) → AreLives servers file lives last → FileKeeps servers s last
-    → (log : Log) (entries : List Entry) → FileKeeps servers (after opening_state entries) file → updates_in log ≡ entry_updates entries → IsOneTrees log
+    → (log : Log) (entries : List Entry) → FileKeeps servers (after opening_state entries) file → updates_in log ≡ entry_updates entries
+    → IsOneTrees log
     → Stands s log entries lives
 stands servers [] file last s is holds log entries now were one = record {
   log = [];
@@ -117,7 +121,8 @@ stands servers [] file last s is holds log entries now were one = record {
   updates = refl;
 }
 stands servers (life ∷ lives) file last s (found, finds, left, lived, rest) holds log entries now were one =
-    stands_then servers s log entries life lives found left (lived.one_tree log (one, tree_is servers file log entries found finds now were)) lived.kept were
+    stands_then servers s log entries life lives found left (lived.one_tree log (one, tree_is servers file log entries found finds now were))
+    lived.kept were
     (behind_it servers file log entries found finds now were)
     (λ next more next_now next_were next_one. stands servers lives left last s rest holds next more next_now next_were next_one) lived.leaves
 

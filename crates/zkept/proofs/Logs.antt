@@ -41,13 +41,15 @@ tree-again : (entries : List Entry) (t : Tree) → tree_after t (calls_again ent
 tree-again [] t = refl
 tree-again (e ∷ entries) t = tree-again entries (serve t 0 (call.Update e.0)).0
 
-pub same_tree : (log : Log) (entries : List Entry) (t : Tree) → updates_in log ≡ entry_updates entries → tree_after t (calls_of log) ≡ tree_after t (calls_again entries)
+pub same_tree : (log : Log) (entries : List Entry) (t : Tree) → updates_in log ≡ entry_updates entries
+    → tree_after t (calls_of log) ≡ tree_after t (calls_again entries)
 same_tree log entries t same = tree-log log t ∙ ap (tree_by t) same ∙ sym (tree-again entries t)
 
 -- ---- replies
 
 -- a log of one tree goes on with the replies of the tree that it leaves
-pub goes_on : (log more : Log) (t : Tree) → replies_of log ≡ served t (calls_of log) → replies_of more ≡ served (tree_after t (calls_of log)) (calls_of more)
+pub goes_on : (log more : Log) (t : Tree) → replies_of log ≡ served t (calls_of log) → replies_of more
+    ≡ served (tree_after t (calls_of log)) (calls_of more)
     → replies_of (log ++ more) ≡ served t (calls_of (log ++ more))
 goes_on [] more t first second = second
 goes_on (told ∷ log) more t first second =

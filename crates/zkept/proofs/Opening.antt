@@ -52,14 +52,16 @@ serves seen may_leave servers tick now_ms n m file now text kept n_is m_is same 
     )
 
 -- a text of this fault is that of the file
-pub such_read : (fault : ReadFault) (servers n : ℕ) (file text : List ℕ) → n ≡ servers → (read : List (List ℕ)) → StandsFor n read file → text ≡ joined read → IsReadFault text fault
+pub such_read : (fault : ReadFault) (servers n : ℕ) (file text : List ℕ) → n ≡ servers → (read : List (List ℕ))
+    → StandsFor n read file → text ≡ joined read → IsReadFault text fault
     → IsSuchFile servers file (read_fault fault)
 such_read reading.Memory servers n file text n_is read reads text_is such = tt
 such_read reading.NotRecords servers n file text n_is read reads text_is such =
     (read, subst (λ k. StandsFor k read file) n_is reads, subst IsNoText text_is such)
 
 -- ---- a file that was read is opened
-module _ {D : Type 0} (moment : D → ℕ) (left_since : D → ℕ → List ℕ → Type 0) (old mid new : D) (file : List ℕ) (read : LeavesOnly moment left_since old mid (λ c. c ≡ file)) where
+module _ {D : Type 0} (moment : D → ℕ) (left_since : D → ℕ → List ℕ → Type 0) (old mid new : D) (file : List ℕ)
+    (read : LeavesOnly moment left_since old mid (λ c. c ≡ file)) where
   pub read_then : (P : List ℕ → Type 0) → P file → LeavesOnly moment left_since mid new P → LeavesOnly moment left_since old new P
   read_then P holds run =
       joined_runs moment left_since old mid new P (weaker moment left_since old mid (λ c. c ≡ file) P read (λ c is. subst P (sym is) holds)) run
@@ -72,7 +74,8 @@ none_taken v none i = record v { asker = record v.asker { changes = record { is_
     count = omega (arith, ap (λ (made : List Made). length made) none)
 
 -- what a put tells, as a fault of a commit
-pub left_put : {D : Type 0} (old new : Kept D) (e : PutError) → (e ≡ put.NotText → ⊥) → (e ≡ put.Closed → ⊥) → (IsOpen new → ⊥) → IsLeftBy (commit_fault e) old new
+pub left_put : {D : Type 0} (old new : Kept D) (e : PutError) → (e ≡ put.NotText → ⊥) → (e ≡ put.Closed → ⊥) → (IsOpen new → ⊥)
+    → IsLeftBy (commit_fault e) old new
 left_put old new put.Memory text closed ended = ended
 left_put old new put.Failed text closed ended = ended
 left_put old new put.NotText text closed ended = absurd (text refl)

@@ -1,5 +1,6 @@
 -- A journal that is shortened, piece by piece.
-use Rattle.std.proofs.Common.{◌≡◌, inl, inr, ⊎_elim, ◌∙◌, ℕ, ◌+◌, ◌<◌, ◌≤◌, ◌^◌, ◌-◌, List, [], ◌∷◌, ◌++◌, length, take, drop, refl, sym, ap, subst, arith, append_assoc, append-nil}
+use Rattle.std.proofs.Common.{◌≡◌, inl, inr, ⊎_elim, ◌∙◌, ℕ, ◌+◌, ◌<◌, ◌≤◌, ◌^◌, ◌-◌, List, [], ◌∷◌, ◌++◌, length, take}
+use Rattle.std.proofs.Common.{drop, refl, sym, ap, subst, arith, append_assoc, append-nil}
 use Rattle.std.proofs.lemmas.List.{take-append-drop, drop-drop, drop_all}
 use Rattle.zjournal.specs.Device.{LeavesOnly}
 use Rattle.zjournal.specs.Journal.{IsAtRest, Keeps, IsOpen, device_of}
@@ -46,7 +47,8 @@ piece_shorter s old new piece same is =
     omega (arith, count, all, is.some, is.within)
 
 -- a file with the old batches keeps the state, too
-pub keeps_state : (servers : ℕ) (batches : List (List ℕ)) (s : State) → IsTextOf s (joined batches) → (file : List ℕ) → IsOldOrState servers batches s file → KeepsState servers s file
+pub keeps_state : (servers : ℕ) (batches : List (List ℕ)) (s : State) → IsTextOf s (joined batches) → (file : List ℕ)
+    → IsOldOrState servers batches s file → KeepsState servers s file
 keeps_state servers batches s text file (inl keeps) = (batches, keeps, text)
 keeps_state servers batches s text file (inr is) = is
 
@@ -62,20 +64,30 @@ put_full put.Closed is = absurd (cc is)
 
 -- ---- the old file
 
-module _ {D : Type 0} (seen : D → List ℕ) (may_leave : D → List ℕ → Type 0) (moment : D → ℕ) (left_since : D → ℕ → List ℕ → Type 0) (s : State) (old : Journal D) (servers : ℕ) (batches : List (List ℕ)) (rest : IsAtRest seen may_leave servers batches old)
+module _ {D : Type 0} (seen : D → List ℕ) (may_leave : D → List ℕ → Type 0) (moment : D → ℕ) (left_since : D → ℕ → List ℕ
+    → Type 0) (s : State) (old : Journal D) (servers : ℕ) (batches : List (List ℕ)) (rest : IsAtRest seen may_leave servers batches old)
     (now : (file : List ℕ) → left_since (device_of old) (moment (device_of old)) file → may_leave (device_of old) file) where
   -- nothing was asked of the device
   pub stays_keeping : LeavesOnly moment left_since (device_of old) (device_of old) (Keeps servers batches)
   stays_keeping =
-      let keeps : Keeps servers batches (seen (device_of old)) = record { texts = rest.texts; end = 0 ∷ []; split = rest.file; counts_for_nothing = tt } in
-      started moment left_since (device_of old) (Keeps servers batches) (λ file left. subst (Keeps servers batches) (sym (rest.durable file (now file left))) keeps)
+      let keeps : Keeps servers batches (seen (device_of old)) = record {
+        texts = rest.texts;
+        end = 0
+            ∷ [];
+        split = rest.file;
+        counts_for_nothing = tt;
+      } in
+      started moment left_since (device_of old) (Keeps servers batches) (λ file left. subst (Keeps servers batches)
+      (sym (rest.durable file (now file left))) keeps)
 
   pub stays_old : LeavesOnly moment left_since (device_of old) (device_of old) (IsOldOrState servers batches s)
-  stays_old = weaker moment left_since (device_of old) (device_of old) (Keeps servers batches) (IsOldOrState servers batches s) stays_keeping (λ file keeps. inl keeps)
+  stays_old = weaker moment left_since (device_of old) (device_of old) (Keeps servers batches) (IsOldOrState servers batches s)
+      stays_keeping (λ file keeps. inl keeps)
 
 -- ---- the new file
 
-module _ {D : Type 0} (seen : D → List ℕ) (may_leave : D → List ℕ → Type 0) (beside : D → List ℕ) (moment : D → ℕ) (left_since : D → ℕ → List ℕ → Type 0) where
+module _ {D : Type 0} (seen : D → List ℕ) (may_leave : D → List ℕ → Type 0) (beside : D → List ℕ) (moment : D
+    → ℕ) (left_since : D → ℕ → List ℕ → Type 0) where
   -- so far the new file has the pieces that were handed out, and the old one is what it was
   pub record IsGoing (s : State) (old now : Journal D) (text : ShorteningView) : Type 0 where
     pub state : text.state ≡ s
@@ -87,21 +99,24 @@ module _ {D : Type 0} (seen : D → List ℕ) (may_leave : D → List ℕ → Ty
     pub leaves : (servers : ℕ) (batches : List (List ℕ)) → IsAtRest seen may_leave servers batches old
         → LeavesOnly moment left_since (device_of old) (device_of now) (Keeps servers batches)
 
-  module _ (s : State) (old now : Journal D) (text : ShorteningView) (going : IsGoing s old now text) (servers : ℕ) (batches : List (List ℕ)) (rest : IsAtRest seen may_leave servers batches old) where
+  module _ (s : State) (old now : Journal D) (text : ShorteningView) (going : IsGoing s old now text)
+      (servers : ℕ) (batches : List (List ℕ)) (rest : IsAtRest seen may_leave servers batches old) where
     -- the file that is at rest now
     pub rest_now : IsAtRest seen may_leave servers batches now
     rest_now = (going.so_far servers batches rest).1.rest
 
     -- a run that ends here
     pub leaves_old : LeavesOnly moment left_since (device_of old) (device_of now) (IsOldOrState servers batches s)
-    leaves_old = weaker moment left_since (device_of old) (device_of now) (Keeps servers batches) (IsOldOrState servers batches s) (going.leaves servers batches rest) (λ file keeps. inl keeps)
+    leaves_old = weaker moment left_since (device_of old) (device_of now) (Keeps servers batches) (IsOldOrState servers batches s)
+        (going.leaves servers batches rest) (λ file keeps. inl keeps)
 
     -- one that goes on over the old file
     pub leaves_more : (new : Journal D) → LeavesOnly moment left_since (device_of now) (device_of new) (Keeps servers batches)
         → LeavesOnly moment left_since (device_of old) (device_of new) (IsOldOrState servers batches s)
     leaves_more new run =
         weaker moment left_since (device_of old) (device_of new) (Keeps servers batches) (IsOldOrState servers batches s)
-        (joined_runs moment left_since (device_of old) (device_of now) (device_of new) (Keeps servers batches) (going.leaves servers batches rest) run) (λ file keeps. inl keeps)
+        (joined_runs moment left_since (device_of old) (device_of now) (device_of new) (Keeps servers batches)
+        (going.leaves servers batches rest) run) (λ file keeps. inl keeps)
 
     -- the new file is full before its end
     pub too_long : 2 ^ 60 ≤ renewed_size_of now → IsTooLong servers s
@@ -124,13 +139,17 @@ module _ {D : Type 0} (seen : D → List ℕ) (may_leave : D → List ℕ → Ty
           → LeavesOnly moment left_since (device_of old) (device_of new) (IsOldOrState servers batches s)
       leaves_new new run =
           joined_runs moment left_since (device_of old) (device_of now) (device_of new) (IsOldOrState servers batches s) leaves_old
-          (weaker moment left_since (device_of now) (device_of new) (IsOldOrNew servers batches (going.so_far servers batches rest).0) (IsOldOrState servers batches s)
+          (weaker moment left_since (device_of now) (device_of new) (IsOldOrNew servers batches (going.so_far servers batches rest).0)
+          (IsOldOrState servers batches s)
           run (λ file keeps. ⊎_elim (λ was. inl was) (λ is. inr ((going.so_far servers batches rest).0, is, text_keeps)) keeps))
 
   -- the beginning
-  pub begun : (s : State) (old new : Journal D) (text : ShorteningView) → text ≡ record { state = s; written = 0 } → IsOpen old → IsOpen new → IsInRenewal seen may_leave beside new
-      → ((servers : ℕ) (batches : List (List ℕ)) → IsOpen old → IsAtRest seen may_leave servers batches old → IsRenewing seen may_leave beside servers batches [] new)
-      → ((servers : ℕ) (batches : List (List ℕ)) → IsAtRest seen may_leave servers batches old → LeavesOnly moment left_since (device_of old) (device_of new) (Keeps servers batches))
+  pub begun : (s : State) (old new : Journal D) (text : ShorteningView) → text ≡ record { state = s; written = 0 }
+      → IsOpen old → IsOpen new → IsInRenewal seen may_leave beside new
+      → ((servers : ℕ) (batches : List (List ℕ)) → IsOpen old → IsAtRest seen may_leave servers batches old
+      → IsRenewing seen may_leave beside servers batches [] new)
+      → ((servers : ℕ) (batches : List (List ℕ)) → IsAtRest seen may_leave servers batches old
+      → LeavesOnly moment left_since (device_of old) (device_of new) (Keeps servers batches))
       → IsGoing s old new text
   begun s old new text is was_open is_open renewing begins leaves = record {
     state = ap (λ (v : ShorteningView). v.state) is;
@@ -142,10 +161,13 @@ module _ {D : Type 0} (seen : D → List ℕ) (may_leave : D → List ℕ → Ty
   }
 
   -- one piece more
-  pub goes_on : (s : State) (old now new : Journal D) (before text : ShorteningView) (piece given : List ℕ) → IsGoing s old now before → IsPiece before text piece → given ≡ piece
+  pub goes_on : (s : State) (old now new : Journal D) (before text : ShorteningView) (piece given : List ℕ)
+      → IsGoing s old now before → IsPiece before text piece → given ≡ piece
       → IsOpen new → IsInRenewal seen may_leave beside new
-      → ((servers : ℕ) (batches next : List (List ℕ)) → IsOpen now → IsRenewing seen may_leave beside servers batches next now → IsRenewing seen may_leave beside servers batches (next ++ given ∷ []) new)
-      → ((servers : ℕ) (batches : List (List ℕ)) → IsAtRest seen may_leave servers batches now → LeavesOnly moment left_since (device_of now) (device_of new) (Keeps servers batches))
+      → ((servers : ℕ) (batches next : List (List ℕ)) → IsOpen now → IsRenewing seen may_leave beside servers batches next now
+      → IsRenewing seen may_leave beside servers batches (next ++ given ∷ []) new)
+      → ((servers : ℕ) (batches : List (List ℕ)) → IsAtRest seen may_leave servers batches now
+      → LeavesOnly moment left_since (device_of now) (device_of new) (Keeps servers batches))
       → IsGoing s old new text
   goes_on s old now new before text piece given going is same is_open renewing adds leaves = record {
     state = ap (λ (v : ShorteningView). v.state) is.view ∙ going.state;

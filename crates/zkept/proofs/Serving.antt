@@ -46,7 +46,8 @@ runs_more (next ∷ inputs) input first v w runs does =
       ap (λ es. kept_at next first ++ es) rest.1 ∙ sym (append_assoc (kept_at next first) (kept_in inputs runs.0 v runs.2) (kept_at input v)),
     )
 
-pub keeps_more : (servers : ℕ) (s : State) (input : Input) (v w : FrontView) → HasKept servers s v → Does input v w → HasKept servers (after s (kept_at input v)) w
+pub keeps_more : (servers : ℕ) (s : State) (input : Input) (v w : FrontView) → HasKept servers s v → Does input v w
+    → HasKept servers (after s (kept_at input v)) w
 keeps_more servers s input v w has does =
     let more = runs_more has.inputs input has.first v w has.runs does in
     let so_far = kept_in has.inputs has.first v has.runs in
@@ -65,12 +66,15 @@ keeps_more servers s input v w has does =
     }
 
 -- an input that takes nothing keeps nothing
-keeps_same : (servers : ℕ) (s : State) (input : Input) (v w : FrontView) → kept_at input v ≡ [] → HasKept servers s v → Does input v w → HasKept servers s w
+keeps_same : (servers : ℕ) (s : State) (input : Input) (v w : FrontView) → kept_at input v ≡ [] → HasKept servers s v
+    → Does input v w → HasKept servers s w
 keeps_same servers s input v w none has does =
     subst (λ u. HasKept servers u w) (ap (λ es. after s es) none) (keeps_more servers s input v w has does)
 
-module _ {D : Type 0} (seen : D → List ℕ) (may_leave : D → List ℕ → Type 0) (servers : ℕ) (batches : List (List ℕ)) (old new : Kept D) (serving : IsServing seen may_leave servers batches old) where
-  pub input_serves : (input : Input) → kept_at input (front_in old) ≡ [] → new.journal ≡ old.journal → new.state ≡ old.state → new.front.is_broken ≡ false
+module _ {D : Type 0} (seen : D → List ℕ) (may_leave : D → List ℕ → Type 0) (servers : ℕ) (batches : List (List ℕ))
+    (old new : Kept D) (serving : IsServing seen may_leave servers batches old) where
+  pub input_serves : (input : Input) → kept_at input (front_in old) ≡ [] → new.journal ≡ old.journal → new.state ≡ old.state
+      → new.front.is_broken ≡ false
       → Does input (front_in old) (front_in new) → IsServing seen may_leave servers batches new
   input_serves input none same state sound does = record {
     rest = subst (IsAtRest seen may_leave servers batches) (sym same) serving.rest;
@@ -107,7 +111,8 @@ module _ {D : Type 0} (seen : D → List ℕ) (may_leave : D → List ℕ → Ty
 
   -- ---- a file that is shortened
 
-  pub shortened_serves : (next : List (List ℕ)) → new.front ≡ old.front → new.state ≡ old.state → IsAtRest seen may_leave servers next new.journal → journal.IsOpen new.journal
+  pub shortened_serves : (next : List (List ℕ)) → new.front ≡ old.front → new.state ≡ old.state
+      → IsAtRest seen may_leave servers next new.journal → journal.IsOpen new.journal
       → IsTextOf (state_in old) (joined next) → IsServing seen may_leave servers next new
   shortened_serves next front state rest takes text = record {
     rest = rest;
@@ -121,7 +126,8 @@ module _ {D : Type 0} (seen : D → List ℕ) (may_leave : D → List ℕ → Ty
   }
 
 -- where something was made, it is one batch more
-pub some_made : (made : List Made) (batch : List ℕ) (batches : List (List ℕ)) → (length made == 0) ≡ false → more_if made batch batches ≡ batches ++ batch ∷ []
+pub some_made : (made : List Made) (batch : List ℕ) (batches : List (List ℕ)) → (length made == 0) ≡ false
+    → more_if made batch batches ≡ batches ++ batch ∷ []
 some_made [] batch batches some = absurd (cc some)
 some_made (m ∷ made) batch batches some = refl
 
@@ -149,7 +155,8 @@ updates-at (Line text) v = refl
 updates-at Sent v = refl
 updates-at Took v = updates-made v.tables.sittings (made_by v)
 
-pub updates-kept : (inputs : List Input) (old new : FrontView) (runs : Runs inputs old new) → entry_updates (kept_in inputs old new runs) ≡ updates_of (took_in inputs old new runs)
+pub updates-kept : (inputs : List Input) (old new : FrontView) (runs : Runs inputs old new)
+    → entry_updates (kept_in inputs old new runs) ≡ updates_of (took_in inputs old new runs)
 updates-kept [] old new runs = refl
 updates-kept (input ∷ inputs) old new runs =
     map-append (λ (e : Entry). e.0) (kept_at input old) (kept_in inputs runs.0 new runs.2)
@@ -158,7 +165,8 @@ updates-kept (input ∷ inputs) old new runs =
 
 pub what_is_kept_stands_in_a_log : WhatIsKeptStandsInALog
 what_is_kept_stands_in_a_log servers s v has before leaves =
-    let law = every_change_is_made servers has.times has.start.tree has.start.seats before has.inputs has.first v has.restored leaves has.keeps has.runs in
+    let law = every_change_is_made servers has.times has.start.tree has.start.seats before has.inputs has.first v
+    has.restored leaves has.keeps has.runs in
     let took = took_in has.inputs has.first v has.runs in
     let kept = kept_in has.inputs has.first v has.runs in (
       law.0,
@@ -167,5 +175,6 @@ what_is_kept_stands_in_a_log servers s v has before leaves =
       law.2,
       law.3,
       has.all,
-      ap updates_of law.4 ∙ map-append (λ (m : Made). m.update) took (made_by v) ∙ ap (λ l. l ++ updates_of (made_by v)) (sym (updates-kept has.inputs has.first v has.runs)),
+      ap updates_of law.4 ∙ map-append (λ (m : Made). m.update) took (made_by v)
+          ∙ ap (λ l. l ++ updates_of (made_by v)) (sym (updates-kept has.inputs has.first v has.runs)),
     )

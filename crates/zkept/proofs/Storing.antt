@@ -10,7 +10,8 @@ use Rattle.zkept.specs.Stored.{IsStored, state_of}
 
 -- what was read is what is opened
 pub stores : {D : Type 0} (seen : D → List ℕ) (may_leave : D → List ℕ → Type 0) (servers m : ℕ) (file now : List ℕ) (stored : Stored D)
-    → m ≡ servers → now ≡ file → (read : List (List ℕ)) → StandsFor servers read file → IsTextOf (state_of stored) (joined read) → stored.state.is_broken ≡ false
+    → m ≡ servers → now ≡ file → (read : List (List ℕ)) → StandsFor servers read file → IsTextOf (state_of stored) (joined read)
+    → stored.state.is_broken ≡ false
     → (batches : List (List ℕ)) → StandsFor m batches now → IsAtRest seen may_leave m batches stored.journal → journal.IsOpen stored.journal
     → StandsFor servers batches file × IsStored seen may_leave servers batches stored
 stores seen may_leave servers m file now stored m_is same read reads keeps whole batches stands rest takes =

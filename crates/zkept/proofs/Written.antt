@@ -20,16 +20,19 @@ module _ (sittings : SittingsView) where
   are_made made fit = are_of (map (entry_of sittings) made) (have_own made) fit
 
   -- one change more, and the state behind it
-  pub made_more : (made : List Made) (m : Made) (old new : List Record) → old ≡ records_of (map (entry_of sittings) made) → new ≡ old ++ entry_records (entry_of sittings m)
+  pub made_more : (made : List Made) (m : Made) (old new : List Record) → old ≡ records_of (map (entry_of sittings) made)
+      → new ≡ old ++ entry_records (entry_of sittings m)
       → new ≡ records_of (map (entry_of sittings) (made ++ m ∷ []))
   made_more made m old new so_far adds =
       adds
       ∙ ap (λ (rs : List Record). rs ++ entry_records (entry_of sittings m)) so_far
       ∙ sym (ap records_of (map-append (entry_of sittings) made (m ∷ [])) ∙ records_more (map (entry_of sittings) made) (entry_of sittings m))
 
-  pub state_more : (made : List Made) (m : Made) (first old new : State) → old ≡ after first (map (entry_of sittings) made) → new ≡ after_entry old (entry_of sittings m)
+  pub state_more : (made : List Made) (m : Made) (first old new : State) → old ≡ after first (map (entry_of sittings) made)
+      → new ≡ after_entry old (entry_of sittings m)
       → new ≡ after first (map (entry_of sittings) (made ++ m ∷ []))
   state_more made m first old new so_far applies =
       applies
       ∙ ap (λ (u : State). after_entry u (entry_of sittings m)) so_far
-      ∙ sym (ap (λ es. after first es) (map-append (entry_of sittings) made (m ∷ [])) ∙ go_on first (map (entry_of sittings) made) (entry_of sittings m ∷ []))
+      ∙ sym (ap (λ es. after first es) (map-append (entry_of sittings) made (m ∷ []))
+      ∙ go_on first (map (entry_of sittings) made) (entry_of sittings m ∷ []))

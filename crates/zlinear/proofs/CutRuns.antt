@@ -54,7 +54,8 @@ module _ {P : Type 0} (plain : Plain P) where
   accounts_after t (step ∷ more) = accounts_after (next_account plain (cut_account t step.0) step.1) more
 
   -- the world of the run is what is left of its world
-  account_worlds : (t : Account) (steps : List (Stays × Event)) → run_with_cuts (log_machine plain) (let_go t.world) steps ≡ let_go (accounts_after t steps).world
+  account_worlds : (t : Account) (steps : List (Stays × Event)) → run_with_cuts (log_machine plain) (let_go t.world) steps
+      ≡ let_go (accounts_after t steps).world
   account_worlds t [] = refl
   account_worlds t (step ∷ more) =
       let cut_off = cut_account t step.0 in
@@ -64,7 +65,8 @@ module _ {P : Type 0} (plain : Plain P) where
       ∙ account_worlds (next_account plain cut_off step.1) more
 
   -- it is sound
-  runs_sound_with_cuts : (t : Account) → LastsAreLengths t.world → IsSound plain t → (steps : List (Stays × Event)) → IsSound plain (accounts_after t steps)
+  runs_sound_with_cuts : (t : Account) → LastsAreLengths t.world → IsSound plain t → (steps : List (Stays × Event))
+      → IsSound plain (accounts_after t steps)
   runs_sound_with_cuts t exact s [] = s
   runs_sound_with_cuts t exact s (step ∷ more) =
       let exact_cut = cut_lasts t.world step.0 exact in

@@ -31,7 +31,8 @@ account_world_if true t u = refl
 account_world_if false t u = refl
 
 -- the world of an account keeps what failed servers held
-pub next_world : {P : Type 0} (plain : Plain P) (t : Account) (event : Event) → (next_account plain t event).world ≡ keeps (log_machine plain) t.world event
+pub next_world : {P : Type 0} (plain : Plain P) (t : Account) (event : Event) → (next_account plain t event).world
+    ≡ keeps (log_machine plain) t.world event
 next_world plain t event = account_world_if (is_enabled t.world event) (account_by plain t event (acts (log_machine plain) t.world event)) t
 
 pub account_world : {P : Type 0} (plain : Plain P) (t : Account) (events : List Event)
@@ -70,8 +71,11 @@ module _ {P : Type 0} (plain : Plain P) where
   runs_sound t exact s [] = (s, prefix_same t.committed)
   runs_sound t exact s (event ∷ events) =
       let next = each_event event t exact s in
-      let later = runs_sound (next_account plain t event) (lasts_next t event exact) next.0 events in
-      (later.0, prefix_of t.committed (next_account plain t event).committed (account_after plain (next_account plain t event) events).committed next.1 later.1)
+      let later = runs_sound (next_account plain t event) (lasts_next t event exact) next.0 events in (
+        later.0,
+        prefix_of t.committed (next_account plain t event).committed (account_after plain (next_account plain t event) events).committed
+            next.1 later.1,
+      )
 
   -- from the opening
   pub run_is_sound : (servers clients : ℕ) (events : List Event) → IsSound plain (account_after plain (opening_account plain servers clients) events)
@@ -83,7 +87,8 @@ pub every_run_is_sound : EveryRunIsSound
 every_run_is_sound = run_is_sound plain_tree
 
 -- more events
-account_more : (t : Account) (events more : List Event) → account_after plain_tree t (events ++ more) ≡ account_after plain_tree (account_after plain_tree t events) more
+account_more : (t : Account) (events more : List Event) → account_after plain_tree t (events ++ more)
+    ≡ account_after plain_tree (account_after plain_tree t events) more
 account_more t [] more = refl
 account_more t (event ∷ events) more = account_more (next_account plain_tree t event) events more
 
@@ -91,6 +96,7 @@ account_more t (event ∷ events) more = account_more (next_account plain_tree t
 pub committed_stays : CommittedStays
 committed_stays servers clients events more =
     let t = account_of servers clients events in
-    let exact = subst LastsAreLengths (sym (account_world plain_tree (opening_account plain_tree servers clients) events)) (lasts_kept plain_tree servers clients events) in
+    let exact = subst LastsAreLengths (sym (account_world plain_tree (opening_account plain_tree servers clients) events))
+    (lasts_kept plain_tree servers clients events) in
     subst (λ (u : Account). IsPrefix t.committed u.committed) (sym (account_more (opening_account plain_tree servers clients) events more))
     (runs_sound plain_tree t exact (every_run_is_sound servers clients events) more).1

@@ -64,7 +64,8 @@ one_tail : (t : Account) → IsSound plain_tree t → (x y : ℕ) → t.world.fa
 one_tail t s x y x_lives y_lives x_tail y_tail =
     let x_log = log_of_tail (t.world.servers x) x_tail in
     let y_log = log_of_tail (t.world.servers y) y_tail in
-    elim (two_places x y (members t.world.master) (log_member t.world s.blank s.live x x_lives x_log.0 x_log.1) (log_member t.world s.blank s.live y y_lives y_log.0 y_log.1)) [
+    elim (two_places x y (members t.world.master) (log_member t.world s.blank s.live x x_lives x_log.0 x_log.1)
+    (log_member t.world s.blank s.live y y_lives y_log.0 y_log.1)) [
       | inl same ↦ same
       | inr p ↦ elim p [
         | inl before ↦ absurd (let some = (longer t s x y y_log.0 before y_log.1).has_successor in cc (some, no_successor (t.world.servers x) x_tail))

@@ -71,10 +71,12 @@ answered_updates_are_committed servers clients events o reply update begun answe
     let is : is_update found.item.operation.call ≡ true =
     subst (λ (p : Operation). is_update p.call ≡ true) (sym found.operation) (tested_update o.call update) in
     subst (Among (o, reply)) s.acted
-    (subst (λ (x : Operation × Reply). Among x (updates_of t.items)) (λ i. (found.operation i, found.told i)) (update_listed t.items found.item found.among is))
+    (subst (λ (x : Operation × Reply). Among x (updates_of t.items)) (λ i. (found.operation i, found.told i))
+    (update_listed t.items found.item found.among is))
 
 -- what acted of a log, cut in two, is what acted of a beginning of it
-split_now : (s : KeptState Tree) (e : Entry) (now : List (Operation × Reply)) (r : KeptState Tree × Option Reply) → Outcome plain_tree.update s e now r
+split_now : (s : KeptState Tree) (e : Entry) (now : List (Operation × Reply)) (r : KeptState Tree × Option Reply)
+    → Outcome plain_tree.update s e now r
     → (es : List Entry)
     → ((front rest : List (Operation × Reply)) → acts_from plain_tree.update r.0 es ≡ front ++ rest
     → (begin : List Entry) × (more : List Entry) × (es ≡ begin ++ more) × (acts_from plain_tree.update r.0 begin ≡ front))
@@ -120,12 +122,16 @@ answered_queries_saw_committed servers clients events client number query reply 
     let split = acted_split (nothing_kept plain_tree.opening) t.committed (updates_of place.before) (updates_of (found.item ∷ place.after))
     (sym s.acted ∙ ap updates_of place.split ∙ updates_more place.before (found.item ∷ place.after)) in
     let leads : after_items plain_tree plain_tree.opening place.before ≡ (after_log plain_tree split.0).plain =
-    items_lead plain_tree plain_tree.opening place.before ∙ ap (after_calls plain_tree plain_tree.opening) (sym split.3) ∙ acted_leads plain_tree (nothing_kept plain_tree.opening) split.0 in
-    let told : (operation_step (service_of plain_tree) (after_items plain_tree plain_tree.opening place.before) found.item.operation).1 ≡ found.item.reply =
-    replays_at plain_tree.opening place.before found.item place.after (subst (Replays (service_of plain_tree) plain_tree.opening) place.split s.replays) in (
+    items_lead plain_tree plain_tree.opening place.before ∙ ap (after_calls plain_tree plain_tree.opening) (sym split.3)
+    ∙ acted_leads plain_tree (nothing_kept plain_tree.opening) split.0 in
+    let told : (operation_step (service_of plain_tree) (after_items plain_tree plain_tree.opening place.before) found.item.operation).1
+    ≡ found.item.reply =
+    replays_at plain_tree.opening place.before found.item place.after
+    (subst (Replays (service_of plain_tree) plain_tree.opening) place.split s.replays) in (
       split.0,
       (split.1, split.2),
       ap (λ p. plain_tree.ask p query) (sym leads)
-          ∙ ap (λ (p : Operation). (operation_step (service_of plain_tree) (after_items plain_tree plain_tree.opening place.before) p).1) (sym found.operation)
+          ∙ ap (λ (p : Operation). (operation_step (service_of plain_tree) (after_items plain_tree plain_tree.opening place.before) p).1)
+          (sym found.operation)
           ∙ told ∙ found.told,
     )

@@ -1,5 +1,6 @@
 -- What calls make of the channels that are kept.
-use Rattle.std.proofs.Common.{◌≡◌, ℕ, suc, ◌<◌, Bool, true, false, if◌then◌else◌, List, [], ◌∷◌, ◌++◌, get_or, take, drop, set, filter, insert, remove, refl, sym, ap, subst, ◌∙◌, inl, inr, eqb-true, take-append-drop, get_or-set_same}
+use Rattle.std.proofs.Common.{◌≡◌, ℕ, suc, ◌<◌, Bool, true, false, if◌then◌else◌, List, [], ◌∷◌, ◌++◌, refl, sym, ap, subst, ◌∙◌, inl, inr}
+use Rattle.std.proofs.Common.{get_or, take, drop, set, filter, insert, remove, eqb-true, take-append-drop, get_or-set_same}
 use Rattle.std.proofs.lemmas.List.{set_split, set-get_or}
 use Rattle.std.specs.Prelude.{◌==◌, ◌&&◌}
 use Rattle.zcalls.proofs.Among.{test}
@@ -9,31 +10,31 @@ use Rattle.zprotocol.specs.declared.process.Process.{Process}
 use Rattle.zprotocol.specs.Places.{place_of}
 use Rattle.zworld_model.specs.Links.{is_same}
 use Rattle.zworld_model.proofs.Processes.{same_itself}
-use Rattle.zlinks.specs.Places.{Queues, Channel, Channels, messages, is_between, messages_at, links_of, with_link, with_last, without_first, without_receiver, Keeps}
-use Rattle.zlinks.specs.support.Order.{AreSorted, IsFound, IsGap, longer, is_for_others}
+use Rattle.zlinks.specs.Places.{Queues, Channel, Sent, messages, is_between, messages_at, sent_of}
+use Rattle.zlinks.specs.Places.{with_link, with_last, without_first, without_receiver}
+use Rattle.zlinks.specs.support.Order.{Holds, AreSorted, IsFound, IsGap, longer, is_for_others}
 use Rattle.zlinks.proofs.Kept.{links_with, links_without}
+use Rattle.zlinks.proofs.Noted.{fails_second}
 use Rattle.zlinks.proofs.Places.{by_place}
 use Rattle.zlinks.proofs.Sorted.{around_item, removed_set, sorted_at}
 
-fails_second : (a : Bool) {b : Bool} → b ≡ false → (a && b) ≡ false
-fails_second true fails = fails
-fails_second false fails = refl
-
 module _ {T : Type 0} where
   -- channels of which one was written twice, and that one
-  overwritten : (links : Queues T) (old new : Channels T) (from to : Process) (before after : List (Message T))
-      → Keeps old (with_link links from to before) → Keeps new (with_link links from to after) → Keeps new (with_link (links_of old) from to after)
-  overwritten links old new from to before after was now p q = now p q ∙ either (is_same p from && is_same q to) (links_of old p q) (was p q)
+  overwritten : (links : Queues T) (old new : Sent T) (from to : Process) (before after : List (Message T))
+      → Holds old (with_link links from to before) → Holds new (with_link links from to after) → Holds new (with_link (sent_of old) from to after)
+  overwritten links old new from to before after was now p q = now p q ∙ either (is_same p from && is_same q to) (sent_of old p q) (was p q)
     where
-      either : (b : Bool) (queue : List (Message T)) → queue ≡ (if b then before else links p q) → (if b then after else links p q) ≡ (if b then after else queue)
+      either : (b : Bool) (queue : List (Message T)) → queue ≡ (if b then before else links p q)
+          → (if b then after else links p q) ≡ (if b then after else queue)
       either true queue is = refl
       either false queue is = sym is
 
-  written : (links : Queues T) (channels : Channels T) (from to : Process) (queue : List (Message T)) → Keeps channels (with_link links from to queue) → links_of channels from to ≡ queue
+  written : (links : Queues T) (channels : Sent T) (from to : Process) (queue : List (Message T)) → Holds channels (with_link links from to queue)
+      → sent_of channels from to ≡ queue
   written links channels from to queue is = is from to ∙ rw (same_itself from, same_itself to) refl
 
   -- the places of a channel's ends, and what a search among the channels found: they are those that are seen
-  module _ {view channels seen : Channels T} (shown : channels ≡ view) (same : seen ≡ channels) (from to : Process) {f t at : ℕ}
+  module _ {channels seen : Sent T} (same : seen ≡ channels) (from to : Process) {f t at : ℕ}
       (is : f ≡ place_of from) (js : t ≡ place_of to) (few : f < PROCESSES) (short : t < PROCESSES) where
     -- a queue
     module _ (searched : IsFound seen f t at) {queue : Channel T} (read : queue ≡ get_or channels at queue) where
@@ -41,35 +42,37 @@ module _ {T : Type 0} where
       found = subst (λ cs. IsFound cs f t at) same searched
 
       abbrev rest : Queues T
-      rest = links_of (take at channels ++ drop (suc at) channels)
+      rest = sent_of (take at channels ++ drop (suc at) channels)
 
-      with_queue : (new : Channel T) → new.from ≡ queue.from → new.to ≡ queue.to → Keeps (take at channels ++ new ∷ drop (suc at) channels) (with_link rest from to (messages new))
+      with_queue : (new : Channel T) → new.from ≡ queue.from → new.to ≡ queue.to
+          → Holds (take at channels ++ new ∷ drop (suc at) channels) (with_link rest from to (messages new))
       with_queue new here there =
           let places = found.places queue read in
           links_with from to f t is js few short (take at channels) (drop (suc at) channels) found.around new (here ∙ places.0) (there ∙ places.1)
 
-      was_there : Keeps channels (with_link rest from to (messages queue))
+      was_there : Holds channels (with_link rest from to (messages queue))
       was_there =
-          subst (λ cs. Keeps cs (with_link rest from to (messages queue))) (sym (around_item channels at queue found.within read)) (with_queue queue refl refl)
+          subst (λ cs. Holds cs (with_link rest from to (messages queue))) (sym (around_item channels at queue found.within read))
+          (with_queue queue refl refl)
 
-      pub front_there : links_of view from to ≡ messages queue
-      front_there = ap (λ cs. links_of cs from to) (sym shown) ∙ written rest channels from to (messages queue) was_there
+      pub front_there : sent_of channels from to ≡ messages queue
+      front_there = written rest channels from to (messages queue) was_there
 
       -- which is written
       module _ (new : Channel T) (here : new.from ≡ queue.from) (there : new.to ≡ queue.to) where
-        replaced : (wanted : List (Message T)) → messages new ≡ wanted → Keeps (set channels at new) (with_link (links_of view) from to wanted)
+        replaced : (wanted : List (Message T)) → messages new ≡ wanted → Holds (set channels at new) (with_link (sent_of channels) from to wanted)
         replaced wanted so =
-            subst (λ ms. Keeps (set channels at new) (with_link (links_of view) from to ms)) so
-            (subst (λ cs. Keeps (set channels at new) (with_link (links_of cs) from to (messages new))) shown
+            subst (λ ms. Holds (set channels at new) (with_link (sent_of channels) from to ms)) so
             (overwritten rest channels (set channels at new) from to (messages queue) (messages new) was_there
-            (subst (λ cs. Keeps cs (with_link rest from to (messages new))) (sym (set_split channels at new found.within)) (with_queue new here there))))
+            (subst (λ cs. Holds cs (with_link rest from to (messages new))) (sym (set_split channels at new found.within))
+            (with_queue new here there)))
 
-        pub put_there : (m : Message T) → new ≡ longer queue m → Keeps (set channels at new) (with_last (links_of view) from to m)
+        pub put_there : (m : Message T) → new ≡ longer queue m → Holds (set channels at new) (with_last (sent_of channels) from to m)
         put_there m so =
-            replaced (links_of view from to ++ m ∷ []) (ap (λ c. messages c) so ∙ ap (λ ms. ms ++ m ∷ []) (sym front_there))
+            replaced (sent_of channels from to ++ m ∷ []) (ap (λ c. messages c) so ∙ ap (λ ms. ms ++ m ∷ []) (sym front_there))
 
-        pub next_there : queue.others ≡ messages new → Keeps (set channels at new) (without_first (links_of view) from to)
-        next_there so = replaced (drop 1 (links_of view from to)) (sym so ∙ ap (λ ms. drop 1 ms) (sym front_there))
+        pub next_there : queue.others ≡ messages new → Holds (set channels at new) (without_first (sent_of channels) from to)
+        next_there so = replaced (drop 1 (sent_of channels from to)) (sym so ∙ ap (λ ms. drop 1 ms) (sym front_there))
 
         pub sorted_there : AreSorted (set channels at new)
         sorted_there =
@@ -78,21 +81,20 @@ module _ {T : Type 0} where
             (sorted_at (take at channels) (drop (suc at) channels) f t new found.around (here ∙ places.0) (there ∙ places.1))
 
       -- or is as it was
-      pub same_there : (new : Channel T) → new ≡ queue → Keeps (set channels at new) (links_of view)
-      same_there new so p q = ap (λ cs. links_of cs p q) (ap (λ c. set channels at c) (so ∙ read) ∙ set-get_or channels at queue ∙ shown)
+      pub same_there : (new : Channel T) → new ≡ queue → Holds (set channels at new) (sent_of channels)
+      same_there new so p q = ap (λ cs. sent_of cs p q) (ap (λ c. set channels at c) (so ∙ read) ∙ set-get_or channels at queue)
 
       -- or is removed
-      module _ (new : Channel T) {left : Channels T} (removed : left ≡ remove (set channels at new) at) where
+      module _ (new : Channel T) {left : Sent T} (removed : left ≡ remove (set channels at new) at) where
         pub gone_sorted : AreSorted left
         gone_sorted = subst (λ cs. AreSorted cs) (sym (removed ∙ removed_set channels at new)) found.around.sorted
 
-        pub gone_there : queue.others ≡ [] → Keeps left (without_first (links_of view) from to)
+        pub gone_there : queue.others ≡ [] → Holds left (without_first (sent_of channels) from to)
         gone_there only =
-            subst (λ cs. Keeps cs (without_first (links_of view) from to)) (sym (removed ∙ removed_set channels at new))
-            (subst (λ ms. Keeps (remove channels at) (with_link (links_of view) from to ms)) (sym only ∙ ap (λ ms. drop 1 ms) (sym front_there))
-            (subst (λ cs. Keeps (remove channels at) (with_link (links_of cs) from to [])) shown
+            subst (λ cs. Holds cs (without_first (sent_of channels) from to)) (sym (removed ∙ removed_set channels at new))
+            (subst (λ ms. Holds (remove channels at) (with_link (sent_of channels) from to ms)) (sym only ∙ ap (λ ms. drop 1 ms) (sym front_there))
             (overwritten rest channels (remove channels at) from to (messages queue) [] was_there
-            (links_without from to f t is js few short (take at channels) (drop (suc at) channels) found.around))))
+            (links_without from to f t is js few short (take at channels) (drop (suc at) channels) found.around)))
 
         -- that was the queue
         pub taken_there : new ≡ queue → (c : Channel T) → c ≡ get_or (set channels at new) at c → c ≡ queue
@@ -104,30 +106,25 @@ module _ {T : Type 0} where
       gap = subst (λ cs. IsGap cs f t at) same searched
 
       abbrev all : Queues T
-      all = links_of (take at channels ++ drop at channels)
+      all = sent_of (take at channels ++ drop at channels)
 
-      was_none : Keeps channels (with_link all from to [])
+      was_none : Holds channels (with_link all from to [])
       was_none =
-          subst (λ cs. Keeps cs (with_link all from to [])) (take-append-drop at channels)
+          subst (λ cs. Holds cs (with_link all from to [])) (take-append-drop at channels)
           (links_without from to f t is js few short (take at channels) (drop at channels) gap.around)
 
-      pub none_there : links_of view from to ≡ []
-      none_there = ap (λ cs. links_of cs from to) (sym shown) ∙ written all channels from to [] was_none
-
-      pub nothing_there : Keeps view (without_first (links_of view) from to)
-      nothing_there =
-          subst (λ ms. Keeps view (with_link (links_of view) from to (drop 1 ms))) (sym none_there)
-          (subst (λ cs. Keeps cs (with_link (links_of cs) from to [])) shown (overwritten all channels channels from to [] [] was_none was_none))
+      pub none_there : sent_of channels from to ≡ []
+      none_there = written all channels from to [] was_none
 
       -- one is inserted
       module _ {queue : Channel T} {m : Message T} (made : queue ≡ record { from = f; to = t; front = m; others = [] }) where
-        pub put_first : Keeps (insert channels at queue) (with_last (links_of view) from to m)
+        pub put_first : Holds (insert channels at queue) (with_last (sent_of channels) from to m)
         put_first =
-            subst (λ ms. Keeps (insert channels at queue) (with_link (links_of view) from to (ms ++ m ∷ []))) (sym none_there)
-            (subst (λ cs. Keeps (insert channels at queue) (with_link (links_of cs) from to (m ∷ []))) shown
-            (subst (λ c. Keeps (insert channels at c) (with_link (links_of channels) from to (m ∷ []))) (sym made)
+            subst (λ ms. Holds (insert channels at queue) (with_link (sent_of channels) from to (ms ++ m ∷ []))) (sym none_there)
+            (subst (λ c. Holds (insert channels at c) (with_link (sent_of channels) from to (m ∷ []))) (sym made)
             (overwritten all channels (insert channels at (record { from = f; to = t; front = m; others = [] })) from to [] (m ∷ []) was_none
-            (links_with from to f t is js few short (take at channels) (drop at channels) gap.around (record { from = f; to = t; front = m; others = [] }) refl refl))))
+            (links_with from to f t is js few short (take at channels) (drop at channels) gap.around
+            (record { from = f; to = t; front = m; others = [] }) refl refl)))
 
         pub first_sorted : AreSorted (insert channels at queue)
         first_sorted =
@@ -135,7 +132,7 @@ module _ {T : Type 0} where
             (sorted_at (take at channels) (drop at channels) f t (record { from = f; to = t; front = m; others = [] }) gap.around refl refl)
 
   -- the channels to other receivers
-  left_messages : (channels : Channels T) (to i j : ℕ)
+  left_messages : (channels : Sent T) (to i j : ℕ)
       → messages_at (filter (is_for_others to) channels) i j ≡ (if to == j then [] else messages_at channels i j)
   left_messages [] to i j = none (to == j)
     where
@@ -152,12 +149,14 @@ module _ {T : Type 0} where
           let far : (c.to == j) ≡ false = ap (λ n. c.to == n) (sym (eqb-true to j here)) ∙ stays in
           rw (here, fails_second (c.from == i) far) (left_messages cs to i j ∙ ap (λ b. if b then [] else messages_at cs i j) here)
       | inr other ↦
-          rw other (ap (λ queue. if is_between c i j then messages c else queue) (left_messages cs to i j ∙ ap (λ b. if b then [] else messages_at cs i j) other))
+          rw other (ap (λ queue. if is_between c i j then messages c else queue)
+          (left_messages cs to i j ∙ ap (λ b. if b then [] else messages_at cs i j) other))
     ])
   ]
 
-  pub cleared : (channels : Channels T) (to : Process) (t : ℕ) → t ≡ place_of to → t < PROCESSES
-      → Keeps (filter (is_for_others t) channels) (without_receiver (links_of channels) to)
-  unfolding links_of
+  pub cleared : (channels : Sent T) (to : Process) (t : ℕ) → t ≡ place_of to → t < PROCESSES
+      → Holds (filter (is_for_others t) channels) (without_receiver (sent_of channels) to)
+  unfolding sent_of
   cleared channels to t is small p q =
-      left_messages channels t (place_of p) (place_of q) ∙ ap (λ b. if b then [] else messages_at channels (place_of p) (place_of q)) (by_place q to t is small)
+      left_messages channels t (place_of p) (place_of q)
+      ∙ ap (λ b. if b then [] else messages_at channels (place_of p) (place_of q)) (by_place q to t is small)

@@ -9,47 +9,48 @@ use Rattle.zprotocol.specs.Places.{place_of}
 use Rattle.zworld_model.specs.Links.{is_same}
 use Rattle.zworld_model.proofs.Processes.{same_process}
 use Rattle.zworld_model.proofs.Tests.{both}
-use Rattle.zlinks.specs.Places.{Channel, Channels, messages, is_between, messages_at, links_of, with_link, Keeps}
-use Rattle.zlinks.specs.support.Order.{IsAround}
+use Rattle.zlinks.specs.Places.{Channel, Sent, messages, is_between, messages_at, sent_of, with_link}
+use Rattle.zlinks.specs.support.Order.{Holds, IsAround}
 use Rattle.zlinks.proofs.Order.{before_elsewhere, behind_elsewhere, places_between}
 use Rattle.zlinks.proofs.Places.{by_place}
 use Rattle.zlinks.proofs.Sorted.{each}
 
 module _ {T : Type 0} where
   -- a channel that isn't among those of a list, or of their first
-  pub not_among : (channels : Channels T) (from to : ℕ) → AllByRecursion (λ c. is_between c from to ≡ false) channels → messages_at channels from to ≡ []
+  pub not_among : (channels : Sent T) (from to : ℕ) → AllByRecursion (λ c. is_between c from to ≡ false) channels → messages_at channels from to ≡ []
   not_among [] from to none = refl
   not_among (c ∷ cs) from to none = rw none.0 (not_among cs from to none.1)
 
-  pub behind_others : (front back : Channels T) (from to : ℕ) → AllByRecursion (λ c. is_between c from to ≡ false) front
+  pub behind_others : (front back : Sent T) (from to : ℕ) → AllByRecursion (λ c. is_between c from to ≡ false) front
       → messages_at (front ++ back) from to ≡ messages_at back from to
   behind_others [] back from to none = refl
   behind_others (c ∷ front) back from to none = rw none.0 (behind_others front back from to none.1)
 
   -- one more channel, seen by the others
-  others_with : (front back : Channels T) (c : Channel T) (from to : ℕ) → is_between c from to ≡ false → messages_at (front ++ c ∷ back) from to ≡ messages_at (front ++ back) from to
+  others_with : (front back : Sent T) (c : Channel T) (from to : ℕ) → is_between c from to ≡ false
+      → messages_at (front ++ c ∷ back) from to ≡ messages_at (front ++ back) from to
   others_with [] back c from to other = rw other refl
   others_with (d ∷ front) back c from to other =
       ap (λ queue. if is_between d from to then messages d else queue) (others_with front back c from to other)
 
-  module _ (front back : Channels T) (from to : ℕ) (around : IsAround front back from to) where
+  module _ (front back : Sent T) (from to : ℕ) (around : IsAround front back from to) where
     -- what stands between these places, and nothing
     here_with : (c : Channel T) → c.from ≡ from → c.to ≡ to → messages_at (front ++ c ∷ back) from to ≡ messages c
     here_with c is there =
-        behind_others front (c ∷ back) from to (each (λ d before. before_elsewhere d from to before) front around.before)
+        behind_others front (c ∷ back) from to (each (λ d behind. behind_elsewhere d from to behind) front around.behind)
         ∙ ap (λ b. if b then messages c else messages_at back from to) (places_between c from to is there)
 
     here_without : messages_at (front ++ back) from to ≡ []
     here_without =
-        behind_others front back from to (each (λ d before. before_elsewhere d from to before) front around.before)
-        ∙ not_among back from to (each (λ d behind. behind_elsewhere d from to behind) back around.behind)
+        behind_others front back from to (each (λ d behind. behind_elsewhere d from to behind) front around.behind)
+        ∙ not_among back from to (each (λ d before. before_elsewhere d from to before) back around.before)
 
   -- all channels, by those that are kept
   module _ (from to : Process) (f t : ℕ) (is : f ≡ place_of from) (js : t ≡ place_of to) (few : f < PROCESSES) (short : t < PROCESSES)
-      (front back : Channels T) (around : IsAround front back f t) where
+      (front back : Sent T) (around : IsAround front back f t) where
     -- one channel has these messages, and the others are as without it
-    pub links_with : (c : Channel T) → c.from ≡ f → c.to ≡ t → Keeps (front ++ c ∷ back) (with_link (links_of (front ++ back)) from to (messages c))
-    unfolding links_of
+    pub links_with : (c : Channel T) → c.from ≡ f → c.to ≡ t → Holds (front ++ c ∷ back) (with_link (sent_of (front ++ back)) from to (messages c))
+    unfolding sent_of
     links_with c here there p q = elim (test (is_same p from && is_same q to)) [
       | inl same ↦
           let tests = both (is_same p from) (is_same q to) same in
@@ -65,8 +66,8 @@ module _ {T : Type 0} where
     ]
 
     -- or it has none
-    pub links_without : Keeps (front ++ back) (with_link (links_of (front ++ back)) from to [])
-    unfolding links_of
+    pub links_without : Holds (front ++ back) (with_link (sent_of (front ++ back)) from to [])
+    unfolding sent_of
     links_without p q = elim (test (is_same p from && is_same q to)) [
       | inl same ↦
           let tests = both (is_same p from) (is_same q to) same in

@@ -1,4 +1,4 @@
--- Places that precede others, and the test for it.
+-- Channels before and behind places, and the test for it.
 use Rattle.std.proofs.Common.{◌≡◌, ℕ, ◌<◌, true, false, if◌then◌else◌, refl, sym, ap, ◌∙◌, arith, inl, inr, eqb-true, eq-eqb}
 use mathlib.Core.Bool.{true≢false}
 use Rattle.std.proofs.lemmas.Bool.Decides.{nat_tests}
@@ -6,11 +6,19 @@ use Rattle.std.specs.Prelude.{nat_lt, ◌==◌}
 use Rattle.zcalls.proofs.Among.{test}
 use Rattle.zworld_model.proofs.Tests.{both}
 use Rattle.zlinks.specs.Places.{Channel, is_between}
-use Rattle.zlinks.specs.support.Order.{Precedes, IsBefore, is_before, IsBehind, IsFrom}
+use Rattle.zlinks.specs.support.Order.{IsBefore, is_before, IsBehind, IsFrom}
 
-pub precedes_next : (a b c d e f : ℕ) → Precedes a b c d → Precedes c d e f → Precedes a b e f
-precedes_next a b c d e f first second =
-    (omega (arith, first.0, second.0), λ back. omega (arith, first.0, first.1 (omega (arith, second.0, back)), second.1 (omega (arith, first.0, back))))
+-- a channel behind one that is at these places or behind them
+pub behind_next : {T : Type 0} (channel next : Channel T) (from to : ℕ) → IsBehind channel next.from next.to → IsFrom next from to
+    → IsBehind channel from to
+behind_next channel next from to behind is = (
+  omega (arith, behind.0, is.0),
+  λ back. omega (arith, behind.0, is.0, is.1 (omega (arith, behind.0, back)), behind.1 (omega (arith, is.0, back))),
+)
+
+-- one behind these places is from there on
+pub from_behind : {T : Type 0} (channel : Channel T) (from to : ℕ) → IsBehind channel from to → IsFrom channel from to
+from_behind channel from to behind = (behind.0, λ back. omega (arith, behind.1 back))
 
 module _ {T : Type 0} (channel : Channel T) (from to : ℕ) where
   -- what the test says
@@ -38,15 +46,6 @@ module _ {T : Type 0} (channel : Channel T) (from to : ℕ) where
         (omega (arith, less), λ back. absurd (omega (arith, less, back)))
   ]
 
-  pub is_before_as : IsBefore channel from to → is_before channel from to ≡ true
-  is_before_as before = elim (test (channel.from == from)) [
-    | inl same ↦
-        let here : channel.from ≡ from = eqb-true channel.from from same in
-        let less : channel.to < to = before.1 (omega (arith, here)) in
-        rw same (grind (arith, nat_tests, less))
-    | inr other ↦ rw other (grind (arith, nat_tests, other, before.0))
-  ]
-
   -- a channel between other places
   elsewhere : (channel.from ≡ from → channel.to ≡ to → ⊥) → is_between channel from to ≡ false
   elsewhere apart = elim (test (channel.from == from)) [
@@ -72,7 +71,7 @@ module _ {T : Type 0} (channel : Channel T) (from to : ℕ) where
   pub places_between : channel.from ≡ from → channel.to ≡ to → is_between channel from to ≡ true
   places_between e f = rw (eq-eqb channel.from from e, eq-eqb channel.to to f) refl
 
-  -- one that stands from these places on, but not at them, is behind them
+  -- one that is from these places on, but not at them, is behind them
   pub behind_from : IsFrom channel from to → is_between channel from to ≡ false → IsBehind channel from to
   behind_from is other = (
     is.0,

@@ -1,5 +1,5 @@
 -- Processes and their places.
-use Rattle.std.proofs.Common.{◌≡◌, ℕ, ◌+◌, ◌<◌, ◌≤◌, refl, sym, ap, ◌∙◌, arith, inl, inr, eqb-true, eq-eqb}
+use Rattle.std.proofs.Common.{◌≡◌, false, ℕ, ◌+◌, ◌<◌, ◌≤◌, refl, sym, ap, ◌∙◌, arith, inl, inr, eqb-true, eq-eqb}
 use mathlib.Core.Bool.{true≢false}
 use Rattle.std.specs.Prelude.{nat_lt, ◌==◌}
 use Rattle.zworld_model.proofs.Processes.{same_process, same_itself}
@@ -29,8 +29,19 @@ client_place c few = elim (test (nat_lt c MAX_CLIENTS)) [
   | inr not ↦ let never : PROCESSES < PROCESSES = rw not at few in absurd (omega (arith, never))
 ]
 
+-- the master has the first place, alone
+pub at_first : (p : Process) → place_of p ≡ 0 → p ≡ Master
+at_first Master is = refl
+at_first (Server s) is = let stands = server_place s (omega (arith, is)) in absurd (omega (arith, is, stands.0, stands.2))
+at_first (Client c) is = let far = client_place c (omega (arith, is)) in absurd (omega (arith, is, far))
+
+pub behind_first : (p : Process) → 0 < place_of p → is_same p Master ≡ false
+behind_first Master some = absurd (omega (arith, some))
+behind_first (Server s) some = refl
+behind_first (Client c) some = refl
+
 -- the process at a process's place is that one
-process_at-place_of : (p : Process) → place_of p < PROCESSES → process_at (place_of p) ≡ p
+pub process_at-place_of : (p : Process) → place_of p < PROCESSES → process_at (place_of p) ≡ p
 process_at-place_of Master few = refl
 process_at-place_of (Server s) few = let at = server_place s few in ap process_at at.0 ∙ process_at-server s at.2 at.1
 process_at-place_of (Client c) few = process_at-client c (place_of (Client c)) (client_place c few)

@@ -12,6 +12,7 @@ on_err (Ok x) fact then = tt
 on_err (Err e) fact then = then fact
 
 -- what is one or the other
-pub in_either : {T E X : Type 0} (P : X → Type 0) (r : Result T E) (new done same : X) → OnOk r (new ≡ done) → OnErr r (new ≡ same) → P done → P same → P new
+pub in_either : {T E X : Type 0} (P : X → Type 0) (r : Result T E) (new done same : X) → OnOk r (new ≡ done) → OnErr r (new ≡ same)
+    → P done → P same → P new
 in_either P (Ok x) new done same is not was now = subst P (sym is) was
 in_either P (Err e) new done same is not was now = subst P (sym not) now

@@ -1,10 +1,13 @@
--- The channels as they are kept: a list of those that hold messages.
+-- The channels as they are kept: a list of those on which something was sent, and the failure notices
+-- of servers.
 use Rattle.std.specs.Borrow.{Bor}
-use Rattle.std.specs.Prelude.{◌≡◌, ℕ, ◌<◌, ◌≤◌, ◌==◌, Bool, true, false, not, ◌&&◌, if◌then◌else◌, Option, MatchOption, List, [], ◌∷◌, ◌++◌, drop}
+use Rattle.std.specs.Prelude.{◌≡◌, ℕ, ◌<◌, ◌≤◌, ◌==◌, Bool, true, false, not, ◌&&◌, ◌||◌, if◌then◌else◌, Option, MatchOption, List, [], ◌∷◌, ◌++◌, drop, get_or}
 use Rattle.std.specs.List.{list_any}
 use Rattle.zprotocol.specs.declared.limits.TheConstants.{PROCESSES}
 use Rattle.zprotocol.specs.declared.message.Message.{Message}
+use Rattle.zprotocol.specs.declared.message.Message.TheVariants.{Gone}
 use Rattle.zprotocol.specs.declared.process.Process.{Process}
+use Rattle.zprotocol.specs.declared.process.Process.TheVariants.{Master, Server}
 use Rattle.zprotocol.specs.Places.{place_of}
 use Rattle.zworld_model.specs.Links.{is_same}
 
@@ -12,16 +15,23 @@ use Rattle.zworld_model.specs.Links.{is_same}
 abbrev pub Queues : Type 0 → Type 0
 Queues T = Process → Process → List (Message T)
 
--- a channel that holds messages: the places of its sender and receiver, its front, and the others in order
+-- a channel on which messages were sent: the places of its sender and receiver, its front, and the
+-- others in order
 pub record Channel (T : Type 0) : Type 0 where
   pub from : ℕ
   pub to : ℕ
   pub front : Message T
   pub others : List (Message T)
 
--- the channels that hold messages
-abbrev pub Channels : Type 0 → Type 0
-Channels T = List (Channel T)
+-- the channels on which messages were sent
+abbrev pub Sent : Type 0 → Type 0
+Sent T = List (Channel T)
+
+-- what is kept: those channels; and of each server, by its number, whether its failure notice is to
+-- come behind them
+pub record Channels (T : Type 0) : Type 0 where
+  pub sent : Sent T
+  pub noted : List Bool
 
 -- the messages of a channel, the front first
 abbrev pub messages : {T : Type 0} → Channel T → List (Message T)
@@ -32,13 +42,30 @@ abbrev pub is_between : {T : Type 0} → Channel T → (from to : ℕ) → Bool
 is_between channel from to = (channel.from == from) && (channel.to == to)
 
 -- the messages on the channel between these places
-abbrev pub messages_at : {T : Type 0} → Channels T → (from to : ℕ) → List (Message T)
+abbrev pub messages_at : {T : Type 0} → Sent T → (from to : ℕ) → List (Message T)
 messages_at [] from to = []
 messages_at (channel ∷ channels) from to = if is_between channel from to then messages channel else messages_at channels from to
 
--- the channels that are kept, seen as all channels
+-- what was sent on each channel
+unfoldable pub sent_of : {T : Type 0} → Sent T → Queues T
+sent_of sent from to = messages_at sent (place_of from) (place_of to)
+
+-- the process is a server whose failure notice is kept
+abbrev pub is_noted : List Bool → Process → Bool
+is_noted noted (Server s) = get_or noted s false
+is_noted noted other = false
+
+-- the failure notice of a server to the master, where it is kept
+abbrev pub notice_of : {T : Type 0} → List Bool → Queues T
+notice_of noted from to = if is_noted noted from && is_same to Master then Gone ∷ [] else []
+
+-- what is kept, seen as all channels: a notice comes behind all that its server had sent
 unfoldable pub links_of : {T : Type 0} → Channels T → Queues T
-links_of channels from to = messages_at channels (place_of from) (place_of to)
+links_of channels from to = sent_of channels.sent from to ++ notice_of channels.noted from to
+
+-- the process is a server that has sent its failure notice, and the master hasn't received it
+abbrev pub has_notice : {T : Type 0} → Channels T → Process → Bool
+has_notice channels from = is_noted channels.noted from
 
 -- channels of which one is replaced
 abbrev pub with_link : {T : Type 0} → Queues T → Process → Process → List (Message T) → Queues T
@@ -69,9 +96,25 @@ abbrev pub holds : {X : Type 0} → List X → Bool
 holds [] = false
 holds (x ∷ xs) = true
 
+-- the notices that are kept are those of these processes
+abbrev pub Notes : {T : Type 0} → Channels T → (Process → Bool) → Type 0
+Notes channels noted = (p : Process) → has_notice channels p ≡ noted p
+
+-- one process more has sent its notice
+abbrev pub with_notice : {T : Type 0} → Channels T → Process → Process → Bool
+with_notice channels from p = is_same p from || has_notice channels p
+
+-- the notices are left that are still on their channels
+abbrev pub notices_left : {T : Type 0} → Channels T → Queues T → Process → Bool
+notices_left channels links p = has_notice channels p && holds (links p Master)
+
+-- a message that the process sent is still on a channel
+unfoldable pub has_sent : {T : Type 0} → Sent T → Process → Bool
+has_sent sent from = list_any (λ channel. channel.from == place_of from) sent
+
 -- no message that the process sent is still on a channel
 unfoldable pub is_silent : {T : Type 0} → Channels T → Process → Bool
-is_silent channels from = not (list_any (λ channel. channel.from == place_of from) channels)
+is_silent channels from = not (has_sent channels.sent from || has_notice channels from)
 
 -- channels of which those to a process are empty
 abbrev pub without_receiver : {T : Type 0} → Queues T → Process → Queues T

@@ -3,11 +3,14 @@
 //! A message that is sent goes last, and the front is delivered. So a channel neither loses nor
 //! repeats messages, and keeps their order. `Links` keeps the queues of those channels alone that
 //! have messages in flight, in the order of delivery, so whoever delivers them skips the others.
-//! The payload of a `Snapshot` is a type parameter.
+//! A server's failure notice, its last message, has a place of its own, so that a server can send
+//! it where there is no memory. The payload of a `Snapshot` is a type parameter.
 #![tactic(auto)]
 
 mod links;
+mod notices;
 mod queue;
+mod rows;
 mod search;
 
 pub use links::Links;

@@ -1,85 +1,111 @@
 //! The channels.
 
-ghost use Rattle.std.specs.Prelude.{◌≡◌, ◌≤◌, true, false, [], IfNone, IfOk, OnErr, OnOk, vec_len};
-ghost use Rattle.std.specs.List.{filter, insert};
+ghost use Rattle.std.specs.Prelude.{◌≡◌, ◌≤◌, ◌<◌, true, false, [], IfNone, IfOk, OnErr, OnOk};
+ghost use Rattle.std.specs.Prelude.{slice_index_or, vec_len};
+ghost use Rattle.std.specs.List.{filter, insert, remove};
+ghost use Rattle.zprotocol.specs.declared.message.Message.TheVariants.{Gone};
 ghost use Rattle.zprotocol.specs.declared.process.Process.{Process};
+ghost use Rattle.zprotocol.specs.declared.process.Process.TheVariants.{Master, Server};
 ghost use Rattle.zprotocol.specs.declared.limits.TheConstants.{PROCESSES};
 ghost use Rattle.zlinks.specs.Places.{links_of, with_last, without_first, without_receiver, Keeps};
 ghost use Rattle.zlinks.specs.Places.{is_silent, holds, IsFrontOf, ShowsFront, Between, At};
+ghost use Rattle.zlinks.specs.Places.{has_notice, with_notice, notices_left, Notes};
 ghost use Rattle.zlinks.specs.support.Order.{is_for_others};
 
+use crate::notices::Notices;
 use crate::queue::Queue;
-use crate::search::{find, first_from};
+use crate::search::{find, next_from, next_to};
 use std::alloc::Global;
 use std::marker::Model;
 use zalloc::Memory;
-use zprotocol::{Message, PROCESSES, Process};
+use zprotocol::{Message, PROCESSES, Process, ServerId};
 
 /// The channels between all processes: the queues of those with messages in flight, sorted by
-/// sender and then by receiver. Mostly there is one, and the list keeps its room. So a message that
-/// is sent and received needs no block.
+/// sender and then by receiver. The one that comes first stands last, where it is put and removed
+/// with no other moved. Mostly there is one, and the list keeps its room. So a message that is sent
+/// and received needs no block.
+///
+/// A failure notice stands apart, behind all that its server had sent. All are alike, so one is
+/// there to be shown.
 #[derive(Drop)]
 pub struct Links<T> {
     queues: Vec<Queue<T>>,
+    notices: Notices,
+    shown: Message<T>,
     alloc: Global,
 }
 
 impl<T> Model for Links<T> {
     ghost use Rattle.zlinks.specs.Places.{Channels};
+    ghost use Rattle.std.specs.Prelude.{◌≡◌};
+    ghost use Rattle.zprotocol.specs.declared.message.Message.TheVariants.{Gone};
     ghost use Rattle.zlinks.specs.support.Order.{AreSorted};
 
     ghost Value = { Channels T };
 
-    ghost view = { λ links. links.queues.items };
+    ghost view = { λ links. record { sent = links.queues.items; noted = links.notices } };
 
-    ghost invariant = { λ links. AreSorted links.queues.items };
+    ghost invariant = { λ links. AreSorted links.queues.items × (links.shown ≡ Gone) };
 }
 
 impl<T: Drop> Links<T> {
     /// Returns empty channels.
     pub fn new(alloc: Global) -> Result<Links<T>, Memory>
-        ensures { IfOk result (λ links. (from to : Process) → links_of links from to ≡ []) }
+        ensures empty { IfOk result (λ links. (from to : Process) → links_of links from to ≡ []) }
+        ensures notices { IfOk result (λ links. Notes links (λ p. false)) }
     {
         let queues = Vec::with_capacity(alloc, 1)?;
-        Ok(Links { queues, alloc })
+        Ok(Links {
+            queues,
+            notices: Notices::none(),
+            shown: Message::Gone,
+            alloc,
+        })
     }
 
     /// Returns the first place, from `at` on, of a process with messages in flight, or `PROCESSES`.
     /// The master has place 0; then come the servers and the clients, each by number.
+    #[inline(always)]
     pub fn next_sender(&self, at: usize) -> usize
         ensures few { result ≤ PROCESSES }
         ensures ahead { at ≤ PROCESSES → at ≤ result }
         ensures silent { Between at result (λ from. is_silent self.now from ≡ true) }
         ensures sends { At result (λ from. is_silent self.now from ≡ false) }
     {
-        let first = first_from(&self.queues, at, 0);
-        match self.queues.get(first) {
-            Some(queue) => queue.from(),
-            None => PROCESSES,
+        let next = next_from(&self.queues, at);
+        if self.notices.are_none() {
+            return next;
         }
+        self.notices.next_sender(at, next)
     }
 
     /// Returns the first place, from `at` on, of a process to which `from` has messages in flight,
     /// or `PROCESSES`.
+    #[inline(always)]
     pub fn next_receiver(&self, from: &Process, at: usize) -> usize
         ensures few { result ≤ PROCESSES }
         ensures ahead { at ≤ PROCESSES → at ≤ result }
         ensures empty { Between at result (λ to. links_of self.now from.now to ≡ []) }
         ensures held { At result (λ to. holds (links_of self.now from.now to) ≡ true) }
     {
-        let sender = from.place();
-        let first = first_from(&self.queues, sender, at);
-        match self.queues.get(first) {
-            Some(queue) if queue.from() == sender => queue.to(),
-            _ => PROCESSES,
+        let next = next_to(&self.queues, from, at);
+        if at > 0 {
+            return next;
         }
+        if self.notices.is_between(from, &Process::Master) {
+            return 0;
+        }
+        next
     }
 
-    /// Appends a message to a channel.
+    /// Appends a message to a channel. A server that has sent its failure notice sends no more.
+    #[inline(always)]
     pub fn put(&mut self, from: &Process, to: &Process, message: Message<T>) -> Result<(), Memory>
+        requires { has_notice self.old from.now ≡ false }
         ensures put { OnOk result
             (Keeps self.new (with_last (links_of self.old) from.now to.now message)) }
         ensures same { OnErr result (Keeps self.new (links_of self.old)) }
+        ensures notices { Notes self.new (has_notice self.old) }
     {
         let sender = from.place();
         let receiver = to.place();
@@ -92,6 +118,15 @@ impl<T: Drop> Links<T> {
         }
     }
 
+    /// Appends the failure notice of a server to its channel to the master. It needs no memory.
+    pub fn put_notice(&mut self, server: ServerId)
+        requires { has_notice self.old (Server server) ≡ false }
+        ensures put { Keeps self.new (with_last (links_of self.old) (Server server) Master Gone) }
+        ensures notices { Notes self.new (with_notice self.old (Server server)) }
+    {
+        self.notices.put(server);
+    }
+
     /// Returns the front of a channel, and leaves it there.
     pub fn front(&self, from: &Process, to: &Process) -> Option<&Message<T>>
         ensures { ShowsFront (links_of self.now from.now to.now) result }
@@ -99,6 +134,9 @@ impl<T: Drop> Links<T> {
         let sender = from.place();
         let receiver = to.place();
         let Ok(at) = find(&self.queues, sender, receiver) else {
+            if self.notices.is_between(from, to) {
+                return Some(&self.shown);
+            }
             return None;
         };
         Some(self.queues[at].front())
@@ -109,41 +147,82 @@ impl<T: Drop> Links<T> {
         ensures rest { Keeps self.new (without_first (links_of self.old) from.now to.now) }
         ensures front { IsFrontOf (links_of self.old from.now to.now) result }
         ensures same { IfNone result (self.new ≡ self.old) }
+        ensures notices { Notes self.new (notices_left self.old (links_of self.new)) }
     {
         let sender = from.place();
         let receiver = to.place();
         let Ok(at) = find(&self.queues, sender, receiver) else {
+            if self.notices.take(from, to) {
+                return Some(Message::Gone);
+            }
             return None;
         };
         if let Some(front) = self.queues[at].next() {
             return Some(front);
         }
-        let emptied = self.queues.remove(at);
+        let emptied = remove_at(&mut self.queues, at);
         Some(emptied.into_front())
     }
 
     /// Drops all messages on channels to a process.
     pub fn clear(&mut self, to: &Process)
-        ensures { Keeps self.new (without_receiver (links_of self.old) to.now) }
+        ensures cleared { Keeps self.new (without_receiver (links_of self.old) to.now) }
+        ensures notices { Notes self.new (notices_left self.old (links_of self.new)) }
     {
         let receiver = to.place();
         keep_others(&mut self.queues, receiver);
+        self.notices.clear(to);
     }
 }
 
-// Inserts a queue; or drops it, where memory runs out.
+// Inserts a queue; or drops it, where memory runs out. Mostly it comes first, so it goes last, and
+// nothing is moved.
+#[inline(always)]
 fn insert_at<T: Drop>(queues: &mut Vec<Queue<T>>, at: usize, queue: Queue<T>) -> Result<(), Memory>
     requires { at ≤ vec_len queues.old }
     ensures inserted { OnOk result (queues.new.items ≡ insert queues.old.items at queue) }
     ensures same { OnErr result (queues.new.items ≡ queues.old.items) }
 {
-    match queues.insert(at, queue) {
-        Ok(()) => Ok(()),
-        Err(refused) => {
-            drop(refused);
-            Err(Memory)
-        }
+    if at < queues.len() {
+        return insert_between(queues, at, queue);
     }
+    let Ok(()) = queues.reserve(1) else {
+        drop(queue);
+        return Err(Memory);
+    };
+    queues.push_reserved(queue);
+    Ok(())
+}
+
+// The same, where others have to be moved.
+#[cold]
+#[inline(never)]
+fn insert_between<T: Drop>(
+    queues: &mut Vec<Queue<T>>,
+    at: usize,
+    queue: Queue<T>,
+) -> Result<(), Memory>
+    requires { at ≤ vec_len queues.old }
+    ensures inserted { OnOk result (queues.new.items ≡ insert queues.old.items at queue) }
+    ensures same { OnErr result (queues.new.items ≡ queues.old.items) }
+{
+    Ok(queues.insert(at, queue)?)
+}
+
+// Removes a queue and returns it. Mostly it came first, so it stands last, and nothing is moved.
+#[inline(always)]
+fn remove_at<T: Drop>(queues: &mut Vec<Queue<T>>, at: usize) -> Queue<T>
+    requires { at < vec_len queues.old }
+    ensures value { result ≡ slice_index_or queues.old.items at result }
+    ensures items { queues.new.items ≡ remove queues.old.items at }
+{
+    if at + 1 < queues.len() {
+        return queues.remove(at);
+    }
+    let Some(last) = queues.pop() else {
+        unreachable!();
+    };
+    last
 }
 
 // Leaves the queues to other receivers.

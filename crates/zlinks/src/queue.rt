@@ -77,7 +77,7 @@ impl<T: Drop> Queue<T> {
         self.from == from && self.to == to
     }
 
-    /// Returns whether it stands before a queue between these places: by the senders, and for one
+    /// Returns whether it comes before a queue between these places: by the senders, and for one
     /// sender by the receivers.
     pub(crate) fn is_before(&self, from: usize, to: usize) -> bool
         ensures { result ≡ is_before self.now from to }
@@ -114,8 +114,8 @@ impl<T: Drop> Queue<T> {
     /// Removes the front and returns it, unless it is the only message.
     pub(crate) fn next(&mut self) -> Option<Message<T>>
         ensures places { (self.new.from ≡ self.old.from) × (self.new.to ≡ self.old.to) }
-        ensures more { IfSome result
-            (λ front. (front ≡ self.old.front) × (self.old.others ≡ self.new.front ∷ self.new.others)) }
+        ensures more { IfSome result (λ front. (front ≡ self.old.front)
+            × (self.old.others ≡ self.new.front ∷ self.new.others)) }
         ensures only { IfNone result ((self.old.others ≡ []) × (self.new ≡ self.old)) }
     {
         let second = self.others.pop_front()?;
@@ -123,6 +123,7 @@ impl<T: Drop> Queue<T> {
     }
 
     /// Returns the front, which is the only message.
+    #[inline(always)]
     pub(crate) fn into_front(self) -> Message<T>
         ensures { result ≡ self.front }
     {

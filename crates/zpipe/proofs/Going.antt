@@ -6,13 +6,15 @@ use Rattle.zdevices.specs.Device.{TookBeginning}
 use Rattle.zpieces.specs.Outbox.{PieceView}
 use Rattle.zpipe.specs.Inputs.{InputView, Keep, input}
 use Rattle.zpipe.specs.Outputs.{OutputView, End, output}
-use Rattle.zpipe.specs.Serving.{IsTelling, TellsSome, Serves, Sends, SendsSome, ServesFront, ServesAll, ServesSome, answer_of, inputs_text, outputs_text, pieces_text}
+use Rattle.zpipe.specs.Serving.{IsTelling, TellsSome, Serves, Sends, SendsSome, ServesFront, ServesAll, ServesSome}
+use Rattle.zpipe.specs.Serving.{answer_of, inputs_text, outputs_text, pieces_text}
 use Rattle.zpipe.proofs.Sequences.{Joins, answer-text, inputs-both, outputs-both, fit_both, serves_both, serves_one}
 
 -- ---- an answer
 
 -- the bytes of an answer, as they were put
-pub answer-put : (front out put : List ℕ) (pieces : List PieceView) → front ++ out ≡ pieces_text pieces → put ≡ out ++ output.spell End → outputs_text (answer_of pieces) ≡ front ++ put
+pub answer-put : (front out put : List ℕ) (pieces : List PieceView) → front ++ out ≡ pieces_text pieces
+    → put ≡ out ++ output.spell End → outputs_text (answer_of pieces) ≡ front ++ put
 answer-put front out put pieces same then =
     answer-text pieces
     ∙ ap (λ (t : List ℕ). t ++ output.spell End) (sym same)
@@ -39,7 +41,8 @@ module _ {V : Type 0} (kept : V → V → Type 0) (told : V → PieceView → V 
   }
 
   -- the end failed
-  pub sends_most : (takes sends both : List ℕ → Type 0) (old middle now : V) (out put : List ℕ) → Joins takes sends both → kept old middle → IsTelling told takes middle now out
+  pub sends_most : (takes sends both : List ℕ → Type 0) (old middle now : V) (out put : List ℕ) → Joins takes sends both
+      → kept old middle → IsTelling told takes middle now out
       → put ≡ out ++ output.spell End → TookBeginning sends put → SendsSome kept told both old
   sends_most takes sends both old middle now out put joins keeps is same began = record {
     outputs = answer_of is.pieces;
@@ -66,7 +69,8 @@ on_ok (Err e) P Q then p = tt
 
 module _ {V : Type 0} (took : V → InputView → V → Type 0) (kept : V → V → Type 0) (told : V → PieceView → V → Type 0) (has_told : V → Type 0) where
   -- the whole answer went to the sink
-  pub sends_all : (takes sends both : List ℕ → Type 0) (old middle now : V) (out put : List ℕ) → Joins takes sends both → kept old middle → IsTelling told takes middle now out → has_told now
+  pub sends_all : (takes sends both : List ℕ → Type 0) (old middle now : V) (out put : List ℕ) → Joins takes sends both
+      → kept old middle → IsTelling told takes middle now out → has_told now
       → put ≡ out ++ output.spell End → sends put → Sends took kept told has_told Keep both old now
   sends_all takes sends both old middle now out put joins keeps is none same wrote = record {
     outputs = answer_of is.pieces;
@@ -79,22 +83,26 @@ module _ {V : Type 0} (took : V → InputView → V → Type 0) (kept : V → V 
 
   -- one more input
   pub front_more : (takes sends both : List ℕ → Type 0) (bytes rest more : List ℕ) (it : InputView) (old middle new : V) → Joins takes sends both
-      → ServesFront took kept told has_told takes bytes rest old middle → input.Fits it → rest ≡ input.spell it ++ more → Sends took kept told has_told it sends middle new
+      → ServesFront took kept told has_told takes bytes rest old middle → input.Fits it → rest ≡ input.spell it ++ more
+      → Sends took kept told has_told it sends middle new
       → ServesFront took kept told has_told both bytes more old new
   front_more takes sends both bytes rest more it old middle new joins front fits same one = record {
     inputs = front.inputs ++ it ∷ [];
     outputs = front.outputs ++ one.outputs;
-    serves = serves_both took kept told has_told front.inputs (it ∷ []) front.outputs one.outputs old middle new front.serves (serves_one took kept told has_told it one.outputs middle new one.does);
+    serves = serves_both took kept told has_told front.inputs (it ∷ []) front.outputs one.outputs old middle new
+        front.serves (serves_one took kept told has_told it one.outputs middle new one.does);
     fit = fit_both front.inputs (it ∷ []) front.fit (fits, tt);
     split = front.split
         ∙ ap (λ (t : List ℕ). inputs_text front.inputs ++ t) same
         ∙ sym (append_assoc (inputs_text front.inputs) (input.spell it) more)
         ∙ ap (λ (t : List ℕ). (inputs_text front.inputs ++ t) ++ more) (sym (append-nil (input.spell it)))
         ∙ ap (λ (t : List ℕ). t ++ more) (sym (inputs-both front.inputs (it ∷ [])));
-    took_them = subst both (sym (outputs-both front.outputs one.outputs)) (joins (outputs_text front.outputs) (outputs_text one.outputs) front.took_them one.took_them);
+    took_them = subst both (sym (outputs-both front.outputs one.outputs))
+        (joins (outputs_text front.outputs) (outputs_text one.outputs) front.took_them one.took_them);
   }
 
-  pub front_fails : (takes : List ℕ → Type 0) (bytes rest : List ℕ) (old middle : V) → ServesFront took kept told has_told takes bytes rest old middle → ServesSome took kept told has_told takes old
+  pub front_fails : (takes : List ℕ → Type 0) (bytes rest : List ℕ) (old middle : V)
+      → ServesFront took kept told has_told takes bytes rest old middle → ServesSome took kept told has_told takes old
   front_fails takes bytes rest old middle front = record {
     inputs = front.inputs;
     outputs = front.outputs;
@@ -109,7 +117,8 @@ module _ {V : Type 0} (took : V → InputView → V → Type 0) (kept : V → V 
 
   -- a beginning of an answer behind inputs that were taken
   some_behind : (takes sends both : List ℕ → Type 0) (inputs : List InputView) (outputs : List OutputView) (old middle : V) → Joins takes sends both
-      → Serves took kept told has_told inputs outputs old middle → takes (outputs_text outputs) → SendsSome kept told sends middle → ServesSome took kept told has_told both old
+      → Serves took kept told has_told inputs outputs old middle → takes (outputs_text outputs) → SendsSome kept told sends middle
+      → ServesSome took kept told has_told both old
   some_behind takes sends both inputs outputs old middle joins serves took_them some = record {
     inputs = inputs;
     outputs = outputs;
@@ -120,14 +129,17 @@ module _ {V : Type 0} (took : V → InputView → V → Type 0) (kept : V → V 
     front = outputs_text outputs ++ some.front;
     is_front = (
       some.is_front.0,
-      outputs-both outputs some.outputs ∙ ap (λ (t : List ℕ). outputs_text outputs ++ t) some.is_front.1 ∙ sym (append_assoc (outputs_text outputs) some.front some.is_front.0),
+      outputs-both outputs some.outputs ∙ ap (λ (t : List ℕ). outputs_text outputs ++ t) some.is_front.1
+          ∙ sym (append_assoc (outputs_text outputs) some.front some.is_front.0),
     );
     took_it = joins (outputs_text outputs) some.front took_them some.took_it;
   }
 
   pub front_stops : (takes sends both : List ℕ → Type 0) (bytes rest : List ℕ) (old middle : V) → Joins takes sends both
-      → ServesFront took kept told has_told takes bytes rest old middle → SendsSome kept told sends middle → ServesSome took kept told has_told both old
-  front_stops takes sends both bytes rest old middle joins front some = some_behind takes sends both front.inputs front.outputs old middle joins front.serves front.took_them some
+      → ServesFront took kept told has_told takes bytes rest old middle → SendsSome kept told sends middle
+      → ServesSome took kept told has_told both old
+  front_stops takes sends both bytes rest old middle joins front some = some_behind takes sends both front.inputs
+      front.outputs old middle joins front.serves front.took_them some
 
   -- ---- all that a source gives
 
@@ -140,11 +152,21 @@ module _ {V : Type 0} (took : V → InputView → V → Type 0) (kept : V → V 
     pub took_them : takes (outputs_text outputs)
 
   pub all_begins : (gave takes : List ℕ → Type 0) (begun : List ℕ) (old : V) → begun ≡ [] → gave [] → takes [] → IsGoing gave takes begun old old
-  all_begins gave takes begun old fresh nothing none = record { inputs = []; outputs = []; serves = (refl, refl); fit = tt; gave_them = subst gave (sym fresh) nothing; took_them = none }
+  all_begins gave takes begun old fresh nothing none = record {
+    inputs = [];
+    outputs = [];
+    serves = (refl, refl);
+    fit =
+        tt;
+    gave_them = subst gave (sym fresh) nothing;
+    took_them = none;
+  }
 
   -- a block more
-  pub going_on : (gave gives given takes sends both : List ℕ → Type 0) (begun piece bytes rest : List ℕ) (old middle new : V) → Joins gave gives given → Joins takes sends both
-      → IsGoing gave takes begun old middle → gives piece → bytes ≡ begun ++ piece → ServesFront took kept told has_told sends bytes rest middle new → IsGoing given both rest old new
+  pub going_on : (gave gives given takes sends both : List ℕ → Type 0) (begun piece bytes rest : List ℕ) (old middle new : V)
+      → Joins gave gives given → Joins takes sends both
+      → IsGoing gave takes begun old middle → gives piece → bytes ≡ begun ++ piece
+      → ServesFront took kept told has_told sends bytes rest middle new → IsGoing given both rest old new
   going_on gave gives given takes sends both begun piece bytes rest old middle new gave_both took_both so_far gave_it same front = record {
     inputs = so_far.inputs ++ front.inputs;
     outputs = so_far.outputs ++ front.outputs;
@@ -157,10 +179,12 @@ module _ {V : Type 0} (took : V → InputView → V → Type 0) (kept : V → V 
         ∙ sym (append_assoc (inputs_text so_far.inputs) (inputs_text front.inputs) rest)
         ∙ ap (λ (t : List ℕ). t ++ rest) (sym (inputs-both so_far.inputs front.inputs)) in
         subst given all (gave_both (inputs_text so_far.inputs ++ begun) piece so_far.gave_them gave_it);
-    took_them = subst both (sym (outputs-both so_far.outputs front.outputs)) (took_both (outputs_text so_far.outputs) (outputs_text front.outputs) so_far.took_them front.took_them);
+    took_them = subst both (sym (outputs-both so_far.outputs front.outputs)) (took_both (outputs_text so_far.outputs)
+        (outputs_text front.outputs) so_far.took_them front.took_them);
   }
 
-  pub going_ends : (gave gives given takes : List ℕ → Type 0) (begun : List ℕ) (old now : V) → Joins gave gives given → IsGoing gave takes begun old now → gives []
+  pub going_ends : (gave gives given takes : List ℕ → Type 0) (begun : List ℕ) (old now : V) → Joins gave gives given
+      → IsGoing gave takes begun old now → gives []
       → ServesAll took kept told has_told [] given takes old now
   going_ends gave gives given takes begun old now gave_both so_far nothing = record {
     inputs = so_far.inputs;
@@ -168,11 +192,13 @@ module _ {V : Type 0} (took : V → InputView → V → Type 0) (kept : V → V 
     serves = so_far.serves;
     fit = so_far.fit;
     rest = begun;
-    gave_them = subst given (append-nil (inputs_text so_far.inputs ++ begun)) (gave_both (inputs_text so_far.inputs ++ begun) [] so_far.gave_them nothing);
+    gave_them = subst given (append-nil (inputs_text so_far.inputs ++ begun))
+        (gave_both (inputs_text so_far.inputs ++ begun) [] so_far.gave_them nothing);
     took_them = so_far.took_them;
   }
 
-  pub going_fails : (gave takes : List ℕ → Type 0) (begun : List ℕ) (old now : V) → IsGoing gave takes begun old now → ServesSome took kept told has_told takes old
+  pub going_fails : (gave takes : List ℕ → Type 0) (begun : List ℕ) (old now : V) → IsGoing gave takes begun old now
+      → ServesSome took kept told has_told takes old
   going_fails gave takes begun old now so_far = record {
     inputs = so_far.inputs;
     outputs = so_far.outputs;
@@ -186,8 +212,10 @@ module _ {V : Type 0} (took : V → InputView → V → Type 0) (kept : V → V 
   }
 
   -- it ended earlier, behind these inputs
-  pub some_later : (takes sends both : List ℕ → Type 0) (inputs : List InputView) (outputs : List OutputView) (old middle : V) → Joins takes sends both
-      → Serves took kept told has_told inputs outputs old middle → takes (outputs_text outputs) → ServesSome took kept told has_told sends middle → ServesSome took kept told has_told both old
+  pub some_later : (takes sends both : List ℕ → Type 0) (inputs : List InputView) (outputs : List OutputView) (old middle : V)
+      → Joins takes sends both
+      → Serves took kept told has_told inputs outputs old middle → takes (outputs_text outputs)
+      → ServesSome took kept told has_told sends middle → ServesSome took kept told has_told both old
   some_later takes sends both inputs outputs old middle joins serves took_them some = record {
     inputs = inputs ++ some.inputs;
     outputs = outputs ++ some.outputs;
@@ -206,28 +234,35 @@ module _ {V : Type 0} (took : V → InputView → V → Type 0) (kept : V → V 
     took_it = joins (outputs_text outputs) some.front took_them some.took_it;
   }
 
-  pub going_stops : (gave takes sends both : List ℕ → Type 0) (begun : List ℕ) (old middle : V) → Joins takes sends both → IsGoing gave takes begun old middle
+  pub going_stops : (gave takes sends both : List ℕ → Type 0) (begun : List ℕ) (old middle : V) → Joins takes sends both
+      → IsGoing gave takes begun old middle
       → ServesSome took kept told has_told sends middle → ServesSome took kept told has_told both old
-  going_stops gave takes sends both begun old middle joins so_far some = some_later takes sends both so_far.inputs so_far.outputs old middle joins so_far.serves so_far.took_them some
+  going_stops gave takes sends both begun old middle joins so_far some = some_later takes sends both so_far.inputs
+      so_far.outputs old middle joins so_far.serves so_far.took_them some
 
   -- ---- behind the first answer
 
-  pub all_behind : (gave takes sends both : List ℕ → Type 0) (old middle new : V) → Joins takes sends both → Sends took kept told has_told Keep takes old middle
+  pub all_behind : (gave takes sends both : List ℕ → Type 0) (old middle new : V) → Joins takes sends both
+      → Sends took kept told has_told Keep takes old middle
       → ServesAll took kept told has_told [] gave sends middle new → ServesAll took kept told has_told (Keep ∷ []) gave both old new
   all_behind gave takes sends both old middle new joins first all = record {
     inputs = all.inputs;
     outputs = first.outputs ++ all.outputs;
-    serves = serves_both took kept told has_told (Keep ∷ []) all.inputs first.outputs all.outputs old middle new (serves_one took kept told has_told Keep first.outputs old middle first.does) all.serves;
+    serves = serves_both took kept told has_told (Keep ∷ []) all.inputs first.outputs all.outputs old middle new
+        (serves_one took kept told has_told Keep first.outputs old middle first.does) all.serves;
     fit = all.fit;
     rest = all.rest;
     gave_them = all.gave_them;
-    took_them = subst both (sym (outputs-both first.outputs all.outputs)) (joins (outputs_text first.outputs) (outputs_text all.outputs) first.took_them all.took_them);
+    took_them = subst both (sym (outputs-both first.outputs all.outputs))
+        (joins (outputs_text first.outputs) (outputs_text all.outputs) first.took_them all.took_them);
   }
 
-  pub some_after : (takes sends both : List ℕ → Type 0) (old middle : V) → Joins takes sends both → Sends took kept told has_told Keep takes old middle
+  pub some_after : (takes sends both : List ℕ → Type 0) (old middle : V) → Joins takes sends both
+      → Sends took kept told has_told Keep takes old middle
       → ServesSome took kept told has_told sends middle → ServesSome took kept told has_told both old
   some_after takes sends both old middle joins first some =
-      some_later takes sends both (Keep ∷ []) first.outputs old middle joins (serves_one took kept told has_told Keep first.outputs old middle first.does) first.took_them some
+      some_later takes sends both (Keep ∷ []) first.outputs old middle joins (serves_one took kept told has_told Keep
+      first.outputs old middle first.does) first.took_them some
 
   pub some_first : (takes : List ℕ → Type 0) (old : V) → SendsSome kept told takes old → ServesSome took kept told has_told takes old
   some_first takes old some = record {

@@ -25,11 +25,15 @@ pub is_line : IsForm line
 unfolding line
 is_line = is_sized MAX_LINE (omega arith)
 
-input_again : (it : InputView) (rest : List ℕ) → Anything rest → (input_spelled it).fits → input_at (input_spelled it).tag ((input_spelled it).text ++ rest) ≡ Ok (it, rest)
+input_again : (it : InputView) (rest : List ℕ) → Anything rest → (input_spelled it).fits
+    → input_at (input_spelled it).tag ((input_spelled it).text ++ rest) ≡ Ok (it, rest)
 unfolding input_at
-input_again (Opened connection password) rest any fits = again_as Anything opened (λ x. Opened x.0 x.1) (before Anything opened is_opened) (connection, password) rest any fits
-input_again (Came connection bytes) rest any fits = again_as Anything came (λ x. Came x.0 x.1) (before Anything came is_came) (connection, bytes) rest any fits
-input_again (Ended connection) rest any fits = again_as Anything (number w32) (λ c. Ended c) (before Anything (number w32) is_u32) connection rest any fits
+input_again (Opened connection password) rest any fits = again_as Anything opened (λ x. Opened x.0 x.1)
+    (before Anything opened is_opened) (connection, password) rest any fits
+input_again (Came connection bytes) rest any fits = again_as Anything came (λ x. Came x.0 x.1) (before Anything came is_came)
+    (connection, bytes) rest any fits
+input_again (Ended connection) rest any fits = again_as Anything (number w32) (λ c. Ended c) (before Anything (number w32) is_u32)
+    connection rest any fits
 input_again Tick rest any fits = again_as Anything empty (λ _. Tick) (before Anything empty is_empty) tt rest any fits
 input_again (Line text) rest any fits = again_as Anything line (λ text. Line text) (before Anything line is_line) text rest any fits
 input_again Keep rest any fits = again_as Anything empty (λ _. Keep) (before Anything empty is_empty) tt rest any fits

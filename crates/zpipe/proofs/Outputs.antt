@@ -21,7 +21,8 @@ is_piece = is_record (both (number w32) (both flag (sized MAX_PIECE)))
     (is_both (number w32) (both flag (sized MAX_PIECE)) is_u32 (is_both flag (sized MAX_PIECE) is_flag (is_sized MAX_PIECE (omega arith))))
     (λ x. refl) (λ p. refl)
 
-output_again : (it : OutputView) (rest : List ℕ) → Anything rest → (output_spelled it).fits → output_at (output_spelled it).tag ((output_spelled it).text ++ rest) ≡ Ok (it, rest)
+output_again : (it : OutputView) (rest : List ℕ) → Anything rest → (output_spelled it).fits
+    → output_at (output_spelled it).tag ((output_spelled it).text ++ rest) ≡ Ok (it, rest)
 unfolding output_at
 output_again (Piece p) rest any fits = again_as Anything piece (λ p. Piece p) (before Anything piece is_piece) p rest any fits
 output_again End rest any fits = again_as Anything empty (λ _. End) (before Anything empty is_empty) tt rest any fits

@@ -23,13 +23,16 @@ tells_more told (q ∷ pieces) old middle new p are one = (are.0, are.1, tells_m
 pub pieces-more : (pieces : List PieceView) (p : PieceView) → pieces_text (pieces ++ p ∷ []) ≡ pieces_text pieces ++ output.spell (Piece p)
 pieces-more pieces p =
     flat_map-append (λ (q : PieceView). output.spell (Piece q)) pieces (p ∷ [])
-    ∙ ap (λ (t : List ℕ). pieces_text pieces ++ t) (flat_map-cons (λ (q : PieceView). output.spell (Piece q)) p [] ∙ append-nil (output.spell (Piece p)))
+    ∙ ap (λ (t : List ℕ). pieces_text pieces ++ t) (flat_map-cons (λ (q : PieceView). output.spell (Piece q)) p []
+    ∙ append-nil (output.spell (Piece p)))
 
-pub telling_begins : {V : Type 0} (told : V → PieceView → V → Type 0) (takes : List ℕ → Type 0) (first : V) (out : List ℕ) → out ≡ [] → takes [] → IsTelling told takes first first out
+pub telling_begins : {V : Type 0} (told : V → PieceView → V → Type 0) (takes : List ℕ → Type 0) (first : V) (out : List ℕ)
+    → out ≡ [] → takes [] → IsTelling told takes first first out
 telling_begins told takes first out fresh nothing = record { pieces = []; tells = refl; front = []; took_it = nothing; text = fresh }
 
 -- one more piece is put
-pub telling_more : {V : Type 0} (told : V → PieceView → V → Type 0) (takes : List ℕ → Type 0) (first middle new : V) (out more : List ℕ) (p : PieceView)
+pub telling_more : {V : Type 0} (told : V → PieceView → V → Type 0) (takes : List ℕ → Type 0)
+    (first middle new : V) (out more : List ℕ) (p : PieceView)
     → IsTelling told takes first middle out → told middle p new → more ≡ out ++ output.spell (Piece p) → IsTelling told takes first new more
 telling_more told takes first middle new out more p is one same = record {
   pieces = is.pieces ++ p ∷ [];
@@ -43,7 +46,8 @@ telling_more told takes first middle new out more p is one same = record {
 }
 
 -- what waits is written
-pub telling_written : {V : Type 0} (told : V → PieceView → V → Type 0) (takes sends both : List ℕ → Type 0) (first now : V) (out left : List ℕ) → Joins takes sends both
+pub telling_written : {V : Type 0} (told : V → PieceView → V → Type 0) (takes sends both : List ℕ → Type 0) (first now : V) (out left : List ℕ)
+    → Joins takes sends both
     → IsTelling told takes first now out → sends out → left ≡ [] → IsTelling told both first now left
 telling_written told takes sends both first now out left joins is wrote none = record {
   pieces = is.pieces;
@@ -54,10 +58,19 @@ telling_written told takes sends both first now out left joins is wrote none = r
 }
 
 -- it ended, and what waits is lost
-pub telling_fails : {V : Type 0} (told : V → PieceView → V → Type 0) (takes : List ℕ → Type 0) (first now : V) (out : List ℕ) → IsTelling told takes first now out → TellsSome told takes first
-telling_fails told takes first now out is = record { pieces = is.pieces; last = now; tells = is.tells; front = is.front; took_it = is.took_it; is_front = (out, sym is.text) }
+pub telling_fails : {V : Type 0} (told : V → PieceView → V → Type 0) (takes : List ℕ → Type 0) (first now : V) (out : List ℕ)
+    → IsTelling told takes first now out → TellsSome told takes first
+telling_fails told takes first now out is = record {
+  pieces = is.pieces;
+  last = now;
+  tells = is.tells;
+  front = is.front;
+  took_it = is.took_it;
+  is_front = (out, sym is.text);
+}
 
-pub telling_stops : {V : Type 0} (told : V → PieceView → V → Type 0) (takes sends both : List ℕ → Type 0) (first now : V) (out : List ℕ) → Joins takes sends both
+pub telling_stops : {V : Type 0} (told : V → PieceView → V → Type 0) (takes sends both : List ℕ → Type 0) (first now : V) (out : List ℕ)
+    → Joins takes sends both
     → IsTelling told takes first now out → TookBeginning sends out → TellsSome told both first
 telling_stops told takes sends both first now out joins is began = record {
   pieces = is.pieces;
@@ -94,7 +107,8 @@ fit_both (x ∷ a) b fit also = (fit.0, fit_both a b fit.1 also)
 
 module _ {V : Type 0} (took : V → InputView → V → Type 0) (kept : V → V → Type 0) (told : V → PieceView → V → Type 0) (has_told : V → Type 0) where
   pub serves_both : (a b : List InputView) (x y : List OutputView) (old middle new : V)
-      → Serves took kept told has_told a x old middle → Serves took kept told has_told b y middle new → Serves took kept told has_told (a ++ b) (x ++ y) old new
+      → Serves took kept told has_told a x old middle → Serves took kept told has_told b y middle new
+      → Serves took kept told has_told (a ++ b) (x ++ y) old new
   serves_both [] b x y old middle new are rest =
       subst (λ (v : V). Serves took kept told has_told b (x ++ y) v new) are.0
       (subst (λ (l : List OutputView). Serves took kept told has_told b (l ++ y) middle new) (sym are.1) rest)
@@ -107,5 +121,6 @@ module _ {V : Type 0} (took : V → InputView → V → Type 0) (kept : V → V 
     ap (λ (l : List OutputView). l ++ y) are.5 ∙ append_assoc are.0 are.2 y,
   )
 
-  pub serves_one : (it : InputView) (outputs : List OutputView) (old new : V) → Does took kept told has_told it outputs old new → Serves took kept told has_told (it ∷ []) outputs old new
+  pub serves_one : (it : InputView) (outputs : List OutputView) (old new : V) → Does took kept told has_told it outputs old new
+      → Serves took kept told has_told (it ∷ []) outputs old new
   serves_one it outputs old new does = (outputs, new, [], does, (refl, refl), sym (append-nil outputs))

@@ -63,7 +63,8 @@ impl<T: Drop> Out<T> {
         }
     }
 
-    /// Appends a message within the reserved room.
+    /// Appends a message within the reserved room. Inlined, so that a message is made where it lies.
+    #[inline(always)]
     pub fn put_reserved(&mut self, receiver: Process, message: Message<T>)
         requires { 0 < self.old.room }
         ensures put { self.new.posts ≡ self.old.posts ++ (receiver, message) ∷ [] }

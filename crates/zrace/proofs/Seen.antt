@@ -1,5 +1,6 @@
 -- What a client was told stays told.
-use Rattle.std.proofs.Common.{◌≡◌, ◌≢◌, ◌<◌, ⊎_elim, refl, ℕ, zero, suc, Option, None, Some, List, [], ◌∷◌, length, get_or, set, sym, subst, ap, ◌∙◌, true, false, true≢false}
+use Rattle.std.proofs.Common.{◌≡◌, ◌≢◌, ◌<◌, ⊎_elim, refl, ℕ, zero, suc, Option, None, Some, List, [], ◌∷◌, length}
+use Rattle.std.proofs.Common.{get_or, set, sym, subst, ap, ◌∙◌, true, false, true≢false}
 use Rattle.std.specs.Prelude.{All, IsNone, is_some}
 use mathlib.Core.Logic.{∥∥₁_map}
 use Rattle.std.proofs.lemmas.Bool.{cases_eq}
@@ -30,7 +31,8 @@ still_seen c d node version same seen =
     let back = same_back c d same in
     ∥∥₁_map seen (λ s. (s.0, s.1, same_through d c s.0 back s.2, same_through d c s.1 back s.3, s.4))
 
-pub all_still_seen : (c d : Client) (seen : List (ℕ × ℕ)) → SameClient c d → All (λ it. HasSeen c it.0 it.1) seen → All (λ it. HasSeen d it.0 it.1) seen
+pub all_still_seen : (c d : Client) (seen : List (ℕ × ℕ)) → SameClient c d → All (λ it. HasSeen c it.0 it.1) seen
+    → All (λ it. HasSeen d it.0 it.1) seen
 all_still_seen c d seen same all =
     All-weaker (λ (it : ℕ × ℕ). HasSeen c it.0 it.1) (λ (it : ℕ × ℕ). HasSeen d it.0 it.1) (λ it has. still_seen c d it.0 it.1 same has) seen all
 
@@ -44,16 +46,19 @@ seen_now c d node version same told =
 pub all_seen_now : (c d : Client) (old new : List (ℕ × ℕ)) (node version : ℕ) → SameClient c d → WasToldSince node c d version
     → IsKeptBehind old new (node, version) → All (λ it. HasSeen c it.0 it.1) old → All (λ it. HasSeen d it.0 it.1) new
 all_seen_now c d old new node version same told kept all =
-    all_kept (λ (it : ℕ × ℕ). HasSeen d it.0 it.1) old new (node, version) kept (all_still_seen c d old same all) (seen_now c d node version same told)
+    all_kept (λ (it : ℕ × ℕ). HasSeen d it.0 it.1) old new (node, version) kept (all_still_seen c d old same all)
+    (seen_now c d node version same told)
 
 -- what a client of a run was told
 pub seen_in_run : (run : Run) (c : Client) (node version : ℕ) → BelongsTo run c → HasSeen c node version → IsSeenIn run node version
 seen_in_run run c node version belongs seen =
     ∥∥₁_map seen (λ s. (s.0, s.1, still_belongs run c s.0 belongs s.2, still_belongs run c s.1 belongs s.3, s.4))
 
-pub all_seen_in_run : (run : Run) (c : Client) (seen : List (ℕ × ℕ)) → BelongsTo run c → All (λ it. HasSeen c it.0 it.1) seen → All (λ it. IsSeenIn run it.0 it.1) seen
+pub all_seen_in_run : (run : Run) (c : Client) (seen : List (ℕ × ℕ)) → BelongsTo run c → All (λ it. HasSeen c it.0 it.1) seen
+    → All (λ it. IsSeenIn run it.0 it.1) seen
 all_seen_in_run run c seen belongs all =
-    All-weaker (λ (it : ℕ × ℕ). HasSeen c it.0 it.1) (λ (it : ℕ × ℕ). IsSeenIn run it.0 it.1) (λ it has. seen_in_run run c it.0 it.1 belongs has) seen all
+    All-weaker (λ (it : ℕ × ℕ). HasSeen c it.0 it.1) (λ (it : ℕ × ℕ). IsSeenIn run it.0 it.1)
+    (λ it has. seen_in_run run c it.0 it.1 belongs has) seen all
 
 -- where no version is told, none is another than was told
 none_there : (versions : List (Option ℕ)) (node version : ℕ) → All IsNone versions → get_or versions node None ≡ Some version → ⊥

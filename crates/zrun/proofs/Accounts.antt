@@ -1,5 +1,6 @@
 -- What the processes left accounts for what they did, and for the traces of the run.
-use Rattle.std.proofs.Common.{◌≡◌, ◌<◌, ℕ, true, false, true≢false, List, [], ◌++◌, length, get_or, refl, sym, ap, subst, ◌∙◌, append-nil, append_assoc}
+use Rattle.std.proofs.Common.{◌≡◌, ◌<◌, ℕ, true, false, true≢false, List, [], ◌++◌, length, get_or, refl, sym, ap}
+use Rattle.std.proofs.Common.{subst, ◌∙◌, append-nil, append_assoc}
 use mathlib.Core.Option.{some}
 use lib.ListN.{get_elem?}
 use Rattle.zprotocol.specs.server.Machine.{kept_tree}
@@ -61,7 +62,8 @@ module _ (last n : ℕ) (es : List Ending) (ds : List (List TreeDeed)) (g : Link
       subst (λ (q : Process). GoesBy kept_tree q (opening_of last n q) 0 (get_or ds i [])) (sym at) went
   goes p (Outside out) = tt
 
-  linked : (from to : Process) (f : Found from (length es)) (h : Found to (length es)) → Begins (takes from (deeds_in to h)) (puts to (deeds_in from f))
+  linked : (from to : Process) (f : Found from (length es)) (h : Found to (length es))
+      → Begins (takes from (deeds_in to h)) (puts to (deeds_in from f))
   linked from to f (Outside out) = (puts to (deeds_in from f), refl)
   linked from to (Outside out) (Inside j lt at) =
       let e = element es j lt in
@@ -79,7 +81,8 @@ module _ (last n : ℕ) (es : List Ending) (ds : List (List TreeDeed)) (g : Link
       begins_so _ (taken_of rx.0) _ taken (subst (λ l. Begins (taken_of rx.0) l) put told) in
       subst (λ (q : Process × Process). Begins (takes q.0 (get_or ds j [])) (puts q.1 (get_or ds i []))) (λ k. (sym at k, sym at' k)) so
 
-  left : (i : ℕ) (e : Ending) → get_elem? es i ≡ some e → (f : Found (process_at i) (length es)) → AccountsAtEnd (self_at last n i) e (deeds_in (process_at i) f)
+  left : (i : ℕ) (e : Ending) → get_elem? es i ≡ some e → (f : Found (process_at i) (length es))
+      → AccountsAtEnd (self_at last n i) e (deeds_in (process_at i) f)
   left i e at (Inside j lt is) = subst (λ k. AccountsAtEnd (self_at last n i) e (get_or ds k [])) (one_place i j is) (mine i e at)
   left i e at (Outside out) = absurd (true≢false (sym (same_at (process_at i) i refl) ∙ out i (within es i e at)))
 
@@ -95,7 +98,8 @@ module _ (last n : ℕ) (es : List Ending) (ds : List (List TreeDeed)) (g : Link
       )
 
   module _ (t : Traces) (h : Tells last n t es) where
-    went_on : (p : Process) (f : Found p (length es)) → GoesBy kept_tree p (standing_in (opening_world kept_tree t.last (client_count t)) p) 0 (deeds_in p f)
+    went_on : (p : Process) (f : Found p (length es))
+        → GoesBy kept_tree p (standing_in (opening_world kept_tree t.last (client_count t)) p) 0 (deeds_in p f)
     unfolding opening_of
     went_on p f =
         subst (λ (w : ℕ × ℕ). GoesBy kept_tree p (standing_in (opening_world kept_tree w.0 w.1) p) 0 (deeds_in p f))

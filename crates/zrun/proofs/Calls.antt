@@ -10,7 +10,7 @@ use Rattle.zprotocol.specs.declared.process.Process.TheVariants.{Master, Server}
 use Rattle.zprotocol.specs.client.View.{ClientView}
 use Rattle.zprotocol.specs.client.Table.{answer_row, begin_step, client_step, ClientResult, config_row, is_waiting_for, no_effect, outstanding_posts}
 use Rattle.zhost.specs.declared.caller.Caller.{Caller}
-use Rattle.zhost.specs.Callers.{Began, Turned}
+use Rattle.zhost.specs.Callers.{Began, caller_view, Turned}
 use Rattle.zrun.specs.Clients.{TurnedInVain, TurnedUntil}
 use Rattle.zrun.specs.Asked.{SentAgain}
 
@@ -40,14 +40,15 @@ module _ (T : Type 0) (v : ClientView) where
   begun call = refl
 
 abbrev count : Caller → ℕ
-count c = c.core.number
+count c = (caller_view c).number
 
 pub began_once : (a b : Caller) (call : Call) (number : ℕ) → Began a b call number → count b ≡ count a + 1
-began_once a b call number began = ap (λ (v : ClientView). v.number) began.0.view ∙ begun _ a.core call
+began_once a b call number began = ap (λ (v : ClientView). v.number) began.0.view ∙ begun _ (caller_view a) call
 
 turned : (a b : Caller) (reply : Option Reply) → Turned a b reply → count b ≡ count a
 turned a b reply took =
-    ⊎_elim (λ idle. ap (λ (v : ClientView). v.number) idle.1) (λ heard. ap (λ (v : ClientView). v.number) heard.2.view ∙ stepped _ a.core heard.0 heard.1.1) took
+    ⊎_elim (λ idle. ap (λ (v : ClientView). v.number) idle.1) (λ heard. ap (λ (v : ClientView). v.number) heard.2.view
+    ∙ stepped _ (caller_view a) heard.0 heard.1.1) took
 
 pub in_vain : (n : ℕ) (a b : Caller) → TurnedInVain n a b → count b ≡ count a
 in_vain zero a b same = ap count same

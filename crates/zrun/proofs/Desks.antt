@@ -1,5 +1,6 @@
 -- The desks of a run, one behind the other, and the links that they were handed.
-use Rattle.std.proofs.Common.{◌≡◌, ◌<◌, ◌≤◌, ◌+◌, ℕ, zero, suc, Bool, List, [], ◌∷◌, ◌++◌, length, map, reverse, refl, sym, ap, subst, ◌∙◌, append-nil, append_assoc, arith}
+use Rattle.std.proofs.Common.{◌≡◌, ◌<◌, ◌≤◌, ◌+◌, ℕ, zero, suc, Bool, List, [], ◌∷◌, ◌++◌, length, map, reverse, refl}
+use Rattle.std.proofs.Common.{sym, ap, subst, ◌∙◌, append-nil, append_assoc, arith}
 use Rattle.std.proofs.lemmas.List.{length-map, length-reverse, map-append, nil_from_length, reverse-append}
 use Rattle.zprotocol.specs.declared.limits.TheConstants.{MAX_SERVERS}
 use mathlib.Core.Option.{some-injective, some-ne-none}
@@ -69,7 +70,8 @@ module _ (last n : ℕ) where
   both_desks k [] es one two = let here : k + 0 ≡ k = omega arith in subst (λ m. AreDesks last n m es) here two
   both_desks k (d ∷ ds) es one two =
       let there : k + suc (length ds) ≡ suc k + length ds = omega arith in
-      more_desks k d (ds ++ es) (first_desk k d ds one) (both_desks (suc k) ds es (other_desks k d ds one) (subst (λ m. AreDesks last n m es) there two))
+      more_desks k d (ds ++ es) (first_desk k d ds one) (both_desks (suc k) ds es (other_desks k d ds one)
+      (subst (λ m. AreDesks last n m es) there two))
 
 -- one traced as the others
 pub more_traced : (t : Bool) (d : Desk) (ds : List Desk) → d.is_traced ≡ t → AreTraced t ds → AreTraced t (d ∷ ds)

@@ -1,5 +1,6 @@
 -- What desks left.
-use Rattle.std.proofs.Common.{◌≡◌, ◌<◌, ◌+◌, ◌||◌, inl, inr, ℕ, zero, suc, Bool, Option, None, Some, IsSome, false, true≢false, List, [], ◌∷◌, length, map, get_or, refl, sym, ap, subst, ◌∙◌, arith}
+use Rattle.std.proofs.Common.{◌≡◌, ◌<◌, ◌+◌, ◌||◌, inl, inr, ℕ, zero, suc, Bool, Option, None, Some, IsSome, false}
+use Rattle.std.proofs.Common.{true≢false, List, [], ◌∷◌, length, map, get_or, refl, sym, ap, subst, ◌∙◌, arith}
 use Rattle.std.specs.List.{list_any}
 use Rattle.std.proofs.lemmas.List.Folds.{list_any-append}
 use Rattle.std.proofs.lemmas.List.{length-map}
@@ -39,9 +40,14 @@ element_is (y ∷ xs) zero x none at = some-injective y x at
 element_is (y ∷ xs) (suc i) x none at = element_is xs i x none at
 
 -- what is left of a desk that was handed back is left by the desk that went
-pub left_by : (a b : Desk) (e : Ending) → SameDesk a b → HasEnded (self_of b) e → SameWires b e → (b.is_traced ≡ false → LeavesNothing e) → IsLeftBy a e
+pub left_by : (a b : Desk) (e : Ending) → SameDesk a b → HasEnded (self_of b) e → SameWires b e → (b.is_traced ≡ false → LeavesNothing e)
+    → IsLeftBy a e
 left_by a b e same ended wires bare =
-    inr (subst (λ (w : Self). HasEnded w e) (same_self_of a b same) ended, (wires.0 ∙ same.ins, wires.1 ∙ same.outs), λ untraced. bare (same.traced ∙ untraced))
+    inr (
+      subst (λ (w : Self). HasEnded w e) (same_self_of a b same) ended,
+      (wires.0 ∙ same.ins, wires.1 ∙ same.outs),
+      λ untraced. bare (same.traced ∙ untraced),
+    )
 
 -- who has the desk of a place
 self_is : (last n i : ℕ) (d : Desk) → IsDeskOf (process_at i) last n d → self_of d ≡ self_at last n i
@@ -51,13 +57,15 @@ ended_by : (last n i : ℕ) (d : Desk) (e : Ending) → IsDeskOf (process_at i) 
 ended_by last n i d e is (inl lost) kept = absurd (true≢false (sym lost ∙ kept))
 ended_by last n i d e is (inr left) kept = subst (λ (w : Self). HasEnded w e) (self_is last n i d is) left.0 kept
 
-pub left_is : (last n k : ℕ) (ds : List Desk) (es : List Ending) → AreDesks last n k ds → AreLeftBy ds es → Each (λ i e. HasEnded (self_at last n (k + i)) e) es
+pub left_is : (last n k : ℕ) (ds : List Desk) (es : List Ending) → AreDesks last n k ds → AreLeftBy ds es
+    → Each (λ i e. HasEnded (self_at last n (k + i)) e) es
 left_is last n k [] [] each all i e at = absurd (some-ne-none e (sym at))
 left_is last n k [] (x ∷ es) each all i e at = absurd all
 left_is last n k (d ∷ ds) [] each all i e at = absurd all
 left_is last n k (d ∷ ds) (x ∷ es) each all zero e at =
     let here : k ≡ k + 0 = omega arith in
-    subst (λ (w : ℕ × Ending). HasEnded (self_at last n w.0) w.1) (λ j. (here j, some-injective x e at j)) (ended_by last n k d x (first_desk last n k d ds each) all.0)
+    subst (λ (w : ℕ × Ending). HasEnded (self_at last n w.0) w.1) (λ j. (here j, some-injective x e at j))
+    (ended_by last n k d x (first_desk last n k d ds each) all.0)
 left_is last n k (d ∷ ds) (x ∷ es) each all (suc i) e at =
     let there : suc k + i ≡ k + suc i = omega arith in
     subst (λ m. HasEnded (self_at last n m) e) there (left_is last n (suc k) ds es (other_desks last n k d ds each) all.1 i e at)
@@ -71,7 +79,8 @@ abbrev pub lost_in : List Ending → Bool
 lost_in es = list_any (λ (e : Ending). e.is_lost) es
 
 same_wires : (ds : List Desk) (es : List Ending) → lost_in es ≡ false → AreLeftBy ds es
-    → (map out_rings_of ds ≡ map (λ (e : Ending). map ring_of_tx e.outs.items) es) × (map in_rings_of ds ≡ map (λ (e : Ending). map ring_of_rx e.ins.items) es)
+    → (map out_rings_of ds ≡ map (λ (e : Ending). map ring_of_tx e.outs.items) es)
+    × (map in_rings_of ds ≡ map (λ (e : Ending). map ring_of_rx e.ins.items) es)
 same_wires [] [] kept all = (refl, refl)
 same_wires [] (e ∷ es) kept all = absurd all
 same_wires (d ∷ ds) [] kept all = absurd all
@@ -119,7 +128,8 @@ lost_of_all m ss cs = ap (λ b. m.is_lost || b) (list_any-append (λ (e : Ending
 wired_kept : (last n : ℕ) (ds : List Desk) (es : List Ending) → IsRun last n ds → AreLeftBy ds es → lost_in es ≡ false → AreWired es
 wired_kept last n ds es is all kept =
     let same = same_wires ds es kept all in
-    subst (λ (w : ℕ × List (List Ring) × List (List Ring)). IsWoven w.0 w.1 w.2) (λ k. (sym (pairs_count IsLeftBy ds es all) k, same.0 k, same.1 k)) is.wired
+    subst (λ (w : ℕ × List (List Ring) × List (List Ring)). IsWoven w.0 w.1 w.2)
+    (λ k. (sym (pairs_count IsLeftBy ds es all) k, same.0 k, same.1 k)) is.wired
 
 pub wired_is : (last n : ℕ) (ds : List Desk) (m : Ending) (ss cs : List Ending) → IsRun last n ds → AreLeftBy ds (by_place m ss cs)
     → is_left_cut m ss cs ≡ false → AreWired (by_place m ss cs)
@@ -141,7 +151,8 @@ number_at last n run each i p at =
     let desk_of : ClientPost → Desk = λ p. caller_desk p.caller in
     same_number i (caller_id p.caller) (sym p.caller.is_client ∙ (each i (desk_of p) (element_map desk_of run i p at)).0)
 
-module _ (run : Run) (places : List (Option client.Client)) (es : List Ending) (many : length places ≡ length run) (own : AreIn run places) (left : Pairs IsLeftIn places es) where
+module _ (run : Run) (places : List (Option client.Client)) (es : List Ending) (many : length places ≡ length run)
+    (own : AreIn run places) (left : Pairs IsLeftIn places es) where
   abbrev desk_of : ClientPost → Desk
   desk_of p = caller_desk p.caller
 
@@ -167,10 +178,12 @@ module _ (run : Run) (places : List (Option client.Client)) (es : List Ending) (
       let same : desk_of was.0 ≡ d = some-injective (desk_of was.0) d (sym (element_map desk_of run i was.0 was.1) ∙ at) in
       subst (λ x. IsLeftBy x e) same (left_at i was.0 place.0 e was.1 place.1 (pairs_at IsLeftIn places es i place.0 e left place.1 at')))
 
-  told_of : (t : Traces) (i : ℕ) (place : Option client.Client) (e : Ending) → t.clients.items ≡ map client_trace_of es → get_elem? es i ≡ some e → IsLeftIn place e → IsTold t i place
+  told_of : (t : Traces) (i : ℕ) (place : Option client.Client) (e : Ending) → t.clients.items ≡ map client_trace_of es
+      → get_elem? es i ≡ some e → IsLeftIn place e → IsTold t i place
   told_of t i None e is at gone =
       ap (λ l. get_or (map (λ (x : ClientTrace). x.trace.is_cut) l) i false) is
-      ∙ element_or (λ (x : ClientTrace). x.trace.is_cut) (map client_trace_of es) i (client_trace_of e) false (element_map client_trace_of es i e at) ∙ gone.0
+      ∙ element_or (λ (x : ClientTrace). x.trace.is_cut) (map client_trace_of es) i (client_trace_of e) false
+      (element_map client_trace_of es i e at) ∙ gone.0
   told_of t i (Some c) e is at ended =
       let there = element_map client_trace_of es i e at in (
         ap (λ l. get_or (map (λ (x : ClientTrace). x.trace.events.items) l) i []) is

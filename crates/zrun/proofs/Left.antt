@@ -1,5 +1,6 @@
 -- What the processes of a cluster left, all together.
-use Rattle.std.proofs.Common.{◌≡◌, ◌<◌, ◌+◌, ◌||◌, Bool, true, false, true≢false, ℕ, Option, None, IsSome, List, get_or, length, map, refl, sym, subst, ◌∙◌, arith}
+use Rattle.std.proofs.Common.{◌≡◌, ◌<◌, ◌+◌, ◌||◌, Bool, true, false, true≢false, ℕ, Option, None, IsSome, List, get_or}
+use Rattle.std.proofs.Common.{length, map, refl, sym, subst, ◌∙◌, arith}
 use Rattle.std.specs.List.{list_any}
 use Rattle.std.proofs.lemmas.List.{length-append, length-map}
 use mathlib.Core.Logic.{∥∥₁_map}
@@ -23,7 +24,8 @@ use Rattle.zrun.specs.Untraced.{RanLawfully}
 use Rattle.zrun.proofs.Leavings.{all_there, bare_each, left_is, lost_of_all, wires_each}
 use Rattle.zrun.proofs.Pairs.{pairs_count}
 
-module _ (s : Cluster) (m : Ending) (ss cs : List Ending) (servers : length ss ≡ MAX_SERVERS) (all : AreLeftBy (cluster_desks s) (by_place m ss cs)) where
+module _ (s : Cluster) (m : Ending) (ss cs : List Ending) (servers : length ss ≡ MAX_SERVERS) (all : AreLeftBy
+    (cluster_desks s) (by_place m ss cs)) where
   -- as many clients as it has
   pub count_left : length cs ≡ s.opening.clients
   count_left =
@@ -63,7 +65,13 @@ module _ (m : Ending) (ss cs : List Ending) (known : Bool) (never : is_left_lost
       let none = lost_of_all m ss cs ∙ kept in
       let untraced : AreTraced false ds = subst (λ b. AreTraced b ds) u.untraced s.wired.1 in
       ∥∥₁_map (goes s.opening.last (are_left s m ss cs servers all))
-      (λ gone. (es, wires_each ds es none all, bare_each ds es untraced none all, subst (λ n. HasGone s.opening.last n es) (count_left s m ss cs servers all) gone))
+      (λ gone. (
+        es,
+        wires_each ds es none all,
+        bare_each ds es untraced none all,
+        subst (λ n. HasGone s.opening.last n es)
+            (count_left s m ss cs servers all) gone,
+      ))
 
   pub all_here : (places : List (Option client.Client)) → Pairs IsLeftIn places cs → (i : ℕ) → i < length places → IsSome (get_or places i None)
   all_here places left =

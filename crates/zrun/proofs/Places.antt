@@ -1,5 +1,6 @@
 -- The clients of a run at the places of their numbers.
-use Rattle.std.proofs.Common.{◌≡◌, ◌≢◌, ◌<◌, ⊎_elim, ℕ, zero, suc, Option, None, Some, set, List, [], ◌∷◌, ◌++◌, length, map, refl, sym, ap, subst, ◌∙◌, arith}
+use Rattle.std.proofs.Common.{◌≡◌, ◌≢◌, ◌<◌, ⊎_elim, ℕ, zero, suc, Option, None, Some, set, List, [], ◌∷◌, ◌++◌, length}
+use Rattle.std.proofs.Common.{map, refl, sym, ap, subst, ◌∙◌, arith}
 use Rattle.std.specs.Prelude.{IfSome}
 use Rattle.std.proofs.lemmas.List.{length-map}
 use mathlib.Core.Option.{some, some-injective, some-ne-none}
@@ -43,7 +44,8 @@ if_there (Some x) P each = each x refl
 
 -- what is put at a place
 module _ (run : Run) (places : List (Option client.Client)) (own : AreIn run places) where
-  pub in_set : (i : ℕ) (x : Option client.Client) → ((c : client.Client) → x ≡ Some c → BelongsTo run c × (number_of c ≡ i)) → AreIn run (set places i x)
+  pub in_set : (i : ℕ) (x : Option client.Client) → ((c : client.Client) → x ≡ Some c → BelongsTo run c × (number_of c ≡ i))
+      → AreIn run (set places i x)
   in_set i x mine j y at =
       ⊎_elim
       (λ (here : (j ≡ i) × (x ≡ y)). λ c is. let m = mine c (here.1 ∙ is) in (m.0, m.1 ∙ sym here.0))

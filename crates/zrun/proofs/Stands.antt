@@ -1,5 +1,6 @@
 -- Who stands at which place.
-use Rattle.std.proofs.Common.{◌≡◌, ◌<◌, ◌≤◌, ◌-◌, ◌+◌, ◌==◌, ℕ, zero, suc, Bool, true, false, true≢false, nat_le, if◌then◌else◌, refl, sym, ap, subst, ◌∙◌, ⊎_elim, eqb-true, eq-eqb, arith}
+use Rattle.std.proofs.Common.{◌≡◌, ◌<◌, ◌≤◌, ◌-◌, ◌+◌, ◌==◌, ℕ, zero, suc, Bool, true, false, true≢false, nat_le}
+use Rattle.std.proofs.Common.{if◌then◌else◌, refl, sym, ap, subst, ◌∙◌, ⊎_elim, eqb-true, eq-eqb, arith}
 use Rattle.std.proofs.lemmas.Bool.Decides.{nat_tests}
 use Rattle.zprotocol.specs.declared.limits.TheConstants.{MAX_SERVERS}
 use Rattle.zprotocol.specs.declared.process.Process.{Process}
@@ -20,7 +21,8 @@ one_more : (p : Process) (n : ℕ) (b : Bool) → is_same p (process_at n) ≡ b
 one_more p n true is found = Inside n (omega arith) (same_process p (process_at n) is)
 one_more p n false is (Inside i lt at) = Inside i (omega (arith, lt)) at
 one_more p n false is (Outside out) =
-    Outside (λ i lt. ⊎_elim (λ before. out i before) (λ here. subst (λ k. is_same p (process_at k) ≡ false) (sym here) is) (at_most i n (omega (arith, lt))))
+    Outside (λ i lt. ⊎_elim (λ before. out i before) (λ here. subst (λ k. is_same p (process_at k) ≡ false) (sym here) is)
+    (at_most i n (omega (arith, lt))))
 
 pub find : (p : Process) (n : ℕ) → Found p n
 find p zero = Outside (λ i lt. absurd (omega (arith, lt)))
@@ -41,7 +43,8 @@ master_by i false false p q same = absurd (true≢false (sym same))
 pub master_at : (i : ℕ) → is_same Master (process_at i) ≡ true → i ≡ 0
 master_at i same = master_by i (i == 0) (nat_le i MAX_SERVERS) refl refl same
 
-server_by : (i s : ℕ) (a b : Bool) → (i == 0) ≡ a → nat_le i MAX_SERVERS ≡ b → is_same (Server s) (pick a b i) ≡ true → (i ≡ s) × (0 < i) × (i ≤ MAX_SERVERS)
+server_by : (i s : ℕ) (a b : Bool) → (i == 0) ≡ a → nat_le i MAX_SERVERS ≡ b → is_same (Server s) (pick a b i) ≡ true
+    → (i ≡ s) × (0 < i) × (i ≤ MAX_SERVERS)
 server_by i s true b p q same = absurd (true≢false (sym same))
 server_by i s false true p q same = (sym (eqb-true s i same), grind (arith, nat_tests), grind (arith, nat_tests))
 server_by i s false false p q same = absurd (true≢false (sym same))

@@ -1,6 +1,7 @@
 -- What was left, where the links tell it: where none of it is lost, all went by their tables; where
 -- none of it is cut, it makes lawful traces.
-use Rattle.std.proofs.Common.{◌≡◌, ◌<◌, ◌≤◌, ◌+◌, ◌||◌, ◌⊎◌, inl, inr, ⊎_elim, ℕ, zero, suc, Bool, false, true≢false, List, [], ◌∷◌, ◌++◌, length, map, get_or, refl, sym, ap, subst, ◌∙◌, arith}
+use Rattle.std.proofs.Common.{◌≡◌, ◌<◌, ◌≤◌, ◌+◌, ◌||◌, ◌⊎◌, inl, inr, ⊎_elim, ℕ, zero, suc, Bool, false, true≢false}
+use Rattle.std.proofs.Common.{List, [], ◌∷◌, ◌++◌, length, map, get_or, refl, sym, ap, subst, ◌∙◌, arith}
 use mathlib.Core.Logic.{∥∥₁_map}
 use mathlib.Core.Option.{some, some-injective}
 use lib.ListN.{get_elem?}
@@ -67,10 +68,12 @@ module _ (es : List Ending) (wired : AreWired es) (outs : List (Vec (Tx TreeStam
   links i j a b tx rx at_a at_tx at_b at_rx =
       tells i j (map put_of a.outs.items) (map taken_of b.ins.items) (put_of tx) (taken_of rx)
       (subst (λ l. get_elem? (out_lists l) i ≡ some (map put_of a.outs.items)) (sym puts)
-      (element_map (λ (row : Vec (Tx TreeStamped) Global). map put_of row.items) (map (λ (e : Ending). e.outs) es) i a.outs (element_map (λ (e : Ending). e.outs) es i a at_a)))
+      (element_map (λ (row : Vec (Tx TreeStamped) Global). map put_of row.items) (map (λ (e : Ending). e.outs) es) i
+      a.outs (element_map (λ (e : Ending). e.outs) es i a at_a)))
       (element_map put_of a.outs.items j tx at_tx)
       (subst (λ l. get_elem? (in_lists l) j ≡ some (map taken_of b.ins.items)) (sym takes)
-      (element_map (λ (column : Vec (Rx TreeStamped) Global). map taken_of column.items) (map (λ (e : Ending). e.ins) es) j b.ins (element_map (λ (e : Ending). e.ins) es j b at_b)))
+      (element_map (λ (column : Vec (Rx TreeStamped) Global). map taken_of column.items) (map (λ (e : Ending). e.ins) es)
+      j b.ins (element_map (λ (e : Ending). e.ins) es j b at_b)))
       (element_map taken_of b.ins.items i rx at_rx)
 
   pub are_linked : Linked es
@@ -99,7 +102,8 @@ pub gone : (last : ℕ) (m : Ending) (ss cs : List Ending) → Linked (by_place 
     → AreLeft last (length cs) (by_place m ss cs) → ∥ HasGone last (length cs) (by_place m ss cs) ∥₁
 gone last m ss cs linked kept left =
     let es = by_place m ss cs in
-    ∥∥₁_map (choose (λ i e d. AccountsAtEnd (self_at last (length cs) i) e d) es (λ i e at. left i e at (none_of_all (λ (e : Ending). e.is_lost) m ss cs kept i e at)))
+    ∥∥₁_map (choose (λ i e d. AccountsAtEnd (self_at last (length cs) i) e d) es
+    (λ i e at. left i e at (none_of_all (λ (e : Ending). e.is_lost) m ss cs kept i e at)))
     (λ ds. went last (length cs) es ds.0 linked ds.1)
 
 -- a number is below a bound, or not
@@ -131,24 +135,28 @@ module _ (last : ℕ) (m : Ending) (ss cs : List Ending) (t : Traces) (all_serve
       let here = some-injective m e (subst (λ k. get_elem? es k ≡ some e) (master_at i (same_at Master i is)) at) in
       ap (λ v. v.items) chief ∙ ap (λ (x : Ending). x.trace.events.items) here
   events (Server zero) i e is at =
-      let where_it_is = server_at i 0 (same_at (Server 0) i is) in absurd (let none = where_it_is.0 in let some_server = where_it_is.1 in omega (arith, none, some_server))
+      let where_it_is = server_at i 0 (same_at (Server 0) i is)
+      in absurd (let none = where_it_is.0 in let some_server = where_it_is.1 in omega (arith, none, some_server))
   events (Server (suc k)) i e is at =
       let spot = server_at i (suc k) (same_at (Server (suc k)) i is) in
       let here = spot.0 in
       let few = spot.2 in
       let there = server_place k e (omega (arith, here, few)) (subst (λ j. get_elem? es j ≡ some e) here at) in
       ap (λ l. get_or (map (λ (trace : Trace). trace.events.items) l) k []) servers
-      ∙ element_or (λ (trace : Trace). trace.events.items) (map (λ (x : Ending). x.trace) ss) k e.trace [] (element_map (λ (x : Ending). x.trace) ss k e there)
+      ∙ element_or (λ (trace : Trace). trace.events.items) (map (λ (x : Ending). x.trace) ss) k e.trace []
+      (element_map (λ (x : Ending). x.trace) ss k e there)
   events (Client c) i e is at =
       let there = client_place c i e (client_at i c (same_at (Client c) i is)) at in
       ap (λ l. get_or (map (λ (client : ClientTrace). client.trace.events.items) l) c []) clients
-      ∙ element_or (λ (client : ClientTrace). client.trace.events.items) (map client_trace_of cs) c (client_trace_of e) [] (element_map client_trace_of cs c e there)
+      ∙ element_or (λ (client : ClientTrace). client.trace.events.items) (map client_trace_of cs) c (client_trace_of e)
+      [] (element_map client_trace_of cs c e there)
 
   told : (c i : ℕ) (e : Ending) → Client c ≡ process_at i → get_elem? es i ≡ some e → record_of t c ≡ e.seen.items
   told c i e is at =
       let there = client_place c i e (client_at i c (same_at (Client c) i is)) at in
       ap (λ l. get_or (map (λ (client : ClientTrace). client.«record».items) l) c []) clients
-      ∙ element_or (λ (client : ClientTrace). client.«record».items) (map client_trace_of cs) c (client_trace_of e) [] (element_map client_trace_of cs c e there)
+      ∙ element_or (λ (client : ClientTrace). client.«record».items) (map client_trace_of cs) c (client_trace_of e) []
+      (element_map client_trace_of cs c e there)
 
   server_count : length t.servers.items ≡ MAX_SERVERS
   server_count = ap length servers ∙ length-map ss (λ (e : Ending). e.trace) ∙ all_servers
@@ -192,7 +200,8 @@ module _ (last : ℕ) (m : Ending) (ss cs : List Ending) (t : Traces) (all_serve
 
 -- ends that were kept are wired as they were
 pub wired_lists : (es : List Ending) (outs : List (Vec (Tx TreeStamped) Global)) (ins : List (Vec (Rx TreeStamped) Global))
-    → outs ≡ map (λ (e : Ending). e.outs) es → ins ≡ map (λ (e : Ending). e.ins) es → AreWired es → IsWoven (length outs) (out_rings outs) (in_rings ins)
+    → outs ≡ map (λ (e : Ending). e.outs) es → ins ≡ map (λ (e : Ending). e.ins) es → AreWired es
+    → IsWoven (length outs) (out_rings outs) (in_rings ins)
 wired_lists es outs ins puts takes wired =
     let rows = ap out_rings puts ∙ map-map (λ (row : Vec (Tx TreeStamped) Global). map ring_of_tx row.items) (λ (e : Ending). e.outs) es in
     let columns = ap in_rings takes ∙ map-map (λ (column : Vec (Rx TreeStamped) Global). map ring_of_rx column.items) (λ (e : Ending). e.ins) es in

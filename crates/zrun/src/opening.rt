@@ -111,6 +111,6 @@ impl Opening {
             bells,
             self.is_traced,
         );
-        Caller::new(alloc, id, desk, ClientCore::new(alloc, self.last))
+        Caller::new(id, desk, ClientCore::new(alloc, self.last))
     }
 }

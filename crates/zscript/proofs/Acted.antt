@@ -11,7 +11,8 @@ use Rattle.zworld_model.specs.declared.outcome.Outcome.{Outcome}
 use Rattle.zworld_model.specs.declared.outcome.Outcome.TheVariants.{Acted}
 use Rattle.zworld_model.specs.Events.{is_enabled}
 use Rattle.zworld_model.specs.Reading.{read}
-use Rattle.zworld_model.specs.Settle.{Settling, next_outcome, with_event, with_try, with_tries, is_over, passes, settle, deliveries, retry_events, opening_settling, settling_end}
+use Rattle.zworld_model.specs.Settle.{Settling, next_outcome, with_event, with_try, with_tries, is_over, passes, settle}
+use Rattle.zworld_model.specs.Settle.{deliveries, retry_events, opening_settling, settling_end}
 use Rattle.zlines.specs.declared.line.Line.{Line}
 use Rattle.zlines.specs.declared.line.Line.TheVariants as asked
 use Rattle.zlines.specs.declared.request.Request.{Request}
@@ -19,7 +20,10 @@ use Rattle.zlines.specs.Request.{Read}
 use Rattle.zlines.specs.Line.{line_of}
 use Rattle.zworld.specs.Steps.{AreActed}
 use Rattle.zscript.specs.declared.limits.TheConstants.{MAX_EVENTS}
-use Rattle.zscript.specs.Line.{ServiceWorld, ScriptState, script_state, LineEffect, no_effect, after_try, after_settling, event_effect, call_answered, call_effect, not_begun_text, settled_text, settle_effect, line_effect, read_effect, effect_of, effect_text, forgotten, answer, after}
+use Rattle.zscript.specs.Line.{ServiceWorld, ScriptState, script_state, LineEffect, no_effect, after_try}
+use Rattle.zscript.specs.Line.{after_settling, event_effect, call_answered, call_effect, not_begun_text, settled_text}
+use Rattle.zscript.specs.Line.{settle_effect, line_effect, read_effect, effect_of, effect_text, forgotten, answer}
+use Rattle.zscript.specs.Line.{after}
 use Rattle.zscript.specs.Done.{IsLineDone, IsLineActed}
 
 abbrev TreeSettling : Type 0
@@ -41,7 +45,8 @@ drop_acted (outcome ∷ outcomes) acted = acted.1
 bare_try : (s : TreeSettling) (event : Event) → AreActed s.outcomes → with_try kept_tree (bare s) event ≡ bare (with_try kept_tree s event)
 bare_try s event acted = by (nat_lt 0 s.left && is_enabled s.world event)
   where
-    same : bare (with_event kept_tree s (read kept_tree s.world event Acted)) ≡ bare (with_event kept_tree s (read kept_tree s.world event (next_outcome s.outcomes)))
+    same : bare (with_event kept_tree s (read kept_tree s.world event Acted))
+        ≡ bare (with_event kept_tree s (read kept_tree s.world event (next_outcome s.outcomes)))
     same = ap (λ (outcome : Outcome). bare (with_event kept_tree s (read kept_tree s.world event outcome))) (sym (next_acted s.outcomes acted))
 
     by : (may : Bool) → (if may then bare (with_event kept_tree s (read kept_tree s.world event Acted)) else bare s)
@@ -57,7 +62,8 @@ try_acted s event acted = by (nat_lt 0 s.left && is_enabled s.world event)
     by false = acted
 
 -- events that are tried
-bare_tries : (events : List Event) (s : TreeSettling) → AreActed s.outcomes → with_tries kept_tree (bare s) events ≡ bare (with_tries kept_tree s events)
+bare_tries : (events : List Event) (s : TreeSettling) → AreActed s.outcomes → with_tries kept_tree (bare s) events
+    ≡ bare (with_tries kept_tree s events)
 bare_tries [] s acted = refl
 bare_tries (event ∷ events) s acted =
     ap (λ (t : TreeSettling). with_tries kept_tree t events) (bare_try s event acted)
@@ -80,10 +86,12 @@ either_acted true s t first second = first
 either_acted false s t first second = second
 
 -- passes
-bare_passes : (events : List Event) (more : ℕ) (s : TreeSettling) → AreActed s.outcomes → passes kept_tree events more (bare s) ≡ bare (passes kept_tree events more s)
+bare_passes : (events : List Event) (more : ℕ) (s : TreeSettling) → AreActed s.outcomes → passes kept_tree events more (bare s)
+    ≡ bare (passes kept_tree events more s)
 bare_passes events zero s acted = refl
 bare_passes events (suc more) s acted =
-    bare_either (is_over s events) s (passes kept_tree events more (with_tries kept_tree (bare s) events)) (passes kept_tree events more (with_tries kept_tree s events))
+    bare_either (is_over s events) s (passes kept_tree events more (with_tries kept_tree (bare s) events))
+    (passes kept_tree events more (with_tries kept_tree s events))
     (ap (λ (t : TreeSettling). passes kept_tree events more t) (bare_tries events s acted)
     ∙ bare_passes events more (with_tries kept_tree s events) (tries_acted events s acted))
 
@@ -94,7 +102,8 @@ passes_acted events (suc more) s acted =
     (passes_acted events more (with_tries kept_tree s events) (tries_acted events s acted))
 
 -- settling
-bare_settle : (w : ServiceWorld) (limit : ℕ) (outcomes : List Outcome) → AreActed outcomes → settle kept_tree w limit [] ≡ bare (settle kept_tree w limit outcomes)
+bare_settle : (w : ServiceWorld) (limit : ℕ) (outcomes : List Outcome) → AreActed outcomes → settle kept_tree w limit []
+    ≡ bare (settle kept_tree w limit outcomes)
 bare_settle w limit outcomes acted =
     let events = deliveries w.master.clients in
     let retries = retry_events w.master.clients in
@@ -171,7 +180,8 @@ module _ (w : ServiceWorld) (outcomes : List Outcome) (acted : AreActed outcomes
   bare_effect_of line = bare_read (line_of line)
 
 -- a line that was done, and at which no server ran out of memory
-pub acted_line : (old new : ServiceWorld) (line : List ℕ) (writes : List ℕ → Type 0) (done : IsLineDone old line new writes) → AreActed done.told → IsLineActed old line new writes
+pub acted_line : (old new : ServiceWorld) (line : List ℕ) (writes : List ℕ → Type 0) (done : IsLineDone old line new writes)
+    → AreActed done.told → IsLineActed old line new writes
 unfolding answer after
 acted_line old new line writes done acted =
     let told : AreActed (done.told ++ []) = subst AreActed (sym (append-nil done.told)) acted in

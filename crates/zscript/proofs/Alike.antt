@@ -8,10 +8,12 @@ use Rattle.zscript.proofs.Kept.{kept-append, kept-nil, some-kept}
 kept-push : (a b more : List ℕ) → kept_front a ≡ kept_front b → kept_front (a ++ more) ≡ kept_front (b ++ more)
 kept-push a b more e = sym (kept-append a more) ∙ ap (λ t. kept_front (t ++ more)) e ∙ kept-append b more
 
-pub whole_lines_after-alike : (bytes a b : List ℕ) → kept_front a ≡ kept_front b → map kept_front (whole_lines_after a bytes) ≡ map kept_front (whole_lines_after b bytes)
+pub whole_lines_after-alike : (bytes a b : List ℕ) → kept_front a ≡ kept_front b → map kept_front (whole_lines_after a bytes)
+    ≡ map kept_front (whole_lines_after b bytes)
 whole_lines_after-alike [] a b e = refl
 whole_lines_after-alike (x ∷ bytes) a b e =
-    elim (x == 10) as (λ t. map kept_front (cond t (a ∷ whole_lines_after [] bytes) (whole_lines_after (a ++ x ∷ []) bytes)) ≡ map kept_front (cond t (b ∷ whole_lines_after [] bytes) (whole_lines_after (b ++ x ∷ []) bytes))) [
+    elim (x == 10) as (λ t. map kept_front (cond t (a ∷ whole_lines_after [] bytes) (whole_lines_after (a ++ x ∷ []) bytes))
+    ≡ map kept_front (cond t (b ∷ whole_lines_after [] bytes) (whole_lines_after (b ++ x ∷ []) bytes))) [
       | true ↦ ap (λ t. t ∷ map kept_front (whole_lines_after [] bytes)) e
       | false ↦ whole_lines_after-alike bytes (a ++ x ∷ []) (b ++ x ∷ []) (kept-push a b (x ∷ []) e)
     ]
@@ -19,7 +21,8 @@ whole_lines_after-alike (x ∷ bytes) a b e =
 pub line_left-alike : (bytes a b : List ℕ) → kept_front a ≡ kept_front b → kept_front (line_left a bytes) ≡ kept_front (line_left b bytes)
 line_left-alike [] a b e = e
 line_left-alike (x ∷ bytes) a b e =
-    elim (x == 10) as (λ t. kept_front (cond t (line_left [] bytes) (line_left (a ++ x ∷ []) bytes)) ≡ kept_front (cond t (line_left [] bytes) (line_left (b ++ x ∷ []) bytes))) [
+    elim (x == 10) as (λ t. kept_front (cond t (line_left [] bytes) (line_left (a ++ x ∷ []) bytes))
+    ≡ kept_front (cond t (line_left [] bytes) (line_left (b ++ x ∷ []) bytes))) [
       | true ↦ refl
       | false ↦ line_left-alike bytes (a ++ x ∷ []) (b ++ x ∷ []) (kept-push a b (x ∷ []) e)
     ]
@@ -30,7 +33,8 @@ last_line-alike [] (y ∷ b) e = absurd (omega (arith, ap length e, ap length ke
 last_line-alike (x ∷ a) [] e = absurd (omega (arith, ap length e, ap length kept-nil, some-kept (x ∷ a) (omega arith)))
 last_line-alike (x ∷ a) (y ∷ b) e = ap (λ t. t ∷ []) e
 
-pub lines_after-alike : (bytes a b : List ℕ) → kept_front a ≡ kept_front b → map kept_front (lines_after a bytes) ≡ map kept_front (lines_after b bytes)
+pub lines_after-alike : (bytes a b : List ℕ) → kept_front a ≡ kept_front b → map kept_front (lines_after a bytes)
+    ≡ map kept_front (lines_after b bytes)
 lines_after-alike bytes a b e =
     map-append kept_front (whole_lines_after a bytes) (last_line (line_left a bytes))
     ∙ (λ i. whole_lines_after-alike bytes a b e i ++ last_line-alike (line_left a bytes) (line_left b bytes) (line_left-alike bytes a b e) i)

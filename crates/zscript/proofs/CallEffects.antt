@@ -1,5 +1,6 @@
 -- A call, brought about on a world, is the effect of a line.
-use Rattle.std.proofs.Common.{◌≡◌, ℕ, ◌+◌, Bool, true, false, if◌then◌else◌, List, [], ◌∷◌, ◌++◌, Option, None, Some, codes, refl, sym, ap, subst, ◌∙◌}
+use Rattle.std.proofs.Common.{◌≡◌, ℕ, ◌+◌, Bool, true, false, if◌then◌else◌, List, [], ◌∷◌, ◌++◌, Option, None, Some}
+use Rattle.std.proofs.Common.{codes, refl, sym, ap, subst, ◌∙◌}
 use Rattle.std.specs.Option.{option_map_or}
 use Rattle.ztree.specs.Tree.{Tree}
 use Rattle.zcalls.specs.Kept.{KeptState}
@@ -26,7 +27,9 @@ use Rattle.zworld.specs.Steps.{WorldView, HasHappened, world_in}
 use Rattle.zworld.specs.support.Settled.{HasSettledBy}
 use Rattle.zworld.proofs.Steps.{happens_so}
 use Rattle.zscript.specs.declared.limits.TheConstants.{MAX_EVENTS}
-use Rattle.zscript.specs.Line.{ServiceWorld, ScriptState, script_state, LineEffect, no_effect, after_try, after_settling, call_answered, call_effect, begin_effect, begin_fault_text, not_begun_text, reply_in, taken_text}
+use Rattle.zscript.specs.Line.{ServiceWorld, ScriptState, script_state, LineEffect, no_effect, after_try}
+use Rattle.zscript.specs.Line.{after_settling, call_answered, call_effect, begin_effect, begin_fault_text}
+use Rattle.zscript.specs.Line.{not_begun_text, reply_in, taken_text}
 use Rattle.zscript.specs.support.Effects.{cause_text, begun_text, called_text, own_call, LeadsTo, IsEffectDoneBy}
 use Rattle.zlines.specs.Reply.{reply_text}
 use Rattle.std.specs.List.{flat_map}
@@ -39,14 +42,16 @@ use Rattle.zworld_model.proofs.Past.{with_past, run_past}
 use Rattle.zworld.specs.Did.{outcome_of}
 
 -- no server takes part in the begin of a call
-begin_acted : (w : ServiceWorld) (client : ℕ) (call : Call) (did : Did) → is_fitting kept_tree w (event.Begin client call) (outcome_of did) ≡ true → outcome_of did ≡ Acted
+begin_acted : (w : ServiceWorld) (client : ℕ) (call : Call) (did : Did) → is_fitting kept_tree w (event.Begin client call) (outcome_of did)
+    ≡ true → outcome_of did ≡ Acted
 begin_acted w client call (became.Idle why) fits = refl
 begin_acted w client call became.Done fits = refl
 begin_acted w client call became.Unheard fits = absurd (true≢false (sym fits))
 begin_acted w client call became.Stopped fits = absurd (true≢false (sym fits))
 
 -- the begin of a call reads as itself
-begin_reads : (w : ServiceWorld) (client : ℕ) (call : Call) (outcome : Outcome) → read kept_tree w (event.Begin client call) outcome ≡ event.Begin client call
+begin_reads : (w : ServiceWorld) (client : ℕ) (call : Call) (outcome : Outcome) → read kept_tree w (event.Begin client call) outcome
+    ≡ event.Begin client call
 begin_reads w client call Acted = refl
 begin_reads w client call other = refl
 
@@ -63,11 +68,13 @@ told_behind w events =
     let bare : ServiceWorld = record w { history = [] } in
     let same : w ≡ with_past w.history bare = ap (λ (h : History). record w { history = h }) (sym (append-nil w.history)) in (
       (run kept_tree bare events).history,
-      ap (λ (u : ServiceWorld). (run kept_tree u events).history) same ∙ ap (λ (u : ServiceWorld). u.history) (run_past kept_tree w.history bare events),
+      ap (λ (u : ServiceWorld). (run kept_tree u events).history) same
+          ∙ ap (λ (u : ServiceWorld). u.history) (run_past kept_tree w.history bare events),
     )
 
 -- a call that began
-module _ (v u : ServiceWorld) (client : ℕ) (call : Call) (did : Did) (has : HasHappened v (event.Begin client call) did u) (active : is_idle did ≡ false) where
+module _ (v u : ServiceWorld) (client : ℕ) (call : Call) (did : Did) (has : HasHappened v (event.Begin client call) did u)
+    (active : is_idle did ≡ false) where
   abbrev begins : Event
   begins = event.Begin client call
 
@@ -131,7 +138,8 @@ module _ (v u : ServiceWorld) (client : ℕ) (call : Call) (did : Did) (has : Ha
           (option_map_or reply_text (reply_in own w.history) (codes "unanswered")) later
       call_leads =
           subst (λ (effect : LineEffect). LeadsTo effect w own (option_map_or reply_text (reply_in own w.history) (codes "unanswered")) later)
-          (sym (ap (λ b. if b then call_answered defined own else no_effect state (not_begun_text state (record { client = client; call = call }))) on))
+          (sym (ap (λ b. if b then call_answered defined own else no_effect state
+          (not_begun_text state (record { client = client; call = call }))) on))
           answered_leads
 
     pub call_done : v.history ≡ [] → (writes : List ℕ → Type 0) → writes (called_text w.history)
@@ -151,8 +159,10 @@ module _ (v u : ServiceWorld) (client : ℕ) (call : Call) (did : Did) (has : Ha
 
 -- why a call didn't begin
 not_begun : (held : Held) (history : History) (request : Request) (outcomes : List Outcome) (why : IdleCause)
-    → IsCause held (event.Begin request.client request.call) why → not_begun_text (script_state (world_of held history) outcomes) request ≡ cause_text why
-not_begun held history request outcomes (cause.Begin fault) (there, is) = rw there (ap (λ fault. option_map_or begin_fault_text fault (codes "idle")) is)
+    → IsCause held (event.Begin request.client request.call) why → not_begun_text (script_state (world_of held history) outcomes) request
+    ≡ cause_text why
+not_begun held history request outcomes (cause.Begin fault) (there, is) = rw there
+    (ap (λ fault. option_map_or begin_fault_text fault (codes "idle")) is)
 not_begun held history request outcomes cause.Nothing (is, none) = rw none refl
 not_begun held history request outcomes (cause.Order fault) (is, none) = let never : ⊥ = cc in absurd never
 
@@ -161,9 +171,11 @@ nothing_told : (v w : ServiceWorld) (event : Event) (why : IdleCause) → HasHap
 nothing_told v w event why has none = ap (λ (x : ServiceWorld). x.history) (sym (idle_stays v w event why has)) ∙ none
 
 -- a line that is a call, or its begin, which couldn't begin
-module _ (strict : Bool) (old new : WorldView) (request : Request) (why : IdleCause) (has : HasHappened (world_in old) (event.Begin request.client request.call) (became.Idle why) (world_in new))
+module _ (strict : Bool) (old new : WorldView) (request : Request) (why : IdleCause) (has : HasHappened (world_in old)
+    (event.Begin request.client request.call) (became.Idle why) (world_in new))
     (caused : IsCause old.held (event.Begin request.client request.call) why) (none : old.history ≡ []) where
-  not_begun_leads : (later : List Outcome) → LeadsTo (call_effect (script_state (world_in old) later) request) (world_in new) None (cause_text why) later
+  not_begun_leads : (later : List Outcome) → LeadsTo (call_effect (script_state (world_in old) later) request) (world_in new)
+      None (cause_text why) later
   not_begun_leads later =
       let state = script_state (world_in old) later in
       let begins : Event = event.Begin request.client request.call in
@@ -175,35 +187,42 @@ module _ (strict : Bool) (old new : WorldView) (request : Request) (why : IdleCa
         answered = not_begun old.held old.history request later why caused;
       } in
       subst (λ (effect : LineEffect). LeadsTo effect (world_in new) None (cause_text why) later)
-      (sym (ap (λ b. if b then call_answered (after_settling (after_try state begins)) (Some (request.client, number)) else no_effect state (not_begun_text state request))
+      (sym (ap (λ b. if b then call_answered (after_settling (after_try state begins)) (Some (request.client, number))
+      else no_effect state (not_begun_text state request))
       (not_enabled (world_in old) (world_in new) begins why has)))
       idle
 
-  pub call_not_begun : (writes : List ℕ → Type 0) → writes (cause_text why) → IsEffectDoneBy strict (world_in old) (world_in new) (λ s. call_effect s request) writes
+  pub call_not_begun : (writes : List ℕ → Type 0) → writes (cause_text why)
+      → IsEffectDoneBy strict (world_in old) (world_in new) (λ s. call_effect s request) writes
   call_not_begun writes written = (
     record {
       told = [];
       own = None;
       result = cause_text why;
       leads = not_begun_leads;
-      written = subst (λ (h : History). writes (flat_map (taken_text None) h ++ cause_text why)) (sym (nothing_told (world_in old) (world_in new) _ why has none)) written;
+      written = subst (λ (h : History). writes (flat_map (taken_text None) h ++ cause_text why))
+          (sym (nothing_told (world_in old) (world_in new) _ why has none)) written;
     },
     λ strictly. tt,
   )
 
-  begin_idle : (writes : List ℕ → Type 0) → writes (cause_text why) → IsEffectDoneBy strict (world_in old) (world_in new) (λ s. begin_effect s request) writes
+  begin_idle : (writes : List ℕ → Type 0) → writes (cause_text why) → IsEffectDoneBy strict (world_in old) (world_in new)
+      (λ s. begin_effect s request) writes
   begin_idle writes written =
       event_done (world_in old) (world_in new) (event.Begin request.client request.call) strict (became.Idle why) writes (λ strictly. refl) has
       (λ s. begin_effect s request) (codes "begun") (not_begun_text (script_state (world_in old) []) request) (cause_text why) (λ outcomes. refl)
       (not_begun old.held old.history request [] why caused)
-      (subst (λ (h : History). writes (flat_map (taken_text None) h ++ cause_text why)) (sym (nothing_told (world_in old) (world_in new) _ why has none)) written)
+      (subst (λ (h : History). writes (flat_map (taken_text None) h ++ cause_text why))
+      (sym (nothing_told (world_in old) (world_in new) _ why has none)) written)
 
 -- a line that is the begin of a call
 begin_active : (strict : Bool) (old new : WorldView) (request : Request) (did : Did) (writes : List ℕ → Type 0)
-    → HasHappened (world_in old) (event.Begin request.client request.call) did (world_in new) → is_idle did ≡ false → old.history ≡ [] → writes (codes "begun")
+    → HasHappened (world_in old) (event.Begin request.client request.call) did (world_in new) → is_idle did ≡ false
+    → old.history ≡ [] → writes (codes "begun")
     → IsEffectDoneBy strict (world_in old) (world_in new) (λ s. begin_effect s request) writes
 begin_active strict old new request did writes has active none written =
-    event_done (world_in old) (world_in new) (event.Begin request.client request.call) strict did writes (λ strictly. begin_acted (world_in old) request.client request.call did has.fits) has
+    event_done (world_in old) (world_in new) (event.Begin request.client request.call) strict did writes
+    (λ strictly. begin_acted (world_in old) request.client request.call did has.fits) has
     (λ s. begin_effect s request) (codes "begun") (not_begun_text (script_state (world_in old) []) request) (codes "begun") (λ outcomes. refl)
     (ap (λ b. if b then not_begun_text (script_state (world_in old) []) request else codes "begun") active)
     (subst (λ (h : History). writes (flat_map (taken_text None) h ++ codes "begun"))
@@ -211,9 +230,14 @@ begin_active strict old new request did writes has active none written =
 
 pub begin_done : (strict : Bool) (old new : WorldView) (request : Request) (did : Did) (writes : List ℕ → Type 0)
     → HasHappened (world_in old) (event.Begin request.client request.call) did (world_in new)
-    → ((why : IdleCause) → did ≡ became.Idle why → IsCause old.held (event.Begin request.client request.call) why) → old.history ≡ [] → writes (begun_text did)
+    → ((why : IdleCause) → did ≡ became.Idle why → IsCause old.held (event.Begin request.client request.call) why)
+    → old.history ≡ [] → writes (begun_text did)
     → IsEffectDoneBy strict (world_in old) (world_in new) (λ s. begin_effect s request) writes
-begin_done strict old new request (became.Idle why) writes has caused none written = begin_idle strict old new request why has (caused why refl) none writes written
-begin_done strict old new request became.Done writes has caused none written = begin_active strict old new request became.Done writes has refl none written
-begin_done strict old new request became.Unheard writes has caused none written = begin_active strict old new request became.Unheard writes has refl none written
-begin_done strict old new request became.Stopped writes has caused none written = begin_active strict old new request became.Stopped writes has refl none written
+begin_done strict old new request (became.Idle why) writes has caused none written = begin_idle strict old new request
+    why has (caused why refl) none writes written
+begin_done strict old new request became.Done writes has caused none written = begin_active strict old new request
+    became.Done writes has refl none written
+begin_done strict old new request became.Unheard writes has caused none written = begin_active strict old new request
+    became.Unheard writes has refl none written
+begin_done strict old new request became.Stopped writes has caused none written = begin_active strict old new request
+    became.Stopped writes has refl none written

@@ -33,7 +33,8 @@ IsCut-before_line servers source sink h =
     }
 
 -- each fault leaves a beginning of what the lines that were played are answered with
-pub IsCut-from_fault : (servers : ℕ) (source : SourceRun) (sink : SinkRun) (fault : PlayFault) → IsCutBy servers source sink fault → IsCut servers source sink
+pub IsCut-from_fault : (servers : ℕ) (source : SourceRun) (sink : SinkRun) (fault : PlayFault) → IsCutBy servers source sink fault
+    → IsCut servers source sink
 IsCut-from_fault servers source sink Read h = record {
   bytes = h.0.bytes;
   given = h.0.given;
@@ -75,11 +76,13 @@ module _ {X : Type 0} (servers : ℕ) (source : SourceRun) (sink : SinkRun) wher
   ends-fault (Err fault) h = h
 
 -- memory ran out before anything was read
-pub cut_unread : (servers : ℕ) (source : SourceRun) (sink : SinkRun) → source.gave [] → sink.took [] → source.failed 0 → sink.failed 0 → IsCutBy servers source sink Memory
+pub cut_unread : (servers : ℕ) (source : SourceRun) (sink : SinkRun) → source.gave [] → sink.took [] → source.failed 0
+    → sink.failed 0 → IsCutBy servers source sink Memory
 cut_unread servers source sink unread unwritten sound sink_sound = (inr (unread, unwritten), sound, sink_sound)
 
 -- the source failed
-pub cut_at_read : (servers : ℕ) (source : SourceRun) (sink : SinkRun) (player : PlayerView) (bytes : List ℕ) → source.gave bytes → Heard (opening_of servers) sink.took bytes player → source.failed 1 → sink.failed 0 → IsCutBy servers source sink Read
+pub cut_at_read : (servers : ℕ) (source : SourceRun) (sink : SinkRun) (player : PlayerView) (bytes : List ℕ)
+    → source.gave bytes → Heard (opening_of servers) sink.took bytes player → source.failed 1 → sink.failed 0 → IsCutBy servers source sink Read
 cut_at_read servers source sink player bytes given heard failed sound =
     let outcomes = heard.done.told ++ [] in
     let text = ap (answers (opening_script servers outcomes)) (sym (whole_lines_of-carried bytes)) in
@@ -87,7 +90,9 @@ cut_at_read servers source sink player bytes given heard failed sound =
     (record { bytes = bytes; given = given; outcomes = outcomes; taken = subst sink.took text taken }, (1, omega arith, failed), sound)
 
 -- every line was played
-pub played_whole : (servers : ℕ) (source : SourceRun) (sink : SinkRun) (new : ServiceWorld) (bytes : List ℕ) → source.gave bytes → AreLinesDone (opening_of servers) (lines_after [] bytes) new sink.took → source.ended → source.failed 0 → sink.failed 0 → IsPlayed servers source sink
+pub played_whole : (servers : ℕ) (source : SourceRun) (sink : SinkRun) (new : ServiceWorld) (bytes : List ℕ)
+    → source.gave bytes → AreLinesDone (opening_of servers) (lines_after [] bytes) new sink.took → source.ended
+    → source.failed 0 → sink.failed 0 → IsPlayed servers source sink
 played_whole servers source sink new bytes given done end sound sink_sound =
     let outcomes = done.told ++ [] in
     let text = ap (answers (opening_script servers outcomes)) (sym (lines_of-carried bytes)) in
@@ -107,9 +112,11 @@ pub record Before (servers : ℕ) (took : List ℕ → Type 0) (step all : SinkR
   pub counts : (count : ℕ) → step.failed count → all.failed (0 + count)
   pub heard : Heard (opening_of servers) took bytes player
 
-module _ (servers : ℕ) (source : SourceRun) (took : List ℕ → Type 0) (step all : SinkRun) (player : PlayerView) (bytes : List ℕ) (before : Before servers took step all player bytes) where
+module _ (servers : ℕ) (source : SourceRun) (took : List ℕ → Type 0) (step all : SinkRun) (player : PlayerView)
+    (bytes : List ℕ) (before : Before servers took step all player bytes) where
   -- memory ran out before a line
-  by_line : (whole : List ℕ) (left : ℕ) → source.gave whole → source.failed 0 → StoppedLater all.took (opening_of servers) (lines_after [] whole) left → (0 < left) × step.failed 0 → IsCutBy servers source all Memory
+  by_line : (whole : List ℕ) (left : ℕ) → source.gave whole → source.failed 0
+      → StoppedLater all.took (opening_of servers) (lines_after [] whole) left → (0 < left) × step.failed 0 → IsCutBy servers source all Memory
   by_line whole left given sound later h = (
     inl (record {
       bytes = whole;
@@ -128,15 +135,23 @@ module _ (servers : ℕ) (source : SourceRun) (took : List ℕ → Type 0) (step
   )
 
   -- a write failed among the whole lines
-  by_write : (whole : List ℕ) (left : ℕ) → source.gave whole → source.failed 0 → StoppedLater all.took (opening_of servers) (whole_lines_after [] whole) left → Failed step.failed → IsCutBy servers source all Write
+  by_write : (whole : List ℕ) (left : ℕ) → source.gave whole → source.failed 0
+      → StoppedLater all.took (opening_of servers) (whole_lines_after [] whole) left → Failed step.failed → IsCutBy servers source all Write
   by_write whole left given sound later h = (
-    record { bytes = whole; given = given; lines = whole_lines_after [] whole; read = inl (sym (whole_lines_of-carried whole)); stopped = later.stopped },
+    record {
+      bytes = whole;
+      given = given;
+      lines = whole_lines_after [] whole;
+      read = inl (sym (whole_lines_of-carried whole));
+      stopped = later.stopped;
+    },
     sound,
     failed_after step.failed all.failed before.counts h,
   )
 
   -- a write failed at the line that the end ends
-  by_last_write : (left : ℕ) → source.gave bytes → source.ended → source.failed 0 → StoppedLater all.took (opening_of servers) (lines_after [] bytes) left → Failed step.failed → IsCutBy servers source all Write
+  by_last_write : (left : ℕ) → source.gave bytes → source.ended → source.failed 0
+      → StoppedLater all.took (opening_of servers) (lines_after [] bytes) left → Failed step.failed → IsCutBy servers source all Write
   by_last_write left given end sound later h = (
     record { bytes = bytes; given = given; lines = lines_after [] bytes; read = inr (end, sym (lines_of-carried bytes)); stopped = later.stopped },
     sound,
@@ -144,17 +159,23 @@ module _ (servers : ℕ) (source : SourceRun) (took : List ℕ → Type 0) (step
   )
 
   -- a fault at the line that the end of the script ends
-  pub cut_at_last : source.gave bytes → source.ended → source.failed 0 → (fault : PlayFault) → IsEndStoppedBy player step fault → IsCutBy servers source all fault
+  pub cut_at_last : source.gave bytes → source.ended → source.failed 0 → (fault : PlayFault) → IsEndStoppedBy player step fault
+      → IsCutBy servers source all fault
   cut_at_last given end sound Read h = absurd h
   cut_at_last given end sound Write h =
-      by_last_write (length h.0.rest) given end sound (stopped-last (opening_of servers) took step.took all.took before.both player bytes before.heard h.0) h.1
+      by_last_write (length h.0.rest) given end sound (stopped-last (opening_of servers) took step.took all.took
+      before.both player bytes before.heard h.0) h.1
   cut_at_last given end sound Memory h =
-      by_line bytes (length h.0.rest) given sound (stopped-last (opening_of servers) took step.took all.took before.both player bytes before.heard h.0) (h.1, h.2)
+      by_line bytes (length h.0.rest) given sound (stopped-last (opening_of servers) took step.took all.took before.both
+      player bytes before.heard h.0) (h.1, h.2)
 
   -- a fault among the lines that end in one more block
-  pub cut_in_block : (more : List ℕ) → source.gave (bytes ++ more) → source.failed 0 → (fault : PlayFault) → IsBlockStoppedBy player more step fault → IsCutBy servers source all fault
+  pub cut_in_block : (more : List ℕ) → source.gave (bytes ++ more) → source.failed 0 → (fault : PlayFault)
+      → IsBlockStoppedBy player more step fault → IsCutBy servers source all fault
   cut_in_block more given sound Read h = absurd h
   cut_in_block more given sound Write h =
-      by_write (bytes ++ more) (length h.0.rest) given sound (stopped-append_whole (opening_of servers) took step.took all.took before.both player bytes more before.heard h.0) h.1
+      by_write (bytes ++ more) (length h.0.rest) given sound (stopped-append_whole (opening_of servers) took step.took
+      all.took before.both player bytes more before.heard h.0) h.1
   cut_in_block more given sound Memory h =
-      by_line (bytes ++ more) (length h.0.rest) given sound (stopped-append (opening_of servers) took step.took all.took before.both player bytes more before.heard h.0) (h.1, h.2)
+      by_line (bytes ++ more) (length h.0.rest) given sound (stopped-append (opening_of servers) took step.took all.took
+      before.both player bytes more before.heard h.0) (h.1, h.2)

@@ -14,7 +14,8 @@ use Rattle.zscript.proofs.Cuts.{after_all-append, answers-append}
 pub done-none : (world : ServiceWorld) (writes : List ℕ → Type 0) → writes [] → AreLinesDone world [] world writes
 done-none world writes none = record { told = []; text = []; written = none; left = λ _. refl; answered = λ _. refl }
 
-pub done-line : (old new : ServiceWorld) (line : List ℕ) (writes : List ℕ → Type 0) → IsLineDone old line new writes → AreLinesDone old (line ∷ []) new writes
+pub done-line : (old new : ServiceWorld) (line : List ℕ) (writes : List ℕ → Type 0) → IsLineDone old line new writes
+    → AreLinesDone old (line ∷ []) new writes
 done-line old new line writes h = record {
   told = h.told;
   text = h.text;
@@ -24,7 +25,8 @@ done-line old new line writes h = record {
 }
 
 -- what is written for a line that is done can be told otherwise
-pub line_done-written : (writes more : List ℕ → Type 0) (old new : ServiceWorld) (line : List ℕ) → ((text : List ℕ) → writes text → more text) → IsLineDone old line new writes → IsLineDone old line new more
+pub line_done-written : (writes more : List ℕ → Type 0) (old new : ServiceWorld) (line : List ℕ)
+    → ((text : List ℕ) → writes text → more text) → IsLineDone old line new writes → IsLineDone old line new more
 line_done-written writes more old new line grow h = record {
   told = h.told;
   text = h.text;
@@ -34,7 +36,8 @@ line_done-written writes more old new line grow h = record {
 }
 
 -- and for lines
-pub done-written : (writes more : List ℕ → Type 0) (old new : ServiceWorld) (lines : List (List ℕ)) → ((text : List ℕ) → writes text → more text) → AreLinesDone old lines new writes → AreLinesDone old lines new more
+pub done-written : (writes more : List ℕ → Type 0) (old new : ServiceWorld) (lines : List (List ℕ))
+    → ((text : List ℕ) → writes text → more text) → AreLinesDone old lines new writes → AreLinesDone old lines new more
 done-written writes more old new lines grow h = record {
   told = h.told;
   text = h.text;
@@ -44,7 +47,8 @@ done-written writes more old new lines grow h = record {
 }
 
 -- lines of which the same is kept
-pub done-alike : (writes : List ℕ → Type 0) (old new : ServiceWorld) (xs ys : List (List ℕ)) → map kept_front xs ≡ map kept_front ys → AreLinesDone old xs new writes → AreLinesDone old ys new writes
+pub done-alike : (writes : List ℕ → Type 0) (old new : ServiceWorld) (xs ys : List (List ℕ)) → map kept_front xs ≡ map kept_front ys
+    → AreLinesDone old xs new writes → AreLinesDone old ys new writes
 done-alike writes old new xs ys e h = record {
   told = h.told;
   text = h.text;
@@ -54,12 +58,16 @@ done-alike writes old new xs ys e h = record {
 }
 
 -- the answers to done lines, and to others behind them
-pub done-answers : (writes : List ℕ → Type 0) (old mid : ServiceWorld) (xs ys : List (List ℕ)) (outcomes : List Outcome) (h : AreLinesDone old xs mid writes) → answers (script_state old (h.told ++ outcomes)) (xs ++ ys) ≡ h.text ++ answers (script_state mid outcomes) ys
+pub done-answers : (writes : List ℕ → Type 0) (old mid : ServiceWorld) (xs ys : List (List ℕ)) (outcomes : List Outcome)
+    (h : AreLinesDone old xs mid writes) → answers (script_state old (h.told ++ outcomes)) (xs ++ ys)
+    ≡ h.text ++ answers (script_state mid outcomes) ys
 done-answers writes old mid xs ys outcomes h =
     answers-append xs (script_state old (h.told ++ outcomes)) ys
     ∙ (λ i. h.answered outcomes i ++ answers (h.left outcomes i) ys)
 
-pub done-append : (writes more all : List ℕ → Type 0) (old mid new : ServiceWorld) (xs ys : List (List ℕ)) → ((a b : List ℕ) → writes a → more b → all (a ++ b)) → AreLinesDone old xs mid writes → AreLinesDone mid ys new more → AreLinesDone old (xs ++ ys) new all
+pub done-append : (writes more all : List ℕ → Type 0) (old mid new : ServiceWorld) (xs ys : List (List ℕ))
+    → ((a b : List ℕ) → writes a → more b → all (a ++ b)) → AreLinesDone old xs mid writes → AreLinesDone mid ys new more
+    → AreLinesDone old (xs ++ ys) new all
 done-append writes more all old mid new xs ys both h k = record {
   told = h.told ++ k.told;
   text = h.text ++ k.text;
@@ -76,11 +84,13 @@ done-append writes more all old mid new xs ys both h k = record {
 }
 
 -- a text was written under what was told at its lines
-pub done-text : (writes : List ℕ → Type 0) (old new : ServiceWorld) (lines : List (List ℕ)) (h : AreLinesDone old lines new writes) → writes (answers (script_state old (h.told ++ [])) lines)
+pub done-text : (writes : List ℕ → Type 0) (old new : ServiceWorld) (lines : List (List ℕ)) (h : AreLinesDone old lines new writes)
+    → writes (answers (script_state old (h.told ++ [])) lines)
 done-text writes old new lines h = subst writes (sym (h.answered [])) h.written
 
 -- lines that are played, of which a beginning was written
-abbrev pub done-stopped : (took : List ℕ → Type 0) (old new : ServiceWorld) (played rest lines : List (List ℕ)) → lines ≡ played ++ rest → AreLinesDone old played new (TookBeginning took) → IsStopped old lines took
+abbrev pub done-stopped : (took : List ℕ → Type 0) (old new : ServiceWorld) (played rest lines : List (List ℕ))
+    → lines ≡ played ++ rest → AreLinesDone old played new (TookBeginning took) → IsStopped old lines took
 done-stopped took old new played rest lines split h = record {
   played = played;
   rest = rest;

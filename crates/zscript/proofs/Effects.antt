@@ -21,14 +21,15 @@ use Rattle.zworld.specs.declared.did.Did.{Did}
 use Rattle.zworld.specs.declared.did.Did.TheVariants as became
 use Rattle.zworld.specs.declared.did.IdleCause.{IdleCause}
 use Rattle.zworld.specs.declared.did.IdleCause.TheVariants as cause
-use Rattle.zworld.specs.Held.{Held}
+use Rattle.zworld.specs.Held.{Held, kept_world}
 use Rattle.zworld.specs.Did.{IsCause, is_idle, is_short, outcome_of}
 use Rattle.zworld.specs.Steps.{WorldView, AreActed, HasHappened, world_in}
 use Rattle.zworld.specs.support.Settled.{HasSettledBy}
 use Rattle.zworld.proofs.Steps.{read_acted, happens_not}
 use Rattle.zworld.proofs.Tries.{acted_at}
 use Rattle.zscript.specs.declared.limits.TheConstants.{MAX_EVENTS}
-use Rattle.zscript.specs.Line.{ServiceWorld, ScriptState, script_state, LineEffect, after_try, event_effect, plain_effect, order_effect, order_fault_name, settled_text, settle_effect, taken_text}
+use Rattle.zscript.specs.Line.{ServiceWorld, ScriptState, script_state, LineEffect, after_try, event_effect}
+use Rattle.zscript.specs.Line.{plain_effect, order_effect, order_fault_name, settled_text, settle_effect, taken_text}
 use Rattle.zscript.specs.support.Effects.{cause_text, did_text, LeadsTo, IsEffectDoneBy, IsEventDone}
 
 -- the opposite of a test
@@ -40,7 +41,8 @@ opposite false false e = absurd (true≢false (sym e))
 
 -- an event that is tried, where it is enabled, and where it isn't
 pub tried_on : (w : ServiceWorld) (outcomes : List Outcome) (event : Event) → is_enabled w event ≡ true
-    → after_try (script_state w outcomes) event ≡ with_event kept_tree (opening_settling w 1 outcomes) (read kept_tree w event (next_outcome outcomes))
+    → after_try (script_state w outcomes) event ≡ with_event kept_tree (opening_settling w 1 outcomes)
+    (read kept_tree w event (next_outcome outcomes))
 tried_on w outcomes event on =
     let opening : Settling (KeptState Tree) = opening_settling w 1 outcomes in
     ap (λ b. if b then with_event kept_tree opening (read kept_tree w event (next_outcome outcomes)) else opening) on
@@ -106,7 +108,8 @@ module _ (v w : ServiceWorld) (event : Event) where
   pub event_done : (strict : Bool) (did : Did) (writes : List ℕ → Type 0) → (strict ≡ true → outcome_of did ≡ Acted) → HasHappened v event did w
       → (effect : ScriptState → LineEffect) (done idle result : List ℕ)
       → ((outcomes : List Outcome) → effect (script_state v outcomes) ≡ event_effect (script_state v outcomes) event done idle)
-      → (if is_idle did then idle else done) ≡ result → writes (flat_map (taken_text None) w.history ++ result) → IsEffectDoneBy strict v w effect writes
+      → (if is_idle did then idle else done) ≡ result → writes (flat_map (taken_text None) w.history ++ result)
+      → IsEffectDoneBy strict v w effect writes
   event_done strict did writes acted has effect done idle result is told written = (
     record {
       told = told_of did;
@@ -127,7 +130,8 @@ whole_where true did strictly whole = whole
 whole_where false did strictly whole = absurd (true≢false (sym strictly))
 
 -- take, ignore, fail and retry
-plain_text : (did : Did) → ((why : IdleCause) → did ≡ became.Idle why → why ≡ cause.Nothing) → (if is_idle did then codes "idle" else codes "done") ≡ did_text did
+plain_text : (did : Did) → ((why : IdleCause) → did ≡ became.Idle why → why ≡ cause.Nothing)
+    → (if is_idle did then codes "idle" else codes "done") ≡ did_text did
 plain_text (became.Idle why) caused = ap cause_text (sym (caused why refl))
 plain_text became.Done caused = refl
 plain_text became.Unheard caused = refl
@@ -137,16 +141,19 @@ pub plain_done : (strict : Bool) (old new : WorldView) (event : Event) (writes :
     → ((why : IdleCause) → IsCause old.held event why → why ≡ cause.Nothing) → IsEventDone strict old new event writes
     → IsEffectDoneBy strict (world_in old) (world_in new) (λ s. plain_effect s event) writes
 plain_done strict old new event writes nothing done =
-    event_done (world_in old) (world_in new) event strict done.did writes (λ strictly. acted_at done.did (done.acted strictly)) done.happened (λ s. plain_effect s event) (codes "done") (codes "idle") (did_text done.did) (λ outcomes. refl)
+    event_done (world_in old) (world_in new) event strict done.did writes (λ strictly. acted_at done.did (done.acted strictly))
+    done.happened (λ s. plain_effect s event) (codes "done") (codes "idle") (did_text done.did) (λ outcomes. refl)
     (plain_text done.did (λ why is. nothing why (done.caused why is))) done.written
 
 -- join and retire
 order_text : (old : Held) (order : Order) (did : Did) → ((why : IdleCause) → did ≡ became.Idle why → IsCause old (event.Order order) why)
-    → (if is_idle did then option_map_or (λ fault. codes "no " ++ order_fault_name fault) (order_fault old.master order) (codes "idle") else codes "done") ≡ did_text did
+    → (if is_idle did then option_map_or (λ fault. codes "no " ++ order_fault_name fault) (order_fault (kept_world old []).master order)
+    (codes "idle") else codes "done") ≡ did_text did
 order_text old order (became.Idle why) caused = refused why (caused why refl)
   where
     refused : (why : IdleCause) → IsCause old (event.Order order) why
-        → option_map_or (λ fault. codes "no " ++ order_fault_name fault) (order_fault old.master order) (codes "idle") ≡ cause_text why
+        → option_map_or (λ fault. codes "no " ++ order_fault_name fault) (order_fault (kept_world old []).master order) (codes "idle")
+        ≡ cause_text why
     refused (cause.Order fault) is = ap (λ fault. option_map_or (λ fault. codes "no " ++ order_fault_name fault) fault (codes "idle")) is
     refused (cause.Begin fault) is = absurd is
     refused cause.Nothing is = absurd is
@@ -154,11 +161,14 @@ order_text old order became.Done caused = refl
 order_text old order became.Unheard caused = refl
 order_text old order became.Stopped caused = refl
 
-pub order_done : (strict : Bool) (old new : WorldView) (order : Order) (writes : List ℕ → Type 0) → IsEventDone strict old new (event.Order order) writes
+pub order_done : (strict : Bool) (old new : WorldView) (order : Order) (writes : List ℕ → Type 0)
+    → IsEventDone strict old new (event.Order order) writes
     → IsEffectDoneBy strict (world_in old) (world_in new) (λ s. order_effect s order) writes
 order_done strict old new order writes done =
-    event_done (world_in old) (world_in new) (event.Order order) strict done.did writes (λ strictly. acted_at done.did (done.acted strictly)) done.happened (λ s. order_effect s order) (codes "done")
-    (option_map_or (λ fault. codes "no " ++ order_fault_name fault) (order_fault old.held.master order) (codes "idle")) (did_text done.did) (λ outcomes. refl)
+    event_done (world_in old) (world_in new) (event.Order order) strict done.did writes (λ strictly. acted_at done.did (done.acted strictly))
+    done.happened (λ s. order_effect s order) (codes "done")
+    (option_map_or (λ fault. codes "no " ++ order_fault_name fault) (order_fault (kept_world old.held []).master order) (codes "idle"))
+    (did_text done.did) (λ outcomes. refl)
     (order_text old.held order done.did done.caused) done.written
 
 -- settle

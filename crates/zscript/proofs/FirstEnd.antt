@@ -1,5 +1,6 @@
 -- The first LF of some bytes splits them.
-use Rattle.std.proofs.Common.{◌≡◌, ◌<◌, ◌+◌, ◌-◌, ℕ, zero, suc, Bool, true, false, List, [], ◌∷◌, ◌++◌, length, take, drop, slice_index, refl, sym, ap, ◌∙◌, arith, add-one, ◌==◌}
+use Rattle.std.proofs.Common.{◌≡◌, ◌<◌, ◌+◌, ◌-◌, ℕ, zero, suc, Bool, true, false, List, [], ◌∷◌, ◌++◌, length, take}
+use Rattle.std.proofs.Common.{drop, slice_index, refl, sym, ap, ◌∙◌, arith, add-one, ◌==◌}
 use Rattle.std.proofs.lemmas.Bool.Decides.{nat_tests}
 use Rattle.std.proofs.lemmas.List.{take_all, length-drop}
 use Rattle.zscript.specs.support.Lines.{IsPart}
@@ -22,7 +23,8 @@ pub record Split (bytes : List ℕ) (k : ℕ) (more : List ℕ) : Type 0 where
   pub part : IsPart (take k bytes)
   pub whole : bytes ≡ take k bytes ++ 10 ∷ more
 
-split_at_first : (bytes : List ℕ) (k : ℕ) → NoEndBelow bytes k → k < length bytes → (slice_index bytes k == 10) ≡ true → Split bytes k (drop (suc k) bytes)
+split_at_first : (bytes : List ℕ) (k : ℕ) → NoEndBelow bytes k → k < length bytes → (slice_index bytes k == 10) ≡ true
+    → Split bytes k (drop (suc k) bytes)
 split_at_first [] k none below here = absurd (omega arith)
 split_at_first (x ∷ bytes) zero none below here = record { part = tt; whole = ap (λ b. b ∷ bytes) (is_end x here) }
 split_at_first (x ∷ bytes) (suc k) none below here =

@@ -1,5 +1,6 @@
 -- What is kept of a line stands for the line.
-use Rattle.std.proofs.Common.{◌+◌, ◌-◌, Bool, true, false, nat_le, ◌≡◌, ◌<◌, ◌≤◌, ◌⊎◌, inl, inr, ℕ, zero, suc, List, [], ◌∷◌, ◌++◌, length, take, map, refl, sym, ap, ◌∙◌, arith, min}
+use Rattle.std.proofs.Common.{◌+◌, ◌-◌, Bool, true, false, nat_le, ◌≡◌, ◌<◌, ◌≤◌, ◌⊎◌, inl, inr, ℕ, zero, suc, List, []}
+use Rattle.std.proofs.Common.{◌∷◌, ◌++◌, length, take, map, refl, sym, ap, ◌∙◌, arith, min}
 use Rattle.std.proofs.lemmas.List.{take_all, take_min, length-take, append-nil}
 use Rattle.std.proofs.lemmas.Bool.Decides.{nat_tests}
 use Rattle.std.proofs.Math.Seq.{take-append-add}
@@ -72,7 +73,8 @@ after-kept state line =
     ]
 
 -- a line is done where what is kept of it is
-pub line_done-kept : (writes : List ℕ → Type 0) (old new : ServiceWorld) (line : List ℕ) → IsLineDone old (kept_front line) new writes → IsLineDone old line new writes
+pub line_done-kept : (writes : List ℕ → Type 0) (old new : ServiceWorld) (line : List ℕ) → IsLineDone old (kept_front line) new writes
+    → IsLineDone old line new writes
 line_done-kept writes old new line h = record {
   told = h.told;
   text = h.text;
@@ -82,12 +84,15 @@ line_done-kept writes old new line h = record {
 }
 
 -- by a player that keeps what has begun of it
-pub line_done-player : (p q : PlayerView) (new : ServiceWorld) (end bytes : List ℕ) → q.line ≡ kept_front (p.line ++ end) → world_now q ≡ world_now p → q.held ≡ p.held → IsLineDone (world_now q) q.line new (λ text. bytes ≡ q.held ++ text) → IsLineDone (world_now p) (p.line ++ end) new (λ text. bytes ≡ p.held ++ text)
+pub line_done-player : (p q : PlayerView) (new : ServiceWorld) (end bytes : List ℕ) → q.line ≡ kept_front (p.line ++ end)
+    → world_now q ≡ world_now p → q.held ≡ p.held → IsLineDone (world_now q) q.line new (λ text. bytes ≡ q.held ++ text)
+    → IsLineDone (world_now p) (p.line ++ end) new (λ text. bytes ≡ p.held ++ text)
 line_done-player p q new end bytes line world held h =
     line_done-kept (λ text. bytes ≡ p.held ++ text) (world_now p) new (p.line ++ end) (rw (sym line, sym world, sym held) h)
 
 -- where nothing of it has begun
-pub line_done-whole : (writes : List ℕ → Type 0) (old new : ServiceWorld) (begun end : List ℕ) → length begun ≡ 0 → IsLineDone old end new writes → IsLineDone old (begun ++ end) new writes
+pub line_done-whole : (writes : List ℕ → Type 0) (old new : ServiceWorld) (begun end : List ℕ) → length begun ≡ 0
+    → IsLineDone old end new writes → IsLineDone old (begun ++ end) new writes
 line_done-whole writes old new [] end e h = h
 line_done-whole writes old new (x ∷ begun) end e h = absurd (omega (arith, e))
 

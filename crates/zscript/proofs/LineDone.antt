@@ -12,17 +12,21 @@ use Rattle.zlines.specs.Line.{line_of}
 use Rattle.zlines.specs.Texts.{Writes}
 use Rattle.zworld.specs.Held.{Held, world_of}
 use Rattle.zworld.specs.Steps.{WorldView, world_in}
-use Rattle.zscript.specs.Line.{ServiceWorld, forgotten, script_state, LineEffect, line_fault_text, line_effect, read_effect, effect_of, taken_text, answer, after}
+use Rattle.zscript.specs.Line.{ServiceWorld, forgotten, script_state, LineEffect, line_fault_text, line_effect}
+use Rattle.zscript.specs.Line.{read_effect, effect_of, taken_text, answer, after}
 use Rattle.zscript.specs.Done.{IsLineDone, world_between}
 use Rattle.zscript.specs.support.Effects.{MayTell, IsEffectDone, IsEffectDoneBy}
 
 -- one text behind another
-pub writes_more : {A : Type 0} (old mid new : String A) (first more : List ℕ) → Writes old mid first → Writes mid new more → Writes old new (first ++ more)
+pub writes_more : {A : Type 0} (old mid new : String A) (first more : List ℕ) → Writes old mid first → Writes mid new more
+    → Writes old new (first ++ more)
 writes_more old mid new first more before after = after ∙ ap (λ text. text ++ more) before ∙ append_assoc (string_bytes old) first more
 
 -- a line, done; its outcomes are those of its effect
-abbrev line_told : (old new : Held) (history : History) (line : List ℕ) (wrote writes : List ℕ → Type 0) → ((text : List ℕ) → wrote text → writes (text ++ 10 ∷ []))
-    → IsEffectDone (world_of old []) (world_of new history) (λ s. effect_of s line) wrote → IsLineDone (world_between old) line (world_between new) writes
+abbrev line_told : (old new : Held) (history : History) (line : List ℕ) (wrote writes : List ℕ → Type 0)
+    → ((text : List ℕ) → wrote text → writes (text ++ 10 ∷ []))
+    → IsEffectDone (world_of old []) (world_of new history) (λ s. effect_of s line) wrote
+    → IsLineDone (world_between old) line (world_between new) writes
 unfolding answer after
 line_told old new history line wrote writes ends done =
     let taken = flat_map (taken_text done.own) history in
@@ -43,12 +47,14 @@ line_told old new history line wrote writes ends done =
     }
 
 -- a line, done on a world that had told nothing since
-pub line_done : (strict : Bool) (old new : WorldView) (line : List ℕ) (wrote writes : List ℕ → Type 0) → ((text : List ℕ) → wrote text → writes (text ++ 10 ∷ []))
+pub line_done : (strict : Bool) (old new : WorldView) (line : List ℕ) (wrote writes : List ℕ → Type 0)
+    → ((text : List ℕ) → wrote text → writes (text ++ 10 ∷ []))
     → old.history ≡ [] → IsEffectDoneBy strict (world_in old) (world_in new) (λ s. effect_of s line) wrote
     → (done : IsLineDone (world_between old.held) line (world_between new.held) writes) × MayTell strict done.told
 unfolding line_told
 line_done strict old new line wrote writes ends none done =
-    let bare = subst (λ (before : History). IsEffectDoneBy strict (world_of old.held before) (world_in new) (λ s. effect_of s line) wrote) none done in
+    let bare = subst (λ (before : History). IsEffectDoneBy strict (world_of old.held before) (world_in new) (λ s. effect_of s line) wrote)
+    none done in
     (line_told old.held new.held new.history line wrote writes ends bare.0, bare.1)
 
 -- what was read of a line
@@ -59,7 +65,8 @@ read_done strict v w line asked writes is done =
     subst (λ (read : Read Line). IsEffectDoneBy strict v w (λ s. read_effect s read) writes) (sym is) done
 
 -- a line that asks for nothing
-unread_done : (strict : Bool) (v : ServiceWorld) (line : List ℕ) (fault : LineFault) (writes : List ℕ → Type 0) → v.history ≡ [] → line_of line ≡ Err fault
+unread_done : (strict : Bool) (v : ServiceWorld) (line : List ℕ) (fault : LineFault) (writes : List ℕ → Type 0)
+    → v.history ≡ [] → line_of line ≡ Err fault
     → writes (line_fault_text fault) → IsEffectDoneBy strict v v (λ s. effect_of s line) writes
 unfolding effect_of
 unread_done strict v line fault writes none is written =
@@ -74,7 +81,8 @@ unread_done strict v line fault writes none is written =
       λ strictly. tt,
     )
 
-pub fault_done : (strict : Bool) (v : ServiceWorld) (line : List ℕ) (fault : LineFault) (writes : List ℕ → Type 0) → v.history ≡ [] → IsUnread (line_of line) fault
+pub fault_done : (strict : Bool) (v : ServiceWorld) (line : List ℕ) (fault : LineFault) (writes : List ℕ → Type 0)
+    → v.history ≡ [] → IsUnread (line_of line) fault
     → (fault ≡ Memory → ⊥) × writes (line_fault_text fault) → IsEffectDoneBy strict v v (λ s. effect_of s line) writes
 fault_done strict v line fault writes none (inl memory) written = absurd (written.0 memory)
 fault_done strict v line fault writes none (inr is) written = unread_done strict v line fault writes none is written.1

@@ -13,7 +13,8 @@ effect-long : (state : ScriptState) (line : List ℕ) → MAX_LINE < length line
 unfolding effect_of line_of
 effect-long state line h = rw (long line h) refl
 
-pub answer-long : (state : ScriptState) (line : List ℕ) → MAX_LINE < length line → answer state line ≡ effect_text (no_effect state (codes "bad line"))
+pub answer-long : (state : ScriptState) (line : List ℕ) → MAX_LINE < length line → answer state line
+    ≡ effect_text (no_effect state (codes "bad line"))
 unfolding answer
 answer-long state line h = ap effect_text (effect-long state line h)
 

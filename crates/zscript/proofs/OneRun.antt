@@ -21,7 +21,9 @@ use Rattle.zlines.specs.declared.request.Request.{Request}
 use Rattle.zlines.specs.Request.{Read}
 use Rattle.zlines.specs.Line.{line_of}
 use Rattle.zscript.specs.declared.limits.TheConstants.{MAX_EVENTS}
-use Rattle.zscript.specs.Line.{ServiceWorld, ScriptState, LineEffect, opening_script, forgotten, after_try, after_settling, call_effect, not_begun_text, no_effect, call_answered, line_effect, read_effect, effect_of, after, histories}
+use Rattle.zscript.specs.Line.{ServiceWorld, ScriptState, LineEffect, opening_script, forgotten, after_try}
+use Rattle.zscript.specs.Line.{after_settling, call_effect, not_begun_text, no_effect, call_answered, line_effect}
+use Rattle.zscript.specs.Line.{read_effect, effect_of, after, histories}
 use Rattle.zworld_model.proofs.Past.{with_past, run_past}
 
 -- the settling's world is where its events lead from a world
@@ -106,5 +108,6 @@ runs_from (line ∷ lines) s past none =
 -- from the opening
 pub lines_tell_one_run :
     (servers : ℕ) (outcomes : List Outcome) (lines : List (List ℕ))
-    → (events : List Event) × ((run kept_tree (opening_world kept_tree servers MAX_CLIENTS) events).history ≡ histories (opening_script servers outcomes) lines)
+    → (events : List Event) × ((run kept_tree (opening_world kept_tree servers MAX_CLIENTS) events).history
+    ≡ histories (opening_script servers outcomes) lines)
 lines_tell_one_run servers outcomes lines = runs_from lines (opening_script servers outcomes) [] refl

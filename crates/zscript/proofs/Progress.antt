@@ -27,17 +27,23 @@ progress-none took p bytes none held = record {
 }
 
 -- what the next line is, among the lines
-next_line : (q : PlayerView) (end more rest : List ℕ) → IsPart end → rest ≡ end ++ 10 ∷ more → whole_lines_after q.line rest ≡ (q.line ++ end) ∷ whole_lines_after [] more
+next_line : (q : PlayerView) (end more rest : List ℕ) → IsPart end → rest ≡ end ++ 10 ∷ more → whole_lines_after q.line rest
+    ≡ (q.line ++ end) ∷ whole_lines_after [] more
 next_line q end more rest part is = ap (whole_lines_after q.line) is ∙ whole_lines_after-line end q.line more part
 
 -- one more line, in front of the others
-with_next : (p q : PlayerView) (bytes rest end more : List ℕ) (lines : List (List ℕ)) → whole_lines_after p.line bytes ≡ lines ++ whole_lines_after q.line rest → IsPart end → rest ≡ end ++ 10 ∷ more → whole_lines_after p.line bytes ≡ (lines ++ (q.line ++ end) ∷ []) ++ whole_lines_after [] more
+with_next : (p q : PlayerView) (bytes rest end more : List ℕ) (lines : List (List ℕ)) → whole_lines_after p.line bytes
+    ≡ lines ++ whole_lines_after q.line rest → IsPart end → rest ≡ end ++ 10 ∷ more → whole_lines_after p.line bytes
+    ≡ (lines ++ (q.line ++ end) ∷ []) ++ whole_lines_after [] more
 with_next p q bytes rest end more lines whole part is =
     whole
     ∙ ap (λ t. lines ++ t) (next_line q end more rest part is)
     ∙ sym (append_assoc lines ((q.line ++ end) ∷ []) (whole_lines_after [] more))
 
-pub progress-line : (took more_took all_took : List ℕ → Type 0) (p q r : PlayerView) (bytes rest end more : List ℕ) → ((a b : List ℕ) → took a → more_took b → all_took (a ++ b)) → Progress took p q bytes rest → IsPart end → rest ≡ end ++ 10 ∷ more → r.line ≡ [] → IsLineDone (world_now q) (q.line ++ end) (world_now r) (λ text. Tells more_took (q.held ++ text) r.held) → Progress all_took p r bytes more
+pub progress-line : (took more_took all_took : List ℕ → Type 0) (p q r : PlayerView) (bytes rest end more : List ℕ)
+    → ((a b : List ℕ) → took a → more_took b → all_took (a ++ b)) → Progress took p q bytes rest → IsPart end
+    → rest ≡ end ++ 10 ∷ more → r.line ≡ [] → IsLineDone (world_now q) (q.line ++ end) (world_now r)
+    (λ text. Tells more_took (q.held ++ text) r.held) → Progress all_took p r bytes more
 progress-line took more_took all_took p q r bytes rest end more both h part is line next =
     let now = q.line ++ end in
     record {
@@ -52,7 +58,10 @@ progress-line took more_took all_took p q r bytes rest end more both h part is l
     }
 
 -- the sink failed at the next line's reply
-pub progress-cut : (took more_took all_took : List ℕ → Type 0) (p q : PlayerView) (new : ServiceWorld) (bytes rest end more : List ℕ) → ((a b : List ℕ) → took a → more_took b → all_took (a ++ b)) → Progress took p q bytes rest → IsPart end → rest ≡ end ++ 10 ∷ more → IsLineDone (world_now q) (q.line ++ end) new (λ text. TookBeginning more_took (q.held ++ text)) → IsStopped (world_now p) (whole_lines_after p.line bytes) all_took
+pub progress-cut : (took more_took all_took : List ℕ → Type 0) (p q : PlayerView) (new : ServiceWorld) (bytes rest end more : List ℕ)
+    → ((a b : List ℕ) → took a → more_took b → all_took (a ++ b)) → Progress took p q bytes rest → IsPart end
+    → rest ≡ end ++ 10 ∷ more → IsLineDone (world_now q) (q.line ++ end) new (λ text. TookBeginning more_took (q.held ++ text))
+    → IsStopped (world_now p) (whole_lines_after p.line bytes) all_took
 progress-cut took more_took all_took p q new bytes rest end more both h part is next =
     let now = q.line ++ end in
     done-stopped all_took (world_now p) new (h.lines ++ now ∷ []) (whole_lines_after [] more) (whole_lines_after p.line bytes)
@@ -68,7 +77,9 @@ pub record StoppedBefore (took : List ℕ → Type 0) (world : ServiceWorld) (li
   pub stopped : IsStopped world lines took
   pub some : 0 < length stopped.rest
 
-pub progress-want : (took all_took : List ℕ → Type 0) (p q : PlayerView) (bytes rest end more : List ℕ) → ((a : List ℕ) → took a → all_took a) → Progress took p q bytes rest → IsPart end → rest ≡ end ++ 10 ∷ more → StoppedBefore all_took (world_now p) (whole_lines_after p.line bytes)
+pub progress-want : (took all_took : List ℕ → Type 0) (p q : PlayerView) (bytes rest end more : List ℕ)
+    → ((a : List ℕ) → took a → all_took a) → Progress took p q bytes rest → IsPart end → rest ≡ end ++ 10 ∷ more
+    → StoppedBefore all_took (world_now p) (whole_lines_after p.line bytes)
 progress-want took all_took p q bytes rest end more all h part is = record {
   stopped = done-stopped all_took (world_now p) (world_now q) h.lines ((q.line ++ end) ∷ whole_lines_after [] more) (whole_lines_after p.line bytes)
       (h.whole ∙ ap (λ t. h.lines ++ t) (next_line q end more rest part is))
@@ -79,10 +90,13 @@ progress-want took all_took p q bytes rest end more all h part is = record {
 }
 
 -- every line that ends in the bytes is played
-pub progress-whole : (took : List ℕ → Type 0) (p q : PlayerView) (bytes rest : List ℕ) (h : Progress took p q bytes rest) → IsPart rest → AreLinesDone (world_now p) (whole_lines_after p.line bytes) (world_now q) (λ text. Tells took text q.held)
+pub progress-whole : (took : List ℕ → Type 0) (p q : PlayerView) (bytes rest : List ℕ) (h : Progress took p q bytes rest)
+    → IsPart rest → AreLinesDone (world_now p) (whole_lines_after p.line bytes) (world_now q) (λ text. Tells took text q.held)
 progress-whole took p q bytes rest h part =
-    let whole : whole_lines_after p.line bytes ≡ h.lines = h.whole ∙ ap (λ t. h.lines ++ t) (whole_lines_after-part rest q.line part) ∙ append-nil h.lines in
+    let whole : whole_lines_after p.line bytes ≡ h.lines = h.whole ∙ ap (λ t. h.lines ++ t) (whole_lines_after-part rest q.line part)
+    ∙ append-nil h.lines in
     rw whole h.done
 
-pub progress-left : (took : List ℕ → Type 0) (p q : PlayerView) (bytes rest : List ℕ) (h : Progress took p q bytes rest) → IsPart rest → line_left p.line bytes ≡ q.line ++ rest
+pub progress-left : (took : List ℕ → Type 0) (p q : PlayerView) (bytes rest : List ℕ) (h : Progress took p q bytes rest)
+    → IsPart rest → line_left p.line bytes ≡ q.line ++ rest
 progress-left took p q bytes rest h part = h.left ∙ line_left-part rest q.line part

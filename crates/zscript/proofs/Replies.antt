@@ -1,5 +1,6 @@
 -- A call is answered with a reply of its history, or had none.
-use Rattle.std.proofs.Common.{◌≡◌, ◌⊎◌, ℕ, ◌+◌, Bool, true, false, if◌then◌else◌, [], ◌∷◌, Option, None, Some, inl, inr, refl, sym, ap, subst, codes, arith}
+use Rattle.std.proofs.Common.{◌≡◌, ◌⊎◌, ℕ, ◌+◌, Bool, true, false, if◌then◌else◌, [], ◌∷◌, Option, None, Some, inl, inr}
+use Rattle.std.proofs.Common.{refl, sym, ap, subst, codes, arith}
 use Rattle.std.specs.Prelude.{Ok, Err, ◌&&◌, ◌==◌}
 use Rattle.std.specs.Option.{option_map_or}
 use Rattle.std.proofs.lemmas.Bool.Decides.{nat_tests}
@@ -18,7 +19,8 @@ use Rattle.zlines.specs.declared.request.Request.{Request}
 use Rattle.zlines.specs.Request.{Read}
 use Rattle.zlines.specs.Line.{line_of}
 use Rattle.zlines.specs.Reply.{reply_text}
-use Rattle.zscript.specs.Line.{ScriptState, LineEffect, reply_in, call_answered, call_effect, no_effect, not_begun_text, after_settling, after_try, line_effect, read_effect, effect_of}
+use Rattle.zscript.specs.Line.{ScriptState, LineEffect, reply_in, call_answered, call_effect, no_effect, not_begun_text}
+use Rattle.zscript.specs.Line.{after_settling, after_try, line_effect, read_effect, effect_of}
 use Rattle.zscript.specs.Histories.{IsAnsweredBy, CallsAreAnsweredByTheirReplies}
 
 -- what a choice of an answer, or of those behind it, comes to
@@ -58,7 +60,8 @@ either c n history None is = inr (refl, absent c n history is)
 -- the same of the call of an effect
 abbrev IsOf : Settling (KeptState Tree) → ℕ → ℕ → ℕ → ℕ → Type 0
 IsOf did c n client number =
-    ((reply : Reply) × Among (Answer client number reply) did.world.history × (option_map_or reply_text (reply_in (Some (c, n)) did.world.history) (codes "unanswered") ≡ reply_text reply))
+    ((reply : Reply) × Among (Answer client number reply) did.world.history
+    × (option_map_or reply_text (reply_in (Some (c, n)) did.world.history) (codes "unanswered") ≡ reply_text reply))
     ⊎ ((option_map_or reply_text (reply_in (Some (c, n)) did.world.history) (codes "unanswered") ≡ codes "unanswered")
     × ((reply : Reply) → Among (Answer client number reply) did.world.history → ⊥))
 
@@ -75,11 +78,14 @@ nobody_waits effect none client number own = let no : ⊥ = cc in absurd no
 called : (s : ScriptState) (request : Request) (begins : Bool) → is_enabled s.world (event.Begin request.client request.call) ≡ begins
     → IsAnsweredBy (call_effect s request)
 called s request true enabled =
-    let begun = call_answered (after_settling (after_try s (event.Begin request.client request.call))) (Some (request.client, (s.world.clients request.client).number + 1)) in
+    let begun = call_answered (after_settling (after_try s (event.Begin request.client request.call)))
+    (Some (request.client, (s.world.clients request.client).number + 1)) in
     subst (λ b. IsAnsweredBy (if b then begun else no_effect s (not_begun_text s request))) (sym enabled) (answered begun.did _ _)
 called s request false enabled =
-    let begun = call_answered (after_settling (after_try s (event.Begin request.client request.call))) (Some (request.client, (s.world.clients request.client).number + 1)) in
-    subst (λ b. IsAnsweredBy (if b then begun else no_effect s (not_begun_text s request))) (sym enabled) (nobody_waits (no_effect s (not_begun_text s request)) refl)
+    let begun = call_answered (after_settling (after_try s (event.Begin request.client request.call)))
+    (Some (request.client, (s.world.clients request.client).number + 1)) in
+    subst (λ b. IsAnsweredBy (if b then begun else no_effect s (not_begun_text s request))) (sym enabled)
+    (nobody_waits (no_effect s (not_begun_text s request)) refl)
 
 -- each line
 line_answered : (s : ScriptState) (line : Line) → IsAnsweredBy (line_effect s line)

@@ -1,5 +1,6 @@
 -- The lines of a script, as a player meets them: carried on from byte to byte.
-use Rattle.std.proofs.Common.{◌≡◌, ◌<◌, ◌≤◌, ℕ, true, false, cond, List, [], ◌∷◌, ◌++◌, length, length-append, refl, sym, ap, ◌∙◌, append_assoc, ◌==◌, arith}
+use Rattle.std.proofs.Common.{◌≡◌, ◌<◌, ◌≤◌, ℕ, true, false, cond, List, [], ◌∷◌, ◌++◌, length, length-append, refl}
+use Rattle.std.proofs.Common.{sym, ap, ◌∙◌, append_assoc, ◌==◌, arith}
 use Rattle.std.proofs.lemmas.List.{append-nil}
 use Rattle.std.specs.List.{onto_first}
 use Rattle.zscript.specs.Script.{lines_of, whole_lines_of, onto_line}
@@ -38,7 +39,9 @@ carried_whole-onto line b (next ∷ lines) = ap (λ t. t ∷ lines) (append_asso
 lines_after-carried : (bytes line : List ℕ) → lines_after line bytes ≡ carried line (lines_of bytes)
 lines_after-carried [] line = refl
 lines_after-carried (b ∷ bytes) line =
-    elim (b == 10) as (λ t. cond t (line ∷ whole_lines_after [] bytes) (whole_lines_after (line ++ b ∷ []) bytes) ++ last_line (cond t (line_left [] bytes) (line_left (line ++ b ∷ []) bytes)) ≡ carried line (cond t ([] ∷ lines_of bytes) (onto_first b (lines_of bytes)))) [
+    elim (b == 10) as (λ t. cond t (line ∷ whole_lines_after [] bytes) (whole_lines_after (line ++ b ∷ []) bytes)
+    ++ last_line (cond t (line_left [] bytes) (line_left (line ++ b ∷ []) bytes))
+    ≡ carried line (cond t ([] ∷ lines_of bytes) (onto_first b (lines_of bytes)))) [
       | true ↦ (λ i. sym (append-nil line) i ∷ (lines_after-carried bytes [] ∙ carried-nil (lines_of bytes)) i)
       | false ↦ lines_after-carried bytes (line ++ b ∷ []) ∙ carried-onto line b (lines_of bytes)
     ]
@@ -46,7 +49,8 @@ lines_after-carried (b ∷ bytes) line =
 whole_lines_after-carried : (bytes line : List ℕ) → whole_lines_after line bytes ≡ carried_whole line (whole_lines_of bytes)
 whole_lines_after-carried [] line = refl
 whole_lines_after-carried (b ∷ bytes) line =
-    elim (b == 10) as (λ t. cond t (line ∷ whole_lines_after [] bytes) (whole_lines_after (line ++ b ∷ []) bytes) ≡ carried_whole line (cond t ([] ∷ whole_lines_of bytes) (onto_line b (whole_lines_of bytes)))) [
+    elim (b == 10) as (λ t. cond t (line ∷ whole_lines_after [] bytes) (whole_lines_after (line ++ b ∷ []) bytes)
+    ≡ carried_whole line (cond t ([] ∷ whole_lines_of bytes) (onto_line b (whole_lines_of bytes)))) [
       | true ↦ (λ i. sym (append-nil line) i ∷ (whole_lines_after-carried bytes [] ∙ carried_whole-nil (whole_lines_of bytes)) i)
       | false ↦ whole_lines_after-carried bytes (line ++ b ∷ []) ∙ carried_whole-onto line b (whole_lines_of bytes)
     ]

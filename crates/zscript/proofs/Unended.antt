@@ -11,7 +11,8 @@ none_in_front : (front text : List ℕ) → IsBeginning front [] → text ≡ fr
 none_in_front [] text h e = e
 none_in_front (b ∷ front) text h e = cc (h.1)
 
-none_played : (servers : ℕ) (text front : List ℕ) (outcomes : List Outcome) (played rest : List (List ℕ)) → [] ≡ played ++ rest → IsBeginning front (answers (opening_script servers outcomes) played) → front ≡ text → text ≡ []
+none_played : (servers : ℕ) (text front : List ℕ) (outcomes : List Outcome) (played rest : List (List ℕ)) → [] ≡ played ++ rest
+    → IsBeginning front (answers (opening_script servers outcomes) played) → front ≡ text → text ≡ []
 none_played servers text front outcomes [] rest e h is = none_in_front front text h (sym is)
 none_played servers text front outcomes (line ∷ played) rest e h is = cc
 
@@ -23,4 +24,5 @@ pub unended_lines_have_no_answer : UnendedLinesHaveNoAnswer
 unended_lines_have_no_answer servers text cut =
     let none : whole_lines_of cut.bytes ≡ [] = rw cut.given refl in
     let lines = none_read cut.bytes cut.lines none cut.read in
-    none_played servers text cut.stopped.taken.0 cut.stopped.outcomes cut.stopped.played cut.stopped.rest (sym lines ∙ cut.stopped.split) cut.stopped.taken.1 cut.stopped.taken.2
+    none_played servers text cut.stopped.taken.0 cut.stopped.outcomes cut.stopped.played cut.stopped.rest (sym lines
+    ∙ cut.stopped.split) cut.stopped.taken.1 cut.stopped.taken.2

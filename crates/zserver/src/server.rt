@@ -102,6 +102,7 @@ impl Server {
     /// Out of memory stops a server only at a message that appends to its log or sends something.
     /// An order of the master to retire stops it too. A server that stops drops its state and sends
     /// nothing. A query never stops it: out of memory, it is dropped and reported as `Unheard`.
+    #[inline(always)]
     pub fn take(
         &mut self,
         from: Process,

@@ -3,7 +3,7 @@
 use std::test::Fail;
 use zcalls::{CallNumber, Update};
 use zlinks::Links;
-use zprotocol::{Message, PROCESSES, Process, ServerId};
+use zprotocol::{Epoch, Message, PROCESSES, Process, ServerId};
 
 #[test]
 fn takes_what_was_put(rt: HostRuntime) -> Result<(), Fail> {
@@ -25,5 +25,30 @@ fn takes_what_was_put(rt: HostRuntime) -> Result<(), Fail> {
         );
     }
     assert!(rt; links.next_sender(0) == PROCESSES);
+    Ok(())
+}
+
+#[test]
+fn takes_a_notice_last(rt: HostRuntime) -> Result<(), Fail> {
+    let id = ServerId::new(2).ok_or("there is such a server")?;
+    let server = Process::Server(id);
+    let mut links: Links<()> = Links::new(rt.alloc())?;
+    let epoch = Epoch::opening();
+    links.put(&server, &Process::Master, Message::Have(epoch, None))?;
+    links.put(&server, &Process::Master, Message::Joined(epoch))?;
+    links.put_notice(id);
+    let front = links.next(&server, &Process::Master);
+    assert!(rt; matches!(&front, Some(Message::Have(_, None))));
+    let front = links.next(&server, &Process::Master);
+    assert!(rt; matches!(&front, Some(Message::Joined(_))));
+    // The notice alone is left, and whoever delivers finds it.
+    assert!(rt; links.next_sender(0) == 2);
+    assert!(rt; links.next_receiver(&server, 0) == 0);
+    let shown = links.front(&server, &Process::Master);
+    assert!(rt; matches!(shown, Some(Message::Gone)));
+    let front = links.next(&server, &Process::Master);
+    assert!(rt; matches!(&front, Some(Message::Gone)));
+    assert!(rt; links.next_sender(0) == PROCESSES);
+    assert!(rt; links.next_receiver(&server, 0) == PROCESSES);
     Ok(())
 }

@@ -1,5 +1,6 @@
 -- The bytes of a state tell which it is: the header tells how many rows of each kind follow.
-use Rattle.std.proofs.Common.{◌≡◌, ℕ, ◌<◌, true, false, List, [], ◌∷◌, ◌++◌, length, map, take, drop, append_assoc, append-nil, refl, sym, ap, subst, ◌∙◌, arith}
+use Rattle.std.proofs.Common.{◌≡◌, ℕ, ◌<◌, true, false, List, [], ◌∷◌, ◌++◌, length, map, take, drop, append_assoc}
+use Rattle.std.proofs.Common.{append-nil, refl, sym, ap, subst, ◌∙◌, arith}
 use Rattle.std.proofs.lemmas.Bool.{le-ltb}
 use Rattle.std.proofs.lemmas.List.{append_cancel_left}
 use Rattle.std.proofs.lemmas.List.Concat.{flat_map-append}
@@ -13,7 +14,8 @@ use Rattle.ztree.specs.Tree.{Path}
 use Rattle.zops.specs.Machine.{MachineState}
 use Rattle.zsnapshots.specs.declared.header.Header.{Header}
 use Rattle.zsnapshots.specs.Rows.{header_text, session_text, node_text, reply_text, row}
-use Rattle.zsnapshots.specs.States.{StateRow, Fits, spelled, head_of, sessions_of, nodes_of, below_of, replies_of, body_of, rows_of, IsReadable, wants_session, wants_node, wants_reply}
+use Rattle.zsnapshots.specs.States.{StateRow, Fits, spelled, head_of, sessions_of, nodes_of, below_of, replies_of}
+use Rattle.zsnapshots.specs.States.{body_of, rows_of, IsReadable, wants_session, wants_node, wants_reply}
 use Rattle.zsnapshots.specs.States.StateRow.{OfHeader, OfSession, OfNode, OfReply}
 use Rattle.zsnapshots.specs.Laws.{RowsTellApart, OneStateInFront, OneStateInFrontOfText, NoneIsMissing}
 use Rattle.zsnapshots.proofs.RowForms.{is_header, is_session_text, is_node_text, is_reply_text}
@@ -28,14 +30,18 @@ all_behind P (x ∷ xs) ys all = all_behind P xs ys all.1
 
 -- ---- rows of one kind, as many as the header tells
 
-module _ {A : Type 0} (c : Form A) (is : IsForm c) (kind : A → StateRow) (spells : (a : A) → spelled (kind a) ≡ (row c).spell a) (fit : (a : A) → Fits (kind a) → (row c).Fits a) where
-  one_of_kind : (x y : A) (after behind : List ℕ) → Fits (kind x) → Fits (kind y) → spelled (kind x) ++ after ≡ spelled (kind y) ++ behind → (x ≡ y) × (after ≡ behind)
+module _ {A : Type 0} (c : Form A) (is : IsForm c) (kind : A → StateRow) (spells : (a : A) → spelled (kind a) ≡ (row c).spell a)
+    (fit : (a : A) → Fits (kind a) → (row c).Fits a) where
+  one_of_kind : (x y : A) (after behind : List ℕ) → Fits (kind x) → Fits (kind y) → spelled (kind x) ++ after ≡ spelled (kind y) ++ behind
+      → (x ≡ y) × (after ≡ behind)
   one_of_kind x y after behind fits also same =
       one_value (row c) (framed_is c is) x y after behind (fit x fits) (fit y also)
       (ap (λ (text : List ℕ). text ++ after) (sym (spells x)) ∙ same ∙ ap (λ (text : List ℕ). text ++ behind) (spells y))
 
-  same_of_kind : (es fs : List A) (xs ys : List StateRow) (after behind : List ℕ) → length es ≡ length fs → AllByRecursion Fits (map kind es ++ xs) → AllByRecursion Fits (map kind fs ++ ys) →
-      flat_map spelled (map kind es ++ xs) ++ after ≡ flat_map spelled (map kind fs ++ ys) ++ behind → (es ≡ fs) × (flat_map spelled xs ++ after ≡ flat_map spelled ys ++ behind)
+  same_of_kind : (es fs : List A) (xs ys : List StateRow) (after behind : List ℕ) → length es ≡ length fs
+      → AllByRecursion Fits (map kind es ++ xs) → AllByRecursion Fits (map kind fs ++ ys) →
+      flat_map spelled (map kind es ++ xs) ++ after ≡ flat_map spelled (map kind fs ++ ys) ++ behind
+      → (es ≡ fs) × (flat_map spelled xs ++ after ≡ flat_map spelled ys ++ behind)
   same_of_kind [] [] xs ys after behind long fits also same = (refl, same)
   same_of_kind [] (f ∷ fs) xs ys after behind long fits also same = absurd (omega (arith, long))
   same_of_kind (e ∷ es) [] xs ys after behind long fits also same = absurd (omega (arith, long))
@@ -60,7 +66,8 @@ behind_sessions s = map OfNode (below_of s) ++ behind_nodes s
 abbrev behind_root : MachineState → List StateRow
 behind_root s = map OfSession (sessions_of s) ++ behind_sessions s
 
-module _ (s w : MachineState) (after behind : List ℕ) (readable : IsReadable s) (also : IsReadable w) (same : flat_map spelled (rows_of s) ++ after ≡ flat_map spelled (rows_of w) ++ behind) where
+module _ (s w : MachineState) (after behind : List ℕ) (readable : IsReadable s) (also : IsReadable w)
+    (same : flat_map spelled (rows_of s) ++ after ≡ flat_map spelled (rows_of w) ++ behind) where
   headers : (head_of s ≡ head_of w) × (flat_map spelled (body_of s) ++ after ≡ flat_map spelled (body_of w) ++ behind)
   headers =
       one_of_kind header_text is_header OfHeader (λ a. refl) (λ a it. it) (head_of s) (head_of w) _ _ readable.fit.0 also.fit.0
@@ -69,8 +76,10 @@ module _ (s w : MachineState) (after behind : List ℕ) (readable : IsReadable s
 
   roots : (take 1 (nodes_of s) ≡ take 1 (nodes_of w)) × (flat_map spelled (behind_root s) ++ after ≡ flat_map spelled (behind_root w) ++ behind)
   roots =
-      same_of_kind node_text is_node_text OfNode (λ a. refl) (λ a it. it) (take 1 (nodes_of s)) (take 1 (nodes_of w)) (behind_root s) (behind_root w) after behind
-      (one_root (nodes_of s) (nodes_some s.service.plain readable.settled.lawful) ∙ sym (one_root (nodes_of w) (nodes_some w.service.plain also.settled.lawful)))
+      same_of_kind node_text is_node_text OfNode (λ a. refl) (λ a it. it) (take 1 (nodes_of s)) (take 1 (nodes_of w))
+      (behind_root s) (behind_root w) after behind
+      (one_root (nodes_of s) (nodes_some s.service.plain readable.settled.lawful)
+      ∙ sym (one_root (nodes_of w) (nodes_some w.service.plain also.settled.lawful)))
       readable.fit.1 also.fit.1 headers.1
 
   fits_behind : (v : MachineState) → IsReadable v → AllByRecursion Fits (behind_root v)
@@ -78,7 +87,8 @@ module _ (s w : MachineState) (after behind : List ℕ) (readable : IsReadable s
 
   sessions : (sessions_of s ≡ sessions_of w) × (flat_map spelled (behind_sessions s) ++ after ≡ flat_map spelled (behind_sessions w) ++ behind)
   sessions =
-      same_of_kind session_text is_session_text OfSession (λ a. refl) (λ a it. it) (sessions_of s) (sessions_of w) (behind_sessions s) (behind_sessions w) after behind
+      same_of_kind session_text is_session_text OfSession (λ a. refl) (λ a it. it) (sessions_of s) (sessions_of w)
+      (behind_sessions s) (behind_sessions w) after behind
       (ap (λ (h : Header). h.sessions) headers.0) (fits_behind s readable) (fits_behind w also) roots.1
 
   fits_nodes : (v : MachineState) → IsReadable v → AllByRecursion Fits (behind_sessions v)
@@ -125,7 +135,8 @@ joined-behind rows rest =
 
 pub in_front : OneStateInFront
 in_front s w rest more readable also same =
-    let one = one_state s w (joined rest) (joined more) readable also (sym (joined-behind (rows_of s) rest) ∙ ap joined same ∙ joined-behind (rows_of w) more) in
+    let one = one_state s w (joined rest) (joined more) readable also (sym (joined-behind (rows_of s) rest) ∙ ap joined same
+    ∙ joined-behind (rows_of w) more) in
     (one.0, append_cancel_left (map spelled (rows_of s)) rest more (same ∙ ap (λ (v : MachineState). map spelled (rows_of v) ++ more) (sym one.0)))
 
 pub rows_apart : RowsTellApart
@@ -144,7 +155,10 @@ no_row_is_missing s r is =
     let sessions : sessions_of s ≡ sessions_of r.state = sym (body-sessions s) ∙ ap (of_kind session_in) body ∙ body-sessions r.state in
     let nodes : nodes_of s ≡ nodes_of r.state = sym (body-nodes s) ∙ ap (of_kind node_in) body ∙ body-nodes r.state in
     let replies : replies_of s ≡ replies_of r.state = sym (body-replies s) ∙ ap (of_kind reply_in) body ∙ body-replies r.state in
-    let no_session : wants_session r ≡ false = none_missing (length (sessions_of r.state)) r.header.sessions (ap (λ (h : Header). h.sessions) (sym head) ∙ ap length sessions) in
-    let no_node : wants_node r ≡ false = none_missing (length (below_of r.state)) r.header.nodes (ap (λ (h : Header). h.nodes) (sym head) ∙ ap (λ (es : List (Path × Node)). length (drop 1 es)) nodes) in
-    let no_reply : wants_reply r ≡ false = none_missing (length (replies_of r.state)) r.header.replies (ap (λ (h : Header). h.replies) (sym head) ∙ ap length replies) in
+    let no_session : wants_session r ≡ false = none_missing (length (sessions_of r.state)) r.header.sessions
+    (ap (λ (h : Header). h.sessions) (sym head) ∙ ap length sessions) in
+    let no_node : wants_node r ≡ false = none_missing (length (below_of r.state)) r.header.nodes (ap (λ (h : Header). h.nodes) (sym head)
+    ∙ ap (λ (es : List (Path × Node)). length (drop 1 es)) nodes) in
+    let no_reply : wants_reply r ≡ false = none_missing (length (replies_of r.state)) r.header.replies
+    (ap (λ (h : Header). h.replies) (sym head) ∙ ap length replies) in
     λ i. if no_session i then false else if no_node i then false else if no_reply i then false else true

@@ -14,7 +14,8 @@ use Rattle.zops.specs.Machine.{MachineState}
 use Rattle.zops.specs.Restored.{with_plain, with_reply, IsDated}
 use Rattle.zsnapshots.specs.declared.header.Header.{Header}
 use Rattle.zsnapshots.specs.Rows.{kept_of}
-use Rattle.zsnapshots.specs.States.{ReadingView, Fits, spelled, sessions_of, nodes_of, replies_of, below_of, wants_session, wants_node, wants_reply, IsAbove, IsTaken}
+use Rattle.zsnapshots.specs.States.{ReadingView, Fits, spelled, sessions_of, nodes_of, replies_of, below_of}
+use Rattle.zsnapshots.specs.States.{wants_session, wants_node, wants_reply, IsAbove, IsTaken}
 use Rattle.zsnapshots.specs.States.StateRow.{OfHeader, OfSession, OfNode, OfReply}
 use Rattle.zsnapshots.specs.support.Reading.{IsReading, last_key}
 use Rattle.zsnapshots.proofs.Keys.{entries-insert_above, last_key-push}
@@ -23,7 +24,8 @@ use Rattle.zsnapshots.proofs.Taken.{nodes-push, body-session, body-node, body-re
 abbrev pub view : Header → MachineState → ReadingView
 view h u = record { header = h; state = u }
 
-module _ (h : Header) (u : MachineState) (sessions nodes replies : ℕ) (session : Option ℕ) (path : Path) (client : Option ℕ) (is : IsReading h u sessions nodes replies session path client) where
+module _ (h : Header) (u : MachineState) (sessions nodes replies : ℕ) (session : Option ℕ) (path : Path) (client : Option ℕ)
+    (is : IsReading h u sessions nodes replies session path client) where
   pub sessions_some : wants_session (view h u) ≡ true → 0 < sessions
   sessions_some wanted =
       let less = ltb-true (length (sessions_of u)) h.sessions wanted in
@@ -89,11 +91,13 @@ module _ (h : Header) (u : MachineState) (sessions nodes replies : ℕ) (session
           rows = ap (λ body. OfHeader h ∷ body) (body-session u id x above (is.nodes_wait some) (is.replies_wait (omega (arith, some))));
         }
 
-  module _ (p : Path) (n : Node) (above : IsAbove path_cmp (nodes_of u) p) (none : wants_session (view h u) ≡ false) (wanted : wants_node (view h u) ≡ true) where
+  module _ (p : Path) (n : Node) (above : IsAbove path_cmp (nodes_of u) p) (none : wants_session (view h u) ≡ false)
+      (wanted : wants_node (view h u) ≡ true) where
     no_replies : replies_of u ≡ []
     no_replies = let some = nodes_some wanted in is.replies_wait (omega (arith, some))
 
-    pub node_kept : IsDated u.service.plain.zxid u.service.plain.time n → IsReading h (with_plain u (with_row u.service.plain p n)) sessions (nodes - 1) replies session p client
+    pub node_kept : IsDated u.service.plain.zxid u.service.plain.time n
+        → IsReading h (with_plain u (with_row u.service.plain p n)) sessions (nodes - 1) replies session p client
     node_kept dated =
         let some = nodes_some wanted in
         let full = sessions_none none in
@@ -128,7 +132,8 @@ module _ (h : Header) (u : MachineState) (sessions nodes replies : ℕ) (session
       rows = ap (λ body. OfHeader h ∷ body) (body-node u p n above is.root no_replies);
     }
 
-  module _ (c number : ℕ) (reply : Reply) (above : IsAbove nat_cmp (replies_of u) c) (none : wants_session (view h u) ≡ false) (no_node : wants_node (view h u) ≡ false) (wanted : wants_reply (view h u) ≡ true) where
+  module _ (c number : ℕ) (reply : Reply) (above : IsAbove nat_cmp (replies_of u) c) (none : wants_session (view h u) ≡ false)
+      (no_node : wants_node (view h u) ≡ false) (wanted : wants_reply (view h u) ≡ true) where
     pub reply_kept : IsReading h (with_reply u c number reply) sessions nodes (replies - 1) session path (Some c)
     reply_kept =
         let some = replies_some wanted in

@@ -74,7 +74,8 @@ module _ {K X : Type 0} (R : K → K → Ordering) where
         (o.trans e.0 f.0 k (is_less _ low.0) more.0, more)
 
     -- a key above the last is above all
-    pub all_above : (before : Option K) (k : K) (es : List (K × X)) → T (is_sorted R es) → before ≡ last_key es → is_above R before k ≡ true → IsAbove R es k
+    pub all_above : (before : Option K) (k : K) (es : List (K × X)) → T (is_sorted R es) → before ≡ last_key es
+        → is_above R before k ≡ true → IsAbove R es k
     all_above None k es sorted last test = subst (λ es. IsAbove R es k) (sym (no_last es last)) tt
     all_above (Some before) k es sorted last test = above_last k before es sorted (sym last) (less_is (R before k) test)
 
@@ -86,9 +87,11 @@ module _ {K X : Type 0} (R : K → K → Ordering) where
 
 module _ {K X : Type 0} {R : K → K → Ordering} (o : IsTotalOrder R) where
   -- a key above all others goes to the end
-  pub entries-insert_above : (m : FinMap R X) (k : K) (v : X) → IsAbove R (finite.entries m) k → finite.entries (finite.insert m k v) ≡ finite.entries m ++ (k, v) ∷ []
+  pub entries-insert_above : (m : FinMap R X) (k : K) (v : X) → IsAbove R (finite.entries m) k
+      → finite.entries (finite.insert m k v) ≡ finite.entries m ++ (k, v) ∷ []
   entries-insert_above m k v above = entries-insert o m k v ∙ put_above R o k v (finite.entries m) above
 
   -- what is above the last entry of a map
-  pub map_above : (m : FinMap R X) (before : Option K) (k : K) → before ≡ last_key (finite.entries m) → is_above R before k ≡ true → IsAbove R (finite.entries m) k
+  pub map_above : (m : FinMap R X) (before : Option K) (k : K) → before ≡ last_key (finite.entries m) → is_above R before k ≡ true
+      → IsAbove R (finite.entries m) k
   map_above m before k last test = all_above R o before k (finite.entries m) (entries_sorted m) last test

@@ -1,6 +1,7 @@
 -- The row of a readable state that comes behind the rows before it: of which kind it is, that it is in
 -- order, and that it can be put.
-use Rattle.std.proofs.Common.{◌≡◌, ℕ, ◌<◌, true, List, [], ◌∷◌, ◌++◌, length, length-append, map, take, drop, append_assoc, append-nil, Option, Some, None, refl, sym, ap, subst, ◌∙◌, arith}
+use Rattle.std.proofs.Common.{◌≡◌, ℕ, ◌<◌, true, List, [], ◌∷◌, ◌++◌, length, length-append, map, take, drop}
+use Rattle.std.proofs.Common.{append_assoc, append-nil, Option, Some, None, refl, sym, ap, subst, ◌∙◌, arith}
 use lib.Dec.{T}
 use Rattle.std.proofs.lemmas.List.{map-append, length-map, append_cancel_left, nil_from_length, take-append-drop}
 use Rattle.std.specs.Prelude.{is_some}
@@ -78,7 +79,8 @@ same_map (x ∷ xs) = ap (λ xs. x ∷ xs) (same_map xs)
 pub body-sessions : (s : MachineState) → of_kind session_in (body_of s) ≡ sessions_of s
 body-sessions s =
     of_kind-append session_in (map OfNode (take 1 (nodes_of s))) _
-    ∙ ap (λ front. front ++ of_kind session_in (map OfSession (sessions_of s) ++ (map OfNode (below_of s) ++ map OfReply (replies_of s)))) (none_of session_in OfNode (λ e. refl) (take 1 (nodes_of s)))
+    ∙ ap (λ front. front ++ of_kind session_in (map OfSession (sessions_of s) ++ (map OfNode (below_of s) ++ map OfReply (replies_of s))))
+    (none_of session_in OfNode (λ e. refl) (take 1 (nodes_of s)))
     ∙ of_kind-append session_in (map OfSession (sessions_of s)) _
     ∙ (λ i. all i ++ rest i)
     ∙ append-nil (sessions_of s)
@@ -104,15 +106,18 @@ body-nodes s =
 
     rest : of_kind node_in (map OfSession (sessions_of s) ++ (map OfNode (below_of s) ++ map OfReply (replies_of s))) ≡ below_of s
     rest = of_kind-append node_in (map OfSession (sessions_of s)) _
-        ∙ (λ i. none_of node_in OfSession (λ e. refl) (sessions_of s) i ++ of_kind-append node_in (map OfNode (below_of s)) (map OfReply (replies_of s)) i)
+        ∙ (λ i. none_of node_in OfSession (λ e. refl) (sessions_of s) i ++ of_kind-append node_in (map OfNode (below_of s))
+        (map OfReply (replies_of s)) i)
         ∙ (λ i. below i ++ none_of node_in OfReply (λ e. refl) (replies_of s) i)
         ∙ append-nil (below_of s)
 
 pub body-replies : (s : MachineState) → of_kind reply_in (body_of s) ≡ replies_of s
 body-replies s =
     of_kind-append reply_in (map OfNode (take 1 (nodes_of s))) _
-    ∙ (λ i. none_of reply_in OfNode (λ e. refl) (take 1 (nodes_of s)) i ++ of_kind-append reply_in (map OfSession (sessions_of s)) (map OfNode (below_of s) ++ map OfReply (replies_of s)) i)
-    ∙ (λ i. none_of reply_in OfSession (λ e. refl) (sessions_of s) i ++ of_kind-append reply_in (map OfNode (below_of s)) (map OfReply (replies_of s)) i)
+    ∙ (λ i. none_of reply_in OfNode (λ e. refl) (take 1 (nodes_of s)) i ++ of_kind-append reply_in (map OfSession (sessions_of s))
+    (map OfNode (below_of s) ++ map OfReply (replies_of s)) i)
+    ∙ (λ i. none_of reply_in OfSession (λ e. refl) (sessions_of s) i ++ of_kind-append reply_in (map OfNode (below_of s))
+    (map OfReply (replies_of s)) i)
     ∙ (λ i. none_of reply_in OfNode (λ e. refl) (below_of s) i ++ all i)
   where
     all : of_kind reply_in (map OfReply (replies_of s)) ≡ replies_of s
@@ -137,7 +142,8 @@ module _ (w s : MachineState) (more : List StateRow) (body : body_of w ≡ body_
       ∙ ap (λ front. front ++ of_kind reply_in more) (body-replies s)
 
 -- the first of these is the first of all
-first_of : {Z : Type 0} (g : Z → StateRow) (zs : List Z) (behind after : List StateRow) (x : StateRow) → 0 < length zs → map g zs ++ behind ≡ x ∷ after →
+first_of : {Z : Type 0} (g : Z → StateRow) (zs : List Z) (behind after : List StateRow) (x : StateRow) → 0 < length zs
+    → map g zs ++ behind ≡ x ∷ after →
     (e : Z) × (more : List Z) × (zs ≡ e ∷ more) × (x ≡ g e)
 first_of g [] behind after x some is = absurd (omega (arith, some))
 first_of g (e ∷ zs) behind after x some is = (e, zs, refl, let same : g e ≡ x = cc in sym same)
@@ -170,7 +176,8 @@ module _ (w s : MachineState) (x : StateRow) (after : List StateRow) (body : bod
   abbrev D : List StateRow
   D = map OfReply (replies_of s)
 
-  behind_sessions : below_of s ≡ [] → replies_of s ≡ [] → map OfSession (of_kind session_in (x ∷ after)) ++ (map OfNode (below_of w) ++ map OfReply (replies_of w)) ≡ x ∷ after
+  behind_sessions : below_of s ≡ [] → replies_of s ≡ [] → map OfSession (of_kind session_in (x ∷ after))
+      ++ (map OfNode (below_of w) ++ map OfReply (replies_of w)) ≡ x ∷ after
   behind_sessions none_below none_kept =
       let more = of_kind session_in (x ∷ after) in
       let Z = map OfNode (below_of w) ++ map OfReply (replies_of w) in
@@ -182,7 +189,8 @@ module _ (w s : MachineState) (x : StateRow) (after : List StateRow) (body : bod
       append_assoc A (B ++ (C ++ D)) (x ∷ after) ∙ ap (λ m. A ++ m) (append_assoc B (C ++ D) (x ∷ after) ∙ ap (λ m. B ++ (m ++ x ∷ after)) none) in
       append_cancel_left B _ _ (append_cancel_left A _ _ (sym lhs ∙ body ∙ rhs))
 
-  behind_nodes : sessions_of w ≡ sessions_of s → replies_of s ≡ [] → map OfNode (of_kind node_in (x ∷ after)) ++ map OfReply (replies_of w) ≡ x ∷ after
+  behind_nodes : sessions_of w ≡ sessions_of s → replies_of s ≡ [] → map OfNode (of_kind node_in (x ∷ after)) ++ map OfReply (replies_of w)
+      ≡ x ∷ after
   behind_nodes same none_kept =
       let more = of_kind node_in (x ∷ after) in
       let Z = map OfReply (replies_of w) in
@@ -192,7 +200,8 @@ module _ (w s : MachineState) (x : StateRow) (after : List StateRow) (body : bod
       ∙ ap (λ m. A ++ (B ++ m)) (ap (λ m. m ++ Z) (map-append OfNode (below_of s) more) ∙ append_assoc C (map OfNode more) Z) in
       let rhs : body_of s ++ x ∷ after ≡ A ++ (B ++ (C ++ x ∷ after)) =
       append_assoc A (B ++ (C ++ D)) (x ∷ after)
-      ∙ ap (λ m. A ++ m) (append_assoc B (C ++ D) (x ∷ after) ∙ ap (λ m. B ++ m) (append_assoc C D (x ∷ after) ∙ ap (λ m. C ++ (m ++ x ∷ after)) none)) in
+      ∙ ap (λ m. A ++ m) (append_assoc B (C ++ D) (x ∷ after) ∙ ap (λ m. B ++ m) (append_assoc C D (x ∷ after)
+      ∙ ap (λ m. C ++ (m ++ x ∷ after)) none)) in
       append_cancel_left C _ _ (append_cancel_left B _ _ (append_cancel_left A _ _ (sym lhs ∙ body ∙ rhs)))
 
   behind_replies : sessions_of w ≡ sessions_of s → below_of w ≡ below_of s → map OfReply (of_kind reply_in (x ∷ after)) ≡ x ∷ after
@@ -209,14 +218,17 @@ module _ (w s : MachineState) (x : StateRow) (after : List StateRow) (body : bod
   pub same_sessions : length (sessions_of s) ≡ length (sessions_of w) → sessions_of w ≡ sessions_of s
   same_sessions same =
       let is = sessions_left w s (x ∷ after) body in
-      is ∙ ap (λ more. sessions_of s ++ more) (none_left (sessions_of w) (sessions_of s) (of_kind session_in (x ∷ after)) is same) ∙ append-nil (sessions_of s)
+      is ∙ ap (λ more. sessions_of s ++ more) (none_left (sessions_of w) (sessions_of s) (of_kind session_in (x ∷ after)) is same)
+      ∙ append-nil (sessions_of s)
 
   same_below : length (below_of s) ≡ length (below_of w) → below_of w ≡ below_of s
   same_below same =
-      below_left ∙ ap (λ more. below_of s ++ more) (none_left (below_of w) (below_of s) (of_kind node_in (x ∷ after)) below_left same) ∙ append-nil (below_of s)
+      below_left ∙ ap (λ more. below_of s ++ more) (none_left (below_of w) (below_of s) (of_kind node_in (x ∷ after)) below_left same)
+      ∙ append-nil (below_of s)
 
   -- where all sessions and nodes were read, a kept reply is left
-  pub more_replies : length (sessions_of s) ≡ length (sessions_of w) → length (below_of s) ≡ length (below_of w) → length (replies_of s) < length (replies_of w)
+  pub more_replies : length (sessions_of s) ≡ length (sessions_of w) → length (below_of s) ≡ length (below_of w)
+      → length (replies_of s) < length (replies_of w)
   more_replies same same_nodes =
       let is = ap length (replies_left w s (x ∷ after) body) ∙ length-append (replies_of s) (of_kind reply_in (x ∷ after)) in
       let one = ap length (behind_replies (same_sessions same) (same_below same_nodes)) in
@@ -228,22 +240,26 @@ module _ (w s : MachineState) (x : StateRow) (after : List StateRow) (body : bod
       (e : ℕ × Session) × (more : List (ℕ × Session)) × (sessions_of w ≡ sessions_of s ++ e ∷ more) × (x ≡ OfSession e)
   next_session none_below none_kept less =
       let is = sessions_left w s (x ∷ after) body in
-      let f = first_of OfSession (of_kind session_in (x ∷ after)) _ after x (some_left (sessions_of w) (sessions_of s) (of_kind session_in (x ∷ after)) is less) (behind_sessions none_below none_kept) in
+      let f = first_of OfSession (of_kind session_in (x ∷ after)) _ after x (some_left (sessions_of w) (sessions_of s)
+      (of_kind session_in (x ∷ after)) is less) (behind_sessions none_below none_kept) in
       (f.0, f.1, is ∙ ap (λ more. sessions_of s ++ more) f.2, f.3)
 
   -- a node comes next
   pub next_node : length (sessions_of s) ≡ length (sessions_of w) → replies_of s ≡ [] → length (below_of s) < length (below_of w) →
       (e : Path × Node) × (more : List (Path × Node)) × (nodes_of w ≡ nodes_of s ++ e ∷ more) × (x ≡ OfNode e)
   next_node same none_kept less =
-      let f = first_of OfNode (of_kind node_in (x ∷ after)) _ after x (some_left (below_of w) (below_of s) (of_kind node_in (x ∷ after)) below_left less) (behind_nodes (same_sessions same) none_kept) in
+      let f = first_of OfNode (of_kind node_in (x ∷ after)) _ after x
+      (some_left (below_of w) (below_of s) (of_kind node_in (x ∷ after)) below_left less) (behind_nodes (same_sessions same) none_kept) in
       (f.0, f.1, nodes_left w s (x ∷ after) body ∙ ap (λ more. nodes_of s ++ more) f.2, f.3)
 
   -- a kept reply comes next
-  pub next_reply : length (sessions_of s) ≡ length (sessions_of w) → length (below_of s) ≡ length (below_of w) → length (replies_of s) < length (replies_of w) →
+  pub next_reply : length (sessions_of s) ≡ length (sessions_of w) → length (below_of s) ≡ length (below_of w)
+      → length (replies_of s) < length (replies_of w) →
       (e : ℕ × Kept) × (more : List (ℕ × Kept)) × (replies_of w ≡ replies_of s ++ e ∷ more) × (x ≡ OfReply e)
   next_reply same same_nodes less =
       let is = replies_left w s (x ∷ after) body in
-      let f = first_of OfReply (of_kind reply_in (x ∷ after)) [] after x (some_left (replies_of w) (replies_of s) (of_kind reply_in (x ∷ after)) is less)
+      let f = first_of OfReply (of_kind reply_in (x ∷ after)) [] after x (some_left (replies_of w) (replies_of s)
+      (of_kind reply_in (x ∷ after)) is less)
       (append-nil (map OfReply (of_kind reply_in (x ∷ after))) ∙ behind_replies (same_sessions same) (same_below same_nodes)) in
       (f.0, f.1, is ∙ ap (λ more. replies_of s ++ more) f.2, f.3)
 

@@ -1,5 +1,6 @@
 -- What stands at a place of a list, and of the entries of a map.
-use Rattle.std.proofs.Common.{◌≡◌, ℕ, zero, suc, ◌+◌, ◌<◌, List, [], ◌∷◌, ◌++◌, length, map, drop, get_or, drop-drop, drop_at, Some, None, refl, sym, ap, ◌∙◌, arith}
+use Rattle.std.proofs.Common.{◌≡◌, ℕ, zero, suc, ◌+◌, ◌<◌, List, [], ◌∷◌, ◌++◌, length, map, drop, get_or, drop-drop}
+use Rattle.std.proofs.Common.{drop_at, Some, None, refl, sym, ap, ◌∙◌, arith}
 use lib.Dec.{T}
 use Rattle.std.proofs.lemmas.List.{drop_more, drop-map, get_or-map, drop-append-le}
 use Rattle.std.specs.declared.cmp.Ordering.{Ordering}
@@ -57,7 +58,8 @@ module _ {K X : Type 0} {R : K → K → Ordering} (o : IsTotalOrder R) where
       let greater : R (get_or es i d).0 e.0 ≡ Greater = o.antisymm (get_or es i d).0 e.0 ∙ ap ordering_reverse less in
       rw greater (found_nth es i d parts.1 (omega (arith, within)))
 
-  module _ (m : FinMap R X) (ks : List K) (i : ℕ) (k : K) (is : ks ≡ map (λ e. e.0) (finite.entries m)) (within : i < length (finite.entries m)) (at : k ≡ get_or ks i k) where
+  module _ (m : FinMap R X) (ks : List K) (i : ℕ) (k : K) (is : ks ≡ map (λ e. e.0) (finite.entries m))
+      (within : i < length (finite.entries m)) (at : k ≡ get_or ks i k) where
     key_is : (v : X) → k ≡ (get_or (finite.entries m) i (k, v)).0
     key_is v = at ∙ ap (λ ks. get_or ks i k) is ∙ get_or-map (λ (e : K × X). e.0) (finite.entries m) i (k, v) k within
 

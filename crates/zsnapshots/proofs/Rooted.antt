@@ -1,5 +1,6 @@
 -- The root, behind a header.
-use Rattle.std.proofs.Common.{◌≡◌, ℕ, ◌+◌, List, [], ◌∷◌, ◌++◌, length, take, drop, map, Some, None, Result, Ok, Err, refl, sym, ap, subst, ◌∙◌, zero-add}
+use Rattle.std.proofs.Common.{◌≡◌, ℕ, ◌+◌, List, [], ◌∷◌, ◌++◌, length, take, drop, map, Some, None, Result, Ok, Err}
+use Rattle.std.proofs.Common.{refl, sym, ap, subst, ◌∙◌, zero-add}
 use Rattle.std.specs.Prelude.{IfOk, IfErr}
 use Rattle.std.specs.Ordering.{nat_cmp}
 use Rattle.std.specs.FinMap as finite
@@ -16,7 +17,8 @@ use Rattle.zsnapshots.specs.declared.header.Header.{Header}
 use Rattle.zsnapshots.specs.declared.fault.RowFault.{RowFault}
 use Rattle.zsnapshots.specs.declared.fault.RowFault.TheVariants.{Memory}
 use Rattle.zsnapshots.specs.Rows.{node_text}
-use Rattle.zsnapshots.specs.States.{StateRow, ReadingView, Fits, spelled, sessions_of, nodes_of, replies_of, body_of, rows_of, rows_so_far, IsReadable, IsRootTaken, IsRootFault, NeverRefuses}
+use Rattle.zsnapshots.specs.States.{StateRow, ReadingView, Fits, spelled, sessions_of, nodes_of, replies_of, body_of}
+use Rattle.zsnapshots.specs.States.{rows_of, rows_so_far, IsReadable, IsRootTaken, IsRootFault, NeverRefuses}
 use Rattle.zsnapshots.specs.States.StateRow.{OfHeader, OfSession, OfNode, OfReply}
 use Rattle.zsnapshots.specs.support.Reading.{IsReading, last_key}
 use Rattle.zsnapshots.proofs.RowForms.{is_node_text}
@@ -56,14 +58,17 @@ module _ (h : Header) (root : Node) where
   }
 
   root_body : body_of begun ≡ OfNode ([], root) ∷ []
-  root_body = λ i. map OfNode (take 1 (nodes_is i)) ++ (map OfSession (sessions_is i) ++ (map OfNode (drop 1 (nodes_is i)) ++ map OfReply (replies_is i)))
+  root_body = λ i. map OfNode (take 1 (nodes_is i))
+      ++ (map OfSession (sessions_is i) ++ (map OfNode (drop 1 (nodes_is i)) ++ map OfReply (replies_is i)))
 
-  pub root_taken : (bytes rest : List ℕ) → Fits (OfNode ([], root)) → bytes ≡ spelled (OfNode ([], root)) ++ rest → IsRootTaken h (view h begun) bytes rest
+  pub root_taken : (bytes rest : List ℕ) → Fits (OfNode ([], root)) → bytes ≡ spelled (OfNode ([], root)) ++ rest
+      → IsRootTaken h (view h begun) bytes rest
   root_taken bytes rest fits front =
       record { root = root; fits = fits; front = front; rows = ap (λ body. OfHeader h ∷ body) root_body }
 
 -- the root of a readable state is never refused
-module _ (h : Header) (w : MachineState) (x : StateRow) (after : List StateRow) (readable : IsReadable w) (rows : rows_of w ≡ OfHeader h ∷ (x ∷ after)) where
+module _ (h : Header) (w : MachineState) (x : StateRow) (after : List StateRow) (readable : IsReadable w)
+    (rows : rows_of w ≡ OfHeader h ∷ (x ∷ after)) where
   own_root : Node
   own_root = (restored w.service.plain readable.settled w.applied readable.few).root
 
@@ -74,7 +79,8 @@ module _ (h : Header) (w : MachineState) (x : StateRow) (after : List StateRow) 
       let body = same_body w h (x ∷ after) rows in
       let first : List StateRow = map OfNode (take 1 (([], own.root) ∷ own.rows)) in
       let starts : body_of w ≡ OfNode ([], own.root) ∷ (map OfSession (sessions_of w) ++ (map OfNode own.rows ++ map OfReply (replies_of w))) =
-      ap (λ nodes. map OfNode (take 1 nodes) ++ (map OfSession (sessions_of w) ++ (map OfNode (drop 1 nodes) ++ map OfReply (replies_of w)))) own.listed in
+      ap (λ nodes. map OfNode (take 1 nodes) ++ (map OfSession (sessions_of w) ++ (map OfNode (drop 1 nodes) ++ map OfReply (replies_of w))))
+      own.listed in
       head x (OfNode ([], own.root)) after _ (sym body ∙ starts)
     where
       head : (a b : StateRow) (rest more : List StateRow) → a ∷ rest ≡ b ∷ more → a ≡ b
@@ -88,11 +94,13 @@ module _ (h : Header) (w : MachineState) (x : StateRow) (after : List StateRow) 
 
   root_outcome : {V : Type 0} (bytes rest : List ℕ) → bytes ≡ spelled x ++ rest → (of : V → List ℕ) (new : V → ReadingView) (r : Result V RowFault) →
       IfOk r (λ v. IsRootTaken h (new v) bytes (of v)) → IfErr r (IsRootFault h bytes) →
-      IfOk r (λ v. ◌≡◌ {A = List StateRow × List ℕ} (rows_so_far (new v), of v) ((OfHeader h ∷ []) ++ x ∷ [], rest)) × IfErr r (λ fault. fault ≡ Memory)
+      IfOk r (λ v. ◌≡◌ {A = List StateRow × List ℕ} (rows_so_far (new v), of v) ((OfHeader h ∷ []) ++ x ∷ [], rest))
+      × IfErr r (λ fault. fault ≡ Memory)
   root_outcome bytes rest front of new (Ok v) taken told =
       let fits = all_at (OfHeader h ∷ []) x after (rows_of w) readable.fit rows in
       let x_front = front ∙ ap (λ (t : StateRow). spelled t ++ rest) x_is in
-      let one = one_row node_text is_node_text ([], taken.root) ([], own_root) (of v) rest bytes taken.fits (subst Fits x_is fits) taken.front x_front in
+      let one = one_row node_text is_node_text ([], taken.root) ([], own_root) (of v) rest bytes taken.fits
+      (subst Fits x_is fits) taken.front x_front in
       let same = ap (λ (e : Path × Node). OfNode e) one.0 ∙ sym x_is in
       let new_rows = taken.rows ∙ ap (λ (y : StateRow). OfHeader h ∷ (y ∷ [])) same in
       ((λ i. (new_rows i, one.1 i)), tt)
@@ -102,5 +110,7 @@ module _ (h : Header) (w : MachineState) (x : StateRow) (after : List StateRow) 
       (tt, only_memory node_text is_node_text _ _ bytes ([], own_root) rest (subst Fits x_is fits) x_front refl able fault told)
 
 pub root_never_refuses : {V : Type 0} (h : Header) (bytes : List ℕ) (of : V → List ℕ) (new : V → ReadingView) (r : Result V RowFault) →
-    IfOk r (λ v. IsRootTaken h (new v) bytes (of v)) → IfErr r (IsRootFault h bytes) → NeverRefuses (OfHeader h ∷ []) (λ v. (rows_so_far (new v), of v)) r bytes
-root_never_refuses h bytes of new r taken told w x after rest readable rows front = root_outcome h w x after readable rows bytes rest front of new r taken told
+    IfOk r (λ v. IsRootTaken h (new v) bytes (of v)) → IfErr r (IsRootFault h bytes)
+    → NeverRefuses (OfHeader h ∷ []) (λ v. (rows_so_far (new v), of v)) r bytes
+root_never_refuses h bytes of new r taken told w x after rest readable rows front = root_outcome h w x after readable
+    rows bytes rest front of new r taken told

@@ -39,10 +39,12 @@ body-session s id x above below replies =
     let new = map OfSession (finite.entries (finite.insert s.service.plain.sessions id x)) in
     let old = map OfSession (sessions_of s) in
     let is : new ≡ old ++ it ∷ [] =
-    ap (map OfSession) (entries-insert_above nat_cmp_total s.service.plain.sessions id x above) ∙ map-append OfSession (sessions_of s) ((id, x) ∷ []) in
+    ap (map OfSession) (entries-insert_above nat_cmp_total s.service.plain.sessions id x above)
+    ∙ map-append OfSession (sessions_of s) ((id, x) ∷ []) in
     push (map OfNode (take 1 (nodes_of s))) (new ++ more) (old ++ more) it (push_first new old more it none is)
 
-pub nodes-push : (s : MachineState) (path : Path) (n : Node) → IsAbove path_cmp (nodes_of s) path → nodes_of (with_plain s (with_row s.service.plain path n)) ≡ nodes_of s ++ (path, n) ∷ []
+pub nodes-push : (s : MachineState) (path : Path) (n : Node) → IsAbove path_cmp (nodes_of s) path
+    → nodes_of (with_plain s (with_row s.service.plain path n)) ≡ nodes_of s ++ (path, n) ∷ []
 nodes-push s path n above = entries-insert_above paths_total s.service.plain.nodes path n above
 
 pub body-node : (s : MachineState) (path : Path) (n : Node) → IsAbove path_cmp (nodes_of s) path → HasRoot s → replies_of s ≡ [] →
@@ -56,7 +58,8 @@ body-node s path n above root replies =
     ap all (nodes-push s path n above ∙ ap (λ nodes. nodes ++ (path, n) ∷ []) root.2)
     ∙ push (map OfNode (e ∷ [])) _ _ it
     (push (map OfSession (sessions_of s)) _ _ it
-    (push_first (map OfNode (root.1 ++ (path, n) ∷ [])) (map OfNode root.1) (map OfReply (replies_of s)) it none (map-append OfNode root.1 ((path, n) ∷ []))))
+    (push_first (map OfNode (root.1 ++ (path, n) ∷ [])) (map OfNode root.1) (map OfReply (replies_of s)) it none
+    (map-append OfNode root.1 ((path, n) ∷ []))))
     ∙ ap (λ nodes. all nodes ++ it ∷ []) (sym root.2)
 
 pub body-reply : (s : MachineState) (client number : ℕ) (reply : Reply) → IsAbove nat_cmp (replies_of s) client →
@@ -67,4 +70,5 @@ body-reply s client number reply above =
     push (map OfNode (take 1 (nodes_of s))) _ _ it
     (push (map OfSession (sessions_of s)) _ _ it
     (push (map OfNode (below_of s)) _ _ it
-    (ap (map OfReply) (entries-insert_above nat_cmp_total s.service.kept client kept above) ∙ map-append OfReply (replies_of s) ((client, kept) ∷ []))))
+    (ap (map OfReply) (entries-insert_above nat_cmp_total s.service.kept client kept above)
+    ∙ map-append OfReply (replies_of s) ((client, kept) ∷ []))))

@@ -22,13 +22,17 @@ use Rattle.zsnapshots.specs.declared.header.Header.{Header}
 use Rattle.zsnapshots.specs.declared.fault.RowFault.{RowFault}
 use Rattle.zsnapshots.specs.declared.fault.RowFault.TheVariants.{Cut, TooLong, Contents, Unordered, Unlawful, Trailing, Ended, Memory}
 use Rattle.zsnapshots.specs.Rows.{session_text, node_text, reply_text, row}
-use Rattle.zsnapshots.specs.States.{StateRow, ReadingView, Fits, spelled, head_of, sessions_of, replies_of, below_of, body_of, rows_of, rows_so_far, wants_session, wants_node, wants_reply, IsReadable, IsWanted, IsTaken, IsRowFault, IsSessionFault, IsNodeFault, IsReplyFault, IsNextFault, NeverRefuses, either}
+use Rattle.zsnapshots.specs.States.{StateRow, ReadingView, Fits, spelled, head_of, sessions_of, replies_of, below_of}
+use Rattle.zsnapshots.specs.States.{body_of, rows_of, rows_so_far, wants_session, wants_node, wants_reply, IsReadable}
+use Rattle.zsnapshots.specs.States.{IsWanted, IsTaken, IsRowFault, IsSessionFault, IsNodeFault, IsReplyFault}
+use Rattle.zsnapshots.specs.States.{IsNextFault, NeverRefuses, either}
 use Rattle.zsnapshots.specs.States.StateRow.{OfHeader, OfSession, OfNode, OfReply}
 use Rattle.zsnapshots.specs.support.Faults.{of_frame, of_restoring}
 use Rattle.zsnapshots.specs.support.Reading.{IsReading}
 use Rattle.zsnapshots.proofs.RowForms.{is_session_text, is_node_text, is_reply_text}
 use Rattle.zsnapshots.proofs.Kept.{view, sessions_some, sessions_none, nodes_some, nodes_none}
-use Rattle.zsnapshots.proofs.Next.{next_session, next_node, next_reply, more_replies, same_sessions, session_next, node_next, reply_next, same_header, same_body}
+use Rattle.zsnapshots.proofs.Next.{next_session, next_node, next_reply, more_replies, same_sessions, session_next}
+use Rattle.zsnapshots.proofs.Next.{node_next, reply_next, same_header, same_body}
 
 module _ {A : Type 0} (c : Form A) (is : IsForm c) where
   pub framed_is : IsForm (row c)
@@ -39,10 +43,12 @@ module _ {A : Type 0} (c : Form A) (is : IsForm c) where
   read_is x rest bytes fits front = ap (row c).read front ∙ framed_is.again x rest fits
 
   -- one row stands in front
-  pub one_row : (x y : A) (after behind bytes : List ℕ) → (row c).Fits x → (row c).Fits y → bytes ≡ (row c).spell x ++ after → bytes ≡ (row c).spell y ++ behind → (x ≡ y) × (after ≡ behind)
+  pub one_row : (x y : A) (after behind bytes : List ℕ) → (row c).Fits x → (row c).Fits y → bytes ≡ (row c).spell x ++ after
+      → bytes ≡ (row c).spell y ++ behind → (x ≡ y) × (after ≡ behind)
   one_row x y after behind bytes fits also front same = one_value (row c) framed_is x y after behind fits also (sym front ∙ same)
 
-  pub frame_memory : (x : A) (rest bytes : List ℕ) → (row c).Fits x → bytes ≡ (row c).spell x ++ rest → (fault : FrameFault) → IsFaultOf c bytes fault → fault ≡ frame.Memory
+  pub frame_memory : (x : A) (rest bytes : List ℕ) → (row c).Fits x → bytes ≡ (row c).spell x ++ rest → (fault : FrameFault)
+      → IsFaultOf c bytes fault → fault ≡ frame.Memory
   frame_memory x rest bytes fits front fault told =
       (only_in c is {V = A × List ℕ} (λ v. v) bytes (Err fault) tt told x rest fits front).1
 
@@ -53,14 +59,23 @@ module _ {A : Type 0} (c : Form A) (is : IsForm c) where
     frame_told (frame.Contents fault) told = told
     frame_told frame.Memory told = tt
 
-    pub refused_told : (x : A) (rest : List ℕ) → (row c).Fits x → bytes ≡ (row c).spell x ++ rest → in_order x → (fault : RestoreFault) → (can x → fault ≡ restore.Memory) → IsRowFault c in_order can bytes (of_restoring fault)
-    refused_told x rest fits front ordered restore.Unlawful memory = (x, rest, read_is x rest bytes fits front, ordered, λ yes_can. let bad = memory yes_can in cc)
+    pub refused_told : (x : A) (rest : List ℕ) → (row c).Fits x → bytes ≡ (row c).spell x ++ rest → in_order x
+        → (fault : RestoreFault) → (can x → fault ≡ restore.Memory) → IsRowFault c in_order can bytes (of_restoring fault)
+    refused_told x rest fits front ordered restore.Unlawful memory = (
+      x,
+      rest,
+      read_is x rest bytes fits front,
+      ordered,
+      λ yes_can. let bad = memory yes_can in cc,
+    )
     refused_told x rest fits front ordered restore.Memory memory = tt
 
-    pub only_memory : (x : A) (rest : List ℕ) → (row c).Fits x → bytes ≡ (row c).spell x ++ rest → in_order x → can x → (fault : RowFault) → IsRowFault c in_order can bytes fault → fault ≡ Memory
+    pub only_memory : (x : A) (rest : List ℕ) → (row c).Fits x → bytes ≡ (row c).spell x ++ rest → in_order x → can x
+        → (fault : RowFault) → IsRowFault c in_order can bytes fault → fault ≡ Memory
     only_memory x rest fits front ordered able Cut told = absurd (let bad = frame_memory x rest bytes fits front frame.Cut told in cc)
     only_memory x rest fits front ordered able TooLong told = absurd (let bad = frame_memory x rest bytes fits front frame.TooLong told in cc)
-    only_memory x rest fits front ordered able (Contents fault) told = absurd (let bad = frame_memory x rest bytes fits front (frame.Contents fault) told in cc)
+    only_memory x rest fits front ordered able (Contents fault) told = absurd
+        (let bad = frame_memory x rest bytes fits front (frame.Contents fault) told in cc)
     only_memory x rest fits front ordered able Unordered told =
         let same = ok_is (x, rest) (told.0, told.1) (sym (read_is x rest bytes fits front) ∙ told.2) in
         absurd (told.3 (subst in_order (ap (λ (p : A × List ℕ). p.0) same) ordered))
@@ -96,16 +111,20 @@ all_at [] x after all fit is = (subst (AllByRecursion Fits) is fit).0
 all_at (y ∷ before) x after all fit is = all_at before x after (before ++ x ∷ after) (subst (AllByRecursion Fits) is fit).1 refl
 
 -- two rows of a kind that stand in front are one
-same_row : {A : Type 0} (c : Form A) → IsForm c → (kind : A → StateRow) → ((a : A) → spelled (kind a) ≡ (row c).spell a) → ((a : A) → Fits (kind a) → (row c).Fits a) →
-    (x y : StateRow) (e f : A) → x ≡ kind e → y ≡ kind f → Fits x → Fits y → (bytes rest more : List ℕ) → bytes ≡ spelled x ++ rest → bytes ≡ spelled y ++ more → (y ≡ x) × (more ≡ rest)
+same_row : {A : Type 0} (c : Form A) → IsForm c → (kind : A → StateRow) → ((a : A) → spelled (kind a) ≡ (row c).spell a)
+    → ((a : A) → Fits (kind a) → (row c).Fits a) →
+    (x y : StateRow) (e f : A) → x ≡ kind e → y ≡ kind f → Fits x → Fits y → (bytes rest more : List ℕ) → bytes ≡ spelled x ++ rest
+    → bytes ≡ spelled y ++ more → (y ≡ x) × (more ≡ rest)
 same_row c is kind spells fit x y e f x_is y_is fits also bytes rest more front same =
     let x_front = front ∙ ap (λ (t : StateRow). spelled t ++ rest) x_is ∙ ap (λ text. text ++ rest) (spells e) in
     let y_front = same ∙ ap (λ (t : StateRow). spelled t ++ more) y_is ∙ ap (λ text. text ++ more) (spells f) in
     let one = one_row c is f e more rest bytes (fit f (subst Fits y_is also)) (fit e (subst Fits x_is fits)) y_front x_front in
     (y_is ∙ ap kind one.0 ∙ sym x_is, one.1)
 
-module _ (h : Header) (u : MachineState) (sessions nodes replies : ℕ) (session : Option ℕ) (path : Path) (client : Option ℕ) (is : IsReading h u sessions nodes replies session path client) where
-  module _ (w : MachineState) (x : StateRow) (after : List StateRow) (readable : IsReadable w) (rows : rows_of w ≡ rows_so_far (view h u) ++ x ∷ after) where
+module _ (h : Header) (u : MachineState) (sessions nodes replies : ℕ) (session : Option ℕ) (path : Path) (client : Option ℕ)
+    (is : IsReading h u sessions nodes replies session path client) where
+  module _ (w : MachineState) (x : StateRow) (after : List StateRow) (readable : IsReadable w) (rows : rows_of w
+      ≡ rows_so_far (view h u) ++ x ∷ after) where
     head : head_of w ≡ h
     head = same_header w h (body_of u ++ x ∷ after) rows
 
@@ -137,16 +156,19 @@ module _ (h : Header) (u : MachineState) (sessions nodes replies : ℕ) (session
 
     module _ (bytes rest : List ℕ) (front : bytes ≡ spelled x ++ rest) {V : Type 0} (of : V → List ℕ) (new : ReadingView) where
       abbrev Outcome : Result V RowFault → Type 0
-      Outcome r = IfOk r (λ v. ◌≡◌ {A = List StateRow × List ℕ} (rows_so_far new, of v) (rows_so_far (view h u) ++ x ∷ [], rest)) × IfErr r (λ fault. fault ≡ Memory)
+      Outcome r = IfOk r (λ v. ◌≡◌ {A = List StateRow × List ℕ} (rows_so_far new, of v) (rows_so_far (view h u) ++ x ∷ [], rest))
+          × IfErr r (λ fault. fault ≡ Memory)
 
-      ok_outcome : {A : Type 0} (c : Form A) → IsForm c → (kind : A → StateRow) → ((a : A) → spelled (kind a) ≡ (row c).spell a) → ((a : A) → Fits (kind a) → (row c).Fits a) →
+      ok_outcome : {A : Type 0} (c : Form A) → IsForm c → (kind : A → StateRow) → ((a : A) → spelled (kind a) ≡ (row c).spell a)
+          → ((a : A) → Fits (kind a) → (row c).Fits a) →
           (e f : A) (v : V) (taken : IsTaken (view h u) new bytes (of v)) → x ≡ kind e → taken.x ≡ kind f → Outcome (Ok v)
       ok_outcome c form kind spells fit e f v taken x_is y_is =
           let same = same_row c form kind spells fit x taken.x e f x_is y_is fits taken.fits bytes rest (of v) front taken.front in
           let new_rows = taken.rows ∙ ap (λ (y : StateRow). rows_so_far (view h u) ++ y ∷ []) same.0 in
           ((λ i. (new_rows i, same.1 i)), tt)
 
-      session_outcome : wants_session (view h u) ≡ true → (r : Result V RowFault) → IfOk r (λ v. IsTaken (view h u) new bytes (of v)) → IfErr r (IsNextFault (view h u) bytes) → Outcome r
+      session_outcome : wants_session (view h u) ≡ true → (r : Result V RowFault) → IfOk r (λ v. IsTaken (view h u) new bytes (of v))
+          → IfErr r (IsNextFault (view h u) bytes) → Outcome r
       session_outcome wanted (Ok v) taken told =
           let some = sessions_some h u sessions nodes replies session path client is wanted in
           let all = ap (λ (h : Header). h.sessions) head in
@@ -160,10 +182,16 @@ module _ (h : Header) (u : MachineState) (sessions nodes replies : ℕ) (session
           let less = ltb-true (length (sessions_of u)) h.sessions wanted in
           let next = next_session w u x after body is.root (is.nodes_wait some) (is.replies_wait (omega (arith, some))) (omega (arith, all, less)) in
           let can = session_next w u readable next.0 next.1 next.2 time zxid in
-          let own : IsSessionFault u bytes fault = subst (λ b. either b (IsSessionFault u bytes fault) (either (wants_node (view h u)) (IsNodeFault u bytes fault) (either (wants_reply (view h u)) (IsReplyFault u bytes fault) (fault ≡ Ended)))) wanted told in
-          (tt, only_memory session_text is_session_text _ _ bytes next.0 rest (subst Fits next.3 fits) (front ∙ ap (λ (t : StateRow). spelled t ++ rest) next.3) can.0 can.1 fault own)
+          let own : IsSessionFault u bytes fault = subst (λ b. either b (IsSessionFault u bytes fault)
+          (either (wants_node (view h u)) (IsNodeFault u bytes fault)
+          (either (wants_reply (view h u)) (IsReplyFault u bytes fault) (fault ≡ Ended)))) wanted told in (
+            tt,
+            only_memory session_text is_session_text _ _ bytes next.0 rest (subst Fits next.3 fits) (front
+                ∙ ap (λ (t : StateRow). spelled t ++ rest) next.3) can.0 can.1 fault own,
+          )
 
-      node_outcome : wants_session (view h u) ≡ false → wants_node (view h u) ≡ true → (r : Result V RowFault) → IfOk r (λ v. IsTaken (view h u) new bytes (of v)) → IfErr r (IsNextFault (view h u) bytes) → Outcome r
+      node_outcome : wants_session (view h u) ≡ false → wants_node (view h u) ≡ true → (r : Result V RowFault)
+          → IfOk r (λ v. IsTaken (view h u) new bytes (of v)) → IfErr r (IsNextFault (view h u) bytes) → Outcome r
       node_outcome none wanted (Ok v) taken told =
           let some = nodes_some h u sessions nodes replies session path client is wanted in
           let all = ap (λ (h : Header). h.nodes) head in
@@ -179,14 +207,19 @@ module _ (h : Header) (u : MachineState) (sessions nodes replies : ℕ) (session
           let can = node_next w u readable next.0 next.1 next.2 (same_sessions w u x after body is.root (full_sessions none)) is.root time zxid in
           let own : IsNodeFault u bytes fault =
           subst (λ b. either b (IsNodeFault u bytes fault) (either (wants_reply (view h u)) (IsReplyFault u bytes fault) (fault ≡ Ended))) wanted
-          (subst (λ b. either b (IsSessionFault u bytes fault) (either (wants_node (view h u)) (IsNodeFault u bytes fault) (either (wants_reply (view h u)) (IsReplyFault u bytes fault) (fault ≡ Ended)))) none told) in
-          (tt, only_memory node_text is_node_text _ _ bytes next.0 rest (subst Fits next.3 fits) (front ∙ ap (λ (t : StateRow). spelled t ++ rest) next.3) can.0 can.1 fault own)
+          (subst (λ b. either b (IsSessionFault u bytes fault) (either (wants_node (view h u)) (IsNodeFault u bytes fault)
+          (either (wants_reply (view h u)) (IsReplyFault u bytes fault) (fault ≡ Ended)))) none told) in (
+            tt,
+            only_memory node_text is_node_text _ _ bytes next.0 rest (subst Fits next.3 fits) (front
+                ∙ ap (λ (t : StateRow). spelled t ++ rest) next.3) can.0 can.1 fault own,
+          )
 
       -- not all sessions and nodes of the state were read without a further row
       reply_less : wants_session (view h u) ≡ false → wants_node (view h u) ≡ false → length (replies_of u) < length (replies_of w)
       reply_less none no_node = more_replies w u x after body is.root (full_sessions none) (full_nodes no_node)
 
-      reply_outcome : wants_session (view h u) ≡ false → wants_node (view h u) ≡ false → (r : Result V RowFault) → IfOk r (λ v. IsTaken (view h u) new bytes (of v)) → IfErr r (IsNextFault (view h u) bytes) → Outcome r
+      reply_outcome : wants_session (view h u) ≡ false → wants_node (view h u) ≡ false → (r : Result V RowFault)
+          → IfOk r (λ v. IsTaken (view h u) new bytes (of v)) → IfErr r (IsNextFault (view h u) bytes) → Outcome r
       reply_outcome none no_node (Ok v) taken told =
           let next = next_reply w u x after body is.root (full_sessions none) (full_nodes no_node) (reply_less none no_node) in
           let own = wanted_reply (view h u) taken.x taken.wanted none no_node in
@@ -201,8 +234,12 @@ module _ (h : Header) (u : MachineState) (sessions nodes replies : ℕ) (session
           let own : IsReplyFault u bytes fault =
           subst (λ b. either b (IsReplyFault u bytes fault) (fault ≡ Ended)) wanted
           (subst (λ b. either b (IsNodeFault u bytes fault) (either (wants_reply (view h u)) (IsReplyFault u bytes fault) (fault ≡ Ended))) no_node
-          (subst (λ b. either b (IsSessionFault u bytes fault) (either (wants_node (view h u)) (IsNodeFault u bytes fault) (either (wants_reply (view h u)) (IsReplyFault u bytes fault) (fault ≡ Ended)))) none told)) in
-          (tt, only_memory reply_text is_reply_text _ _ bytes next.0 rest fit.0 (front ∙ ap (λ (t : StateRow). spelled t ++ rest) next.3) above fit.1 fault own)
+          (subst (λ b. either b (IsSessionFault u bytes fault) (either (wants_node (view h u)) (IsNodeFault u bytes fault)
+          (either (wants_reply (view h u)) (IsReplyFault u bytes fault) (fault ≡ Ended)))) none told)) in (
+            tt,
+            only_memory reply_text is_reply_text _ _ bytes next.0 rest fit.0 (front ∙ ap (λ (t : StateRow). spelled t ++ rest) next.3)
+                above fit.1 fault own,
+          )
 
       outcome : (r : Result V RowFault) → IfOk r (λ v. IsTaken (view h u) new bytes (of v)) → IfErr r (IsNextFault (view h u) bytes) → Outcome r
       outcome r taken told = by (wants_session (view h u)) (wants_node (view h u)) refl refl
@@ -213,6 +250,7 @@ module _ (h : Header) (u : MachineState) (sessions nodes replies : ℕ) (session
           by false false none no_node = reply_outcome none no_node r taken told
 
   -- the next row of a readable state is never refused
-  pub never_refuses : {V : Type 0} (bytes : List ℕ) (of : V → List ℕ) (new : ReadingView) (r : Result V RowFault) → IfOk r (λ v. IsTaken (view h u) new bytes (of v)) → IfErr r (IsNextFault (view h u) bytes) →
+  pub never_refuses : {V : Type 0} (bytes : List ℕ) (of : V → List ℕ) (new : ReadingView) (r : Result V RowFault)
+      → IfOk r (λ v. IsTaken (view h u) new bytes (of v)) → IfErr r (IsNextFault (view h u) bytes) →
       NeverRefuses (rows_so_far (view h u)) (λ v. (rows_so_far new, of v)) r bytes
   never_refuses bytes of new r taken told w x after rest readable rows front = outcome w x after readable rows bytes rest front of new r taken told

@@ -11,7 +11,8 @@ pub same_state : (v w : MachineState) → rows_of v ≡ rows_of w → v ≡ w
 same_state v w is =
     let head = same_header v (head_of w) (body_of w) is in
     let body = same_body v (head_of w) (body_of w) is in
-    let sessions = finite.same_entries_map v.service.plain.sessions w.service.plain.sessions (sym (body-sessions v) ∙ ap (of_kind session_in) body ∙ body-sessions w) in
+    let sessions = finite.same_entries_map v.service.plain.sessions w.service.plain.sessions (sym (body-sessions v)
+    ∙ ap (of_kind session_in) body ∙ body-sessions w) in
     let nodes = finite.same_entries_map v.service.plain.nodes w.service.plain.nodes (sym (body-nodes v) ∙ ap (of_kind node_in) body ∙ body-nodes w) in
     let kept = finite.same_entries_map v.service.kept w.service.kept (sym (body-replies v) ∙ ap (of_kind reply_in) body ∙ body-replies w) in
     λ i. record {

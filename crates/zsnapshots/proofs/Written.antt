@@ -1,5 +1,6 @@
 -- Which row of a state has which number.
-use Rattle.std.proofs.Common.{◌≡◌, ℕ, ◌+◌, ◌<◌, ◌≤◌, List, [], ◌∷◌, ◌++◌, length, map, take, drop, Bool, true, false, Option, Some, None, Result, Ok, Err, refl, sym, ap, subst, ◌∙◌, arith}
+use Rattle.std.proofs.Common.{◌≡◌, ℕ, ◌+◌, ◌<◌, ◌≤◌, List, [], ◌∷◌, ◌++◌, length, map, take, drop, Bool, true, false}
+use Rattle.std.proofs.Common.{Option, Some, None, Result, Ok, Err, refl, sym, ap, subst, ◌∙◌, arith}
 use Rattle.std.proofs.lemmas.List.{length-map}
 use Rattle.std.specs.Prelude.{OnOk, is_some}
 use Rattle.std.specs.Ordering.{nat_cmp}
@@ -50,10 +51,12 @@ module _ (s : MachineState) where
   root_place n e is at =
       let rest = map OfSession (sessions_of s) ++ (map OfNode (below_of s) ++ map OfReply (replies_of s)) in
       let first : At (rows_of s) 1 (OfNode e) =
-      subst (λ (nodes : List (Path × Node)). map OfNode (take 1 nodes) ++ rest ≡ OfNode e ∷ drop 1 (map OfNode (take 1 nodes) ++ rest)) (sym at) refl in
+      subst (λ (nodes : List (Path × Node)). map OfNode (take 1 nodes) ++ rest ≡ OfNode e ∷ drop 1 (map OfNode (take 1 nodes) ++ rest))
+      (sym at) refl in
       subst (λ (k : ℕ). At (rows_of s) k (OfNode e)) (sym is) first
 
-  pub session_place : (i n : ℕ) (e : ℕ × Session) → 0 < length (nodes_of s) → i < length (sessions_of s) → n ≡ i + 2 → At (sessions_of s) i e → At (rows_of s) n (OfSession e)
+  pub session_place : (i n : ℕ) (e : ℕ × Session) → 0 < length (nodes_of s) → i < length (sessions_of s) → n ≡ i + 2
+      → At (sessions_of s) i e → At (rows_of s) n (OfSession e)
   session_place i n e some within is at =
       let more = map OfNode (below_of s) ++ map OfReply (replies_of s) in
       let long = length-map (sessions_of s) OfSession in
@@ -68,24 +71,33 @@ module _ (s : MachineState) where
       behind_root (length (map OfSession (sessions_of s)) + i) n x some (omega (arith, long, is))
       (at_right (map OfSession (sessions_of s)) (map OfNode (below_of s) ++ map OfReply (replies_of s)) i x at)
 
-  pub node_place : (i n : ℕ) (e : Path × Node) → 0 < length (nodes_of s) → i < length (below_of s) → n ≡ length (sessions_of s) + i + 2 → At (nodes_of s) (i + 1) e → At (rows_of s) n (OfNode e)
+  pub node_place : (i n : ℕ) (e : Path × Node) → 0 < length (nodes_of s) → i < length (below_of s) → n ≡ length (sessions_of s) + i + 2
+      → At (nodes_of s) (i + 1) e → At (rows_of s) n (OfNode e)
   node_place i n e some within is at =
       let long = length-map (below_of s) OfNode in
       behind_sessions i n (OfNode e) some is
       (at_left (map OfNode (below_of s)) (map OfReply (replies_of s)) i (OfNode e) (omega (arith, within, long))
       (at_map OfNode (below_of s) i e (at_below (nodes_of s) i e at)))
 
-  pub reply_place : (i n : ℕ) (e : ℕ × Kept) → 0 < length (nodes_of s) → n ≡ length (sessions_of s) + (length (below_of s) + i) + 2 → At (replies_of s) i e → At (rows_of s) n (OfReply e)
+  pub reply_place : (i n : ℕ) (e : ℕ × Kept) → 0 < length (nodes_of s) → n ≡ length (sessions_of s) + (length (below_of s) + i) + 2
+      → At (replies_of s) i e → At (rows_of s) n (OfReply e)
   reply_place i n e some is at =
       let long = length-map (below_of s) OfNode in
       behind_sessions (length (map OfNode (below_of s)) + i) n (OfReply e) some (omega (arith, long, is))
       (at_right (map OfNode (below_of s)) (map OfReply (replies_of s)) i (OfReply e) (at_map OfReply (replies_of s) i e at))
 
 -- the header has number 0
-pub header_row : (s : MachineState) (n : ℕ) (before after : List ℕ) → n ≡ 0 → after ≡ before ++ spelled (OfHeader (head_of s)) → Fits (OfHeader (head_of s)) → IsRow s n before after
+pub header_row : (s : MachineState) (n : ℕ) (before after : List ℕ) → n ≡ 0 → after ≡ before ++ spelled (OfHeader (head_of s))
+    → Fits (OfHeader (head_of s)) → IsRow s n before after
 header_row s n before after is bytes fits =
     let first : At (rows_of s) 0 (OfHeader (head_of s)) = refl in
-    record { item = OfHeader (head_of s); next = subst (λ (k : ℕ). At (rows_of s) k (OfHeader (head_of s))) (sym is) first; bytes = bytes; fits = fits }
+    record {
+      item = OfHeader (head_of s);
+      next = subst (λ (k : ℕ). At (rows_of s) k (OfHeader (head_of s))) (sym is)
+          first;
+      bytes = bytes;
+      fits = fits;
+    }
 
 -- an item that was written at its place
 pub item_ok : {A E : Type 0} (kind : A → StateRow) (items : List A) (i : ℕ) (before after : List ℕ) (r : Result (Unit {0}) E) (a : A) → At items i a →
@@ -102,7 +114,8 @@ none_there None no_one = refl
 none_there (Some x) no_one = cc
 
 -- where a kept reply is written, all are
-pub kept_is : (is_alone : Bool) (s : MachineState) (i : ℕ) → i < length (replies_of (written_of is_alone s)) → (written_of is_alone s).service.kept ≡ s.service.kept
+pub kept_is : (is_alone : Bool) (s : MachineState) (i : ℕ) → i < length (replies_of (written_of is_alone s))
+    → (written_of is_alone s).service.kept ≡ s.service.kept
 kept_is true s i within = let none = ap length (entries-empty {X = Kept} nat_cmp) in absurd (omega (arith, within, none))
 kept_is false s i within = refl
 

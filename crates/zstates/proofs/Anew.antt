@@ -72,7 +72,8 @@ module _ (t : Tree) (target now : MachineState) (id : ℕ) (ids : List ℕ) (s :
   pub session_next : (new : MachineState) → SessionsAreLeft t target now (id ∷ ids) → IsNext new → SessionsAreLeft t target new ids
   session_next new left is = by left.rows left.named left.there left.can left.whole
     where
-      by : (rows : List (ℕ × Session)) → id ∷ ids ≡ map (λ e. e.0) rows → AllByRecursion (λ e. get t.sessions e.0 ≡ Some e.1) rows → CanPutAllGranted now.service.plain rows
+      by : (rows : List (ℕ × Session)) → id ∷ ids ≡ map (λ e. e.0) rows → AllByRecursion (λ e. get t.sessions e.0 ≡ Some e.1) rows
+          → CanPutAllGranted now.service.plain rows
           → with_plain now (with_session_rows now.service.plain rows) ≡ target → SessionsAreLeft t target new ids
       by [] named there can whole = absurd (cc named)
       by (e ∷ rows) named there can whole =
@@ -86,17 +87,20 @@ module _ (t : Tree) (target now : MachineState) (id : ℕ) (ids : List ℕ) (s :
   pub session_can : SessionsAreLeft t target now (id ∷ ids) → CanPutGranted now.service.plain id s
   session_can left = by left.rows left.named left.there left.can
     where
-      by : (rows : List (ℕ × Session)) → id ∷ ids ≡ map (λ e. e.0) rows → AllByRecursion (λ e. get t.sessions e.0 ≡ Some e.1) rows → CanPutAllGranted now.service.plain rows
+      by : (rows : List (ℕ × Session)) → id ∷ ids ≡ map (λ e. e.0) rows → AllByRecursion (λ e. get t.sessions e.0 ≡ Some e.1) rows
+          → CanPutAllGranted now.service.plain rows
           → CanPutGranted now.service.plain id s
       by [] named there can = absurd (cc named)
       by (e ∷ rows) named there can =
           let first : id ≡ e.0 = cc named in
           subst (λ (f : ℕ × Session). CanPutGranted now.service.plain f.0 f.1) (sym (first_session e first there.0)) can.0
 
-pub session_there : (t : Tree) (target now : MachineState) (id : ℕ) (ids : List ℕ) → SessionsAreLeft t target now (id ∷ ids) → (s : Session) × (get t.sessions id ≡ Some s)
+pub session_there : (t : Tree) (target now : MachineState) (id : ℕ) (ids : List ℕ) → SessionsAreLeft t target now (id ∷ ids)
+    → (s : Session) × (get t.sessions id ≡ Some s)
 session_there t target now id ids left = by left.rows left.named left.there
   where
-    by : (rows : List (ℕ × Session)) → id ∷ ids ≡ map (λ e. e.0) rows → AllByRecursion (λ e. get t.sessions e.0 ≡ Some e.1) rows → (s : Session) × (get t.sessions id ≡ Some s)
+    by : (rows : List (ℕ × Session)) → id ∷ ids ≡ map (λ e. e.0) rows → AllByRecursion (λ e. get t.sessions e.0 ≡ Some e.1) rows
+        → (s : Session) × (get t.sessions id ≡ Some s)
     by [] named there = absurd (cc named)
     by (e ∷ rows) named there = let first : id ≡ e.0 = cc named in (e.1, ap (get t.sessions) first ∙ there.0)
 
@@ -105,7 +109,8 @@ session_there t target now id ids left = by left.rows left.named left.there
 pub nodes_none : (t : Tree) (now : MachineState) → NodesAreLeft t now [] → now ≡ machine_of t
 nodes_none t now left = by left.rows left.named left.whole
   where
-    by : (rows : List (Path × Node)) → [] ≡ map (λ e. e.0) rows → with_plain now (with_rows now.service.plain rows) ≡ machine_of t → now ≡ machine_of t
+    by : (rows : List (Path × Node)) → [] ≡ map (λ e. e.0) rows → with_plain now (with_rows now.service.plain rows) ≡ machine_of t
+        → now ≡ machine_of t
     by [] named whole = whole
     by (e ∷ rows) named whole = absurd (cc named)
 
@@ -115,10 +120,12 @@ module _ (t : Tree) (now : MachineState) (path : Path) (paths : List Path) (n : 
       let value = same_some n e.1 (sym got ∙ ap (get t.nodes) first ∙ there) in
       λ i. (first i, value i)
 
-  pub node_next : (new : MachineState) → NodesAreLeft t now (path ∷ paths) → new ≡ with_plain now (with_row now.service.plain path n) → NodesAreLeft t new paths
+  pub node_next : (new : MachineState) → NodesAreLeft t now (path ∷ paths) → new ≡ with_plain now (with_row now.service.plain path n)
+      → NodesAreLeft t new paths
   node_next new left is = by left.rows left.named left.there left.can left.whole
     where
-      by : (rows : List (Path × Node)) → path ∷ paths ≡ map (λ e. e.0) rows → AllByRecursion (λ e. get t.nodes e.0 ≡ Some e.1) rows → CanPutAllNodes now.service.plain rows
+      by : (rows : List (Path × Node)) → path ∷ paths ≡ map (λ e. e.0) rows → AllByRecursion (λ e. get t.nodes e.0 ≡ Some e.1) rows
+          → CanPutAllNodes now.service.plain rows
           → with_plain now (with_rows now.service.plain rows) ≡ machine_of t → NodesAreLeft t new paths
       by [] named there can whole = absurd (cc named)
       by (e ∷ rows) named there can whole =
@@ -132,17 +139,20 @@ module _ (t : Tree) (now : MachineState) (path : Path) (paths : List Path) (n : 
   pub node_can : NodesAreLeft t now (path ∷ paths) → CanPutNode now.service.plain path n
   node_can left = by left.rows left.named left.there left.can
     where
-      by : (rows : List (Path × Node)) → path ∷ paths ≡ map (λ e. e.0) rows → AllByRecursion (λ e. get t.nodes e.0 ≡ Some e.1) rows → CanPutAllNodes now.service.plain rows
+      by : (rows : List (Path × Node)) → path ∷ paths ≡ map (λ e. e.0) rows → AllByRecursion (λ e. get t.nodes e.0 ≡ Some e.1) rows
+          → CanPutAllNodes now.service.plain rows
           → CanPutNode now.service.plain path n
       by [] named there can = absurd (cc named)
       by (e ∷ rows) named there can =
           let first : path ≡ e.0 = cc named in
           subst (λ (f : Path × Node). CanPutNode now.service.plain f.0 f.1) (sym (first_node e first there.0)) can.0
 
-pub node_there : (t : Tree) (now : MachineState) (path : Path) (paths : List Path) → NodesAreLeft t now (path ∷ paths) → (n : Node) × (get t.nodes path ≡ Some n)
+pub node_there : (t : Tree) (now : MachineState) (path : Path) (paths : List Path) → NodesAreLeft t now (path ∷ paths)
+    → (n : Node) × (get t.nodes path ≡ Some n)
 node_there t now path paths left = by left.rows left.named left.there
   where
-    by : (rows : List (Path × Node)) → path ∷ paths ≡ map (λ e. e.0) rows → AllByRecursion (λ e. get t.nodes e.0 ≡ Some e.1) rows → (n : Node) × (get t.nodes path ≡ Some n)
+    by : (rows : List (Path × Node)) → path ∷ paths ≡ map (λ e. e.0) rows → AllByRecursion (λ e. get t.nodes e.0 ≡ Some e.1) rows
+        → (n : Node) × (get t.nodes path ≡ Some n)
     by [] named there = absurd (cc named)
     by (e ∷ rows) named there = let first : path ≡ e.0 = cc named in (e.1, ap (get t.nodes) first ∙ there.0)
 
@@ -180,13 +190,16 @@ module _ (t : Tree) (settled : IsSettled t) where
 
     pub sessions_can : CanPutAllGranted rooted.service.plain (entries t.sessions)
     sessions_can =
-        subst (λ (n : Node). CanPutAllGranted (rooted_machine n t.time t.zxid 0).service.plain (entries t.sessions)) (root_is root got) restored.can_sessions
+        subst (λ (n : Node). CanPutAllGranted (rooted_machine n t.time t.zxid 0).service.plain (entries t.sessions))
+        (root_is root got) restored.can_sessions
 
     pub nodes_all : (now : MachineState) (paths : List Path) → now ≡ with_plain rooted (with_session_rows rooted.service.plain (entries t.sessions))
         → [] ∷ paths ≡ keys t.nodes → NodesAreLeft t now paths
     nodes_all now paths is named =
         let more : paths ≡ map (λ (e : Path × Node). e.0) restored.rows = cc (named ∙ paths_are) in
-        subst (λ (m : MachineState). NodesAreLeft t m paths) (sym (is ∙ ap (λ (n : Node). with_plain (rooted_machine n t.time t.zxid 0) (with_session_rows (rooted_machine n t.time t.zxid 0).service.plain (entries t.sessions))) (sym (root_is root got))))
+        subst (λ (m : MachineState). NodesAreLeft t m paths)
+        (sym (is ∙ ap (λ (n : Node). with_plain (rooted_machine n t.time t.zxid 0)
+        (with_session_rows (rooted_machine n t.time t.zxid 0).service.plain (entries t.sessions))) (sym (root_is root got))))
         (record {
           rows = restored.rows;
           named = more;

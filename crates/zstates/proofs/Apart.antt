@@ -48,7 +48,8 @@ same_entries a b first second same =
     let one : Some a ≡ Some b = sym (entries_come_back a first) ∙ ap entries_of same ∙ entries_come_back b second in
     cc one
 
-module _ (s w : State) (a b : List Entry) (keepable : IsKeepable s) (also : IsKeepable w) (are : AreEntries a) (are_too : AreEntries b) (same : snapshot_text s ++ entries_text a ≡ snapshot_text w ++ entries_text b) where
+module _ (s w : State) (a b : List Entry) (keepable : IsKeepable s) (also : IsKeepable w) (are : AreEntries a)
+    (are_too : AreEntries b) (same : snapshot_text s ++ entries_text a ≡ snapshot_text w ++ entries_text b) where
   records : all_records s a ≡ all_records w b
   records =
       texts_apart (all_records s a) (all_records w b) (fit_all s a keepable are) (fit_all w b also are_too) (sym (text_all s a) ∙ same ∙ text_all w b)
@@ -63,7 +64,8 @@ module _ (s w : State) (a b : List Entry) (keepable : IsKeepable s) (also : IsKe
       (sym (rows_among-rows (row_bytes s.tree) (behind s a)) ∙ ap rows_among records ∙ rows_among-rows (row_bytes w.tree) (behind w b))).0
 
   rest_same : behind s a ≡ behind w b
-  rest_same = append_cancel_left (row_records s.tree) (behind s a) (behind w b) (records ∙ ap (λ (t : Tree). row_records t ++ behind w b) (sym tree_same))
+  rest_same = append_cancel_left (row_records s.tree) (behind s a) (behind w b) (records
+      ∙ ap (λ (t : Tree). row_records t ++ behind w b) (sym tree_same))
 
   seats_same : (s.seats ≡ w.seats) × (records_of a ≡ records_of b)
   seats_same =
@@ -77,7 +79,8 @@ module _ (s w : State) (a b : List Entry) (keepable : IsKeepable s) (also : IsKe
 same_after : (s w : State) (a b : List Entry) → s ≡ w → a ≡ b → after s a ≡ after w b
 same_after s w a b first second = λ i. after (first i) (second i)
 
-no_both : (text : List ℕ) (a b : State) (is : IsTextOf a text) (also : IsTextOf b text) → is.front ≡ [] → IsKeepable also.start → also.front ≡ snapshot_text also.start → ⊥
+no_both : (text : List ℕ) (a b : State) (is : IsTextOf a text) (also : IsTextOf b text) → is.front ≡ [] → IsKeepable also.start
+    → also.front ≡ snapshot_text also.start → ⊥
 no_both text a b is also none keepable front =
     row_in_front also.start text (entries_text also.entries) keepable (also.split ∙ ap (λ (f : List ℕ). f ++ entries_text also.entries) front)
     (subst HasNoRow (sym (is.split ∙ ap (λ (f : List ℕ). f ++ entries_text is.entries) none)) (entries_text_no_row is.entries is.are))
@@ -90,11 +93,13 @@ tell_apart text a b is also = by is.begins also.begins
 
     by : IsFrontOf is.start is.front → IsFrontOf also.start also.front → a ≡ b
     by (inl bare) (inl too) =
-        is.leaves ∙ same_after is.start also.start is.entries also.entries (bare.0 ∙ sym too.0) (entries_tell_apart text is.entries also.entries (entries_in a is bare.1) (entries_in b also too.1)) ∙ sym also.leaves
+        is.leaves ∙ same_after is.start also.start is.entries also.entries (bare.0 ∙ sym too.0)
+        (entries_tell_apart text is.entries also.entries (entries_in a is bare.1) (entries_in b also too.1)) ∙ sym also.leaves
     by (inl bare) (inr snapshot) = absurd (no_both text a b is also bare.1 snapshot.0 snapshot.1)
     by (inr snapshot) (inl bare) = absurd (no_both text b a also is bare.1 snapshot.0 snapshot.1)
     by (inr one) (inr two) =
-        let same = sym (ap (λ (f : List ℕ). f ++ entries_text is.entries) one.1) ∙ sym is.split ∙ also.split ∙ ap (λ (f : List ℕ). f ++ entries_text also.entries) two.1 in
+        let same = sym (ap (λ (f : List ℕ). f ++ entries_text is.entries) one.1) ∙ sym is.split ∙ also.split
+        ∙ ap (λ (f : List ℕ). f ++ entries_text also.entries) two.1 in
         let both = both_same is.start also.start is.entries also.entries one.0 two.0 is.are also.are same in
         is.leaves ∙ same_after is.start also.start is.entries also.entries both.0 both.1 ∙ sym also.leaves
 
@@ -102,7 +107,15 @@ pub nothing_is : NothingIsTheOpening
 nothing_is = record { start = opening_state; front = []; begins = inl (refl, refl); entries = []; are = tt; split = refl; leaves = refl }
 
 pub snapshots_keep : SnapshotsKeepTheirs
-snapshots_keep s keepable = record { start = s; front = snapshot_text s; begins = inr (keepable, refl); entries = []; are = tt; split = sym (append-nil (snapshot_text s)); leaves = refl }
+snapshots_keep s keepable = record {
+  start = s;
+  front = snapshot_text s;
+  begins = inr (keepable, refl);
+  entries = [];
+  are = tt;
+  split = sym (append-nil (snapshot_text s));
+  leaves = refl;
+}
 
 pub texts_go_on : TextsGoOn
 texts_go_on s text entries is are = record {

@@ -1,5 +1,6 @@
 -- The texts of entries: each entry is read again, and no text is of two lists of them.
-use Rattle.std.proofs.Common.{◌≡◌, ◌≢◌, ◌⊎◌, inl, inr, ◌<◌, ℕ, Bool, true, false, if◌then◌else◌, List, [], ◌∷◌, ◌++◌, Option, None, Some, refl, sym, ap, subst, ◌∙◌, append_assoc, append-nil, length, arith}
+use Rattle.std.proofs.Common.{◌≡◌, ◌≢◌, ◌⊎◌, inl, inr, ◌<◌, ℕ, Bool, true, false, if◌then◌else◌, List, [], ◌∷◌, ◌++◌}
+use Rattle.std.proofs.Common.{Option, None, Some, refl, sym, ap, subst, ◌∙◌, append_assoc, append-nil, length, arith}
 use Rattle.std.specs.List.{AllByRecursion}
 use Rattle.std.proofs.lemmas.List.Concat.{flat_map-append, flat_map-cons}
 use mathlib.Core.Bool.{true≢false}
@@ -8,7 +9,9 @@ use Rattle.zrecords.specs.declared.record.Record.{Record}
 use Rattle.zrecords.specs.declared.record.Record.TheVariants.{Password, Update, Fail, Join, Retire, Row}
 use Rattle.zrecords.specs.Records.{Fits, AllFit, HasNoRecord, line_of, text_of}
 use Rattle.zrecords.proofs.Texts.{one_record, line_some, shorter, texts_apart, texts_join}
-use Rattle.zstates.specs.Entries.{Entry, no_password, is_open, entry_records, records_of, behind, entries_of, IsEntry, AreEntries, entry_text, entries_text, IsEntriesText, HasNoEntry, HasNoOpen, IsOfNoEntries}
+use Rattle.zstates.specs.Entries.{Entry, no_password, is_open, entry_records, records_of, behind, entries_of, IsEntry}
+use Rattle.zstates.specs.Entries.{AreEntries, entry_text, entries_text, IsEntriesText, HasNoEntry, HasNoOpen}
+use Rattle.zstates.specs.Entries.{IsOfNoEntries}
 use Rattle.zstates.specs.Laws.{EntriesComeBack, RecordsComeBack, EntriesTellApart}
 
 pub either : (b : Bool) → (b ≡ true) ⊎ (b ≡ false)
@@ -49,7 +52,8 @@ opens e rest opening is =
       opening = opening;
       password = fit.0;
       update = fit.1.0;
-      text = ap (λ (t : List ℕ). t ++ rest) (ap text_of records ∙ two_lines (Password e.1) (Update e.0)) ∙ append_assoc (line_of (Password e.1)) (line_of (Update e.0)) rest;
+      text = ap (λ (t : List ℕ). t ++ rest) (ap text_of records ∙ two_lines (Password e.1) (Update e.0))
+          ∙ append_assoc (line_of (Password e.1)) (line_of (Update e.0)) rest;
     }
 
 pub others : (e : Entry) (rest : List ℕ) → is_open e.0 ≡ false → IsEntry e → IsOthers e rest
@@ -69,13 +73,15 @@ opens_or e rest is = by (either (is_open e.0))
 
 both_open : (a b : Entry) (x y : List ℕ) → IsOpens a x → IsOpens b y → entry_text a ++ x ≡ entry_text b ++ y → (a ≡ b) × (x ≡ y)
 both_open a b x y first second same =
-    let one = one_record (Password a.1) (Password b.1) (line_of (Update a.0) ++ x) (line_of (Update b.0) ++ y) first.password second.password (sym first.text ∙ same ∙ second.text) in
+    let one = one_record (Password a.1) (Password b.1) (line_of (Update a.0) ++ x) (line_of (Update b.0) ++ y) first.password
+    second.password (sym first.text ∙ same ∙ second.text) in
     let two = one_record (Update a.0) (Update b.0) x y first.update second.update one.1 in
     let passwords : a.1 ≡ b.1 = cc (one.0) in
     let updates : a.0 ≡ b.0 = cc (two.0) in
     ((λ i. (updates i, passwords i)), two.1)
 
-both_other : (a b : Entry) (x y : List ℕ) → IsEntry a → IsEntry b → IsOthers a x → IsOthers b y → entry_text a ++ x ≡ entry_text b ++ y → (a ≡ b) × (x ≡ y)
+both_other : (a b : Entry) (x y : List ℕ) → IsEntry a → IsEntry b → IsOthers a x → IsOthers b y → entry_text a ++ x ≡ entry_text b ++ y
+    → (a ≡ b) × (x ≡ y)
 both_other a b x y is also first second same =
     let one = one_record (Update a.0) (Update b.0) x y first.update second.update (sym first.text ∙ same ∙ second.text) in
     let updates : a.0 ≡ b.0 = cc (one.0) in
@@ -84,7 +90,8 @@ both_other a b x y is also first second same =
 
 apart : (a b : Entry) (x y : List ℕ) → IsOpens a x → IsOthers b y → entry_text a ++ x ≡ entry_text b ++ y → ⊥
 apart a b x y first second same =
-    let one = one_record (Password a.1) (Update b.0) (line_of (Update a.0) ++ x) y first.password second.update (sym first.text ∙ same ∙ second.text) in
+    let one = one_record (Password a.1) (Update b.0) (line_of (Update a.0) ++ x) y first.password second.update
+    (sym first.text ∙ same ∙ second.text) in
     cc (one.0)
 
 pub one_entry : (a b : Entry) (x y : List ℕ) → IsEntry a → IsEntry b → entry_text a ++ x ≡ entry_text b ++ y → (a ≡ b) × (x ≡ y)
@@ -111,7 +118,8 @@ records-cons e entries = flat_map-cons entry_records e entries
 
 pub records_more : (entries : List Entry) (e : Entry) → records_of (entries ++ e ∷ []) ≡ records_of entries ++ entry_records e
 records_more entries e =
-    flat_map-append entry_records entries (e ∷ []) ∙ ap (λ (rs : List Record). records_of entries ++ rs) (records-cons e [] ∙ append-nil (entry_records e))
+    flat_map-append entry_records entries (e ∷ []) ∙ ap (λ (rs : List Record). records_of entries ++ rs) (records-cons e []
+    ∙ append-nil (entry_records e))
 
 pub text-entry : (e : Entry) (entries : List Entry) → entries_text (e ∷ entries) ≡ entry_text e ++ entries_text entries
 text-entry e entries = ap text_of (records-cons e entries) ∙ texts_join (entry_records e) (records_of entries)
@@ -135,7 +143,8 @@ fit_both (r ∷ a) b first second = (first.0, fit_both a b first.1 second)
 
 pub all_fit : (entries : List Entry) → AreEntries entries → AllFit (records_of entries)
 all_fit [] are = tt
-all_fit (e ∷ entries) are = subst AllFit (sym (records-cons e entries)) (fit_both (entry_records e) (records_of entries) are.0.fit (all_fit entries are.1))
+all_fit (e ∷ entries) are = subst AllFit (sym (records-cons e entries)) (fit_both (entry_records e) (records_of entries)
+    are.0.fit (all_fit entries are.1))
 
 fit_apart : (a b : List Record) → AllFit (a ++ b) → AllFit a × AllFit b
 fit_apart [] b fit = (tt, fit)
@@ -167,7 +176,8 @@ back_other e records entries other own is =
     ∙ ap (λ (b : Bool). if b then None else behind (e.0, no_password) (entries_of records)) other
     ∙ (λ i. behind (e.0, sym own i) (is i))
 
-back_one : (e : Entry) (records : List Record) (entries : List Entry) → IsEntry e → entries_of records ≡ Some entries → entries_of (entry_records e ++ records) ≡ Some (e ∷ entries)
+back_one : (e : Entry) (records : List Record) (entries : List Entry) → IsEntry e → entries_of records ≡ Some entries
+    → entries_of (entry_records e ++ records) ≡ Some (e ∷ entries)
 back_one e records entries is more = by (either (is_open e.0))
   where
     by : (is_open e.0 ≡ true) ⊎ (is_open e.0 ≡ false) → entries_of (entry_records e ++ records) ≡ Some (e ∷ entries)
@@ -176,16 +186,20 @@ back_one e records entries is more = by (either (is_open e.0))
 
 pub entries_come_back : EntriesComeBack
 entries_come_back [] are = refl
-entries_come_back (e ∷ entries) are = ap entries_of (records-cons e entries) ∙ back_one e (records_of entries) entries are.0 (entries_come_back entries are.1)
+entries_come_back (e ∷ entries) are = ap entries_of (records-cons e entries) ∙ back_one e (records_of entries) entries
+    are.0 (entries_come_back entries are.1)
 
 -- what stands behind a first entry
-behind_some : (e : Entry) (more : Option (List Entry)) (entries : List Entry) → behind e more ≡ Some entries → (rest : List Entry) × (more ≡ Some rest) × (entries ≡ e ∷ rest)
+behind_some : (e : Entry) (more : Option (List Entry)) (entries : List Entry) → behind e more ≡ Some entries
+    → (rest : List Entry) × (more ≡ Some rest) × (entries ≡ e ∷ rest)
 behind_some e None entries is = absurd (cc is)
 behind_some e (Some rest) entries is = let same : e ∷ rest ≡ entries = cc is in (rest, refl, sym same)
 
 -- what stands behind an open's records, and behind another update's
-module _ (update : Act) (records : List Record) (entries : List Entry) (more : (rest : List Entry) → entries_of records ≡ Some rest → records_of rest ≡ records) where
-  open_back : (password : List ℕ) (b : Bool) → is_open update ≡ b → (if b then behind (update, password) (entries_of records) else None) ≡ Some entries
+module _ (update : Act) (records : List Record) (entries : List Entry) (more : (rest : List Entry) → entries_of records ≡ Some rest
+    → records_of rest ≡ records) where
+  open_back : (password : List ℕ) (b : Bool) → is_open update ≡ b → (if b then behind (update, password) (entries_of records) else None)
+      ≡ Some entries
       → records_of entries ≡ Password password ∷ Update update ∷ records
   open_back password true opening has =
       let rest = behind_some (update, password) (entries_of records) entries has in
@@ -218,7 +232,8 @@ entries_tell_apart text a b first second =
 -- ---- texts that are of no entries
 
 -- behind some entries something is left, and no entry's text stands in front of it
-no_more : (so_far entries : List Entry) (left : List ℕ) → AreEntries so_far → AreEntries entries → entries_text entries ≡ entries_text so_far ++ left → left ≢ [] → HasNoEntry left → ⊥
+no_more : (so_far entries : List Entry) (left : List ℕ) → AreEntries so_far → AreEntries entries → entries_text entries
+    ≡ entries_text so_far ++ left → left ≢ [] → HasNoEntry left → ⊥
 no_more [] [] left are also same some none = some (sym same)
 no_more [] (e ∷ entries) left are also same some none = none e (entries_text entries) also.0 (sym same ∙ text-entry e entries)
 no_more (b ∷ so_far) [] left are also same some none =
@@ -226,10 +241,12 @@ no_more (b ∷ so_far) [] left are also same some none =
     (sym (append_assoc (entry_text b) (entries_text so_far) left) ∙ ap (λ (t : List ℕ). t ++ left) (sym (text-entry b so_far)) ∙ sym same)
 no_more (b ∷ so_far) (e ∷ entries) left are also same some none =
     let first = one_entry e b (entries_text entries) (entries_text so_far ++ left) also.0 are.0
-    (sym (text-entry e entries) ∙ same ∙ ap (λ (t : List ℕ). t ++ left) (text-entry b so_far) ∙ append_assoc (entry_text b) (entries_text so_far) left) in
+    (sym (text-entry e entries) ∙ same ∙ ap (λ (t : List ℕ). t ++ left) (text-entry b so_far)
+    ∙ append_assoc (entry_text b) (entries_text so_far) left) in
     no_more so_far entries left are.1 also.1 first.1 some none
 
-pub no_text : (so_far : List Entry) (text left : List ℕ) → AreEntries so_far → text ≡ entries_text so_far ++ left → left ≢ [] → HasNoEntry left → IsOfNoEntries text
+pub no_text : (so_far : List Entry) (text left : List ℕ) → AreEntries so_far → text ≡ entries_text so_far ++ left
+    → left ≢ [] → HasNoEntry left → IsOfNoEntries text
 no_text so_far text left are split some none entries read = no_more so_far entries left are read.are (sym read.is ∙ split) some none
 
 -- ---- what a record in front says
@@ -295,11 +312,16 @@ no_record text none e more entry same = by (opens_or e more entry)
 
 -- ---- what was read
 
-pub read_open : (text middle rest password : List ℕ) (update : Act) → Fits (Password password) → text ≡ line_of (Password password) ++ middle → is_open update ≡ true
+pub read_open : (text middle rest password : List ℕ) (update : Act) → Fits (Password password) → text ≡ line_of (Password password) ++ middle
+    → is_open update ≡ true
     → Fits (Update update) → middle ≡ line_of (Update update) ++ rest → IsEntry (update, password) × (text ≡ entry_text (update, password) ++ rest)
 read_open text middle rest password update first split opening second more =
     let e : Entry = (update, password) in
-    let is : IsEntry e = record { fit = subst AllFit (sym (open_records e opening)) (first, (second, tt)); own = λ other. absurd (true≢false (sym opening ∙ other)) } in
+    let is : IsEntry e = record {
+      fit = subst AllFit (sym (open_records e opening)) (first, (second, tt));
+      own = λ other.
+          absurd (true≢false (sym opening ∙ other));
+    } in
     (is, split ∙ ap (λ (t : List ℕ). line_of (Password password) ++ t) more ∙ sym (opens e rest opening is).text)
 
 pub read_other : (text rest : List ℕ) (update : Act) → Fits (Update update) → text ≡ line_of (Update update) ++ rest → is_open update ≡ false

@@ -63,7 +63,8 @@ renews : (t : Tree) (key : ℕ) → Grows t (Ping key) (with_renewed_session t k
 renews t key id has = inl (each (get t.sessions key) refl has)
   where
     each : (o : Option Session) → get t.sessions key ≡ o
-        → contains_key (option_map_or (λ s. insert t.sessions key (renewed_session t.time s)) o t.sessions) id ≡ true → contains_key t.sessions id ≡ true
+        → contains_key (option_map_or (λ s. insert t.sessions key (renewed_session t.time s)) o t.sessions) id ≡ true
+        → contains_key t.sessions id ≡ true
     each None is there = there
     each (Some s) is there = renewed t.sessions key id s (renewed_session t.time s) is there (same_number id key)
 
@@ -73,24 +74,30 @@ closes t key id has =
     inl (is_there (get t.sessions id) s.0 (get-removed nat_cmp_total nat_cmp-IsAntisymmetric t.sessions key id s.0 s.1).1)
 
 -- a session that a tick leaves was there
-kept : (tick : ℕ) (o : Option Session) → is_some (option_and_then (λ (s : Session). cond (nat_le s.deadline tick) None (Some s)) o) ≡ true → is_some o ≡ true
+kept : (tick : ℕ) (o : Option Session) → is_some (option_and_then (λ (s : Session). cond (nat_le s.deadline tick) None (Some s)) o) ≡ true
+    → is_some o ≡ true
 kept tick None is = is
 kept tick (Some s) is = refl
 
 ticks : (t : Tree) (paths : List Path) → Grows t Tick (tick_result t (due_next t) paths)
 ticks t paths id has =
     inl (kept (t.time + 1) (get t.sessions id) (
-    sym (ap is_some (sessions-due_ended t (t.time + 1) id)) ∙ sym (ap (λ (m : Sessions). contains_key m id) (ticked-sessions t (due_next t) paths)) ∙ has
+    sym (ap is_some (sessions-due_ended t (t.time + 1) id))
+    ∙ sym (ap (λ (m : Sessions). contains_key m id) (ticked-sessions t (due_next t) paths)) ∙ has
     ))
 
 updates : (t : Tree) (update : Update) → Grows t update (update_result t 0 update)
-updates t (Create create) = same t (Create create) (change_result t (create_step t 0 create)) (alone-sessions t (create_step t 0 create) (change-alone t 0 (change.Create create)))
-updates t (Delete delete) = same t (Delete delete) (change_result t (delete_step t delete)) (alone-sessions t (delete_step t delete) (change-alone t 0 (change.Delete delete)))
-updates t (SetData set) = same t (SetData set) (change_result t (set_step t set)) (alone-sessions t (set_step t set) (change-alone t 0 (change.SetData set)))
+updates t (Create create) = same t (Create create) (change_result t (create_step t 0 create))
+    (alone-sessions t (create_step t 0 create) (change-alone t 0 (change.Create create)))
+updates t (Delete delete) = same t (Delete delete) (change_result t (delete_step t delete))
+    (alone-sessions t (delete_step t delete) (change-alone t 0 (change.Delete delete)))
+updates t (SetData set) = same t (SetData set) (change_result t (set_step t set))
+    (alone-sessions t (set_step t set) (change-alone t 0 (change.SetData set)))
 updates t (Multi parts) = same t (Multi parts) (multi_result t (run t 0 parts)) (together-sessions t (run t 0 parts) (run-alone parts t 0))
 updates t (Open asked) =
     let timeout = granted_timeout asked in
-    either t (Open asked) TooManySessions (with_next_zxid (with_session t 0 timeout), reply.Opened (t.zxid + 1) timeout) (nat_le MAX_SESSIONS (finite.len t.sessions))
+    either t (Open asked) TooManySessions (with_next_zxid (with_session t 0 timeout), reply.Opened (t.zxid + 1) timeout)
+    (nat_le MAX_SESSIONS (finite.len t.sessions))
     (opens t asked timeout)
 updates t (Ping key) = either t (Ping key) SessionGone (with_renewed_session t key, reply.Pinged) (is_gone t.sessions 0 key) (renews t key)
 updates t (Close key) =

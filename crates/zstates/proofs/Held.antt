@@ -41,7 +41,8 @@ on_ok P (Err e) p = tt
 -- the clients of a machine that cached no reply
 pub no_clients : (m : MachineView) (clients : List ℕ) → clients ≡ keys m.state.service.kept → IsBare m → length clients ≡ 0
 no_clients m clients is bare =
-    let none = ap (λ (s : MachineState). map (λ (e : ℕ × Kept). e.0) (finite.entries s.service.kept)) bare ∙ ap (map (λ (e : ℕ × Kept). e.0)) (no_entries {X = Kept}) in
+    let none = ap (λ (s : MachineState). map (λ (e : ℕ × Kept). e.0) (finite.entries s.service.kept)) bare
+    ∙ ap (map (λ (e : ℕ × Kept). e.0)) (no_entries {X = Kept}) in
     ap (λ (ids : List ℕ). length ids) (is ∙ none)
 
 pub is_bare : (m : MachineView) (clients : List ℕ) → clients ≡ keys m.state.service.kept → length clients ≡ 0 → m.state.applied ≡ 0 → IsBare m

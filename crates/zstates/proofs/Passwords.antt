@@ -52,7 +52,8 @@ find_seat : (f : ℕ → List ℕ) (ids : List ℕ) (id : ℕ) → Among id ids 
 find_seat f [] id among = absurd (let bad : false ≡ true = among in cc)
 find_seat f (first ∷ ids) id among = by (λ some. find_seat f ids id some) (eq_by_cmp nat_cmp id first) refl among
   where
-    by : (Among id ids → find nat_cmp id (map (given f) ids) ≡ Some (f id)) → (b : Bool) → eq_by_cmp nat_cmp id first ≡ b → b || list_any (eq_by_cmp nat_cmp id) ids ≡ true
+    by : (Among id ids → find nat_cmp id (map (given f) ids) ≡ Some (f id)) → (b : Bool) → eq_by_cmp nat_cmp id first ≡ b
+        → b || list_any (eq_by_cmp nat_cmp id) ids ≡ true
         → cond b (Some (f first)) (find nat_cmp id (map (given f) ids)) ≡ Some (f id)
     by later true same some = ap (λ k. Some (f k)) (sym (tied_same nat_cmp_total nat_cmp-IsAntisymmetric id first same))
     by later false other some = later some
@@ -76,8 +77,10 @@ module _ (t u : Tree) (update : Update) (password : List ℕ) (m middle : Sittin
   old_one : (id : ℕ) → get middle id ≡ get m id → contains_key t.sessions id ≡ true → password_at middle id ≡ password_in seats id
   old_one id kept has = ap password_of kept ∙ sym (ap (λ (o : Option (List ℕ)). unwrap_or o no_password) (there id has))
 
-  opened : (session ticks id : ℕ) (b : Bool) → eq_by_cmp nat_cmp id session ≡ b → get middle id ≡ get m id → (contains_key t.sessions id ≡ true) ⊎ IsOpened update (reply.Opened session ticks) id
-      → password_of (cond b (Some (restored_sitting password)) (get middle id)) ≡ unwrap_or (cond b (Some password) (find nat_cmp id seats)) no_password
+  opened : (session ticks id : ℕ) (b : Bool) → eq_by_cmp nat_cmp id session ≡ b → get middle id ≡ get m id
+      → (contains_key t.sessions id ≡ true) ⊎ IsOpened update (reply.Opened session ticks) id
+      → password_of (cond b (Some (restored_sitting password)) (get middle id))
+      ≡ unwrap_or (cond b (Some password) (find nat_cmp id seats)) no_password
   opened session ticks id true same kept was = refl
   opened session ticks id false other kept (inl has) = old_one id kept has
   opened session ticks id false other kept (inr now) =
@@ -100,7 +103,8 @@ module _ (t u : Tree) (update : Update) (password : List ℕ) (m middle : Sittin
         subst (λ (d : Tree × Reply). (id : ℕ) → contains_key d.0.sessions id ≡ true → (contains_key t.sessions id ≡ true) ⊎ IsOpened update d.1 id)
         (sym did) (grows_by t update)
 
-    same_all : map (seat_at (with_seat told password middle)) (keys u.sessions) ≡ map (given (password_in (with_opened told password seats))) (keys u.sessions)
+    same_all : map (seat_at (with_seat told password middle)) (keys u.sessions)
+        ≡ map (given (password_in (with_opened told password seats))) (keys u.sessions)
     same_all =
         same_seats (password_at (with_seat told password middle)) (password_in (with_opened told password seats)) (keys u.sessions)
         (λ id among. let has = finite.contains_key-keys u.sessions id ∙ among in each told id (keeps id has) (grown id has))
@@ -112,7 +116,8 @@ module _ (t u : Tree) (update : Update) (password : List ℕ) (m middle : Sittin
         ∙ ap (state_after password seats) did
 
 -- the update acted, and the session that it opened has its password
-pub applied : (t u : Tree) (update : Update) (password : List ℕ) (told : Reply) (m n : SittingsView) → (u, told) ≡ serve t 0 (call.Update update) → GetsSeat u.sessions told password m n
+pub applied : (t u : Tree) (update : Update) (password : List ℕ) (told : Reply) (m n : SittingsView)
+    → (u, told) ≡ serve t 0 (call.Update update) → GetsSeat u.sessions told password m n
     → state_in u n ≡ after_entry (state_in t m) (update, password)
 applied t u update password told m n did gets =
     ap (state_in u) gets.2 ∙ after_it t u update password m gets.0 told did gets.1
@@ -120,7 +125,8 @@ applied t u update password told m n did gets =
 -- ---- sessions that ended
 
 -- one that isn't there is forgotten
-pub keeps_without : (sessions : Sessions) (old now : SittingsView) (gone : ℕ) → contains_key sessions gone ≡ false → KeepsSeats sessions old now → KeepsSeats sessions old (remove now gone)
+pub keeps_without : (sessions : Sessions) (old now : SittingsView) (gone : ℕ) → contains_key sessions gone ≡ false
+    → KeepsSeats sessions old now → KeepsSeats sessions old (remove now gone)
 keeps_without sessions old now gone none keeps id has = by (same_number id gone)
   where
     by : (id ≡ gone) ⊎ (id ≡ gone → ⊥) → get (remove now gone) id ≡ get old id
@@ -130,6 +136,7 @@ keeps_without sessions old now gone none keeps id has = by (same_number id gone)
     by (inr other) = get-remove-elsewhere nat_cmp_total nat_cmp-IsAntisymmetric now gone id other ∙ keeps id has
 
 -- where no session was opened, none has another password
-pub unseated : (told : Reply) (password : List ℕ) (m : SittingsView) → ((session ticks : ℕ) → told ≡ reply.Opened session ticks → ⊥) → with_seat told password m ≡ m
+pub unseated : (told : Reply) (password : List ℕ) (m : SittingsView) → ((session ticks : ℕ) → told ≡ reply.Opened session ticks → ⊥)
+    → with_seat told password m ≡ m
 unseated (reply.Opened session ticks) password m none = absurd (none session ticks refl)
 unseated told password m none = refl

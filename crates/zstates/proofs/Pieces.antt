@@ -1,5 +1,6 @@
 -- The pieces of a snapshot's text.
-use Rattle.std.proofs.Common.{◌≡◌, ℕ, zero, suc, ◌+◌, ◌-◌, ◌<◌, ◌≤◌, List, [], ◌∷◌, ◌++◌, length, length-append, map, take, drop, get_or, refl, sym, ap, subst, ◌∙◌, append-nil, arith}
+use Rattle.std.proofs.Common.{◌≡◌, ℕ, zero, suc, ◌+◌, ◌-◌, ◌<◌, ◌≤◌, List, [], ◌∷◌, ◌++◌, length, length-append, map}
+use Rattle.std.proofs.Common.{take, drop, get_or, refl, sym, ap, subst, ◌∙◌, append-nil, arith}
 use Rattle.std.proofs.lemmas.List.{drop-drop, drop_all, drop_more, length-drop, length-map, map-append, take-append-drop, take_all, take_more}
 use Rattle.std.specs.List.{AllByRecursion}
 use Rattle.zops.specs.Machine.{MachineState}
@@ -26,7 +27,8 @@ module _ {X : Type 0} where
   at_within [] n x at = absurd (let none = drop_all n [] (omega arith) in let bad : [] ≡ x ∷ drop (n + 1) [] = sym none ∙ at in cc)
   at_within (y ∷ xs) zero x at = omega arith
   at_within (y ∷ xs) (suc n) x at =
-      let next : drop (suc n + 1) (y ∷ xs) ≡ drop (n + 1) xs = ap (λ (k : ℕ). drop k (y ∷ xs)) (let same : suc n + 1 ≡ suc (n + 1) = omega arith in same) in
+      let next : drop (suc n + 1) (y ∷ xs) ≡ drop (n + 1) xs = ap (λ (k : ℕ). drop k (y ∷ xs)) (let same : suc n + 1
+      ≡ suc (n + 1) = omega arith in same) in
       let less = at_within xs n x (at ∙ ap (λ more. x ∷ more) next) in
       omega (arith, less)
 
@@ -51,7 +53,8 @@ pub record IsSoFar (old now : ShorteningView) (text : List ℕ) : Type 0 where
   pub view : now ≡ record old { written = old.written + count }
 
 -- a record that stands at a place, seen from an earlier place
-at_behind : (records : List Record) (first count : ℕ) (r : Record) → drop (first + count) records ≡ r ∷ drop (first + count + 1) records → At (drop first records) count r
+at_behind : (records : List Record) (first count : ℕ) (r : Record) → drop (first + count) records ≡ r ∷ drop (first + count + 1) records
+    → At (drop first records) count r
 at_behind records first count r at =
     let next : first + count + 1 ≡ first + (count + 1) = omega arith in
     drop-drop count first records ∙ at ∙ ap (λ (k : ℕ). r ∷ drop k records) next
@@ -73,11 +76,13 @@ module _ (old : ShorteningView) where
         view = written.view;
       }
 
-  pub so_far_more : (middle now : ShorteningView) (before after : List ℕ) → IsSoFar old middle before → IsRecordWritten middle now before after → IsSoFar old now after
+  pub so_far_more : (middle now : ShorteningView) (before after : List ℕ) → IsSoFar old middle before
+      → IsRecordWritten middle now before after → IsSoFar old now after
   so_far_more middle now before after so_far written =
       let r = written.r in
       let count = so_far.count in
-      let at = subst (λ (m : ShorteningView). drop m.written (snapshot_records m.state) ≡ r ∷ drop (m.written + 1) (snapshot_records m.state)) so_far.view written.next in
+      let at = subst (λ (m : ShorteningView). drop m.written (snapshot_records m.state) ≡ r ∷ drop (m.written + 1) (snapshot_records m.state))
+      so_far.view written.next in
       let here = at_behind (snapshot_records old.state) old.written count r at in
       let more : take (count + 1) left ≡ take count left ++ r ∷ [] = take_next left count r (at_within left count r here) here in
       let further : old.written + count + 1 ≡ old.written + (count + 1) = omega arith in
@@ -131,7 +136,8 @@ module _ (s : State) (w : WritingView) (seats : List Seat) (seated : ℕ) (is : 
             absurd (omega (arith, within, turn))
 
     row_at : At (row_records s.tree) w.written (Row (spelled x))
-    row_at = at_map row_record (row_bytes s.tree) w.written (spelled x) (subst (λ (all : List (List ℕ)). At all w.written (spelled x)) bytes_are (at_map spelled rows w.written x next))
+    row_at = at_map row_record (row_bytes s.tree) w.written (spelled x)
+        (subst (λ (all : List (List ℕ)). At all w.written (spelled x)) bytes_are (at_map spelled rows w.written x next))
 
     record_at : At (snapshot_records s) (w.written + seated) (Row (spelled x))
     record_at =
@@ -140,7 +146,8 @@ module _ (s : State) (w : WritingView) (seats : List Seat) (seated : ℕ) (is : 
         let same : w.written ≡ w.written + seated = omega (arith, none_seated) in
         subst (λ (n : ℕ). At (snapshot_records s) n (Row (spelled x))) same at
 
-    pub row_written : (w_new : WritingView) (before after : List ℕ) → w_new ≡ record w { written = w.written + 1 } → after ≡ before ++ line_of (Row (spelled x))
+    pub row_written : (w_new : WritingView) (before after : List ℕ) → w_new ≡ record w { written = w.written + 1 }
+        → after ≡ before ++ line_of (Row (spelled x))
         → IsRecordWritten view_now (record { state = s; written = w_new.written + seated }) before after
     row_written w_new before after w_is bytes =
         let count : w_new.written + seated ≡ w.written + seated + 1 = (let n = ap (λ (v : WritingView). v.written) w_is in omega (arith, n)) in
@@ -155,7 +162,8 @@ module _ (s : State) (w : WritingView) (seats : List Seat) (seated : ℕ) (is : 
       few_rows = let within = at_within rows w.written x next in omega (arith, within);
       few_seats = is.few_seats;
       in_turn = λ some. absurd (let none = none_seated in omega (arith, some, none));
-      fit = subst (AllByRecursion Fits) (sym (take_next rows w.written x (at_within rows w.written x next) next)) (all-push Fits (take w.written rows) x is.fit fits);
+      fit = subst (AllByRecursion Fits) (sym (take_next rows w.written x (at_within rows w.written x next) next))
+          (all-push Fits (take w.written rows) x is.fit fits);
       fit_rows =
           let at = at_map spelled rows w.written x next in
           let more = take_next (map spelled rows) w.written (spelled x) (at_within (map spelled rows) w.written (spelled x) at) at in
@@ -180,7 +188,14 @@ module _ (s : State) (w : WritingView) (seats : List Seat) (seated : ℕ) (is : 
           → IsRecordWritten view_now (record { state = s; written = w.written + (seated + 1) }) before after
       seat_written before after bytes =
           let count : w.written + (seated + 1) ≡ w.written + seated + 1 = omega arith in
-          record { r = Password seat.1; next = seat_at_place; fits = line; bytes = bytes; view = ap (λ (n : ℕ). record { state = s; written = n }) count }
+          record {
+            r = Password seat.1;
+            next = seat_at_place;
+            fits = line;
+            bytes = bytes;
+            view = ap
+                (λ (n : ℕ). record { state = s; written = n }) count;
+          }
 
       pub seat_keeps : IsShortening s w seats (seated + 1)
       seat_keeps = record {
@@ -194,7 +209,8 @@ module _ (s : State) (w : WritingView) (seats : List Seat) (seated : ℕ) (is : 
         fit = is.fit;
         fit_rows = is.fit_rows;
         fit_seats =
-            subst AllFit (sym (ap (map seat_record) (take_next seats seated seat (at_within seats seated seat next) next) ∙ map-append seat_record (take seated seats) (seat ∷ [])))
+            subst AllFit (sym (ap (map seat_record) (take_next seats seated seat (at_within seats seated seat next) next)
+            ∙ map-append seat_record (take seated seats) (seat ∷ [])))
             (fit_push (map seat_record (take seated seats)) (Password seat.1) is.fit_seats line);
       }
 
@@ -202,8 +218,10 @@ module _ (s : State) (w : WritingView) (seats : List Seat) (seated : ℕ) (is : 
     pub all_written : length seats ≤ seated → IsAllWritten view_now
     all_written done =
         let all_rows = take_all_of (map spelled rows) w.written (let same = length-map rows spelled in omega (arith, same, all)) in
-        let fit_rows : AllFit (row_records s.tree) = subst (λ (bytes : List (List ℕ)). AllFit (map row_record bytes)) (all_rows ∙ bytes_are) is.fit_rows in
-        let fit_seats : AllFit (map seat_record s.seats) = subst (λ (some : List Seat). AllFit (map seat_record some)) (take_all_of seats seated done ∙ is.all) is.fit_seats in
+        let fit_rows : AllFit (row_records s.tree) = subst (λ (bytes : List (List ℕ)). AllFit (map row_record bytes))
+        (all_rows ∙ bytes_are) is.fit_rows in
+        let fit_seats : AllFit (map seat_record s.seats) = subst (λ (some : List Seat). AllFit (map seat_record some))
+        (take_all_of seats seated done ∙ is.all) is.fit_seats in
         let fit = subst (AllByRecursion Fits) (take_all_of rows w.written all) is.fit in
         record {
           all =
@@ -214,7 +232,12 @@ module _ (s : State) (w : WritingView) (seats : List Seat) (seated : ℕ) (is : 
               omega (arith, both, seats_long, same, rows_are, done);
           keepable = record {
             seated = is.held;
-            readable = record { settled = is.settled; few = omega arith; fit = subst (λ (m : MachineState). AllByRecursion Fits (rows_of m)) is.tree fit };
+            readable = record {
+              settled = is.settled;
+              few = omega arith;
+              fit = subst (λ (m : MachineState). AllByRecursion Fits (rows_of m))
+                  is.tree fit;
+            };
             fit = fit_join (row_records s.tree) (map seat_record s.seats) fit_rows fit_seats;
           };
         }
@@ -227,7 +250,8 @@ longer old now before after written =
     let same = ap (λ (t : List ℕ). length t) written.bytes in
     omega (arith, some, both, same)
 
-pub less_left : (old now : ShorteningView) (before after : List ℕ) → IsRecordWritten old now before after → length before < 65536 → 65536 - length after < 65536 - length before
+pub less_left : (old now : ShorteningView) (before after : List ℕ) → IsRecordWritten old now before after → length before < 65536
+    → 65536 - length after < 65536 - length before
 less_left old now before after written room = let more = longer old now before after written in omega (arith, more, room)
 
 -- what is read at a place stands there

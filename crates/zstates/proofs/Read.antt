@@ -26,18 +26,28 @@ front_is r s text x y fits also split same = one_record r s x y fits also (sym s
 pub no_row_in_front : (text rest : List ℕ) (r : Record) → Fits r → text ≡ line_of r ++ rest → ((row : List ℕ) → r ≡ Row row → ⊥) → HasNoRow text
 no_row_in_front text rest r fits split other row more also same = other row (front_is r (Row row) text rest more fits also split same).0
 
-pub no_password_in_front : (text rest : List ℕ) (r : Record) → Fits r → text ≡ line_of r ++ rest → ((password : List ℕ) → r ≡ Password password → ⊥) → HasNoPassword text
-no_password_in_front text rest r fits split other password more also same = other password (front_is r (Password password) text rest more fits also split same).0
+pub no_password_in_front : (text rest : List ℕ) (r : Record) → Fits r → text ≡ line_of r ++ rest
+    → ((password : List ℕ) → r ≡ Password password → ⊥) → HasNoPassword text
+no_password_in_front text rest r fits split other password more also same = other password
+    (front_is r (Password password) text rest more fits also split same).0
 
 -- records of which the first is no row have no row's line in front
 pub begin_no_row : (records : List Record) → AllFit records → BeginNoRow records → HasNoRow (text_of records)
 begin_no_row [] fit none row rest fits same = line_some (Row row) rest (sym same)
 begin_no_row (Row bytes ∷ records) fit none row rest fits same = absurd none
-begin_no_row (Password bytes ∷ records) fit none row rest fits same = let one = front_is (Password bytes) (Row row) (text_of (Password bytes ∷ records)) (text_of records) rest fit.0 fits (flat_map-cons line_of (Password bytes) records) same in let clash = one.0 in cc clash
-begin_no_row (Update change ∷ records) fit none row rest fits same = let one = front_is (Update change) (Row row) (text_of (Update change ∷ records)) (text_of records) rest fit.0 fits (flat_map-cons line_of (Update change) records) same in let clash = one.0 in cc clash
-begin_no_row (Fail id ∷ records) fit none row rest fits same = let one = front_is (Fail id) (Row row) (text_of (Fail id ∷ records)) (text_of records) rest fit.0 fits (flat_map-cons line_of (Fail id) records) same in let clash = one.0 in cc clash
-begin_no_row (Join id ∷ records) fit none row rest fits same = let one = front_is (Join id) (Row row) (text_of (Join id ∷ records)) (text_of records) rest fit.0 fits (flat_map-cons line_of (Join id) records) same in let clash = one.0 in cc clash
-begin_no_row (Retire id ∷ records) fit none row rest fits same = let one = front_is (Retire id) (Row row) (text_of (Retire id ∷ records)) (text_of records) rest fit.0 fits (flat_map-cons line_of (Retire id) records) same in let clash = one.0 in cc clash
+begin_no_row (Password bytes ∷ records) fit none row rest fits same = let one = front_is (Password bytes) (Row row)
+    (text_of (Password bytes ∷ records)) (text_of records) rest fit.0 fits (flat_map-cons line_of (Password bytes) records) same
+    in let clash = one.0 in cc clash
+begin_no_row (Update change ∷ records) fit none row rest fits same = let one = front_is (Update change) (Row row)
+    (text_of (Update change ∷ records)) (text_of records) rest fit.0 fits (flat_map-cons line_of (Update change) records) same
+    in let clash = one.0 in cc clash
+begin_no_row (Fail id ∷ records) fit none row rest fits same = let one = front_is (Fail id) (Row row) (text_of (Fail id ∷ records))
+    (text_of records) rest fit.0 fits (flat_map-cons line_of (Fail id) records) same in let clash = one.0 in cc clash
+begin_no_row (Join id ∷ records) fit none row rest fits same = let one = front_is (Join id) (Row row) (text_of (Join id ∷ records))
+    (text_of records) rest fit.0 fits (flat_map-cons line_of (Join id) records) same in let clash = one.0 in cc clash
+begin_no_row (Retire id ∷ records) fit none row rest fits same = let one = front_is (Retire id) (Row row)
+    (text_of (Retire id ∷ records)) (text_of records) rest fit.0 fits (flat_map-cons line_of (Retire id) records) same
+    in let clash = one.0 in cc clash
 
 -- ---- lists of records
 
@@ -97,10 +107,12 @@ module _ (before : List (List ℕ)) (text rest : List ℕ) (loaded : AreLoaded b
     pub all_loaded : HasNoRow rest → (row_bytes t ≡ before) × (rest ≡ text_of records)
     all_loaded none = by (loaded.ahead t records is).left (loaded.ahead t records is).rows (loaded.ahead t records is).is
       where
-        by : (left : List (List ℕ)) → row_bytes t ≡ before ++ left → rest ≡ text_of (map row_record left ++ records) → (row_bytes t ≡ before) × (rest ≡ text_of records)
+        by : (left : List (List ℕ)) → row_bytes t ≡ before ++ left → rest ≡ text_of (map row_record left ++ records)
+            → (row_bytes t ≡ before) × (rest ≡ text_of records)
         by [] rows same = (rows ∙ append-nil before, same)
         by (row ∷ left) rows same =
-            absurd (none row (text_of (map row_record left ++ records)) (fits_at row left rows) (same ∙ flat_map-cons line_of (Row row) (map row_record left ++ records)))
+            absurd (none row (text_of (map row_record left ++ records)) (fits_at row left rows) (same
+            ∙ flat_map-cons line_of (Row row) (map row_record left ++ records)))
 
     -- a row stands in front: it is the next one
     module _ (row more : List ℕ) (fits : Fits (Row row)) (front : rest ≡ line_of (Row row) ++ more) where
@@ -116,7 +128,8 @@ module _ (before : List (List ℕ)) (text rest : List ℕ) (loaded : AreLoaded b
           by [] rows same = absurd (no_row row more fits (sym same ∙ front))
           by (first ∷ left) rows same =
               let behind = text_of (map row_record left ++ records) in
-              let one = front_is (Row row) (Row first) rest more behind fits (fits_at first left rows) front (same ∙ flat_map-cons line_of (Row first) (map row_record left ++ records)) in
+              let one = front_is (Row row) (Row first) rest more behind fits (fits_at first left rows) front (same
+              ∙ flat_map-cons line_of (Row first) (map row_record left ++ records)) in
               let head : Row row ≡ Row first = one.0 in
               let bytes : row ≡ first = cc head in
               record { left = left; rows = rows ∙ ap (λ (bytes : List ℕ). before ++ bytes ∷ left) (sym bytes); is_rest = one.1 }
@@ -124,7 +137,8 @@ module _ (before : List (List ℕ)) (text rest : List ℕ) (loaded : AreLoaded b
   module _ (row more : List ℕ) (fits : Fits (Row row)) (front : rest ≡ line_of (Row row) ++ more) where
     pub loaded_more : (after : List (List ℕ)) → after ≡ before ++ row ∷ [] → AreLoaded after text more
     loaded_more after is_after =
-        let pushed : map row_record after ≡ map row_record before ++ Row row ∷ [] = ap (map row_record) is_after ∙ map-append row_record before (row ∷ []) in
+        let pushed : map row_record after ≡ map row_record before ++ Row row ∷ [] = ap (map row_record) is_after
+        ∙ map-append row_record before (row ∷ []) in
         record {
           fit = subst AllFit (sym pushed) (fit_push (map row_record before) (Row row) loaded.fit fits);
           split =
@@ -139,7 +153,8 @@ module _ (before : List (List ℕ)) (text rest : List ℕ) (loaded : AreLoaded b
               };
         }
 
-    pub loaded_bad : (result : Result (Unit {0}) RowFault) (fault : RowFault) → NeverRefusesAlone before result row → result ≡ Err fault → (fault ≡ Memory → ⊥) → HasNoTree text
+    pub loaded_bad : (result : Result (Unit {0}) RowFault) (fault : RowFault) → NeverRefusesAlone before result row
+        → result ≡ Err fault → (fault ≡ Memory → ⊥) → HasNoTree text
     loaded_bad result fault only is_err other t records is =
         let next = next_row t records is row more fits front in
         let refused = subst (λ (r : Result (Unit {0}) RowFault). NeverRefusesAlone before r row) is_err only in
@@ -159,7 +174,8 @@ module _ (before : List (List ℕ)) (text rest : List ℕ) (loaded : AreLoaded b
 
     pub loaded_tree : m.is_broken ≡ false → IsBare m → IsTreeRead text m rest
     loaded_tree whole bare =
-        let all : map row_record before ≡ row_records (tree_in m) = ap (map row_record) (sym rows ∙ ap (λ (s : MachineState). map spelled (rows_of s)) bare) in
+        let all : map row_record before ≡ row_records (tree_in m) = ap (map row_record) (sym rows
+        ∙ ap (λ (s : MachineState). map spelled (rows_of s)) bare) in
         record {
           whole = whole;
           bare = bare;

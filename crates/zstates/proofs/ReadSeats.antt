@@ -1,5 +1,6 @@
 -- Passwords that are read, one for each session in the order of ids.
-use Rattle.std.proofs.Common.{◌≡◌, ◌≢◌, ℕ, ◌+◌, ◌<◌, ◌≤◌, List, [], ◌∷◌, ◌++◌, map, length, take, drop, get_or, refl, sym, ap, subst, ◌∙◌, append_assoc, append-nil}
+use Rattle.std.proofs.Common.{◌≡◌, ◌≢◌, ℕ, ◌+◌, ◌<◌, ◌≤◌, List, [], ◌∷◌, ◌++◌, map, length, take, drop, get_or, refl}
+use Rattle.std.proofs.Common.{sym, ap, subst, ◌∙◌, append_assoc, append-nil}
 use lib.Dec.{T}
 use Rattle.std.proofs.lemmas.List.{drop_all, drop_more, map-append, take_more}
 use Rattle.std.proofs.lemmas.List.Concat.{flat_map-cons}
@@ -53,10 +54,12 @@ seated_all ids before m text rest seated =
     record {
       fit = subst (λ (ks : List ℕ). AllFit (map seat_record (map (seat_at m) ks))) (sym same) seated.fit;
       split = seated.split ∙ ap (λ (ks : List ℕ). text_of (map seat_record (map (seat_at m) ks)) ++ rest) (sym same);
-      only = λ seats records is. let next = seated.ahead seats records is in by seats records next.left next.named (next.seats_are ∙ ap (λ (ks : List ℕ). map (seat_at m) ks ++ next.left) (sym same)) next.is;
+      only = λ seats records is. let next = seated.ahead seats records is in by seats records next.left next.named
+          (next.seats_are ∙ ap (λ (ks : List ℕ). map (seat_at m) ks ++ next.left) (sym same)) next.is;
     }
   where
-    by : (seats : List Seat) (records : List Record) (left : List Seat) → ids_of left ≡ [] → seats ≡ map (seat_at m) ids ++ left → rest ≡ text_of (map seat_record left ++ records)
+    by : (seats : List Seat) (records : List Record) (left : List Seat) → ids_of left ≡ [] → seats ≡ map (seat_at m) ids ++ left
+        → rest ≡ text_of (map seat_record left ++ records)
         → (seats ≡ map (seat_at m) ids) × (rest ≡ text_of records)
     by seats records [] named are is = (are ∙ append-nil (map (seat_at m) ids), is)
     by seats records (seat ∷ left) named are is = absurd (let clash : seat.0 ∷ ids_of left ≡ [] = named in cc clash)
@@ -86,23 +89,33 @@ module _ {X : Type 0} where
   split_keys : (es : List (ℕ × X)) (before : List ℕ) (id : ℕ) (after : List ℕ) → map (λ e. e.0) es ≡ before ++ id ∷ after → IsSplit es before id after
   split_keys [] [] id after is = absurd (cc is)
   split_keys [] (k ∷ before) id after is = absurd (cc is)
-  split_keys (e ∷ es) [] id after is = let here : e.0 ≡ id = cc is in record { front = []; e = e; back = es; whole = refl; named = refl; id_is = here }
+  split_keys (e ∷ es) [] id after is = let here : e.0
+      ≡ id = cc is in record { front = []; e = e; back = es; whole = refl; named = refl; id_is = here }
   split_keys (e ∷ es) (k ∷ before) id after is =
       let here : e.0 ≡ k = cc is in
       let more : map (λ (f : ℕ × X). f.0) es ≡ before ++ id ∷ after = cc is in
       let rest = split_keys es before id after more in
-      record { front = e ∷ rest.front; e = rest.e; back = rest.back; whole = ap (λ (fs : List (ℕ × X)). e ∷ fs) rest.whole; named = λ i. here i ∷ rest.named i; id_is = rest.id_is }
+      record {
+        front = e ∷ rest.front;
+        e = rest.e;
+        back = rest.back;
+        whole = ap (λ (fs : List (ℕ × X)). e ∷ fs) rest.whole;
+        named = λ i. here i ∷ rest.named i;
+        id_is = rest.id_is;
+      }
 
 pub others : (m : Sessions) (before : List ℕ) (id : ℕ) (after : List ℕ) → keys m ≡ before ++ id ∷ after → AllOther before id
 others m before id after is =
     let split = split_keys (finite.entries m) before id after is in
     let sorted = subst (λ es. T (is_sorted nat_cmp es)) split.whole (finite.entries_sorted m) in
     let above = next_above nat_cmp split.front split.back split.e sorted in
-    subst (λ ks. AllOther ks id) split.named (subst (AllOther (map (λ (e : ℕ × Session). e.0) split.front)) split.id_is (all_other split.front split.e.0 above))
+    subst (λ ks. AllOther ks id) split.named (subst (AllOther (map (λ (e : ℕ × Session). e.0) split.front)) split.id_is
+    (all_other split.front split.e.0 above))
 
 -- ---- one more password
 
-same_before : (m : SittingsView) (id : ℕ) (s : Sitting) (before : List ℕ) → AllOther before id → map (seat_at (insert m id s)) before ≡ map (seat_at m) before
+same_before : (m : SittingsView) (id : ℕ) (s : Sitting) (before : List ℕ) → AllOther before id
+    → map (seat_at (insert m id s)) before ≡ map (seat_at m) before
 same_before m id s [] other = refl
 same_before m id s (k ∷ before) other =
     let first = ap password_of (get-insert-elsewhere nat_cmp_total nat_cmp-IsAntisymmetric m id s k other.0) in
@@ -113,29 +126,38 @@ same_before m id s (k ∷ before) other =
 module _ (ids before after : List ℕ) (id : ℕ) (m : SittingsView) (text rest : List ℕ) (seated : AreSeated ids before (id ∷ after) m text rest) where
   abbrev IsNext : List Seat → List Record → List ℕ → List ℕ → Type 0
   IsNext seats records password more =
-      (left : List Seat) × (ids_of left ≡ after) × (seats ≡ map (seat_at m) before ++ (id, password) ∷ left) × (more ≡ text_of (map seat_record left ++ records))
+      (left : List Seat) × (ids_of left ≡ after) × (seats ≡ map (seat_at m) before ++ (id, password) ∷ left)
+      × (more ≡ text_of (map seat_record left ++ records))
 
   -- no password stands in front
   pub seated_bad : HasNoPassword rest → HasNoSeats ids text
   seated_bad none seats records is = let next = seated.ahead seats records is in by next.left next.named next.seats_are next.is
     where
-      by : (left : List Seat) → ids_of left ≡ id ∷ after → seats ≡ map (seat_at m) before ++ left → rest ≡ text_of (map seat_record left ++ records) → ⊥
+      by : (left : List Seat) → ids_of left ≡ id ∷ after → seats ≡ map (seat_at m) before ++ left
+          → rest ≡ text_of (map seat_record left ++ records) → ⊥
       by [] named are same = let clash : [] ≡ id ∷ after = named in cc clash
       by (seat ∷ left) named are same =
           let fits = fit_at (map seat_record (map (seat_at m) before)) (seat_record seat) (map seat_record left ++ records)
-          (subst AllFit (ap (λ (all : List Seat). map seat_record all ++ records) are ∙ ap (λ (all : List Record). all ++ records) (map-append seat_record (map (seat_at m) before) (seat ∷ left)) ∙ append_assoc (map seat_record (map (seat_at m) before)) (map seat_record (seat ∷ left)) records) is.fit) in
-          none seat.1 (text_of (map seat_record left ++ records)) fits (same ∙ flat_map-cons line_of (seat_record seat) (map seat_record left ++ records))
+          (subst AllFit (ap (λ (all : List Seat). map seat_record all ++ records) are
+          ∙ ap (λ (all : List Record). all ++ records) (map-append seat_record (map (seat_at m) before) (seat ∷ left))
+          ∙ append_assoc (map seat_record (map (seat_at m) before)) (map seat_record (seat ∷ left)) records) is.fit) in
+          none seat.1 (text_of (map seat_record left ++ records)) fits (same ∙ flat_map-cons line_of (seat_record seat)
+          (map seat_record left ++ records))
 
   module _ (password more : List ℕ) (fits : Fits (Password password)) (front : rest ≡ line_of (Password password) ++ more) where
     next : (seats : List Seat) (records : List Record) → IsSeatsText ids seats records text → IsNext seats records password more
     next seats records is = let ahead = seated.ahead seats records is in by ahead.left ahead.named ahead.seats_are ahead.is
       where
-        by : (left : List Seat) → ids_of left ≡ id ∷ after → seats ≡ map (seat_at m) before ++ left → rest ≡ text_of (map seat_record left ++ records) → IsNext seats records password more
+        by : (left : List Seat) → ids_of left ≡ id ∷ after → seats ≡ map (seat_at m) before ++ left
+            → rest ≡ text_of (map seat_record left ++ records) → IsNext seats records password more
         by [] named are same = absurd (let clash : [] ≡ id ∷ after = named in cc clash)
         by (seat ∷ left) named are same =
             let fit = fit_at (map seat_record (map (seat_at m) before)) (seat_record seat) (map seat_record left ++ records)
-            (subst AllFit (ap (λ (all : List Seat). map seat_record all ++ records) are ∙ ap (λ (all : List Record). all ++ records) (map-append seat_record (map (seat_at m) before) (seat ∷ left)) ∙ append_assoc (map seat_record (map (seat_at m) before)) (map seat_record (seat ∷ left)) records) is.fit) in
-            let one = front_is (Password password) (seat_record seat) rest more (text_of (map seat_record left ++ records)) fits fit front (same ∙ flat_map-cons line_of (seat_record seat) (map seat_record left ++ records)) in
+            (subst AllFit (ap (λ (all : List Seat). map seat_record all ++ records) are
+            ∙ ap (λ (all : List Record). all ++ records) (map-append seat_record (map (seat_at m) before) (seat ∷ left))
+            ∙ append_assoc (map seat_record (map (seat_at m) before)) (map seat_record (seat ∷ left)) records) is.fit) in
+            let one = front_is (Password password) (seat_record seat) rest more (text_of (map seat_record left ++ records))
+            fits fit front (same ∙ flat_map-cons line_of (seat_record seat) (map seat_record left ++ records)) in
             let head : Password password ≡ Password seat.1 = one.0 in
             let bytes : password ≡ seat.1 = cc head in
             let both : seat.0 ∷ ids_of left ≡ id ∷ after = named in
@@ -147,18 +169,22 @@ module _ (ids before after : List ℕ) (id : ℕ) (m : SittingsView) (text rest 
     pub seated_more : AllOther before id → AreSeated ids (before ++ id ∷ []) after (insert m id (restored_sitting password)) text more
     seated_more other =
         let now : SittingsView = insert m id (restored_sitting password) in
-        let here : seat_at now id ≡ (id, password) = (λ i. (id, ap password_of (get-insert-here nat_cmp_total nat_cmp-IsAntisymmetric m id (restored_sitting password)) i)) in
+        let here : seat_at now id
+        ≡ (id, password) = (λ i.
+        (id, ap password_of (get-insert-here nat_cmp_total nat_cmp-IsAntisymmetric m id (restored_sitting password)) i)) in
         let one : List Seat = (id, password) ∷ [] in
         let pushed : map (seat_at now) (before ++ id ∷ []) ≡ map (seat_at m) before ++ one =
         map-append (seat_at now) before (id ∷ []) ∙ (λ i. same_before m id (restored_sitting password) before other i ++ here i ∷ []) in
-        let records_are : map seat_record (map (seat_at now) (before ++ id ∷ [])) ≡ map seat_record (map (seat_at m) before) ++ Password password ∷ [] =
+        let records_are : map seat_record (map (seat_at now) (before ++ id ∷ [])) ≡ map seat_record (map (seat_at m) before)
+        ++ Password password ∷ [] =
         ap (map seat_record) pushed ∙ map-append seat_record (map (seat_at m) before) one in
         record {
           all = seated.all ∙ sym (append_assoc before (id ∷ []) after);
           fit = subst AllFit (sym records_are) (fit_push (map seat_record (map (seat_at m) before)) (Password password) seated.fit fits);
           split =
               seated.split ∙ ap (λ (t : List ℕ). text_of (map seat_record (map (seat_at m) before)) ++ t) front
-              ∙ text_push (map seat_record (map (seat_at m) before)) (Password password) more ∙ ap (λ (records : List Record). text_of records ++ more) (sym records_are);
+              ∙ text_push (map seat_record (map (seat_at m) before)) (Password password) more
+              ∙ ap (λ (records : List Record). text_of records ++ more) (sym records_are);
           ahead = λ seats records is.
               let step = next seats records is in
               record {
@@ -171,7 +197,8 @@ module _ (ids before after : List ℕ) (id : ℕ) (m : SittingsView) (text rest 
 
 -- ---- by the number of those that were gone over
 
-module _ (m : Sessions) (ids : List ℕ) (named : ids ≡ keys m) (done : ℕ) (now : SittingsView) (text rest : List ℕ) (id : ℕ) (within : done < length ids) (read : id ≡ get_or ids done id)
+module _ (m : Sessions) (ids : List ℕ) (named : ids ≡ keys m) (done : ℕ) (now : SittingsView) (text rest : List ℕ)
+    (id : ℕ) (within : done < length ids) (read : id ≡ get_or ids done id)
     (seated : AreSeated ids (take done ids) (drop done ids) now text rest) where
   next_id : drop done ids ≡ id ∷ drop (done + 1) ids
   next_id = drop_more ids done id within ∙ ap (λ (k : ℕ). k ∷ drop (done + 1) ids) (sym read)
@@ -189,11 +216,14 @@ module _ (m : Sessions) (ids : List ℕ) (named : ids ≡ keys m) (done : ℕ) (
       (seated_more ids (take done ids) (drop (done + 1) ids) id now text rest here password more fits front
       (others m (take done ids) id (drop (done + 1) ids) (sym named ∙ here.all)))
 
-pub seats_read : (ids : List ℕ) (done : ℕ) (now : SittingsView) (text rest : List ℕ) → length ids ≤ done → AreSeated ids (take done ids) (drop done ids) now text rest → AreSeatsRead ids text now rest
+pub seats_read : (ids : List ℕ) (done : ℕ) (now : SittingsView) (text rest : List ℕ) → length ids ≤ done
+    → AreSeated ids (take done ids) (drop done ids) now text rest → AreSeatsRead ids text now rest
 seats_read ids done now text rest all seated =
-    seated_all ids (take done ids) now text rest (subst (λ (after : List ℕ). AreSeated ids (take done ids) after now text rest) (drop_all done ids all) seated)
+    seated_all ids (take done ids) now text rest (subst (λ (after : List ℕ). AreSeated ids (take done ids) after now text rest)
+    (drop_all done ids all) seated)
 
-pub seat_missing : (ids : List ℕ) (done : ℕ) (now : SittingsView) (text rest : List ℕ) → done < length ids → AreSeated ids (take done ids) (drop done ids) now text rest → HasNoPassword rest → HasNoSeats ids text
+pub seat_missing : (ids : List ℕ) (done : ℕ) (now : SittingsView) (text rest : List ℕ) → done < length ids
+    → AreSeated ids (take done ids) (drop done ids) now text rest → HasNoPassword rest → HasNoSeats ids text
 seat_missing ids done now text rest within seated none =
     let id = get_or ids done 0 in
     seated_bad ids (take done ids) (drop (done + 1) ids) id now text rest

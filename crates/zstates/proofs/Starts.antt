@@ -25,5 +25,7 @@ start_can s front (inr snapshot) =
 pub can_start : KeptStatesCanStart
 can_start s text is =
     let first = start_can is.start is.front is.begins in
-    subst (λ (v : State). CanStart v.tree × IsSeated v) (sym is.leaves)
-    (subst CanStart (sym (trees is.start is.entries)) (trees_can_start_again is.start.tree (calls_again is.entries) first.0), seats_stay is.start is.entries first.1)
+    subst (λ (v : State). CanStart v.tree × IsSeated v) (sym is.leaves) (
+      subst CanStart (sym (trees is.start is.entries)) (trees_can_start_again is.start.tree (calls_again is.entries) first.0),
+      seats_stay is.start is.entries first.1,
+    )

@@ -16,7 +16,9 @@ use Rattle.zstates.specs.declared.fault.ReadFault.TheVariants.{Memory, NotRecord
 use Rattle.zstates.specs.Faults.{IsReadFault}
 use Rattle.zstates.specs.States.{Seat, State, StateView, opening_state}
 use Rattle.zstates.specs.Texts.{IsFrontOf, IsKeepable, IsNoText, IsTextOf, row_bytes, row_records, seat_record, snapshot_records, snapshot_text}
-use Rattle.zstates.specs.support.Reading.{AreApplied, AreSeatsRead, Begins, IsEntriesFault, BeginNoRow, HasNoRow, HasNoSeats, HasNoSnapshot, HasNoTree, IsSeatsText, IsSnapshotRead, IsTreeRead, IsTreesText}
+use Rattle.zstates.specs.support.Reading.{AreApplied, AreSeatsRead, Begins, IsEntriesFault, BeginNoRow, HasNoRow}
+use Rattle.zstates.specs.support.Reading.{HasNoSeats, HasNoSnapshot, HasNoTree, IsSeatsText, IsSnapshotRead, IsTreeRead}
+use Rattle.zstates.specs.support.Reading.{IsTreesText}
 use Rattle.zstates.specs.support.Tables.{state_in, tree_in}
 use Rattle.zstates.proofs.EntryTexts.{all_fit, either, open_records, other_records}
 use Rattle.zstates.proofs.Held.{seated}
@@ -58,7 +60,8 @@ text_all s entries =
 
 pub fit_all : (s : State) (entries : List Entry) → IsKeepable s → AreEntries entries → AllFit (all_records s entries)
 fit_all s entries keepable are =
-    subst AllFit (append_assoc (row_records s.tree) (map seat_record s.seats) (records_of entries)) (fit_join (snapshot_records s) (records_of entries) keepable.fit (all_fit entries are))
+    subst AllFit (append_assoc (row_records s.tree) (map seat_record s.seats) (records_of entries))
+    (fit_join (snapshot_records s) (records_of entries) keepable.fit (all_fit entries are))
 
 trees_text : (s : State) (entries : List Entry) (text : List ℕ) → IsKeepable s → AreEntries entries → text ≡ snapshot_text s ++ entries_text entries
     → IsTreesText s.tree (map seat_record s.seats ++ records_of entries) text
@@ -81,19 +84,22 @@ row_in_front s text rest keepable same none = by (row_bytes s.tree) refl
         let behind = map (λ (bytes : List ℕ). Row bytes) rows ++ map seat_record s.seats in
         let fits = (subst AllFit records keepable.fit).0 in
         none row (text_of behind ++ rest) fits
-        (same ∙ ap (λ (all : List Record). text_of all ++ rest) records ∙ ap (λ (t : List ℕ). t ++ rest) (flat_map-cons line_of (Row row) behind) ∙ append_assoc (line_of (Row row)) (text_of behind) rest)
+        (same ∙ ap (λ (all : List Record). text_of all ++ rest) records ∙ ap (λ (t : List ℕ). t ++ rest) (flat_map-cons line_of (Row row) behind)
+        ∙ append_assoc (line_of (Row row)) (text_of behind) rest)
 
 -- ---- a snapshot that is read
 
 pub no_snapshot : (text : List ℕ) → HasNoTree text → HasNoSnapshot text
-no_snapshot text none s entries keepable are same = none s.tree (map seat_record s.seats ++ records_of entries) (trees_text s entries text keepable are same)
+no_snapshot text none s entries keepable are same = none s.tree (map seat_record s.seats ++ records_of entries)
+    (trees_text s entries text keepable are same)
 
 module _ (text middle : List ℕ) (m : MachineView) (tree : IsTreeRead text m middle) where
   abbrev sessions : Sessions
   sessions = (tree_in m).sessions
 
   -- what stands behind the rows of a state that could be read
-  module _ (s : State) (entries : List Entry) (keepable : IsKeepable s) (are : AreEntries entries) (same : text ≡ snapshot_text s ++ entries_text entries) where
+  module _ (s : State) (entries : List Entry) (keepable : IsKeepable s) (are : AreEntries entries) (same : text
+      ≡ snapshot_text s ++ entries_text entries) where
     same_tree : (s.tree ≡ tree_in m) × (middle ≡ text_of (map seat_record s.seats ++ records_of entries))
     same_tree = tree.only s.tree (map seat_record s.seats ++ records_of entries) (trees_text s entries text keepable are same)
 
@@ -117,7 +123,12 @@ module _ (text middle : List ℕ) (m : MachineView) (tree : IsTreeRead text m mi
 
     pub snapshot_read : IsSnapshotRead text made rest
     snapshot_read = record {
-      keepable = record { seated = seated (tree_in m) n; readable = tree.readable; fit = fit_join (row_records (tree_in m)) (map seat_record made.seats) tree.fit seats.fit };
+      keepable = record {
+        seated = seated (tree_in m) n;
+        readable = tree.readable;
+        fit = fit_join (row_records (tree_in m))
+            (map seat_record made.seats) tree.fit seats.fit;
+      };
       split =
           tree.split ∙ ap (λ (t : List ℕ). text_of (row_records (tree_in m)) ++ t) seats.split
           ∙ sym (append_assoc (text_of (row_records (tree_in m))) (text_of (map seat_record made.seats)) rest)
@@ -141,7 +152,8 @@ begins_bare text none = record {
     by : (s : State) (is : IsTextOf s text) → IsFrontOf is.start is.front → (entries : List Entry) × IsEntriesText entries text
     by s is (inl bare) = (is.entries, record { are = is.are; is = is.split ∙ ap (λ (front : List ℕ). front ++ entries_text is.entries) bare.1 })
     by s is (inr snapshot) =
-        absurd (row_in_front is.start text (entries_text is.entries) snapshot.0 (is.split ∙ ap (λ (front : List ℕ). front ++ entries_text is.entries) snapshot.1) none)
+        absurd (row_in_front is.start text (entries_text is.entries) snapshot.0 (is.split
+        ∙ ap (λ (front : List ℕ). front ++ entries_text is.entries) snapshot.1) none)
 
 module _ (text : List ℕ) (some : HasNoRow text → ⊥) where
   -- the text doesn't begin with entries
@@ -160,7 +172,8 @@ module _ (text : List ℕ) (some : HasNoRow text → ⊥) where
       by : (s : State) (is : IsTextOf s text) → IsFrontOf is.start is.front → (entries : List Entry) × IsEntriesText entries rest
       by s is (inl bare) = absurd (no_bare s is bare.1)
       by s is (inr snapshot) =
-          let one = read.only is.start is.entries snapshot.0 is.are (is.split ∙ ap (λ (front : List ℕ). front ++ entries_text is.entries) snapshot.1) in
+          let one = read.only is.start is.entries snapshot.0 is.are (is.split
+          ∙ ap (λ (front : List ℕ). front ++ entries_text is.entries) snapshot.1) in
           (is.entries, record { are = is.are; is = one.1 })
 
   pub no_text_here : HasNoSnapshot text → IsNoText text
@@ -180,7 +193,8 @@ pub some_of : {V : Type 0} (o : Option V) (Q : V → Type 0) → is_some o ≡ t
 some_of None Q is q = absurd (cc is)
 some_of (Some v) Q is q = (v, q)
 
-pub read_fault : (start : State) (text rest : List ℕ) → Begins start text rest → (fault : ReadFault) → IsEntriesFault rest fault → IsReadFault text fault
+pub read_fault : (start : State) (text rest : List ℕ) → Begins start text rest → (fault : ReadFault) → IsEntriesFault rest fault
+    → IsReadFault text fault
 read_fault start text rest begun NotRecords none = λ s is. let more = begun.only s is in none more.0 more.1
 read_fault start text rest begun Memory none = tt
 

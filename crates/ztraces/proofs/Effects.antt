@@ -1,5 +1,6 @@
 -- What a process does with an input, in the world: one lemma for all processes and all inputs.
-use Rattle.std.proofs.Common.{◌≡◌, ◌⊎◌, Bool, true, false, List, [], ◌∷◌, ◌++◌, Option, Some, refl, sym, ap, ◌∙◌, subst, inl, inr, ℕ, cond, not, ◌==◌, nat_lt, None, eqb-true}
+use Rattle.std.proofs.Common.{◌≡◌, ◌⊎◌, Bool, true, false, List, [], ◌∷◌, ◌++◌, Option, Some, refl, sym, ap, ◌∙◌, subst}
+use Rattle.std.proofs.Common.{inl, inr, ℕ, cond, not, ◌==◌, nat_lt, None, eqb-true}
 use Rattle.std.specs.Prelude.{◌&&◌, if◌then◌else◌}
 use Rattle.std.proofs.lemmas.List.{append-nil}
 use Rattle.zcalls.proofs.Among.{test}
@@ -12,7 +13,8 @@ use Rattle.zworld_model.specs.declared.event.Event.TheVariants as event
 use Rattle.zworld_model.specs.History.{History}
 use Rattle.zworld_model.specs.Links.{Links, is_same, messages_to, put, without_front}
 use Rattle.zworld_model.specs.World.{World}
-use Rattle.zworld_model.specs.Does.{Standing, Out, Hear, Effect, AtMaster, AtServer, AtClient, Input, Obey, Stop, accepts, does, server_effect, stop_effect}
+use Rattle.zworld_model.specs.Does.{Standing, Out, Hear, Effect, AtMaster, AtServer, AtClient, Input, Obey, Stop}
+use Rattle.zworld_model.specs.Does.{accepts, does, server_effect, stop_effect}
 use Rattle.zworld_model.specs.Events.{has_failed, is_enabled, let_go, happens, does_in, acts, standing_of, with_standing, goes_on, did_in}
 use Rattle.ztraces.specs.declared.trace.Act.{Act}
 use Rattle.ztraces.specs.declared.trace.Act.TheVariants.{Took, Left}
@@ -49,7 +51,8 @@ AreInto {M} w p act left posts after =
     (left ≡ Out) ⊎ ((from : Process) → after.links from p ≡ put (fronts w.links act p) p posts from p)
 
 -- what a row does in the world; what is on links into others that have failed doesn't matter
-pub record HappensIn {M : Type 0} (w : World M) (p : Process) (act : Act) (left : Standing M) (posts : List (Post M)) (told : History) (after : World M) : Type 0 where
+pub record HappensIn {M : Type 0} (w : World M) (p : Process) (act : Act) (left : Standing M) (posts : List (Post M))
+    (told : History) (after : World M) : Type 0 where
   pub stands : (q : Process) → standing_in after q ≡ at_process p left (standing_in w) q
   pub others : (from to : Process) → is_same to p ≡ false → has_failed w to ≡ false → after.links from to ≡ put w.links p posts from to
   pub failed : (q : Process) → is_same q p ≡ false → has_failed after q ≡ has_failed w q
@@ -58,7 +61,8 @@ pub record HappensIn {M : Type 0} (w : World M) (p : Process) (act : Act) (left 
   pub history : after.history ≡ w.history ++ told
 
 -- and it is in its place
-pub record IsRowOf {M : Type 0} (machine : Does M) (w : World M) (p : Process) (act : Act) (left : Standing M) (posts : List (Post M)) (told : History) : Type 0 where
+pub record IsRowOf {M : Type 0} (machine : Does M) (w : World M) (p : Process) (act : Act) (left : Standing M)
+    (posts : List (Post M)) (told : History) : Type 0 where
   pub in_place : is_step_in_place w (event_of p act) ≡ true
   pub happens : HappensIn w p act left posts told (step_happens machine w (event_of p act))
 
@@ -71,7 +75,8 @@ pub out_of : {M : Type 0} (w : World M) (q : Process) → has_failed w q ≡ tru
 out_of w Master gone = absurd (true≢false (sym gone))
 out_of w (Client c) gone = absurd (true≢false (sym gone))
 out_of w (Server s) gone =
-    ap (λ b. if is_server s && not b then AtServer (w.servers s) else Out) gone ∙ ap (λ b. if b then AtServer (w.servers s) else Out) (and_false (is_server s))
+    ap (λ b. if is_server s && not b then AtServer (w.servers s) else Out) gone
+    ∙ ap (λ b. if b then AtServer (w.servers s) else Out) (and_false (is_server s))
 
 module _ {M : Type 0} (w : World M) where
   -- the fronts of links into others aren't taken
@@ -147,7 +152,8 @@ module _ {M : Type 0} (machine : Does M) (w : World M) where
               ∙ sym (ap (λ c. if c then AtServer (after.servers s) else Out) (and_false (is_server s)))
           by false = refl
 
-      into : (did.left ≡ Out) ⊎ (has_failed after p ≡ false) → AreInto w p act did.left did.posts after → AreInto w p act did.left did.posts (let_go after)
+      into : (did.left ≡ Out) ⊎ (has_failed after p ≡ false) → AreInto w p act did.left did.posts after
+          → AreInto w p act did.left did.posts (let_go after)
       into (inl out) own = inl out
       into (inr alive) (inl out) = inl out
       into (inr alive) (inr is) = inr (λ x. ap (λ b. if b then [] else after.links x p) alive ∙ is x)
@@ -156,7 +162,8 @@ module _ {M : Type 0} (machine : Does M) (w : World M) where
   pub enabled_row : (p : Process) (act : Act) (e : Event) (did : Effect M) → event_of p act ≡ Some e → is_in_place w e ≡ true → is_enabled w e ≡ true
       → HappensIn w p act did.left did.posts did.told (acts machine w e) → IsRowOf machine w p act did.left did.posts did.told
   enabled_row p act e did is place enabled does =
-      row_by p act e did (let_go (acts machine w e)) is place (sym (ap (λ b. if b then let_go (acts machine w e) else w) enabled)) (goes p act did (acts machine w e) does)
+      row_by p act e did (let_go (acts machine w e)) is place (sym (ap (λ b. if b then let_go (acts machine w e) else w) enabled))
+      (goes p act did (acts machine w e) does)
 
   -- a delivery
   pub delivered : (p : Process) (act : Act) (from : Process) (m : MessageOf M) (more : List (MessageOf M)) (did : Effect M)
@@ -175,7 +182,8 @@ some_if true x y is = (refl, cc is)
 some_if false x y is = absurd (cc is)
 
 -- the master's view after a message has as many clients
-master_counts : {M : Type 0} (v : MasterView) (from : Process) (m : MessageOf M) (r : master.MasterResult (Transfer M)) → IsMasterRow v from m r → r.0.clients ≡ v.clients
+master_counts : {M : Type 0} (v : MasterView) (from : Process) (m : MessageOf M) (r : master.MasterResult (Transfer M))
+    → IsMasterRow v from m r → r.0.clients ≡ v.clients
 master_counts v _ _ _ (Ignores from m) = refl
 master_counts v _ _ _ (Reports s epoch last p is) = refl
 master_counts v _ _ _ (Joins s epoch is) = refl
@@ -196,7 +204,8 @@ module _ {M : Type 0} (w : World M) where
   fits_if s false did = tt
 
   -- so it stands after an input
-  does_fit : (machine : Does M) (p : Process) (input : Input M) → accepts p input (standing_of w p) ≡ true → Fits p (does machine p input (standing_of w p)).left
+  does_fit : (machine : Does M) (p : Process) (input : Input M) → accepts p input (standing_of w p) ≡ true
+      → Fits p (does machine p input (standing_of w p)).left
   does_fit machine Master (Hear from m) accepted = master_counts w.master from m (master.master_step w.master from m) (master_case w.master from m)
   does_fit machine Master (Obey order) accepted = order_counts (Transfer M) w.master order
   does_fit machine (Server s) (Hear from m) accepted = fits_if s (server.is_retirement from m) (server.server_step machine (w.servers s) from m)
@@ -219,7 +228,8 @@ module _ {M : Type 0} (w : World M) where
 
   -- where each process stands, once one stands somewhere else; links and history don't matter to that
   moved : (links after : Links M) (history : History) (p : Process) (left : Standing M) → takes_part w p ≡ true → Fits p left → (q : Process)
-      → standing_in (record (with_standing (record w { links = links }) p left) { links = after; history = history }) q ≡ at_process p left (standing_in w) q
+      → standing_in (record (with_standing (record w { links = links }) p left) { links = after; history = history }) q
+      ≡ at_process p left (standing_in w) q
   moved links after history Master (AtMaster v) part fits Master = refl
   moved links after history Master (AtMaster v) part fits (Server t) = refl
   moved links after history Master (AtMaster v) part fits (Client c) = rw fits refl
@@ -307,4 +317,12 @@ module _ {M : Type 0} (machine : Does M) (w : World M) where
   pub ends : (p : Process) (act other : Act) (did : Effect M) (after : World M) → did.left ≡ Out → HappensIn w p act did.left did.posts did.told after
       → HappensIn w p other did.left did.posts did.told after
   ends p act other did after out happens =
-      record { stands = happens.stands; others = happens.others; failed = happens.failed; lives = happens.lives; own = inl out; history = happens.history }
+      record {
+        stands = happens.stands;
+        others = happens.others;
+        failed = happens.failed;
+        lives = happens.lives;
+        own =
+            inl out;
+        history = happens.history;
+      }

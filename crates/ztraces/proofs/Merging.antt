@@ -8,13 +8,20 @@ use Rattle.zworld_model.specs.Links.{is_same}
 use Rattle.zworld_model.specs.World.{World}
 use Rattle.zworld_model.specs.Events.{happens, run}
 use Rattle.ztraces.specs.declared.trace.TraceEvent.{TraceEvent}
-use Rattle.ztraces.specs.Traces.{event_of, Step, comes_before, at_process, Merges, is_step_in_place, step_happens, are_in_place, event_list, events_of}
+use Rattle.ztraces.specs.Traces.{event_of, Step, comes_before, at_process, Merges, is_step_in_place, step_happens}
+use Rattle.ztraces.specs.Traces.{are_in_place, event_list, events_of}
 
 -- what is left may be said otherwise
 pub merges_left : (traces : Process → List TraceEvent) (steps : List Step) (left other : Process → List TraceEvent)
     → Merges traces steps left → ((p : Process) → left p ≡ other p) → Merges traces steps other
 merges_left traces [] left other merge same = λ p. merge p ∙ same p
-merges_left traces (step ∷ steps) left other merge same = (merge.0, merge.1, merge.2, merges_left (at_process step.process merge.0 traces) steps left other merge.3 same)
+merges_left traces (step ∷ steps) left other merge same = (
+  merge.0,
+  merge.1,
+  merge.2,
+  merges_left (at_process step.process merge.0 traces)
+      steps left other merge.3 same,
+)
 
 -- traces may be said otherwise
 merges_of : (traces others : Process → List TraceEvent) (steps : List Step) (left : Process → List TraceEvent)
@@ -29,9 +36,11 @@ merges_of traces others (step ∷ steps) left merge same = (
 )
 
 -- the first of what is left is the next step
-pub merges_more : (traces : Process → List TraceEvent) (steps : List Step) (left after : Process → List TraceEvent) (p : Process) (e : TraceEvent) (more : List TraceEvent)
+pub merges_more : (traces : Process → List TraceEvent) (steps : List Step) (left after : Process
+    → List TraceEvent) (p : Process) (e : TraceEvent) (more : List TraceEvent)
     → Merges traces steps left → left p ≡ e ∷ more
-    → ((q : Process) (e' : TraceEvent) (others : List TraceEvent) → left q ≡ e' ∷ others → comes_before (record { process = q; event = e' }) (record { process = p; event = e }) ≡ false)
+    → ((q : Process) (e' : TraceEvent) (others : List TraceEvent) → left q ≡ e' ∷ others
+    → comes_before (record { process = q; event = e' }) (record { process = p; event = e }) ≡ false)
     → ((q : Process) → at_process p more left q ≡ after q)
     → Merges traces (steps ++ record { process = p; event = e } ∷ []) after
 merges_more traces [] left after p e more merge front least then = (
@@ -55,13 +64,16 @@ module _ {M : Type 0} (machine : Does M) where
   run_more w (step ∷ steps) s = first (event_of step.process step.event.act) (λ v. run_more v steps s)
     where
       first : (e : Option Event)
-          → ((v : World M) → run machine v (events_of (steps ++ s ∷ [])) ≡ step_happens machine (run machine v (events_of steps)) (event_of s.process s.event.act))
-          → run machine w (event_list e ++ events_of (steps ++ s ∷ [])) ≡ step_happens machine (run machine w (event_list e ++ events_of steps)) (event_of s.process s.event.act)
+          → ((v : World M) → run machine v (events_of (steps ++ s ∷ [])) ≡ step_happens machine (run machine v (events_of steps))
+          (event_of s.process s.event.act))
+          → run machine w (event_list e ++ events_of (steps ++ s ∷ []))
+          ≡ step_happens machine (run machine w (event_list e ++ events_of steps)) (event_of s.process s.event.act)
       first None more = more w
       first (Some e) more = more (happens machine w e)
 
   -- a run of one event and more
-  run_first : (w : World M) (e : Option Event) (events : List Event) → run machine w (event_list e ++ events) ≡ run machine (step_happens machine w e) events
+  run_first : (w : World M) (e : Option Event) (events : List Event) → run machine w (event_list e ++ events)
+      ≡ run machine (step_happens machine w e) events
   run_first w None events = refl
   run_first w (Some e) events = refl
 

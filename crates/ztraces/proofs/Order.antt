@@ -31,7 +31,8 @@ RiseFrom last traces =
     (p : Process) (e : TraceEvent) (more : List TraceEvent) → traces p ≡ e ∷ more → (last ≤ e.stamp) × (stamps_rise_from e.stamp more ≡ true)
 
 still_rise : (traces : Process → List TraceEvent) (last : ℕ) (step : Step) (more : List TraceEvent) → traces step.process ≡ step.event ∷ more
-    → ((q : Process) (e : TraceEvent) (others : List TraceEvent) → traces q ≡ e ∷ others → (nat_lt e.stamp step.event.stamp || (e.stamp == step.event.stamp && nat_lt (place_of q) (place_of step.process))) ≡ false)
+    → ((q : Process) (e : TraceEvent) (others : List TraceEvent) → traces q ≡ e ∷ others
+    → (nat_lt e.stamp step.event.stamp || (e.stamp == step.event.stamp && nat_lt (place_of q) (place_of step.process))) ≡ false)
     → RiseFrom last traces → RiseFrom step.event.stamp (at_process step.process more traces)
 still_rise traces last step more front least rise q e others is = elim (test (is_same q step.process)) [
   | inl own ↦
@@ -44,14 +45,16 @@ still_rise traces last step more front least rise q e others is = elim (test (is
       (not_less e.stamp step.event.stamp (first_false _ _ (least q e others at)), (rise q e others at).1)
 ]
 
-never_fall : (steps : List Step) (traces left : Process → List TraceEvent) (last : ℕ) → RiseFrom last traces → Merges traces steps left → NeverFallFrom last steps
+never_fall : (steps : List Step) (traces left : Process → List TraceEvent) (last : ℕ) → RiseFrom last traces
+    → Merges traces steps left → NeverFallFrom last steps
 never_fall [] traces left last rise merge = tt
 never_fall (step ∷ steps) traces left last rise merge = (
   (rise step.process step.event merge.0 merge.1).0,
   never_fall steps (at_process step.process merge.0 traces) left step.event.stamp (still_rise traces last step merge.0 merge.1 merge.2 rise) merge.3,
 )
 
-pub goes_by_stamps : (t : Traces) (steps : List Step) → ((p : Process) → stamps_rise (trace_of t p) ≡ true) → BeginsMerge t steps → NeverFallFrom 0 steps
+pub goes_by_stamps : (t : Traces) (steps : List Step) → ((p : Process) → stamps_rise (trace_of t p) ≡ true)
+    → BeginsMerge t steps → NeverFallFrom 0 steps
 goes_by_stamps t steps rise begins =
     never_fall steps (trace_of t) begins.0 0
     (λ p e more is. (omega arith, ap stamps_rise (sym is) ∙ rise p)) begins.1

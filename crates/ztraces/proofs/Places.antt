@@ -1,5 +1,7 @@
 -- The traces by place: which one has the next event, and what is left when it is read.
-use Rattle.std.proofs.Common.{◌≡◌, ◌⊎◌, ◌<◌, ◌≤◌, ℕ, zero, suc, ◌+◌, ◌-◌, Bool, true, false, ◌==◌, nat_lt, nat_le, List, [], ◌∷◌, ◌++◌, Option, Some, None, length, get_or, drop, set, map, replicate, refl, sym, ap, ◌∙◌, subst, inl, inr, eqb-true, arith}
+use Rattle.std.proofs.Common.{◌≡◌, ◌⊎◌, ◌<◌, ◌≤◌, ℕ, zero, suc, ◌+◌, ◌-◌, Bool, true, false, ◌==◌, nat_lt, nat_le, List}
+use Rattle.std.proofs.Common.{[], ◌∷◌, ◌++◌, Option, Some, None, length, get_or, drop, set, map, replicate, refl, sym}
+use Rattle.std.proofs.Common.{ap, ◌∙◌, subst, inl, inr, eqb-true, arith}
 use Rattle.std.specs.Prelude.{◌&&◌, ◌||◌}
 use Rattle.std.proofs.Math.Nat.{eq-or-lt_of_le}
 use Rattle.std.proofs.Math.Seq.{drop-nil}
@@ -21,9 +23,11 @@ use Rattle.ztraces.specs.declared.trace.Trace.{Trace}
 use Rattle.ztraces.specs.declared.trace.ClientTrace.{ClientTrace}
 use Rattle.ztraces.specs.declared.trace.TraceEvent.{TraceEvent}
 use Rattle.ztraces.specs.declared.trace.Traces.{Traces}
-use Rattle.ztraces.specs.Traces.{trace_of, record_of, event_of, Step, comes_before, at_process, Merges, BeginsMerge, is_step_in_place, step_happens, are_in_place}
+use Rattle.ztraces.specs.Traces.{trace_of, record_of, event_of, Step, comes_before, at_process, Merges, BeginsMerge}
+use Rattle.ztraces.specs.Traces.{is_step_in_place, step_happens, are_in_place}
 use Rattle.ztraces.specs.Audit.{opening_of}
-use Rattle.ztraces.specs.support.Places.{place_count, process_at, index_of, rest_of, stamp_at_front, head_at, chosen, IsLeast, unread, HasReplayed, IsAllRead, IsReplayFault}
+use Rattle.ztraces.specs.support.Places.{place_count, process_at, index_of, rest_of, stamp_at_front, head_at, chosen}
+use Rattle.ztraces.specs.support.Places.{IsLeast, unread, HasReplayed, IsAllRead, IsReplayFault}
 use Rattle.zworld_model.proofs.Processes.{same_process, same_itself}
 use Rattle.ztraces.proofs.Merging.{merges_more, replayed_place, replayed_world}
 
@@ -80,14 +84,18 @@ module _ (t : Traces) (read : List ℕ) (n : ℕ) where
           λ j s' lt has. elim (split_last j n lt) [
             | inl e ↦
                 let same = same_stamp j s s' is e has in
-                elim (eq-or-lt_of_le {n = best.1} {m = s} over) [ inl tie ↦ inr (same ∙ sym tie, omega (arith, least.0, e)) | inr up ↦ inl (omega (arith, up, same)) ]
+                elim (eq-or-lt_of_le {n = best.1} {m = s} over) [
+                  | inl tie ↦ inr (same ∙ sym tie, omega (arith, least.0, e))
+                  | inr up ↦ inl (omega (arith, up, same))
+                ]
             | inr l ↦ least.2 j s' l has
           ],
         ) in
         rw f result
   ]
 
-pub least_more : (t : Traces) (read : List ℕ) (n : ℕ) (best : Option (ℕ × ℕ)) → IsLeast t read n best → IsLeast t read (n + 1) (chosen best n (head_at t read n))
+pub least_more : (t : Traces) (read : List ℕ) (n : ℕ) (best : Option (ℕ × ℕ)) → IsLeast t read n best
+    → IsLeast t read (n + 1) (chosen best n (head_at t read n))
 least_more t read n best least = least_by t read n best (head_at t read n) refl least
 
 -- a place, and its process
@@ -151,7 +159,8 @@ module _ (t : Traces) where
         inr (suc n, omega (arith, lt), server_place n lt)
     | inr f ↦
         let past : servers ≤ n = grind (arith, nat_tests, f) in
-        inl (get_or_past (map (λ (trace : Trace). trace.events.items) t.servers.items) n [] (omega (arith, past, length-map t.servers.items (λ (trace : Trace). trace.events.items))))
+        inl (get_or_past (map (λ (trace : Trace). trace.events.items) t.servers.items) n []
+        (omega (arith, past, length-map t.servers.items (λ (trace : Trace). trace.events.items))))
   ]
   placed (Client c) = elim (test (nat_lt c (length t.clients.items))) [
     | inl y ↦
@@ -159,11 +168,13 @@ module _ (t : Traces) where
         inr (1 + servers + c, omega (arith, lt), client_place c)
     | inr f ↦
         let past : length t.clients.items ≤ c = grind (arith, nat_tests, f) in
-        inl (get_or_past (map (λ (client : ClientTrace). client.trace.events.items) t.clients.items) c [] (omega (arith, past, length-map t.clients.items (λ (client : ClientTrace). client.trace.events.items))))
+        inl (get_or_past (map (λ (client : ClientTrace). client.trace.events.items) t.clients.items) c []
+        (omega (arith, past, length-map t.clients.items (λ (client : ClientTrace). client.trace.events.items))))
   ]
 
   -- what the code reads at a place
-  pub trace_at_server : (j : ℕ) → (j == 0) ≡ false → nat_le j servers ≡ true → trace_of t (process_at t j) ≡ get_or (map (λ (trace : Trace). trace.events.items) t.servers.items) (j - 1) []
+  pub trace_at_server : (j : ℕ) → (j == 0) ≡ false → nat_le j servers ≡ true → trace_of t (process_at t j)
+      ≡ get_or (map (λ (trace : Trace). trace.events.items) t.servers.items) (j - 1) []
   trace_at_server zero p y = absurd (cc p)
   trace_at_server (suc n) p y = rw (p, y) (ap (λ i. get_or (map (λ (trace : Trace). trace.events.items) t.servers.items) i []) (omega arith))
 
@@ -175,7 +186,8 @@ module _ (t : Traces) where
     pub head_is : (j : ℕ) → head_at t read j ≡ stamp_at_front (rest_of t read (process_at t j))
     head_is j = ap (λ i. stamp_at_front (drop (get_or read i 0) (trace_of t (process_at t j)))) (sym (index_at j))
 
-    front_of : (l : List TraceEvent) (s : ℕ) → stamp_at_front l ≡ Some s → (e : TraceEvent) × (more : List TraceEvent) × (l ≡ e ∷ more) × (e.stamp ≡ s)
+    front_of : (l : List TraceEvent) (s : ℕ) → stamp_at_front l ≡ Some s → (e : TraceEvent) × (more : List TraceEvent)
+        × (l ≡ e ∷ more) × (e.stamp ≡ s)
     front_of [] s is = absurd (cc is)
     front_of (e ∷ more) s is = (e, more, refl, cc is)
 
@@ -226,7 +238,8 @@ module _ (t : Traces) where
             neither (nat_lt e'.stamp e.stamp) (e'.stamp == e.stamp) _ later behind
 
     -- a front that is there
-    drop_next : (k : ℕ) (l : List TraceEvent) (e : TraceEvent) (more : List TraceEvent) → drop k l ≡ e ∷ more → (drop (k + 1) l ≡ more) × (k < length l)
+    drop_next : (k : ℕ) (l : List TraceEvent) (e : TraceEvent) (more : List TraceEvent) → drop k l ≡ e ∷ more
+        → (drop (k + 1) l ≡ more) × (k < length l)
     drop_next zero [] e more is = absurd (cc is)
     drop_next (suc k) [] e more is = absurd (cc is)
     drop_next zero (x ∷ l) e more is = (cc is, omega arith)
@@ -275,9 +288,11 @@ module _ (t : Traces) where
               let index : index_of t q ≡ j = ap (index_of t) (sym is) ∙ index_at j in
               let apart : j ≡ b → ⊥ =
               λ same.
-              let own : is_same q (process_at t b) ≡ true = ap (λ z. is_same z (process_at t b)) (sym is ∙ ap (process_at t) same) ∙ same_itself (process_at t b) in
+              let own : is_same q (process_at t b) ≡ true = ap (λ z. is_same z (process_at t b)) (sym is ∙ ap (process_at t) same)
+              ∙ same_itself (process_at t b) in
               absurd (cc (own, f)) in
-              ap (λ k. drop k (trace_of t q)) (sym (get_or-set_other read b (index_of t q) (get_or read b 0 + 1) 0 (λ same. apart (sym index ∙ same))))
+              ap (λ k. drop k (trace_of t q))
+              (sym (get_or-set_other read b (index_of t q) (get_or read b 0 + 1) 0 (λ same. apart (sym index ∙ same))))
 
       -- and fewer are left
       unread_stays : (n : ℕ) → n ≤ b → unread t after n ≡ unread t read n
@@ -295,14 +310,17 @@ module _ (t : Traces) where
             let apart : n ≡ b → ⊥ = λ same. absurd (omega (arith, same, under)) in
             let one = get_or-set_other read b n (get_or read b 0 + 1) 0 apart in
             let others = unread_less n under in
-            subst (λ k. (length (trace_of t (process_at t n)) - k) + unread t after n < (length (trace_of t (process_at t n)) - get_or read n 0) + unread t read n) (sym one) (omega (arith, others))
+            subst (λ k. (length (trace_of t (process_at t n)) - k) + unread t after n < (length (trace_of t (process_at t n)) - get_or read n 0)
+            + unread t read n) (sym one) (omega (arith, others))
       ]
         where
           own : b ≡ n → unread t after (suc n) < unread t read (suc n)
           own same =
               let stays = unread_stays n (omega (arith, same)) in
-              let one : get_or after n 0 ≡ get_or read n 0 + 1 = subst (λ i. get_or after i 0 ≡ get_or read i 0 + 1) same (get_or-set_same read b (get_or read b 0 + 1) 0 there) in
-              let some : get_or read n 0 < length (trace_of t (process_at t n)) = subst (λ i. get_or read i 0 < length (trace_of t (process_at t i))) same is_unread in
+              let one : get_or after n 0 ≡ get_or read n 0 + 1 = subst (λ i. get_or after i 0 ≡ get_or read i 0 + 1)
+              same (get_or-set_same read b (get_or read b 0 + 1) 0 there) in
+              let some : get_or read n 0 < length (trace_of t (process_at t n)) = subst
+              (λ i. get_or read i 0 < length (trace_of t (process_at t i))) same is_unread in
               omega (arith, stays, one, some)
 
   -- nothing was read yet
@@ -324,7 +342,8 @@ module _ (t : Traces) (read : List ℕ) (w : World (KeptState Tree)) (best : ℕ
 
   merge_more : Merges (trace_of t) (replayed.0 ++ next_step ∷ []) (rest_of t (set read best.0 (get_or read best.0 0 + 1)))
   merge_more =
-      merges_more (trace_of t) replayed.0 (rest_of t read) (rest_of t (set read best.0 (get_or read best.0 0 + 1))) (process_at t best.0) e more replayed.1 front
+      merges_more (trace_of t) replayed.0 (rest_of t read) (rest_of t (set read best.0 (get_or read best.0 0 + 1)))
+      (process_at t best.0) e more replayed.1 front
       (next_is_first t read best e least stamp) (rest_moves t read best.0 e more there front)
 
   pub replayed_more : (after : World (KeptState Tree)) → is_step_in_place w (event_of (process_at t best.0) e.act) ≡ true
@@ -352,7 +371,8 @@ map_at f (x ∷ xs) zero d e lt = refl
 map_at f (x ∷ xs) (suc i) d e lt = map_at f xs i d e (omega (arith, lt))
 
 -- the trace of a server, as it is read
-pub server_events : (t : Traces) (j : ℕ) (x : Trace) → 0 < j → j ≤ length t.servers.items → x ≡ get_or t.servers.items (j - 1) x → x.events.items ≡ trace_of t (process_at t j)
+pub server_events : (t : Traces) (j : ℕ) (x : Trace) → 0 < j → j ≤ length t.servers.items → x ≡ get_or t.servers.items (j - 1) x
+    → x.events.items ≡ trace_of t (process_at t j)
 server_events t j x some small is =
     let positive : (j == 0) ≡ false = grind (arith, nat_tests, some) in
     let few : nat_le j (length t.servers.items) ≡ true = grind (arith, nat_tests, small) in
@@ -362,7 +382,8 @@ server_events t j x some small is =
     ∙ sym (trace_at_server t j positive few)
 
 -- a test of all places is one of all traces
-pub each_trace : (t : Traces) (f : List TraceEvent → Bool) → f [] ≡ true → ((j : ℕ) → j < place_count t → f (trace_of t (process_at t j)) ≡ true) → (p : Process) → f (trace_of t p) ≡ true
+pub each_trace : (t : Traces) (f : List TraceEvent → Bool) → f [] ≡ true → ((j : ℕ) → j < place_count t → f (trace_of t (process_at t j)) ≡ true)
+    → (p : Process) → f (trace_of t p) ≡ true
 each_trace t f none all p = elim (placed t p) [
   | inl empty ↦ ap f empty ∙ none
   | inr j ↦ subst (λ q. f (trace_of t q) ≡ true) j.2 (all j.0 j.1)
@@ -398,7 +419,8 @@ pub replayed_nothing : (t : Traces) (n : ℕ) (w : World (KeptState Tree)) → o
 replayed_nothing t n w is = ([], nothing_read t n, refl, is)
 
 -- a client's record, as it is read
-pub client_record : (t : Traces) (c : ℕ) (x : ClientTrace) → c < length t.clients.items → x ≡ get_or t.clients.items c x → x.record.items ≡ record_of t c
+pub client_record : (t : Traces) (c : ℕ) (x : ClientTrace) → c < length t.clients.items → x ≡ get_or t.clients.items c x
+    → x.record.items ≡ record_of t c
 client_record t c x lt is =
     ap (λ (y : ClientTrace). y.record.items) is
     ∙ sym (map_at (λ (client : ClientTrace). client.record.items) t.clients.items c x [] lt)

@@ -25,7 +25,8 @@ use Rattle.ztraces.specs.declared.trace.Act.TheVariants.{Took, Began, Retried, O
 use Rattle.ztraces.specs.Deeds.{Stamped, takes_part, standing_in, is_to_leave, may_drop, done, row_of, Row}
 use Rattle.ztraces.specs.Traces.{event_of}
 use Rattle.ztraces.proofs.Deeds.{no_delivery}
-use Rattle.ztraces.proofs.Effects.{Arrives, IsRowOf, and_false, idles, row_by, enabled_row, delivered, some_if, lives, DoesSo, does_so, does_happen, ends}
+use Rattle.ztraces.proofs.Effects.{Arrives, IsRowOf, and_false, idles, row_by, enabled_row, delivered, some_if, lives}
+use Rattle.ztraces.proofs.Effects.{DoesSo, does_so, does_happen, ends}
 
 -- a query is a request
 query_is_request : {M : Type 0} (m : MessageOf M) → is_query m ≡ true → is_request m ≡ true
@@ -59,7 +60,8 @@ module _ {M : Type 0} (machine : Does M) (w : World M) where
   does_unless p input did false is = does_so machine w p input did is
 
   -- a server fails
-  fails : (s : ℕ) (act : Act) (did : Effect M) → event_of (Server s) act ≡ Some (event.Fail s) → DoesSo machine w (Server s) Stop did → IsRow (Server s) act did
+  fails : (s : ℕ) (act : Act) (did : Effect M) → event_of (Server s) act ≡ Some (event.Fail s) → DoesSo machine w (Server s) Stop did
+      → IsRow (Server s) act did
   fails s act did is so =
       enabled_row machine w (Server s) act (event.Fail s) did is so.part so.part
       (ends machine w (Server s) Halted act did _ (ap (λ (e : Effect M). e.left) (sym so.same)) (does_happen machine w (Server s) Halted Stop did so))
@@ -72,12 +74,14 @@ module _ {M : Type 0} (machine : Does M) (w : World M) where
 
   -- a query is dropped
   drops : (s : ℕ) (from : Process) (m : MessageOf M) (more : List (MessageOf M)) → w.links from (Server s) ≡ m ∷ more
-      → may_drop machine (Server s) (standing_in w (Server s)) from m ≡ true → IsRow (Server s) (Took from Unheard) (idle_effect (standing_in w (Server s)))
+      → may_drop machine (Server s) (standing_in w (Server s)) from m ≡ true
+      → IsRow (Server s) (Took from Unheard) (idle_effect (standing_in w (Server s)))
   drops s from m more front may =
       let part = drops_part s (takes_part w (Server s)) (w.servers s) from m may in
       let alive : w.failed s ≡ false = lives w (Server s) part.0 in
       let enabled : is_enabled w (event.Ignore from (Server s)) ≡ true = rw (front, alive) (rw part.1 refl) in
-      enabled_row machine w (Server s) (Took from Unheard) (event.Ignore from (Server s)) (idle_effect (standing_in w (Server s))) refl enabled enabled
+      enabled_row machine w (Server s) (Took from Unheard) (event.Ignore from (Server s)) (idle_effect (standing_in w (Server s)))
+      refl enabled enabled
       (idles w (Took from Unheard) (Server s))
 
   -- the master refuses an order
@@ -85,17 +89,20 @@ module _ {M : Type 0} (machine : Does M) (w : World M) where
   refused order is =
       let none : (is_server (server_of order) && is_none (order_fault w.master order)) ≡ false =
       ap (λ b. is_server (server_of order) && b) (not_none (order_fault w.master order) is) ∙ and_false (is_server (server_of order)) in
-      row_by machine w Master (Ordered order) (event.Order order) (idle_effect (standing_in w Master)) w refl refl (sym (ap (λ b. if b then let_go (acts machine w (event.Order order)) else w) none)) (idles w (Ordered order) Master)
+      row_by machine w Master (Ordered order) (event.Order order) (idle_effect (standing_in w Master)) w refl refl
+      (sym (ap (λ b. if b then let_go (acts machine w (event.Order order)) else w) none)) (idles w (Ordered order) Master)
 
   -- every row, where its message has come
   happens_so : (p : Process) (act : Act) (took : Option (Stamped M)) (did : Effect M) → row_of machine p (standing_in w p) act took ≡ Some did
       → Arrives w p act took → IsRow p act did
   happens_so p (Took from Acted) (Some m) did row (more, front) =
       let so = does_unless p (Hear from m.1) did (is_to_leave p from m.1) row in
-      delivered machine w p (Took from Acted) from m.1 more did refl front (lives w p so.part) (does_happen machine w p (Took from Acted) (Hear from m.1) did so)
+      delivered machine w p (Took from Acted) from m.1 more did refl front (lives w p so.part)
+      (does_happen machine w p (Took from Acted) (Hear from m.1) did so)
   happens_so (Server s) Left (Some m) did row (more, front) =
       let so = does_if (Server s) (Hear Master m.1) did (is_to_leave (Server s) Master m.1) row in
-      delivered machine w (Server s) Left Master m.1 more did refl front (lives w (Server s) so.part) (does_happen machine w (Server s) Left (Hear Master m.1) did so)
+      delivered machine w (Server s) Left Master m.1 more did refl front (lives w (Server s) so.part)
+      (does_happen machine w (Server s) Left (Hear Master m.1) did so)
   happens_so (Server s) (Took from Unheard) (Some m) did row (more, front) =
       let is = some_if (may_drop machine (Server s) (standing_in w (Server s)) from m.1) (idle_effect (standing_in w (Server s))) did row in
       subst (IsRow (Server s) (Took from Unheard)) is.1 (drops s from m.1 more front is.0)
@@ -105,15 +112,18 @@ module _ {M : Type 0} (machine : Does M) (w : World M) where
     | inl is ↦ subst (IsRow Master (Ordered order)) (cc is.1) (refused order is.0)
     | inr is ↦
         let so = does_so machine w Master (Obey order) did is.1 in
-        enabled_row machine w Master (Ordered order) (event.Order order) did refl refl so.accepted (does_happen machine w Master (Ordered order) (Obey order) did so)
+        enabled_row machine w Master (Ordered order) (event.Order order) did refl refl so.accepted
+        (does_happen machine w Master (Ordered order) (Obey order) did so)
   ]
   happens_so (Client c) (Began call) None did row arrives =
       let so = does_so machine w (Client c) (given.Begin call) did row in
       let enabled : is_enabled w (event.Begin c call) ≡ true = rw (so.part, so.accepted) refl in
-      enabled_row machine w (Client c) (Began call) (event.Begin c call) did refl enabled enabled (does_happen machine w (Client c) (Began call) (given.Begin call) did so)
+      enabled_row machine w (Client c) (Began call) (event.Begin c call) did refl enabled enabled
+      (does_happen machine w (Client c) (Began call) (given.Begin call) did so)
   happens_so (Client c) Retried None did row arrives =
       let so = does_so machine w (Client c) given.Retry did row in
-      enabled_row machine w (Client c) Retried (event.Retry c) did refl so.accepted so.accepted (does_happen machine w (Client c) Retried given.Retry did so)
+      enabled_row machine w (Client c) Retried (event.Retry c) did refl so.accepted so.accepted
+      (does_happen machine w (Client c) Retried given.Retry did so)
   happens_so p (Took from outcome) None did row arrives = absurd (cc (sym (no_delivery machine p (standing_in w p) from outcome) ∙ row))
   happens_so p act (Some m) did row arrives = absurd (cc row)
   happens_so p act None did row arrives = absurd (cc row)

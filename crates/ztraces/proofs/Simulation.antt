@@ -1,7 +1,9 @@
 -- Along the merge of lawful traces each event is in its place: the world that the events before it lead to has every process where
 -- its own deeds left it, and on every link what was put there and not yet taken; and the message that the next event takes was
 -- put by an event with a smaller stamp, so by one that stands before it.
-use Rattle.std.proofs.Common.{◌≡◌, ◌<◌, ◌≤◌, ℕ, Bool, true, false, cond, ◌==◌, nat_lt, List, [], ◌∷◌, ◌++◌, Option, Some, None, drop, refl, sym, ap, ◌∙◌, subst, inl, inr, eqb-true, eq-eqb, arith, append_assoc}
+use Rattle.std.proofs.Common.{◌≡◌, ◌<◌, ◌≤◌, ℕ, Bool, true, false, cond, ◌==◌, nat_lt, List, [], ◌∷◌, ◌++◌, Option}
+use Rattle.std.proofs.Common.{Some, None, drop, refl, sym, ap, ◌∙◌, subst, inl, inr, eqb-true, eq-eqb, arith}
+use Rattle.std.proofs.Common.{append_assoc}
 use Rattle.std.specs.Prelude.{◌&&◌, ◌||◌, if◌then◌else◌}
 use Rattle.std.proofs.lemmas.List.{append-nil}
 use Rattle.std.proofs.lemmas.List.Elements.{filter-append}
@@ -28,7 +30,9 @@ use Rattle.ztraces.specs.declared.trace.Act.TheVariants.{Took, Began, Retried, O
 use Rattle.ztraces.specs.declared.trace.TraceEvent.{TraceEvent}
 use Rattle.ztraces.specs.declared.trace.Traces.{Traces}
 use Rattle.ztraces.specs.Deeds.{Stamped, standing_in, Row, Deed, stamp_of, GoesBy, trace_by, taken_from, takes, stamped, puts, told_by}
-use Rattle.ztraces.specs.Traces.{event_of, Step, comes_before, at_process, Merges, IsMerge, BeginsMerge, is_step_in_place, step_happens, are_in_place, event_list, events_of, client_of, told_of, trace_of, record_of, client_count, stamps_rise_from, stamps_rise}
+use Rattle.ztraces.specs.Traces.{event_of, Step, comes_before, at_process, Merges, IsMerge, BeginsMerge}
+use Rattle.ztraces.specs.Traces.{is_step_in_place, step_happens, are_in_place, event_list, events_of, client_of}
+use Rattle.ztraces.specs.Traces.{told_of, trace_of, record_of, client_count, stamps_rise_from, stamps_rise}
 use Rattle.ztraces.specs.Lawful.{AccountFor}
 use Rattle.ztraces.proofs.Deeds.{rises, no_delivery, row_has, out_ends}
 use Rattle.ztraces.proofs.Flows.{Flows, flows_out, flows_put, flows_take, puts_from_front}
@@ -84,7 +88,8 @@ module _ {M : Type 0} (machine : Does M) where
     OwnFlow act = (x : Process) → Flows (fronts w.links act p x p) (puts p (rest x)) (takes x deeds)
 
     -- the message that it takes from a link is there
-    took_there : (from : Process) (m : Stamped M) → m.0 < stamp → ((x : Process) → takes x (rest p) ≡ taken_from x (Took from Acted) (Some m) ++ takes x deeds)
+    took_there : (from : Process) (m : Stamped M) → m.0 < stamp
+        → ((x : Process) → takes x (rest p) ≡ taken_from x (Took from Acted) (Some m) ++ takes x deeds)
         → Arrives w p (Took from Acted) (Some m) × OwnFlow (Took from Acted)
     took_there from m early taken = ((front.0, front.1), own)
       where
@@ -93,7 +98,8 @@ module _ {M : Type 0} (machine : Does M) where
 
         front : (more : List (MessageOf M)) × (w.links from p ≡ m.1 ∷ more) × Flows more (puts p (rest from)) (takes from deeds)
         front =
-            flows_take (w.links from p) (puts p (rest from)) m (takes from deeds) (subst (λ l. Flows (w.links from p) (puts p (rest from)) l) takes_front (f.links from p))
+            flows_take (w.links from p) (puts p (rest from)) m (takes from deeds)
+            (subst (λ l. Flows (w.links from p) (puts p (rest from)) l) takes_front (f.links from p))
             (λ others is. not_late from m others early is)
 
         popped : without_front w.links from p from p ≡ front.0
@@ -106,7 +112,8 @@ module _ {M : Type 0} (machine : Does M) where
           | inr n ↦
               let stays : without_front w.links from p x p ≡ w.links x p = rw n refl in
               let none : takes x (rest p) ≡ takes x deeds = taken x ∙ ap (λ b. (cond b (m ∷ []) []) ++ takes x deeds) n in
-              subst (λ link. Flows link (puts p (rest x)) (takes x deeds)) (sym stays) (subst (λ l. Flows (w.links x p) (puts p (rest x)) l) none (f.links x p))
+              subst (λ link. Flows link (puts p (rest x)) (takes x deeds)) (sym stays)
+              (subst (λ l. Flows (w.links x p) (puts p (rest x)) l) none (f.links x p))
         ]
 
     -- what it takes is there
@@ -131,7 +138,8 @@ module _ {M : Type 0} (machine : Does M) where
     ]
 
     -- then the world after it is followed by what is left
-    follows : (act : Act) (after : World M) → HappensIn w p act left posts told after → OwnFlow act → Follows after (at_process p stamp last) (at_process p deeds rest)
+    follows : (act : Act) (after : World M) → HappensIn w p act left posts told after → OwnFlow act
+        → Follows after (at_process p stamp last) (at_process p deeds rest)
     follows act after did own = record { goes = goes; links = links }
       where
         goes : (q : Process) → GoesBy machine q (standing_in after q) (at_process p stamp last q) (at_process p deeds rest q)
@@ -158,7 +166,8 @@ module _ {M : Type 0} (machine : Does M) where
             subst (λ link. Flows link (puts y (at_process p deeds rest x)) (takes x (rest y))) (sym (did.others x y n alive))
             (flow_put x y (w.links x y) (takes x (rest y)) (f.links x y))
         elsewhere x y n true gone =
-            let none : rest y ≡ [] = out_ends machine y (last y) (rest y) (subst (λ s. GoesBy machine y s (last y) (rest y)) (out_of w y gone) (f.goes y)) in
+            let none : rest y ≡ [] = out_ends machine y (last y) (rest y)
+            (subst (λ s. GoesBy machine y s (last y) (rest y)) (out_of w y gone) (f.goes y)) in
             subst (λ l. Flows (after.links x y) (puts y (at_process p deeds rest x)) (takes x l)) (sym none)
             (flows_out (after.links x y) (puts y (at_process p deeds rest x)))
 
@@ -170,16 +179,19 @@ module _ {M : Type 0} (machine : Does M) where
               (subst (λ z. Flows (after.links x z) (puts z (at_process p deeds rest x)) (takes x deeds)) (sym (same_process y p t)) (into x))
           | inr n ↦
               let awaited : at_process p deeds rest y ≡ rest y = ap (λ b. cond b deeds (rest y)) n in
-              subst (λ l. Flows (after.links x y) (puts y (at_process p deeds rest x)) (takes x l)) (sym awaited) (elsewhere x y n (has_failed w y) refl)
+              subst (λ l. Flows (after.links x y) (puts y (at_process p deeds rest x)) (takes x l)) (sym awaited)
+              (elsewhere x y n (has_failed w y) refl)
         ]
 
   -- the next deed is in its place, and leads to a world that is followed by what is left
-  pub record GoesOn (w : World M) (last : Process → ℕ) (rest : Process → List (Deed M)) (p : Process) (d : Deed M) (deeds : List (Deed M)) : Type 0 where
+  pub record GoesOn (w : World M) (last : Process → ℕ) (rest : Process → List (Deed M)) (p : Process) (d : Deed M) (deeds : List (Deed M))
+      : Type 0 where
     pub in_place : is_step_in_place w (event_of p d.event.act) ≡ true
     pub follows : Follows (step_happens machine w (event_of p d.event.act)) (at_process p d.event.stamp last) (at_process p deeds rest)
     pub history : (step_happens machine w (event_of p d.event.act)).history ≡ w.history ++ d.told
 
-  goes_on : (w : World M) (last : Process → ℕ) (rest : Process → List (Deed M)) (p : Process) (d : Deed M) (deeds : List (Deed M)) → Follows w last rest → rest p ≡ d ∷ deeds
+  goes_on : (w : World M) (last : Process → ℕ) (rest : Process → List (Deed M)) (p : Process) (d : Deed M) (deeds : List (Deed M))
+      → Follows w last rest → rest p ≡ d ∷ deeds
       → ((q : Process) (e : Deed M) (others : List (Deed M)) → rest q ≡ e ∷ others → nat_lt e.event.stamp d.event.stamp ≡ false)
       → GoesOn w last rest p d deeds
   goes_on w last rest p d deeds f is next =
@@ -211,18 +223,21 @@ module _ {M : Type 0} (machine : Does M) where
       by false = refl
   does_told c (Server s) input standing = refl
   does_told c (Client d) (Hear from m) (AtClient v) = answer_of c d (client.client_step v from m).2
-  does_told c (Client d) (given.Begin call) (AtClient v) = ap (λ b. cond b (call_event.Begin d (client.begin_step {T = Transfer M} v call).0.number call ∷ []) []) (swapped c d)
+  does_told c (Client d) (given.Begin call) (AtClient v) = ap
+      (λ b. cond b (call_event.Begin d (client.begin_step {T = Transfer M} v call).0.number call ∷ []) []) (swapped c d)
   does_told c (Client d) given.Retry (AtClient v) = nothing (c == d)
   does_told c (Client d) input standing = nothing (c == d)
 
-  row_told : (c : ℕ) (p : Process) (standing : Standing M) (act : Act) (took : Option (Stamped M)) (left : Standing M) (posts : List (Post M)) (told : History)
+  row_told : (c : ℕ) (p : Process) (standing : Standing M) (act : Act) (took : Option (Stamped M)) (left : Standing M)
+      (posts : List (Post M)) (told : History)
       → Row machine p standing act took left posts told → IsOwn c p told
   row_told c p standing act took left posts told row =
       row_has machine p standing (λ did. IsOwn c p did.told) (λ input is. does_told c p input standing) (λ from m is. nothing (is_same (Client c) p))
       (λ order is. nothing (is_same (Client c) p)) (record { left = left; posts = posts; told = told }) act took row
 
   -- a run of one event and more
-  run_step : (w : World M) (e : Option Event) (events : List Event) → run machine w (event_list e ++ events) ≡ run machine (step_happens machine w e) events
+  run_step : (w : World M) (e : Option Event) (events : List Event) → run machine w (event_list e ++ events)
+      ≡ run machine (step_happens machine w e) events
   run_step w None events = refl
   run_step w (Some e) events = refl
 
@@ -230,7 +245,8 @@ module _ {M : Type 0} (machine : Does M) where
   pub record IsRun (w : World M) (rest : Process → List (Deed M)) (steps : List Step) (end : Process → List TraceEvent) : Type 0 where
     pub in_place : are_in_place machine w steps ≡ true
     -- where no event is left
-    pub told : ((p : Process) → end p ≡ []) → (c : ℕ) → told_of c (run machine w (events_of steps)).history ≡ told_of c w.history ++ told_by (rest (Client c))
+    pub told : ((p : Process) → end p ≡ []) → (c : ℕ) → told_of c (run machine w (events_of steps)).history
+        ≡ told_of c w.history ++ told_by (rest (Client c))
 
   -- no trace is left, no deed is
   no_trace : (deeds : List (Deed M)) → trace_by deeds ≡ [] → deeds ≡ []
@@ -241,12 +257,15 @@ module _ {M : Type 0} (machine : Does M) where
   both_true a b x y = rw (x, y) refl
 
   -- one step, where the run of the others is known
-  step_runs : (p : Process) (e : TraceEvent) (steps : List Step) (w : World M) (last : Process → ℕ) (rest : Process → List (Deed M)) (traces : Process → List TraceEvent)
+  step_runs : (p : Process) (e : TraceEvent) (steps : List Step) (w : World M) (last : Process → ℕ) (rest : Process
+      → List (Deed M)) (traces : Process → List TraceEvent)
       (more : List TraceEvent) (d : Deed M) (deeds : List (Deed M)) (end : Process → List TraceEvent)
       → Follows w last rest → ((q : Process) → traces q ≡ trace_by (rest q))
-      → ((q : Process) (e' : TraceEvent) (others : List TraceEvent) → traces q ≡ e' ∷ others → comes_before (record { process = q; event = e' }) (record { process = p; event = e }) ≡ false)
+      → ((q : Process) (e' : TraceEvent) (others : List TraceEvent) → traces q ≡ e' ∷ others
+      → comes_before (record { process = q; event = e' }) (record { process = p; event = e }) ≡ false)
       → rest p ≡ d ∷ deeds → d.event ≡ e → trace_by deeds ≡ more
-      → ((v : World M) (last : Process → ℕ) (rest : Process → List (Deed M)) → Follows v last rest → ((q : Process) → at_process p more traces q ≡ trace_by (rest q)) → IsRun v rest steps end)
+      → ((v : World M) (last : Process → ℕ) (rest : Process → List (Deed M)) → Follows v last rest
+      → ((q : Process) → at_process p more traces q ≡ trace_by (rest q)) → IsRun v rest steps end)
       → IsRun w rest (record { process = p; event = e } ∷ steps) end
   step_runs p e steps w last rest traces more d deeds end f traced next front same traced_more ih =
       let g : GoesOn w last rest p d deeds = goes_on w last rest p d deeds f front (λ q e' others is.
@@ -289,7 +308,8 @@ module _ {M : Type 0} (machine : Does M) where
     in_place = refl;
     told = λ none c.
         sym (append-nil (told_of c w.history))
-        ∙ ap (λ l. told_of c w.history ++ told_by l) (sym (no_trace (rest (Client c)) (sym (traced (Client c)) ∙ merge (Client c) ∙ none (Client c))));
+        ∙ ap (λ l. told_of c w.history ++ told_by l)
+        (sym (no_trace (rest (Client c)) (sym (traced (Client c)) ∙ merge (Client c) ∙ none (Client c))));
   }
   merge_runs (step ∷ steps) w last rest traces end f traced merge =
       by (rest step.process) refl (sym (traced step.process) ∙ merge.1)
@@ -309,7 +329,8 @@ module _ {M : Type 0} (machine : Does M) where
   abbrev opening_of : Traces → World M
   opening_of t = opening_world machine t.last (client_count t)
 
-  runs : (t : Traces) (deeds : Process → List (Deed M)) (steps : List Step) (end : Process → List TraceEvent) → AccountFor machine t deeds → Merges (trace_of t) steps end
+  runs : (t : Traces) (deeds : Process → List (Deed M)) (steps : List Step) (end : Process → List TraceEvent)
+      → AccountFor machine t deeds → Merges (trace_of t) steps end
       → IsRun (opening_of t) deeds steps end
   runs t deeds steps end account merge =
       let f : Follows (opening_of t) (λ p. 0) deeds = record {
@@ -329,14 +350,16 @@ module _ {M : Type 0} (machine : Does M) where
   lawful_told t deeds steps account merge c = (runs t deeds steps (λ p. []) account merge).told (λ p. refl) c ∙ account.recorded c
 
   -- and their stamps rise
-  stamps_rise_by : (p : Process) (standing : Standing M) (last : ℕ) (deeds : List (Deed M)) → GoesBy machine p standing last deeds → stamps_rise_from last (trace_by deeds) ≡ true
+  stamps_rise_by : (p : Process) (standing : Standing M) (last : ℕ) (deeds : List (Deed M)) → GoesBy machine p standing last deeds
+      → stamps_rise_from last (trace_by deeds) ≡ true
   stamps_rise_by p standing last [] goes = refl
   stamps_rise_by p standing last (d ∷ deeds) goes =
       let up = (rises p last (stamp_of d.took) d.event.stamp goes.1).0 in
       let above : nat_lt last d.event.stamp ≡ true = grind (arith, nat_tests, up) in
       both_true _ _ above (stamps_rise_by p d.left d.event.stamp deeds goes.2)
 
-  pub lawful_stamps_rise : (t : Traces) (deeds : Process → List (Deed M)) → AccountFor machine t deeds → (p : Process) → stamps_rise (trace_of t p) ≡ true
+  pub lawful_stamps_rise : (t : Traces) (deeds : Process → List (Deed M)) → AccountFor machine t deeds → (p : Process)
+      → stamps_rise (trace_of t p) ≡ true
   lawful_stamps_rise t deeds account p =
       subst (λ l. stamps_rise l ≡ true) (account.traced p)
       (first_too (trace_by (deeds p)) (stamps_rise_by p (standing_in (opening_world machine t.last (client_count t)) p) 0 (deeds p) (account.goes p)))

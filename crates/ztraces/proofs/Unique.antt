@@ -36,19 +36,22 @@ abbrev AreApart : (Process → List TraceEvent) → Type 0
 AreApart traces =
     (p q : Process) (e f : TraceEvent) (es fs : List TraceEvent) → traces p ≡ e ∷ es → traces q ≡ f ∷ fs → place_of p ≡ place_of q → p ≡ q
 
-still_apart : (traces : Process → List TraceEvent) (x : Process) (e : TraceEvent) (more : List TraceEvent) → traces x ≡ e ∷ more → AreApart traces → AreApart (at_process x more traces)
+still_apart : (traces : Process → List TraceEvent) (x : Process) (e : TraceEvent) (more : List TraceEvent) → traces x ≡ e ∷ more
+    → AreApart traces → AreApart (at_process x more traces)
 still_apart traces x e more front apart p q f g fs gs is it place =
     let a = had p f fs is in
     let b = had q g gs it in
     apart p q a.0 b.0 a.1 b.1 a.2 b.2 place
   where
-    had : (p : Process) (f : TraceEvent) (fs : List TraceEvent) → at_process x more traces p ≡ f ∷ fs → (g : TraceEvent) × (gs : List TraceEvent) × (traces p ≡ g ∷ gs)
+    had : (p : Process) (f : TraceEvent) (fs : List TraceEvent) → at_process x more traces p ≡ f ∷ fs
+        → (g : TraceEvent) × (gs : List TraceEvent) × (traces p ≡ g ∷ gs)
     had p f fs is = elim (test (is_same p x)) [
       | inl t ↦ (e, more, ap traces (same_process p x t) ∙ front)
       | inr n ↦ (f, fs, sym (ap (λ b. cond b more (traces p)) n) ∙ is)
     ]
 
-unique : (traces : Process → List TraceEvent) (xs ys : List Step) → AreApart traces → Merges traces xs (λ p. []) → Merges traces ys (λ p. []) → xs ≡ ys
+unique : (traces : Process → List TraceEvent) (xs ys : List Step) → AreApart traces → Merges traces xs (λ p. [])
+    → Merges traces ys (λ p. []) → xs ≡ ys
 unique traces [] [] apart m n = refl
 unique traces [] (y ∷ ys) apart m n =
     let both : ◌≡◌ {A = List TraceEvent} [] (y.event ∷ n.0) = sym (m y.process) ∙ n.1 in
@@ -65,7 +68,8 @@ unique traces (x ∷ xs) (y ∷ ys) apart m n =
     let e : x.event ≡ y.event = cc heads in
     let more : m.0 ≡ n.0 = cc heads in
     let others : Merges (at_process x.process m.0 traces) ys (λ p. []) =
-    subst (λ l. Merges (at_process x.process l traces) ys (λ p. [])) (sym more) (subst (λ z. Merges (at_process z n.0 traces) ys (λ p. [])) (sym p) n.3) in
+    subst (λ l. Merges (at_process x.process l traces) ys (λ p. [])) (sym more)
+    (subst (λ z. Merges (at_process z n.0 traces) ys (λ p. [])) (sym p) n.3) in
     let rest : xs ≡ ys = unique (at_process x.process m.0 traces) xs ys (still_apart traces x.process x.event m.0 m.1 apart) m.3 others in
     λ i. record { process = p i; event = e i } ∷ rest i
 

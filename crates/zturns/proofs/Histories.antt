@@ -5,7 +5,8 @@ use Rattle.zcalls.specs.declared.reply.Reply.{Reply}
 use Rattle.zworld_model.specs.declared.history.CallEvent.TheVariants.{Begin, Answer}
 use Rattle.zturns.specs.Turns.{Log, history_from, history_of}
 
-begun_from : (log : Log) (last : ℕ) (call : Call) → history_from last log None ++ Begin 0 (last + length log + 1) call ∷ [] ≡ history_from last log (Some call)
+begun_from : (log : Log) (last : ℕ) (call : Call) → history_from last log None ++ Begin 0 (last + length log + 1) call ∷ []
+    ≡ history_from last log (Some call)
 begun_from [] last call = ap (λ (n : ℕ). Begin 0 n call ∷ []) (omega arith)
 begun_from (told ∷ log) last call =
     let counted : last + length (told ∷ log) + 1 ≡ (last + 1) + length log + 1 = omega arith in

@@ -18,16 +18,19 @@ use Rattle.zworld_model.specs.FromTree.{CanStart, IsExplainedFrom, world_after_f
 use Rattle.zworld_model.proofs.Lives.{plain_replies}
 use Rattle.zlinear.proofs.Headline.{every_history_from_is_explained}
 use Rattle.zturns.specs.Turns.{Log, calls_of, history_of, served, tree_after}
-use Rattle.zturns.specs.FromTree.{IsOneTreesFrom, whole, TurnsAreTakenFrom, EveryLogFromIsOneTrees, LivesAreOneTrees, LivesAreOneTreesFrom, LivesLeaveOneTree, TreesCanStartAgain}
+use Rattle.zturns.specs.FromTree.{IsOneTreesFrom, whole, TurnsAreTakenFrom, EveryLogFromIsOneTrees, LivesAreOneTrees}
+use Rattle.zturns.specs.FromTree.{LivesAreOneTreesFrom, LivesLeaveOneTree, TreesCanStartAgain}
 use Rattle.zturns.proofs.Orders.{IsOrderFrom, in_turn}
 use Rattle.zturns.proofs.TakingTurns.{world_turns}
 
 -- a legal order from a tree on
-from_tree : (t : Tree) (history : History) (order : List Operation) → IsLegalOrder IsLawful (service_of (plain_from t)) history order → IsOrderFrom t history order
+from_tree : (t : Tree) (history : History) (order : List Operation) → IsLegalOrder IsLawful (service_of (plain_from t)) history order
+    → IsOrderFrom t history order
 from_tree t history order is = record {
   begun = is.begun;
   once = is.once;
-  answered = λ client number reply among. let r = is.answered client number reply among in (r.0, r.1, r.2, subst (Among (r.0, reply)) (plain_replies t t order) r.3);
+  answered = λ client number reply among. let r = is.answered client number reply among
+      in (r.0, r.1, r.2, subst (Among (r.0, reply)) (plain_replies t t order) r.3);
   in_time = is.in_time;
 }
 
@@ -62,7 +65,8 @@ lives_leave_one_tree t first second =
     ap (tree_after t) (map-append (λ (told : Call × Reply). told.0) first second) ∙ tree_both t (calls_of first) (calls_of second)
 
 -- a life behind another
-both_lives : (t : Tree) (first second : Log) → IsOneTreesFrom t first → IsOneTreesFrom (tree_after t (calls_of first)) second → IsOneTreesFrom t (first ++ second)
+both_lives : (t : Tree) (first second : Log) → IsOneTreesFrom t first → IsOneTreesFrom (tree_after t (calls_of first)) second
+    → IsOneTreesFrom t (first ++ second)
 both_lives t first second one next =
     map-append (λ (told : Call × Reply). told.1) first second
     ∙ (λ i. one i ++ next i)

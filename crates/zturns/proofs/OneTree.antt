@@ -18,7 +18,8 @@ use Rattle.zturns.proofs.Orders.{IsOrderFrom, in_turn}
 use Rattle.zturns.proofs.TakingTurns.{world_turns}
 
 -- a legal order, as an order from the initial tree on
-from_opening : (history : History) (order : List Operation) → IsLegalOrder IsLawful (service_of plain_tree) history order → IsOrderFrom opening_tree history order
+from_opening : (history : History) (order : List Operation) → IsLegalOrder IsLawful (service_of plain_tree) history order
+    → IsOrderFrom opening_tree history order
 from_opening history order is = record { begun = is.begun; once = is.once; answered = is.answered; in_time = is.in_time }
 
 pub legal_orders_are_in_turn : LegalOrdersAreInTurn

@@ -25,7 +25,8 @@ pub record IsOrderFrom (t : Tree) (history : History) (order : List Operation) :
   pub in_time : (a b : Operation) → EndsBefore history a b → Among a order → Among b order → ComesBefore a b order
 
 -- an operation that is replayed is in the order
-among_replayed : (t : Tree) (order : List Operation) (o : Operation) (reply : Reply) → Among (o, reply) (replies_from (service_of plain_tree) t order) → Among o order
+among_replayed : (t : Tree) (order : List Operation) (o : Operation) (reply : Reply)
+    → Among (o, reply) (replies_from (service_of plain_tree) t order) → Among o order
 among_replayed t [] o reply a = absurd a
 among_replayed t (x ∷ xs) o reply (inl e) = inl (ap (λ (p : Operation × Reply). p.0) e)
 among_replayed t (x ∷ xs) o reply (inr a) = inr (among_replayed (serve t x.client x.call).0 xs o reply a)
@@ -59,13 +60,15 @@ begun_later (told ∷ log) last waiting o (inl e) = let is : last + 1 ≡ o.numb
 begun_later (told ∷ log) last waiting o (inr (inl e)) = absurd (no_begin 0 (last + 1) told.1 o e)
 begun_later (told ∷ log) last waiting o (inr (inr a)) = let later = begun_later log (last + 1) waiting o a in omega (arith, later)
 
-answered_later : (log : Log) (last : ℕ) (waiting : Option Call) (c n : ℕ) (reply : Reply) → Among (Answer c n reply) (history_from last log waiting) → last < n
+answered_later : (log : Log) (last : ℕ) (waiting : Option Call) (c n : ℕ) (reply : Reply)
+    → Among (Answer c n reply) (history_from last log waiting) → last < n
 answered_later [] last None c n reply a = absurd a
 answered_later [] last (Some call) c n reply (inl e) = absurd (no_answer (last + 1) call c n reply e)
 answered_later [] last (Some call) c n reply (inr a) = absurd a
 answered_later (told ∷ log) last waiting c n reply (inl e) = absurd (no_answer (last + 1) told.0 c n reply e)
 answered_later (told ∷ log) last waiting c n reply (inr (inl e)) = let is : last + 1 ≡ n = cc e in omega (arith, is)
-answered_later (told ∷ log) last waiting c n reply (inr (inr a)) = let later = answered_later log (last + 1) waiting c n reply a in omega (arith, later)
+answered_later (told ∷ log) last waiting c n reply (inr (inr a)) = let later = answered_later log (last + 1) waiting c n reply a
+    in omega (arith, later)
 
 -- of a history that begins with a call and its answer
 module _ (last : ℕ) (call : Call) (reply : Reply) (log : Log) (waiting : Option Call) (t : Tree) where
@@ -112,7 +115,8 @@ module _ (last : ℕ) (call : Call) (reply : Reply) (log : Log) (waiting : Optio
     not_again o a number client = is.once.0 o a (sym client, number)
 
     begun_behind : (o : Operation) → Among o others → HasBegun history o → HasBegun rest o
-    begun_behind o a (inl e) = let client : 0 ≡ o.client = cc e in let number : last + 1 ≡ o.number = cc e in absurd (not_again o a number (sym client))
+    begun_behind o a (inl e) = let client : 0 ≡ o.client = cc e in let number : last + 1 ≡ o.number = cc e
+        in absurd (not_again o a number (sym client))
     begun_behind o a (inr (inl e)) = absurd (no_begin 0 (last + 1) reply o e)
     begun_behind o a (inr (inr b)) = b
 

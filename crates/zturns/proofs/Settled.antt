@@ -13,7 +13,8 @@ use Rattle.zworld_model.specs.declared.outcome.Outcome.TheVariants.{Acted, Stopp
 use Rattle.zworld_model.specs.World.{World}
 use Rattle.zworld_model.specs.Events.{is_enabled, happens, run}
 use Rattle.zworld_model.specs.Reading.{read, reading_by, is_fitting}
-use Rattle.zworld_model.specs.Settle.{Settling, processes, deliveries, retry_events, next_outcome, with_event, with_try, with_tries, is_over, passes, opening_settling, settle}
+use Rattle.zworld_model.specs.Settle.{Settling, processes, deliveries, retry_events, next_outcome, with_event, with_try}
+use Rattle.zworld_model.specs.Settle.{with_tries, is_over, passes, opening_settling, settle}
 use Rattle.zworld_model.proofs.WithinTables.{all_both}
 use Rattle.zturns.specs.Turns.{Log}
 use Rattle.zturns.specs.World.{GoesOn}
@@ -32,7 +33,8 @@ resolved (Ignore from to) outcome none = tt
 resolved (Fail s) outcome none = tt
 resolved (Order order) outcome none = tt
 
-pub no_call_read : {M : Type 0} (machine : Does M) (w : World M) (event : Event) (outcome : Outcome) → NoCall event → NoCall (read machine w event outcome)
+pub no_call_read : {M : Type 0} (machine : Does M) (w : World M) (event : Event) (outcome : Outcome) → NoCall event
+    → NoCall (read machine w event outcome)
 no_call_read machine w event outcome none =
     chosen NoCall (is_fitting machine w event outcome) (reading_by event outcome) event (resolved event outcome none) none
 
@@ -66,7 +68,8 @@ module _ {M : Type 0} (machine : Does M) where
   passed : (events : List Event) (more : ℕ) (s : Settling M) → AllByRecursion NoCall events → Silent s → Silent (passes machine events more s)
   passed events zero s none silent = silent
   passed events (suc more) s none silent =
-      elim (is_over s events) as (λ over. Silent (elim over as (λ b. Settling M) [ true ↦ s | false ↦ passes machine events more (with_tries machine s events) ])) [
+      elim (is_over s events) as
+      (λ over. Silent (elim over as (λ b. Settling M) [ true ↦ s | false ↦ passes machine events more (with_tries machine s events) ])) [
         | true ↦ silent
         | false ↦ passed events more (with_tries machine s events) none (all_tried events s none silent)
       ]
@@ -77,7 +80,8 @@ module _ {M : Type 0} (machine : Does M) where
       let everybody = processes w.master.clients in
       let none : AllByRecursion NoCall (deliveries w.master.clients) = all_delivered everybody everybody in
       let once = passed (deliveries w.master.clients) limit (opening_settling w limit outcomes) none tt in
-      passed (deliveries w.master.clients) limit _ none (all_tried (retry_events w.master.clients) _ (all_retried (range_with_len 0 w.master.clients)) once)
+      passed (deliveries w.master.clients) limit _ none (all_tried (retry_events w.master.clients) _
+      (all_retried (range_with_len 0 w.master.clients)) once)
 
   -- and in a run of such events the log goes on
   pub run_goes_on : (log : Log) (waiting : Option Call) (events : List Event) (w : World M) → AllByRecursion NoCall events → GoesOn w log waiting

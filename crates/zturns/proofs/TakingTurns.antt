@@ -1,5 +1,7 @@
 -- Every event keeps the turns of the one client.
-use Rattle.std.proofs.Common.{◌≡◌, ◌⊎◌, ℕ, ◌+◌, ◌<◌, Bool, true, false, if◌then◌else◌, ◌==◌, List, [], ◌∷◌, ◌++◌, length, length-append, Option, Some, None, refl, sym, ap, subst, ◌∙◌, inl, inr, arith, eqb-true, ltb-true}
+use Rattle.std.proofs.Common.{◌≡◌, ◌⊎◌, ℕ, ◌+◌, ◌<◌, Bool, true, false, if◌then◌else◌, ◌==◌, List, [], ◌∷◌, ◌++◌}
+use Rattle.std.proofs.Common.{length, length-append, Option, Some, None, refl, sym, ap, subst, ◌∙◌, inl, inr, arith}
+use Rattle.std.proofs.Common.{eqb-true, ltb-true}
 use Rattle.std.specs.Prelude.{◌≤◌, ◌&&◌, is_none, nat_lt}
 use Rattle.std.proofs.lemmas.Bool.Decides.{nat_tests}
 use Rattle.zcalls.specs.declared.limits.TheConstants.{MAX_CALL_NUMBER}
@@ -40,7 +42,8 @@ NoCall (Begin c call) = ⊥
 NoCall event = Unit {0}
 
 -- the master keeps the number of clients
-row_keeps : {T : Type 0} (v : MasterView) (from : Process) (m : _) (r : MasterView × List _) → master.IsMasterRow {T = T} v from m r → r.0.clients ≡ v.clients
+row_keeps : {T : Type 0} (v : MasterView) (from : Process) (m : _) (r : MasterView × List _) → master.IsMasterRow {T = T} v from m r
+    → r.0.clients ≡ v.clients
 row_keeps v _ _ _ (master.Ignores from m) = refl
 row_keeps v _ _ _ (master.Reports s epoch last p is) = refl
 row_keeps v _ _ _ (master.Joins s epoch is) = refl
@@ -146,9 +149,11 @@ module _ {M : Type 0} (machine : Does M) (log : Log) (waiting : Option Call) whe
   -- any process does
   process_goes : (w : World M) (from to : Process) (m : MessageOf M) → TakesTurns w log waiting → Goes (does_in machine w to (Hear from m))
   process_goes w from Master m is =
-      inl (mastered log waiting w (master_step w.master from m).0 _ (row_keeps w.master from m (master_step w.master from m) (master_case w.master from m)) is)
+      inl (mastered log waiting w (master_step w.master from m).0 _ (row_keeps w.master from m (master_step w.master from m)
+      (master_case w.master from m)) is)
   process_goes w from (Server s) m is =
-      by_choice Goes (is_retirement from m) w (Server s) stop_effect (server_effect (server_step machine (w.servers s) from m)) (inl (kept log waiting w w.servers _ _ is)) (inl (kept log waiting w _ w.failed _ is))
+      by_choice Goes (is_retirement from m) w (Server s) stop_effect (server_effect (server_step machine (w.servers s) from m))
+      (inl (kept log waiting w w.servers _ _ is)) (inl (kept log waiting w _ w.failed _ is))
   process_goes w from (Client c) m is = client_goes w c from m (client_step (w.clients c) from m) (client_case (w.clients c) from m) is
 
   front_goes : (w : World M) (from to : Process) (link : List (MessageOf M)) → TakesTurns w log waiting → Goes (front_step machine w from to link)
@@ -171,7 +176,8 @@ module _ {M : Type 0} (machine : Does M) (log : Log) (waiting : Option Call) whe
   goes_without w (inr did) = inr (did.0, did.1, did.2, lets_go (log ++ (did.0, did.1) ∷ []) None w did.3)
 
   happens_goes : (w : World M) (event : Event) → NoCall event → TakesTurns w log waiting → Goes (happens machine w event)
-  happens_goes w event none is = chosen Goes (is_enabled w event) (let_go (acts machine w event)) w (goes_without (acts machine w event) (acts_go w event none is)) (inl is)
+  happens_goes w event none is = chosen Goes (is_enabled w event) (let_go (acts machine w event)) w
+      (goes_without (acts machine w event) (acts_go w event none is)) (inl is)
 
 -- one more event at which no call begins
 pub goes_on : {M : Type 0} (machine : Does M) (log : Log) (waiting : Option Call) (w : World M) (event : Event) → NoCall event → GoesOn w log waiting
@@ -185,7 +191,8 @@ goes_on machine log waiting w event none (inr did) =
 
 -- a call begins: it is one of the one client, and none waited
 module _ {M : Type 0} (machine : Does M) (w : World M) (call : Call) where
-  begun_turns : (log : Log) (waiting : Option Call) → waiting ≡ None → TakesTurns w log waiting → TakesTurns (acts machine w (Begin 0 call)) log (Some call)
+  begun_turns : (log : Log) (waiting : Option Call) → waiting ≡ None → TakesTurns w log waiting
+      → TakesTurns (acts machine w (Begin 0 call)) log (Some call)
   unfolding begin_step
   begun_turns log (Some asked) none is = absurd (cc none)
   begun_turns log None none is = record {
@@ -258,13 +265,16 @@ IsOrder (Order order) = Unit {0}
 IsOrder event = ⊥
 
 -- turns are taken after an event, by what it does where it is enabled
-of_event : {M : Type 0} (machine : Does M) (w : World M) (log : Log) (waiting : Option Call) (event : Event) → TakesTurns (acts machine w event) log waiting
+of_event : {M : Type 0} (machine : Does M) (w : World M) (log : Log) (waiting : Option Call) (event : Event)
+    → TakesTurns (acts machine w event) log waiting
     → TakesTurns w log waiting → TakesTurns (happens machine w event) log waiting
 of_event machine w log waiting event acted idle =
-    chosen (λ u. TakesTurns u log waiting) (is_enabled w event) (let_go (acts machine w event)) w (lets_go log waiting (acts machine w event) acted) idle
+    chosen (λ u. TakesTurns u log waiting) (is_enabled w event) (let_go (acts machine w event)) w
+    (lets_go log waiting (acts machine w event) acted) idle
 
 -- leave the log as it is
-pub order_keeps : {M : Type 0} (machine : Does M) (w : World M) (log : Log) (waiting : Option Call) (event : Event) → IsOrder event → TakesTurns w log waiting
+pub order_keeps : {M : Type 0} (machine : Does M) (w : World M) (log : Log) (waiting : Option Call) (event : Event)
+    → IsOrder event → TakesTurns w log waiting
     → TakesTurns (happens machine w event) log waiting
 order_keeps machine w log waiting (Begin c call) order is = absurd order
 order_keeps machine w log waiting (Retry c) order is = absurd order
@@ -285,7 +295,8 @@ out_of_numbers v none fault = by (nat_lt v.number MAX_CALL_NUMBER) refl
     by false high = grind (arith, nat_tests, high)
 
 -- so the one client begins its next call, unless its numbers are used up
-pub exhausted : {M : Type 0} (w : World M) (call : Call) (log : Log) → TakesTurns w log None → is_enabled w (Begin 0 call) ≡ false → MAX_CALL_NUMBER ≤ length log
+pub exhausted : {M : Type 0} (w : World M) (call : Call) (log : Log) → TakesTurns w log None → is_enabled w (Begin 0 call) ≡ false
+    → MAX_CALL_NUMBER ≤ length log
 exhausted w call log is idle =
     let first : nat_lt 0 w.master.clients ≡ true = ap (λ k. nat_lt 0 k) is.one in
     let fault : is_none (begin_fault (w.clients 0)) ≡ false = sym (ap (λ b. b && is_none (begin_fault (w.clients 0))) first) ∙ idle in

@@ -13,7 +13,9 @@ use Rattle.zjute.proofs.Before.{Anything, before, is_form}
 use Rattle.zjute.proofs.Tags.{again_as, is_by_tag}
 use Rattle.zcalls.specs.declared.limits.TheConstants.{MAX_CALL_NUMBER}
 use Rattle.zcalls.specs.declared.refusal.Refusal.{Refusal}
-use Rattle.zcalls.specs.declared.refusal.Refusal.TheVariants.{NoNode, NodeExists, NotEmpty, BadVersion, NoChildrenForEphemerals, SessionGone, SequenceFull, PathLimit, RootFixed, Full, TooManySessions, Exhausted}
+use Rattle.zcalls.specs.declared.refusal.Refusal.TheVariants.{NoNode, NodeExists, NotEmpty, BadVersion}
+use Rattle.zcalls.specs.declared.refusal.Refusal.TheVariants.{NoChildrenForEphemerals, SessionGone, SequenceFull}
+use Rattle.zcalls.specs.declared.refusal.Refusal.TheVariants.{PathLimit, RootFixed, Full, TooManySessions, Exhausted}
 use Rattle.zprotocol.specs.declared.limits.TheConstants.{MAX_LOG_NUMBER, MAX_EPOCH}
 use Rattle.zprotocol.specs.declared.process.Process.{Process}
 use Rattle.zprotocol.specs.declared.process.Process.TheVariants.{Master, Server, Client}
@@ -21,7 +23,9 @@ use Rattle.zrecords.specs.Fields.{long}
 use Rattle.zrecords.specs.Records.{server}
 use Rattle.zrecords.proofs.Sums.{none_take, one_takes}
 use Rattle.zrecords.proofs.Records.{is_server}
-use Rattle.zwire.specs.Fields.{within_from, within, call_number, log_number, epoch, client, process_at, process_spelled, process, three, zxids_of, four, counts_of, sizes_of, stat_of, stat, refusal_at, refusal_spelled, refusal, counted}
+use Rattle.zwire.specs.Fields.{within_from, within, call_number, log_number, epoch, client, process_at, process_spelled}
+use Rattle.zwire.specs.Fields.{process, three, zxids_of, four, counts_of, sizes_of, stat_of, stat, refusal_at}
+use Rattle.zwire.specs.Fields.{refusal_spelled, refusal, counted}
 
 -- ---- numbers
 
@@ -50,7 +54,8 @@ is_client = is_within w8 31 is_u8 (omega arith)
 
 -- ---- processes
 
-process_again : (p : Process) (rest : List ℕ) → Anything rest → (process_spelled p).fits → process_at (process_spelled p).tag ((process_spelled p).text ++ rest) ≡ Ok (p, rest)
+process_again : (p : Process) (rest : List ℕ) → Anything rest → (process_spelled p).fits
+    → process_at (process_spelled p).tag ((process_spelled p).text ++ rest) ≡ Ok (p, rest)
 unfolding process_at
 process_again Master rest any fits = refl
 process_again (Server id) rest any fits = again_as Anything server (λ id. Server id) (before Anything server is_server) id rest any fits
@@ -81,7 +86,8 @@ is_stat =
 
 -- ---- refusals
 
-refusal_again : (r : Refusal) (rest : List ℕ) → Anything rest → (refusal_spelled r).fits → refusal_at (refusal_spelled r).tag ((refusal_spelled r).text ++ rest) ≡ Ok (r, rest)
+refusal_again : (r : Refusal) (rest : List ℕ) → Anything rest → (refusal_spelled r).fits
+    → refusal_at (refusal_spelled r).tag ((refusal_spelled r).text ++ rest) ≡ Ok (r, rest)
 unfolding refusal_at
 refusal_again NoNode rest any fits = refl
 refusal_again NodeExists rest any fits = refl

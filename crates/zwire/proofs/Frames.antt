@@ -41,7 +41,8 @@ is_framed {A} most c few is = record {
       subst (λ (y : A × List ℕ). (bytes ≡ (sized most).spell (c.spell y.0) ++ y.1) × (c.Fits y.0 × (length (c.spell y.0) ≤ most))) (ok_is _ _ b.2)
       (subst (λ (text : List ℕ). (bytes ≡ (sized most).spell text ++ a.0.1) × (c.Fits b.0 × (length text ≤ most))) w.0 (t.0, (w.1, t.1.0)));
   again = λ x rest fits.
-      ap (λ (r : Result (List ℕ × List ℕ) Fault). r >>= λ t. whole c t.0 >>= λ y. done (y, t.1)) ((is_sized most few).again (c.spell x) rest (fits.1, refl))
+      ap (λ (r : Result (List ℕ × List ℕ) Fault). r >>= λ t. whole c t.0 >>= λ y. done (y, t.1))
+      ((is_sized most few).again (c.spell x) rest (fits.1, refl))
       ∙ ap (λ (r : Result A Fault). r >>= λ y. done (y, rest)) (whole_again c is x fits.0);
 }
 
@@ -65,13 +66,17 @@ apart x e same = cc
 
 module _ {A : Type 0} (c : Form A) (is : IsForm c) where
   -- the length of a frame, and its bytes, are read
-  frame_sized : (x : A) (rest : List ℕ) → (framed MAX_FRAME c).Fits x → (sized MAX_FRAME).read ((framed MAX_FRAME c).spell x ++ rest) ≡ Ok (c.spell x, rest)
+  frame_sized : (x : A) (rest : List ℕ) → (framed MAX_FRAME c).Fits x → (sized MAX_FRAME).read ((framed MAX_FRAME c).spell x ++ rest)
+      ≡ Ok (c.spell x, rest)
   frame_sized x rest fits = (is_sized MAX_FRAME (omega arith)).again (c.spell x) rest (fits.1, refl)
 
   -- where a frame stands, no fault but a want of memory is told
-  only_memory : (bytes : List ℕ) (fault : FrameFault) (x : A) (rest : List ℕ) → (framed MAX_FRAME c).Fits x → bytes ≡ (framed MAX_FRAME c).spell x ++ rest → IsFaultOf c bytes fault → fault ≡ Memory
-  only_memory bytes Cut x rest fits same told = absurd (apart (c.spell x, rest) Short (sym (frame_sized x rest fits) ∙ ap (sized MAX_FRAME).read (sym same) ∙ told))
-  only_memory bytes TooLong x rest fits same told = absurd (apart (c.spell x, rest) Long (sym (frame_sized x rest fits) ∙ ap (sized MAX_FRAME).read (sym same) ∙ told))
+  only_memory : (bytes : List ℕ) (fault : FrameFault) (x : A) (rest : List ℕ) → (framed MAX_FRAME c).Fits x
+      → bytes ≡ (framed MAX_FRAME c).spell x ++ rest → IsFaultOf c bytes fault → fault ≡ Memory
+  only_memory bytes Cut x rest fits same told = absurd (apart (c.spell x, rest) Short (sym (frame_sized x rest fits)
+      ∙ ap (sized MAX_FRAME).read (sym same) ∙ told))
+  only_memory bytes TooLong x rest fits same told = absurd (apart (c.spell x, rest) Long (sym (frame_sized x rest fits)
+      ∙ ap (sized MAX_FRAME).read (sym same) ∙ told))
   only_memory bytes (Contents fault) x rest fits same told =
       let both = ok_is (c.spell x, rest) (told.0, told.1) (sym (frame_sized x rest fits) ∙ ap (sized MAX_FRAME).read (sym same) ∙ told.2) in
       let text : c.spell x ≡ told.0 = ap (λ (p : List ℕ × List ℕ). p.0) both in
@@ -79,13 +84,15 @@ module _ {A : Type 0} (c : Form A) (is : IsForm c) where
   only_memory bytes Memory x rest fits same told = refl
 
   -- what was read stands in front
-  pub found_in : {V : Type 0} (of : V → A × List ℕ) (bytes : List ℕ) (r : Result V FrameFault) → IsBytes bytes → IfOk r (λ v. (framed MAX_FRAME c).read bytes ≡ Ok (of v))
+  pub found_in : {V : Type 0} (of : V → A × List ℕ) (bytes : List ℕ) (r : Result V FrameFault) → IsBytes bytes
+      → IfOk r (λ v. (framed MAX_FRAME c).read bytes ≡ Ok (of v))
       → IfOk r (λ v. (framed MAX_FRAME c).Fits (of v).0 × (bytes ≡ (framed MAX_FRAME c).spell (of v).0 ++ (of v).1))
   found_in of bytes (Ok v) are read = let t = (is_framed MAX_FRAME c (omega arith) is).takes bytes (of v) are read in (t.1, t.0)
   found_in of bytes (Err fault) are read = tt
 
   -- and what stands in front is read
-  pub only_in : {V : Type 0} (of : V → A × List ℕ) (bytes : List ℕ) (r : Result V FrameFault) → IfOk r (λ v. (framed MAX_FRAME c).read bytes ≡ Ok (of v)) → IfErr r (IsFaultOf c bytes)
+  pub only_in : {V : Type 0} (of : V → A × List ℕ) (bytes : List ℕ) (r : Result V FrameFault)
+      → IfOk r (λ v. (framed MAX_FRAME c).read bytes ≡ Ok (of v)) → IfErr r (IsFaultOf c bytes)
       → (x : A) (rest : List ℕ) → (framed MAX_FRAME c).Fits x → bytes ≡ (framed MAX_FRAME c).spell x ++ rest
       → IfOk r (λ v. ((of v).0 ≡ x) × ((of v).1 ≡ rest)) × IfErr r (λ fault. fault ≡ Memory)
   only_in of bytes (Ok v) read told x rest fits same =
@@ -95,11 +102,13 @@ module _ {A : Type 0} (c : Form A) (is : IsForm c) where
 
 -- ---- more bytes
 
-sized_stays : (bytes more : List ℕ) (r : Result (List ℕ × List ℕ) Fault) → (sized MAX_FRAME).read bytes ≡ r → Stays more r ((sized MAX_FRAME).read (bytes ++ more))
+sized_stays : (bytes more : List ℕ) (r : Result (List ℕ × List ℕ) Fault) → (sized MAX_FRAME).read bytes ≡ r
+    → Stays more r ((sized MAX_FRAME).read (bytes ++ more))
 sized_stays bytes more r is =
     subst (λ (r : Result (List ℕ × List ℕ) Fault). Stays more r ((sized MAX_FRAME).read (bytes ++ more))) is (steady_sized MAX_FRAME bytes more)
 
-pub faults_stay : {A : Type 0} (c : Form A) (bytes more : List ℕ) (fault : FrameFault) → fault ≢ Cut → IsFaultOf c bytes fault → IsFaultOf c (bytes ++ more) fault
+pub faults_stay : {A : Type 0} (c : Form A) (bytes more : List ℕ) (fault : FrameFault) → fault ≢ Cut → IsFaultOf c bytes fault
+    → IsFaultOf c (bytes ++ more) fault
 faults_stay c bytes more Cut other is = absurd (other refl)
 faults_stay c bytes more TooLong other is = sized_stays bytes more (Err Long) is
 faults_stay c bytes more (Contents fault) other is = (is.0, is.1 ++ more, sized_stays bytes more (Ok (is.0, is.1)) is.2, is.3)
@@ -118,7 +127,8 @@ begins_cut back x some (Err Long) stays = absurd (apart (x, []) Long stays)
 begins_cut back x some (Err Invalid) stays = absurd (apart (x, []) Invalid stays)
 begins_cut back x some (Err Trailing) stays = absurd (apart (x, []) Trailing stays)
 
-pub beginning_is_cut : {A : Type 0} (c : Form A) → IsForm c → (x : A) (front back : List ℕ) → (framed MAX_FRAME c).Fits x → (framed MAX_FRAME c).spell x ≡ front ++ back → back ≢ [] → IsFaultOf c front Cut
+pub beginning_is_cut : {A : Type 0} (c : Form A) → IsForm c → (x : A) (front back : List ℕ) → (framed MAX_FRAME c).Fits x
+    → (framed MAX_FRAME c).spell x ≡ front ++ back → back ≢ [] → IsFaultOf c front Cut
 beginning_is_cut c is x front back fits split some =
     let whole_read : (sized MAX_FRAME).read (front ++ back) ≡ Ok (c.spell x, []) =
     ap (sized MAX_FRAME).read (sym split ∙ sym (append-nil ((framed MAX_FRAME c).spell x))) ∙ frame_sized c is x [] fits in

@@ -16,7 +16,8 @@ use Rattle.zrecords.proofs.Records.{is_server}
 use Rattle.zrecords.proofs.Calls.{is_update}
 use Rattle.zwire.specs.Fields.{call_number, log_number, epoch, client}
 use Rattle.zwire.specs.Replies.{query, reply}
-use Rattle.zwire.specs.Messages.{entry, last, end, submitted, asked, answered, forwarded, acknowledged, predecessor, held, successor, ends, Bare, order_at, message_at, message_spelled, any_message}
+use Rattle.zwire.specs.Messages.{entry, last, end, submitted, asked, answered, forwarded, acknowledged, predecessor}
+use Rattle.zwire.specs.Messages.{held, successor, ends, Bare, order_at, message_at, message_spelled, any_message}
 use Rattle.zwire.proofs.Fields.{is_call_number, is_log_number, is_epoch, is_client}
 use Rattle.zwire.proofs.Replies.{is_query, is_reply}
 
@@ -63,23 +64,36 @@ are_ends = is_both epoch (both end end) is_epoch (is_both end end is_end is_end)
 
 -- ---- messages
 
-message_again : (m : Bare) (rest : List ℕ) → Anything rest → (message_spelled m).fits → message_at (message_spelled m).tag ((message_spelled m).text ++ rest) ≡ Ok (m, rest)
+message_again : (m : Bare) (rest : List ℕ) → Anything rest → (message_spelled m).fits
+    → message_at (message_spelled m).tag ((message_spelled m).text ++ rest) ≡ Ok (m, rest)
 unfolding message_at order_at
-message_again (message.Submit n u) rest any fits = again_as Anything submitted (λ m. message.Submit m.0 m.1) (before Anything submitted is_submitted) (n, u) rest any fits
-message_again (message.Query n q) rest any fits = again_as Anything asked (λ m. message.Query m.0 m.1) (before Anything asked is_asked) (n, q) rest any fits
-message_again (message.Answer n r) rest any fits = again_as Anything answered (λ m. message.Answer m.0 m.1) (before Anything answered is_answered) (n, r) rest any fits
-message_again (message.Update e n entry) rest any fits = again_as Anything forwarded (λ m. message.Update m.0 m.1.0 m.1.1) (before Anything forwarded is_forwarded) (e, (n, entry)) rest any fits
-message_again (message.Ack e n) rest any fits = again_as Anything acknowledged (λ m. message.Ack m.0 m.1) (before Anything acknowledged is_acknowledged) (e, n) rest any fits
-message_again (message.Snapshot e tt) rest any fits = again_as Anything epoch (λ n. message.Snapshot n tt) (before Anything epoch is_epoch) e rest any fits
-message_again (message.NewPred e s) rest any fits = again_as Anything predecessor (λ m. message.NewPred m.0 m.1) (before Anything predecessor is_predecessor) (e, s) rest any fits
-message_again (message.Have e l) rest any fits = again_as Anything held (λ m. message.Have m.0 m.1) (before Anything held is_held) (e, l) rest any fits
-message_again (message.NewSucc e s l) rest any fits = again_as Anything successor (λ m. message.NewSucc m.0 m.1.0 m.1.1) (before Anything successor is_successor) (e, (s, l)) rest any fits
-message_again (message.BecomeHead e) rest any fits = again_as Anything epoch (λ n. message.BecomeHead n) (before Anything epoch is_epoch) e rest any fits
-message_again (message.BecomeTail e) rest any fits = again_as Anything epoch (λ n. message.BecomeTail n) (before Anything epoch is_epoch) e rest any fits
+message_again (message.Submit n u) rest any fits = again_as Anything submitted (λ m. message.Submit m.0 m.1)
+    (before Anything submitted is_submitted) (n, u) rest any fits
+message_again (message.Query n q) rest any fits = again_as Anything asked (λ m. message.Query m.0 m.1)
+    (before Anything asked is_asked) (n, q) rest any fits
+message_again (message.Answer n r) rest any fits = again_as Anything answered (λ m. message.Answer m.0 m.1)
+    (before Anything answered is_answered) (n, r) rest any fits
+message_again (message.Update e n entry) rest any fits = again_as Anything forwarded (λ m. message.Update m.0 m.1.0 m.1.1)
+    (before Anything forwarded is_forwarded) (e, (n, entry)) rest any fits
+message_again (message.Ack e n) rest any fits = again_as Anything acknowledged (λ m. message.Ack m.0 m.1)
+    (before Anything acknowledged is_acknowledged) (e, n) rest any fits
+message_again (message.Snapshot e tt) rest any fits = again_as Anything epoch (λ n. message.Snapshot n tt)
+    (before Anything epoch is_epoch) e rest any fits
+message_again (message.NewPred e s) rest any fits = again_as Anything predecessor (λ m. message.NewPred m.0 m.1)
+    (before Anything predecessor is_predecessor) (e, s) rest any fits
+message_again (message.Have e l) rest any fits = again_as Anything held (λ m. message.Have m.0 m.1) (before Anything held is_held)
+    (e, l) rest any fits
+message_again (message.NewSucc e s l) rest any fits = again_as Anything successor (λ m. message.NewSucc m.0 m.1.0 m.1.1)
+    (before Anything successor is_successor) (e, (s, l)) rest any fits
+message_again (message.BecomeHead e) rest any fits = again_as Anything epoch (λ n. message.BecomeHead n)
+    (before Anything epoch is_epoch) e rest any fits
+message_again (message.BecomeTail e) rest any fits = again_as Anything epoch (λ n. message.BecomeTail n)
+    (before Anything epoch is_epoch) e rest any fits
 message_again message.Retire rest any fits = refl
 message_again (message.Joined e) rest any fits = again_as Anything epoch (λ n. message.Joined n) (before Anything epoch is_epoch) e rest any fits
 message_again message.Gone rest any fits = refl
-message_again (message.Config e h t) rest any fits = again_as Anything ends (λ m. message.Config m.0 m.1.0 m.1.1) (before Anything ends are_ends) (e, (h, t)) rest any fits
+message_again (message.Config e h t) rest any fits = again_as Anything ends (λ m. message.Config m.0 m.1.0 m.1.1)
+    (before Anything ends are_ends) (e, (h, t)) rest any fits
 
 are_orders : Takes message_spelled order_at
 unfolding order_at

@@ -1,5 +1,6 @@
 -- Names are forms. A name is read as that of a node below another.
-use Rattle.std.proofs.Common.{◌≡◌, ℕ, ◌≤◌, Bool, true, false, cond, ◌||◌, List, [], ◌∷◌, ◌++◌, length, Result, Ok, Err, refl, sym, ap, subst, ◌∙◌, append-nil, arith, lit<}
+use Rattle.std.proofs.Common.{◌≡◌, ℕ, ◌≤◌, Bool, true, false, cond, ◌||◌, List, [], ◌∷◌, ◌++◌, length, Result, Ok, Err}
+use Rattle.std.proofs.Common.{refl, sym, ap, subst, ◌∙◌, append-nil, arith, lit<}
 use Rattle.std.specs.Prelude.{is_some}
 use Rattle.std.specs.List.{flat_map}
 use Rattle.zforms.specs.declared.fault.Fault.{Fault}
@@ -145,7 +146,8 @@ path_invalid text fault e = by (is_some (fault_of text)) e
 pub name_below : (text : List ℕ) → name_from text ≡ (path_from (below text) >>= second_from)
 name_below text =
     name_or text
-    (λ is. name_again text is ∙ ap (λ (r : Result Path Fault). r >>= second_from) (sym (ap path_from (sym (text_two text)) ∙ path_again (two text) (is_two text is))))
+    (λ is. name_again text is ∙ ap (λ (r : Result Path Fault). r >>= second_from)
+    (sym (ap path_from (sym (text_two text)) ∙ path_again (two text) (is_two text is))))
     (λ none. none ∙ sym (by none (path_from (below text)) refl))
   where
     by : name_from text ≡ Err Invalid → (r : Result Path Fault) → path_from (below text) ≡ r → (path_from (below text) >>= second_from) ≡ Err Invalid

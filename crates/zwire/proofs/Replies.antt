@@ -17,13 +17,16 @@ use Rattle.zrecords.specs.Fields.{path, content, long}
 use Rattle.zrecords.proofs.Sums.{Takes, none_take, one_takes}
 use Rattle.zrecords.proofs.Fields.{is_path, is_content}
 use Rattle.zwire.specs.Fields.{stat, refusal, name}
-use Rattle.zwire.specs.Replies.{query_at, query_spelled, query, part_reply_at, part_reply_spelled, part_reply, replies, names, opened, ticked, data_stat, refused_part, other_reply_at, reply_at, reply_spelled, reply}
+use Rattle.zwire.specs.Replies.{query_at, query_spelled, query, part_reply_at, part_reply_spelled, part_reply, replies}
+use Rattle.zwire.specs.Replies.{names, opened, ticked, data_stat, refused_part, other_reply_at, reply_at, reply_spelled}
+use Rattle.zwire.specs.Replies.{reply}
 use Rattle.zwire.proofs.Fields.{is_stat, is_refusal, is_counted}
 use Rattle.zwire.proofs.Names.{is_name}
 
 -- ---- queries
 
-query_again : (q : Query) (rest : List ℕ) → Anything rest → (query_spelled q).fits → query_at (query_spelled q).tag ((query_spelled q).text ++ rest) ≡ Ok (q, rest)
+query_again : (q : Query) (rest : List ℕ) → Anything rest → (query_spelled q).fits
+    → query_at (query_spelled q).tag ((query_spelled q).text ++ rest) ≡ Ok (q, rest)
 unfolding query_at
 query_again (ask.GetData p) rest any fits = again_as Anything path (λ p. ask.GetData p) (before Anything path is_path) p rest any fits
 query_again (ask.Exists p) rest any fits = again_as Anything path (λ p. ask.Exists p) (before Anything path is_path) p rest any fits
@@ -40,7 +43,8 @@ is_query = is_form query (is_by_tag Anything (number w8) query_at query_spelled 
 
 -- ---- the replies to the parts of a multi
 
-part_reply_again : (r : PartReply) (rest : List ℕ) → Anything rest → (part_reply_spelled r).fits → part_reply_at (part_reply_spelled r).tag ((part_reply_spelled r).text ++ rest) ≡ Ok (r, rest)
+part_reply_again : (r : PartReply) (rest : List ℕ) → Anything rest → (part_reply_spelled r).fits
+    → part_reply_at (part_reply_spelled r).tag ((part_reply_spelled r).text ++ rest) ≡ Ok (r, rest)
 unfolding part_reply_at
 part_reply_again (part.Created p) rest any fits = again_as Anything path (λ p. part.Created p) (before Anything path is_path) p rest any fits
 part_reply_again part.Deleted rest any fits = refl
@@ -79,21 +83,26 @@ is_data_stat = is_both content stat is_content is_stat
 is_refused_part : IsForm refused_part
 is_refused_part = is_both long refusal is_u64 is_refusal
 
-reply_again : (r : Reply) (rest : List ℕ) → Anything rest → (reply_spelled r).fits → reply_at (reply_spelled r).tag ((reply_spelled r).text ++ rest) ≡ Ok (r, rest)
+reply_again : (r : Reply) (rest : List ℕ) → Anything rest → (reply_spelled r).fits
+    → reply_at (reply_spelled r).tag ((reply_spelled r).text ++ rest) ≡ Ok (r, rest)
 unfolding reply_at other_reply_at
 reply_again (told.Created p) rest any fits = again_as Anything path (λ p. told.Created p) (before Anything path is_path) p rest any fits
 reply_again told.Deleted rest any fits = refl
 reply_again (told.Set s) rest any fits = again_as Anything stat (λ s. told.Set s) (before Anything stat is_stat) s rest any fits
 reply_again (told.Multi rs) rest any fits = again_as Anything replies (λ rs. told.Multi rs) (before Anything replies is_replies) rs rest any fits
-reply_again (told.Opened id timeout) rest any fits = again_as Anything opened (λ o. told.Opened o.0 o.1) (before Anything opened is_opened) (id, timeout) rest any fits
+reply_again (told.Opened id timeout) rest any fits = again_as Anything opened (λ o. told.Opened o.0 o.1)
+    (before Anything opened is_opened) (id, timeout) rest any fits
 reply_again told.Pinged rest any fits = refl
 reply_again told.Closed rest any fits = refl
-reply_again (told.Ticked tick ended removed) rest any fits = again_as Anything ticked (λ t. told.Ticked t.0 t.1.0 t.1.1) (before Anything ticked is_ticked) (tick, (ended, removed)) rest any fits
-reply_again (told.Data bytes s) rest any fits = again_as Anything data_stat (λ d. told.Data d.0 d.1) (before Anything data_stat is_data_stat) (bytes, s) rest any fits
+reply_again (told.Ticked tick ended removed) rest any fits = again_as Anything ticked (λ t. told.Ticked t.0 t.1.0 t.1.1)
+    (before Anything ticked is_ticked) (tick, (ended, removed)) rest any fits
+reply_again (told.Data bytes s) rest any fits = again_as Anything data_stat (λ d. told.Data d.0 d.1)
+    (before Anything data_stat is_data_stat) (bytes, s) rest any fits
 reply_again (told.Exists s) rest any fits = again_as Anything stat (λ s. told.Exists s) (before Anything stat is_stat) s rest any fits
 reply_again (told.Children ns) rest any fits = again_as Anything names (λ ns. told.Children ns) (before Anything names is_names) ns rest any fits
 reply_again (told.Refused r) rest any fits = again_as Anything refusal (λ r. told.Refused r) (before Anything refusal is_refusal) r rest any fits
-reply_again (told.MultiRefused n r) rest any fits = again_as Anything refused_part (λ r. told.MultiRefused r.0 r.1) (before Anything refused_part is_refused_part) (n, r) rest any fits
+reply_again (told.MultiRefused n r) rest any fits = again_as Anything refused_part (λ r. told.MultiRefused r.0 r.1)
+    (before Anything refused_part is_refused_part) (n, r) rest any fits
 
 others_take : Takes reply_spelled other_reply_at
 unfolding other_reply_at

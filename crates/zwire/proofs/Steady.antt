@@ -61,7 +61,8 @@ steady_made c to from Fits steady bytes more = stays_made from more (c.read byte
 steady_number : (w : Width) → IsSteady (number w)
 unfolding number_at
 steady_number w bytes more =
-    stays_made (λ front. Ok (from_be_bytes w front)) more (bytes_at (byte_len w) bytes) (bytes_at (byte_len w) (bytes ++ more)) (steady_exactly (byte_len w) bytes more)
+    stays_made (λ front. Ok (from_be_bytes w front)) more (bytes_at (byte_len w) bytes) (bytes_at (byte_len w) (bytes ++ more))
+    (steady_exactly (byte_len w) bytes more)
 
 pub steady_sized : (most : ℕ) → IsSteady (sized most)
 steady_sized most bytes more =

@@ -32,7 +32,8 @@ use Rattle.zworld.specs.support.Past.{HasPast, LeadRead}
 use Rattle.zworld.proofs.Steps.{enabled_anyway, fitting_anyway, read_anyway, read_acted, happens_not}
 
 -- what leads to what is held leads to its world
-pub leads_on : (v : World (KeptState Tree)) (held : Held) (history : History) → let_go v ≡ v → IsAlike v (kept_world held history) → v ≡ world_of held history
+pub leads_on : (v : World (KeptState Tree)) (held : Held) (history : History) → let_go v ≡ v → IsAlike v (kept_world held history)
+    → v ≡ world_of held history
 leads_on v held history gone alike = sym gone ∙ alike_let_go v (kept_world held history) alike
 
 -- an event of the processes is one of the world, from any history
@@ -45,10 +46,12 @@ happened old new before after event did (told, is, stepped) =
     read_alike kept_tree (world_of old before) kept event (outcome_of did) from ∙ read_anyway old before event (outcome_of did) in
     let next = happens kept_tree (world_of old before) (read kept_tree (kept_world old []) event (outcome_of did)) in
     let alike : IsAlike next (kept_world new (before ++ told)) =
-    alike_through _ _ _ (stay_alike kept_tree (world_of old before) kept (read kept_tree (kept_world old []) event (outcome_of did) ∷ []) from) (stepped.leads before) in
+    alike_through _ _ _ (stay_alike kept_tree (world_of old before) kept (read kept_tree (kept_world old []) event (outcome_of did) ∷ []) from)
+    (stepped.leads before) in
     record {
       idle = stepped.idle ∙ ap not (sym (have_the_same_enabled kept_tree (world_of old before) kept event from ∙ enabled_anyway old before event));
-      fits = outcomes_alike kept_tree (world_of old before) kept event (outcome_of did) from ∙ fitting_anyway old before event (outcome_of did) ∙ stepped.fits;
+      fits = outcomes_alike kept_tree (world_of old before) kept event (outcome_of did) from ∙ fitting_anyway old before event (outcome_of did)
+          ∙ stepped.fits;
       leads =
           ap (happens kept_tree (world_of old before)) reads
           ∙ leads_on next new (before ++ told) (happened_lets_go kept_tree kept (read kept_tree (kept_world old []) event (outcome_of did))) alike
@@ -58,7 +61,8 @@ happened old new before after event did (told, is, stepped) =
 -- what is enabled in the world is in what is held
 pub enabled_of : (held : Held) (history : History) (event : Event) → is_enabled (world_of held history) event ≡ is_enabled (kept_world held []) event
 enabled_of held history event =
-    have_the_same_enabled kept_tree (world_of held history) (kept_world held history) event (alike_back (kept_world held history)) ∙ enabled_anyway held history event
+    have_the_same_enabled kept_tree (world_of held history) (kept_world held history) event (alike_back (kept_world held history))
+    ∙ enabled_anyway held history event
 
 -- it goes on behind any past
 pub behind : (past : History) (old new : Held) (before after : History) (event : Event) (did : Did) → GoesBy old new event before after did
@@ -66,7 +70,8 @@ pub behind : (past : History) (old new : Held) (before after : History) (event :
 behind past old new before after event did (told, is, stepped) = (told, ap (λ xs. past ++ xs) is ∙ sym (append_assoc past before told), stepped)
 
 -- a run of events and more is a run of both
-run_both : (machine : Does (KeptState Tree)) (v : World (KeptState Tree)) (events more : List Event) → run machine v (events ++ more) ≡ run machine (run machine v events) more
+run_both : (machine : Does (KeptState Tree)) (v : World (KeptState Tree)) (events more : List Event)
+    → run machine v (events ++ more) ≡ run machine (run machine v events) more
 run_both machine v [] more = refl
 run_both machine v (event ∷ events) more = run_both machine (happens machine v event) events more
 
@@ -74,17 +79,20 @@ run_both machine v (event ∷ events) more = run_both machine (happens machine v
 pub after_both : (t : Tree) (servers clients : ℕ) (events more : List Event)
     → world_after_from t servers clients (events ++ more) ≡ run kept_tree (world_after_from t servers clients events) more
 after_both t servers clients events more =
-    run_both (kept_tree_from t) (opening_world_from t servers clients) events more ∙ runs_forget_the_start t (world_after_from t servers clients events) more
+    run_both (kept_tree_from t) (opening_world_from t servers clients) events more
+    ∙ runs_forget_the_start t (world_after_from t servers clients events) more
 
 -- where a run leads from the end of a past
-pub stands_later : (restored forgotten : Bool) (held next : Held) (history later : History) (events : List Event) (had : HasPast restored forgotten false held history)
+pub stands_later : (restored forgotten : Bool) (held next : Held) (history later : History) (events : List Event)
+    (had : HasPast restored forgotten false held history)
     → run kept_tree (world_of held (had.past ++ history)) events ≡ world_of next later
     → world_after_from had.tree had.servers had.clients (had.events ++ events) ≡ world_of next later
 stands_later restored forgotten held next history later events had leads =
     after_both had.tree had.servers had.clients had.events events ∙ ap (λ w. run kept_tree w events) (had.stands refl) ∙ leads
 
 -- the past goes on with it
-pub goes_on : (restored forgotten : Bool) (held next : Held) (history later : History) (events : List Event) (had : HasPast restored forgotten false held history)
+pub goes_on : (restored forgotten : Bool) (held next : Held) (history later : History) (events : List Event)
+    (had : HasPast restored forgotten false held history)
     → run kept_tree (world_of held (had.past ++ history)) events ≡ world_of next (had.past ++ later) → HasPast restored forgotten false next later
 goes_on restored forgotten held next history later events had leads =
     let stands = stands_later restored forgotten held next history (had.past ++ later) events had leads in
@@ -104,14 +112,16 @@ goes_on restored forgotten held next history later events had leads =
     }
 
 -- so it does with an event
-pub past_goes_on : (restored forgotten : Bool) (old new : Held) (before after : History) (event : Event) (did : Did) → HasPast restored forgotten false old before
+pub past_goes_on : (restored forgotten : Bool) (old new : Held) (before after : History) (event : Event) (did : Did)
+    → HasPast restored forgotten false old before
     → GoesBy old new event before after did → HasPast restored forgotten false new after
 past_goes_on restored forgotten old new before after event did had goes =
     goes_on restored forgotten old new before after (read kept_tree (world_of old (had.past ++ before)) event (outcome_of did) ∷ []) had
     (happened old new (had.past ++ before) (had.past ++ after) event did (behind had.past old new before after event did goes)).leads
 
 -- where memory is refused, the history is still that of the past
-pub past_stays : (restored forgotten is_broken : Bool) (held next : Held) (history later : History) → HasPast restored forgotten is_broken held history → later ≡ history
+pub past_stays : (restored forgotten is_broken : Bool) (held next : Held) (history later : History)
+    → HasPast restored forgotten is_broken held history → later ≡ history
     → HasPast restored forgotten true next later
 past_stays restored forgotten is_broken held next history later had same =
     record {
@@ -161,10 +171,12 @@ past_begins held history servers clients opens none opening =
     past_begins_with opening_tree opening_can_start false false held history servers clients (λ _. refl) (λ _. refl) opens none opening
 
 -- a history that is forgotten is of the past
-pub past_is_longer : (restored forgotten is_broken : Bool) (held : Held) (history later : History) → HasPast restored forgotten is_broken held history → later ≡ []
+pub past_is_longer : (restored forgotten is_broken : Bool) (held : Held) (history later : History)
+    → HasPast restored forgotten is_broken held history → later ≡ []
     → HasPast restored true is_broken held later
 past_is_longer restored forgotten is_broken held history later had none =
-    let all : had.past ++ history ≡ (had.past ++ history) ++ later = sym (append-nil (had.past ++ history)) ∙ ap (λ xs. (had.past ++ history) ++ xs) (sym none) in
+    let all : had.past ++ history ≡ (had.past ++ history) ++ later = sym (append-nil (had.past ++ history))
+    ∙ ap (λ xs. (had.past ++ history) ++ xs) (sym none) in
     record {
       tree = had.tree;
       can_start = had.can_start;
@@ -181,12 +193,14 @@ past_is_longer restored forgotten is_broken held history later had none =
     }
 
 -- the past and the history are explained
-past_from : (w : WorldView) (had : HasPast w.is_restored w.has_forgotten w.is_broken w.held w.history) → IsExplainedFrom had.tree (had.past ++ w.history)
+past_from : (w : WorldView) (had : HasPast w.is_restored w.has_forgotten w.is_broken w.held w.history)
+    → IsExplainedFrom had.tree (had.past ++ w.history)
 past_from w had =
     subst (IsExplainedFrom had.tree) had.told (every_history_from_is_explained had.tree had.can_start had.servers had.clients had.events)
 
 -- from the initial tree, where the world wasn't restored
-past_from_initial : (w : WorldView) (had : HasPast w.is_restored w.has_forgotten w.is_broken w.held w.history) → w.is_restored ≡ false → IsExplained (had.past ++ w.history)
+past_from_initial : (w : WorldView) (had : HasPast w.is_restored w.has_forgotten w.is_broken w.held w.history)
+    → w.is_restored ≡ false → IsExplained (had.past ++ w.history)
 past_from_initial w had began = subst (λ t. IsExplainedFrom t (had.past ++ w.history)) (had.initial began) (past_from w had)
 
 pub past_is_explained : (w : WorldView) → HasPast w.is_restored w.has_forgotten w.is_broken w.held w.history → IsExplainedFromStart w
@@ -194,14 +208,19 @@ past_is_explained w had =
     (λ began. (had.past, had.whole, past_from_initial w had began), (had.tree, had.past, had.can_start, past_from w had))
 
 -- where nothing was forgotten, the history is
-pub whole_is_explained : (w : WorldView) → HasPast w.is_restored w.has_forgotten w.is_broken w.held w.history → w.has_forgotten ≡ false → IsExplained w.history
+pub whole_is_explained : (w : WorldView) → HasPast w.is_restored w.has_forgotten w.is_broken w.held w.history
+    → w.has_forgotten ≡ false → IsExplained w.history
 whole_is_explained w had whole =
     subst (λ past. IsExplained (past ++ w.history)) (had.whole whole) (past_from_initial w had (had.lasting whole))
 
 -- one more event
 pub lead_more : (v u w : World (KeptState Tree)) (events : List Event) (event : Event) (did : Did) → LeadRead v events u → HasHappened u event did w
     → LeadRead v (events ++ event ∷ []) w
-lead_more v u w [] event did is has = (outcome_of did, subst (λ x. happens kept_tree x (read kept_tree x event (outcome_of did)) ≡ w) (sym is) has.leads)
+lead_more v u w [] event did is has = (
+  outcome_of did,
+  subst (λ x. happens kept_tree x (read kept_tree x event (outcome_of did)) ≡ w)
+      (sym is) has.leads,
+)
 lead_more v u w (first ∷ events) event did (outcome, more) has =
     (outcome, lead_more (happens kept_tree v (read kept_tree v first outcome)) u w events event did more has)
 
@@ -213,7 +232,8 @@ has_run v w (event ∷ events) (outcome, more) =
     (read kept_tree v event outcome ∷ rest.0, (outcome ∷ rest.1.0, ap (λ es. read kept_tree v event outcome ∷ es) rest.1.1), rest.2)
 
 -- so are those of which some were done
-pub has_begun_to_run : (v w : World (KeptState Tree)) (events front back : List Event) (history : History) → LeadRead v front w → events ≡ front ++ back
+pub has_begun_to_run : (v w : World (KeptState Tree)) (events front back : List Event) (history : History) → LeadRead v front w
+    → events ≡ front ++ back
     → history ≡ w.history → HasBegunToRun v events history
 has_begun_to_run v w events front back history leads cut same =
     let ran = has_run v w front leads in
@@ -221,13 +241,16 @@ has_begun_to_run v w events front back history leads cut same =
 
 -- the past after a call, where memory was refused or not
 pub past_after : {A : Type 0} (r : Result A Memory) (Goes : A → Type 0) (restored forgotten : Bool) (old new : Held) (before after : History)
-    → HasPast restored forgotten false old before → ((x : A) → Goes x → HasPast restored forgotten false new after) → IfOk r Goes → OnErr r (after ≡ before)
+    → HasPast restored forgotten false old before → ((x : A) → Goes x → HasPast restored forgotten false new after)
+    → IfOk r Goes → OnErr r (after ≡ before)
     → HasPast restored forgotten (is_err r) new after
 past_after (Ok x) Goes restored forgotten old new before after had goes_on goes stays = goes_on x goes
-past_after (Err memory) Goes restored forgotten old new before after had goes_on goes stays = past_stays restored forgotten false old new before after had stays
+past_after (Err memory) Goes restored forgotten old new before after had goes_on goes stays = past_stays restored
+    forgotten false old new before after had stays
 
 -- so after an event
-pub past_after_step : (r : Result Did Memory) (restored forgotten : Bool) (old new : Held) (before after : History) (event : Event) → HasPast restored forgotten false old before
+pub past_after_step : (r : Result Did Memory) (restored forgotten : Bool) (old new : Held) (before after : History) (event : Event)
+    → HasPast restored forgotten false old before
     → IfOk r (GoesBy old new event before after) → OnErr r (after ≡ before) → HasPast restored forgotten (is_err r) new after
 past_after_step r restored forgotten old new before after event had goes stays =
     past_after r (GoesBy old new event before after) restored forgotten old new before after had
@@ -250,7 +273,8 @@ tells_nothing held next event became told stepped off =
     ∙ ap (λ (x : World (KeptState Tree)). x.history) (ap (happens kept_tree w) reads ∙ happens_not w event off)
 
 -- an idle event leaves the processes and the history
-unchanged : (old new : Held) (before after : History) (event : Event) (became : Did) → GoesBy old new event before after became → is_idle became ≡ true
+unchanged : (old new : Held) (before after : History) (event : Event) (became : Did) → GoesBy old new event before after became
+    → is_idle became ≡ true
     → (new ≡ old) × (after ≡ before)
 unchanged old new before after event became (told, is, stepped) idle =
     let none = tells_nothing old new event became told stepped (not-true _ (sym stepped.idle ∙ idle)) in
@@ -261,7 +285,8 @@ unchanged old new before after event became (told, is, stepped) idle =
     not-true true is = absurd (true≢false (sym is))
 
 -- so it leaves the world
-pub same_world : (r : Result Did Memory) (old new : Held) (before after : History) (event : Event) (restored forgotten is_broken : Bool) → is_broken ≡ is_err r
+pub same_world : (r : Result Did Memory) (old new : Held) (before after : History) (event : Event) (restored forgotten is_broken : Bool)
+    → is_broken ≡ is_err r
     → IfOk r (GoesBy old new event before after)
     → IfOk r (λ did. is_idle did ≡ true
     → ◌≡◌ {A = WorldView} (record { held = new; history = after; has_forgotten = forgotten; is_restored = restored; is_broken = is_broken })
@@ -271,7 +296,8 @@ same_world (Ok did) old new before after event restored forgotten is_broken is g
 same_world (Err memory) old new before after event restored forgotten is_broken is goes = tt
 
 -- whether an event can want memory doesn't hang on the history
-pub can_anyway : (held : Held) (history : History) (event : Event) → can_want_memory (world_of held history) event ≡ can_want_memory (kept_world held []) event
+pub can_anyway : (held : Held) (history : History) (event : Event) → can_want_memory (world_of held history) event
+    ≡ can_want_memory (kept_world held []) event
 can_anyway held history (Fail s) = refl
 can_anyway held history (Ignore from to) = refl
 can_anyway held history (Begin c call) = enabled_of held history (Begin c call)

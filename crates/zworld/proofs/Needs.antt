@@ -1,7 +1,8 @@
 -- Where a run or a settling runs out of memory.
 use Rattle.std.specs.Prelude.{◌&&◌}
 use Rattle.zworld.specs.declared.did.Did.TheVariants as became
-use Rattle.std.proofs.Common.{◌≡◌, ◌<◌, ◌-◌, ℕ, Bool, true, false, not, if◌then◌else◌, List, [], ◌∷◌, ◌++◌, inl, inr, refl, sym, ap, ◌∙◌, subst, true≢false}
+use Rattle.std.proofs.Common.{◌≡◌, ◌<◌, ◌-◌, ℕ, Bool, true, false, not, if◌then◌else◌, List, [], ◌∷◌, ◌++◌, inl, inr}
+use Rattle.std.proofs.Common.{refl, sym, ap, ◌∙◌, subst, true≢false}
 use Rattle.ztree.specs.Tree.{Tree}
 use Rattle.zcalls.specs.Kept.{KeptState}
 use Rattle.zworld_model.specs.declared.event.Event.{Event}
@@ -43,7 +44,8 @@ enabled_can w (Fail s) is on = absurd (true≢false (sym is))
 enabled_can w (Order order) is on = absurd (true≢false (sym is))
 
 -- so settling can run out of memory there
-pub can_run_out : (held : Held) (event : Event) (left : ℕ) → 0 < left → is_of_settling event ≡ true → is_enabled (kept_world held []) event ≡ true → CanRunOut held left
+pub can_run_out : (held : Held) (event : Event) (left : ℕ) → 0 < left → is_of_settling event ≡ true
+    → is_enabled (kept_world held []) event ≡ true → CanRunOut held left
 can_run_out held event left some is on = (some, event, is, enabled_can (kept_world held []) event is on)
 
 -- where it can at the second point, it can at the first
@@ -52,7 +54,8 @@ could_at_first old new left more (inl (same, stays)) can = subst (λ h. CanRunOu
 could_at_first old new left more (inr could) can = could
 
 -- from one point to another, and on to a third
-pub still_or_could : (old mid new : Held) (left less more : ℕ) → StillOrCould old mid left less → StillOrCould mid new less more → StillOrCould old new left more
+pub still_or_could : (old mid new : Held) (left less more : ℕ) → StillOrCould old mid left less → StillOrCould mid new less more
+    → StillOrCould old new left more
 still_or_could old mid new left less more (inr could) second = inr could
 still_or_could old mid new left less more (inl first) (inl second) = inl (second.0 ∙ first.0, second.1 ∙ first.1)
 still_or_could old mid new left less more (inl first) (inr can) = inr (could_at_first old mid left less (inl first) can)
@@ -76,9 +79,11 @@ pub can_run_out_anyway : (held : Held) (history : History) (left : ℕ) → CanR
 can_run_out_anyway held history left (some, event, is, can) = (some, event, is, can_anyway held history event ∙ can)
 
 -- an event at which a server ran out of memory, and none may, was enabled
-pub short_is_enabled : (old new : Held) (event : Event) (did : Did) (told : History) (strict : Bool) → HasStepped old new event did told → (strict && is_short did) ≡ true
+pub short_is_enabled : (old new : Held) (event : Event) (did : Did) (told : History) (strict : Bool)
+    → HasStepped old new event did told → (strict && is_short did) ≡ true
     → is_enabled (kept_world old []) event ≡ true
-short_is_enabled old new event did told strict stepped short = not_idle (is_enabled (kept_world old []) event) (sym (active did (second strict short)) ∙ stepped.idle)
+short_is_enabled old new event did told strict stepped short = not_idle (is_enabled (kept_world old []) event)
+    (sym (active did (second strict short)) ∙ stepped.idle)
   where
     second : (strict : Bool) → (strict && is_short did) ≡ true → is_short did ≡ true
     second true both = both

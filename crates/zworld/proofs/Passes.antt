@@ -1,5 +1,6 @@
 -- Passes over all links, and settling as a whole.
-use Rattle.std.proofs.Common.{◌≡◌, ℕ, ◌-◌, ◌<◌, ◌≤◌, ◌+◌, suc, Bool, true, false, not, if◌then◌else◌, List, ◌++◌, refl, sym, ap, subst, ◌∙◌, arith}
+use Rattle.std.proofs.Common.{◌≡◌, ℕ, ◌-◌, ◌<◌, ◌≤◌, ◌+◌, suc, Bool, true, false}
+use Rattle.std.proofs.Common.{not, if◌then◌else◌, List, [], ◌++◌, refl, sym, ap, subst, ◌∙◌, arith}
 use Rattle.std.specs.Prelude.{◌==◌, ◌||◌}
 use Rattle.std.specs.List.{list_any}
 use Rattle.std.proofs.lemmas.Bool.Decides.{nat_tests}
@@ -36,7 +37,8 @@ module _ (strict : Bool) where
     Stood s t = (s.left ≡ a.left) × (t.left ≡ b.left) × (with_tries kept_tree s events ≡ t)
 
     -- a further pass
-    further : (s : TreeSettling) → is_over s events ≡ false → passes kept_tree events (suc more) s ≡ passes kept_tree events more (with_tries kept_tree s events)
+    further : (s : TreeSettling) → is_over s events ≡ false
+        → passes kept_tree events (suc more) s ≡ passes kept_tree events more (with_tries kept_tree s events)
     further s over = ap (λ o. elim o [ true ↦ s | false ↦ passes kept_tree events more (with_tries kept_tree s events) ]) over
 
     no_further : (s : TreeSettling) → is_over s events ≡ true → passes kept_tree events (suc more) s ≡ s
@@ -50,7 +52,8 @@ module _ (strict : Bool) where
         by_over false over = further s over ∙ ap (passes kept_tree events more) is
         by_over true over = absurd (moved (sym there ∙ ap (λ (u : TreeSettling). u.left) (sym is ∙ over_does_nothing kept_tree s events over) ∙ here))
 
-    pub pass_goes_on : (b.left ≡ a.left → ⊥) → Tries strict events a b → GoesOn strict (passes kept_tree events (suc more)) (passes kept_tree events more) a b
+    pub pass_goes_on : (b.left ≡ a.left → ⊥) → Tries strict events a b
+        → GoesOn strict (passes kept_tree events (suc more)) (passes kept_tree events more) a b
     pass_goes_on moved (told, given, adds, leads, acted) = (
       told,
       given,
@@ -91,15 +94,18 @@ module _ (strict : Bool) where
     )
 
   -- passes in turn: the next one, the last one, and all
-  pub next_pass : (events : List Event) (limit k : ℕ) (a b c : Point) → k < limit → GoesOn strict (passes kept_tree events limit) (passes kept_tree events (limit - k)) a b
-      → (c.left ≡ b.left → ⊥) → Tries strict events b c → GoesOn strict (passes kept_tree events limit) (passes kept_tree events (limit - (k + 1))) a c
+  pub next_pass : (events : List Event) (limit k : ℕ) (a b c : Point) → k < limit
+      → GoesOn strict (passes kept_tree events limit) (passes kept_tree events (limit - k)) a b
+      → (c.left ≡ b.left → ⊥) → Tries strict events b c
+      → GoesOn strict (passes kept_tree events limit) (passes kept_tree events (limit - (k + 1))) a c
   next_pass events limit k a b c below first moved done =
       let more = limit - (k + 1) in
       let now : limit - k ≡ suc more = omega (arith, below) in
       goes_on_with strict (passes kept_tree events limit) (passes kept_tree events (limit - k)) (passes kept_tree events more) a b c first
       (subst (λ n. GoesOn strict (passes kept_tree events n) (passes kept_tree events more) b c) (sym now) (pass_goes_on events more b c moved done))
 
-  pub last_pass : (events : List Event) (limit k : ℕ) (a b c : Point) → k < limit → GoesOn strict (passes kept_tree events limit) (passes kept_tree events (limit - k)) a b
+  pub last_pass : (events : List Event) (limit k : ℕ) (a b c : Point) → k < limit
+      → GoesOn strict (passes kept_tree events limit) (passes kept_tree events (limit - k)) a b
       → c.left ≡ b.left → Tries strict events b c → Does strict (passes kept_tree events limit) a c
   last_pass events limit k a b c below first same done =
       let more = limit - (k + 1) in
@@ -107,16 +113,19 @@ module _ (strict : Bool) where
       goes_on_with strict (passes kept_tree events limit) (passes kept_tree events (limit - k)) (λ s. s) a b c first
       (subst (λ n. Does strict (passes kept_tree events n) b c) (sym now) (pass_ends events more b c same done))
 
-  pub all_passes : (events : List Event) (limit k : ℕ) (a b : Point) → limit ≤ k → GoesOn strict (passes kept_tree events limit) (passes kept_tree events (limit - k)) a b
+  pub all_passes : (events : List Event) (limit k : ℕ) (a b : Point) → limit ≤ k
+      → GoesOn strict (passes kept_tree events limit) (passes kept_tree events (limit - k)) a b
       → Does strict (passes kept_tree events limit) a b
   all_passes events limit k a b past first =
       let none : limit - k ≡ 0 = omega (arith, past) in
       subst (λ n. GoesOn strict (passes kept_tree events limit) (passes kept_tree events n) a b) none first
 
-  pub first_pass : (events : List Event) (limit : ℕ) (a : Point) → GoesOn strict (passes kept_tree events limit) (passes kept_tree events (limit - 0)) a a
+  pub first_pass : (events : List Event) (limit : ℕ) (a : Point)
+      → GoesOn strict (passes kept_tree events limit) (passes kept_tree events (limit - 0)) a a
   first_pass events limit a =
       let all : limit - 0 ≡ limit = omega arith in
-      subst (λ n. GoesOn strict (passes kept_tree events limit) (passes kept_tree events n) a a) (sym all) (goes_nowhere strict (passes kept_tree events limit) a)
+      subst (λ n. GoesOn strict (passes kept_tree events limit) (passes kept_tree events n) a a) (sym all)
+      (goes_nowhere strict (passes kept_tree events limit) a)
 
   -- all of settling
   module _ (old new : Held) (limit left : ℕ) (seen all : History) where
@@ -127,7 +136,8 @@ module _ (strict : Bool) where
 
     -- what it says of the processes
     has_settled : (settled : Settled) → settled ≡ (if left == 0 then Limit else Quiet)
-        → Does strict (whole old.master.clients) (record { held = old; left = limit; seen = seen }) (record { held = new; left = left; seen = all })
+        → Does strict (whole (kept_world old []).master.clients) (record { held = old; left = limit; seen = seen })
+        (record { held = new; left = left; seen = all })
         → Settles strict old new limit seen all settled
     has_settled settled is (told, given, more, leads, acted) =
         let opening : History → List Outcome → TreeSettling = λ history rest. opening_settling (world_of old history) limit (told ++ rest) in
@@ -148,10 +158,12 @@ module _ (strict : Bool) where
         )
 
     pub settles : (clients first second : ℕ) (mid later : Held) (some : History) (settled : Settled)
-        → clients ≡ old.master.clients → settled ≡ (if left == 0 then Limit else Quiet)
-        → Does strict (passes kept_tree (deliveries clients) limit) (record { held = old; left = limit; seen = seen }) (record { held = mid; left = first; seen = some })
+        → clients ≡ (kept_world old []).master.clients → settled ≡ (if left == 0 then Limit else Quiet)
+        → Does strict (passes kept_tree (deliveries clients) limit) (record { held = old; left = limit; seen = seen })
+        (record { held = mid; left = first; seen = some })
         → Tries strict (retry_events clients) (record { held = mid; left = first; seen = some }) (record { held = later; left = second; seen = some })
-        → Does strict (passes kept_tree (deliveries clients) limit) (record { held = later; left = second; seen = some }) (record { held = new; left = left; seen = all })
+        → Does strict (passes kept_tree (deliveries clients) limit) (record { held = later; left = second; seen = some })
+        (record { held = new; left = left; seen = all })
         → Settles strict old new limit seen all settled
     settles clients first second mid later some settled known is passed asked passed_again =
         let goes : TreeSettling → TreeSettling = passes kept_tree (deliveries clients) limit in
@@ -160,6 +172,8 @@ module _ (strict : Bool) where
         let b : Point = record { held = mid; left = first; seen = some } in
         let c : Point = record { held = later; left = second; seen = some } in
         let d : Point = record { held = new; left = left; seen = all } in
-        let last = goes_on_with strict (λ s. goes (asks s)) goes (λ s. s) b c d (under strict (λ s. goes (asks s)) asks goes b c (λ s. refl) asked) passed_again in
-        let done = goes_on_with strict (whole clients) (λ s. goes (asks s)) (λ s. s) a b d (under strict (whole clients) goes (λ s. goes (asks s)) a b (λ s. refl) passed) last in
+        let last = goes_on_with strict (λ s. goes (asks s)) goes (λ s. s) b c d
+        (under strict (λ s. goes (asks s)) asks goes b c (λ s. refl) asked) passed_again in
+        let done = goes_on_with strict (whole clients) (λ s. goes (asks s)) (λ s. s) a b d
+        (under strict (whole clients) goes (λ s. goes (asks s)) a b (λ s. refl) passed) last in
         has_settled settled is (subst (λ n. Does strict (whole n) a d) known done)

@@ -24,21 +24,25 @@ use Rattle.zworld.specs.support.Past.{HasPast}
 use Rattle.zworld.proofs.Going.{goes_on, stands_later, leads_on, enabled_of}
 
 -- settling goes on behind any past
-settles_behind : (strict : Bool) (past : History) (old new : Held) (limit : ℕ) (before after : History) (settled : Settled) → Settles strict old new limit before after settled
+settles_behind : (strict : Bool) (past : History) (old new : Held) (limit : ℕ) (before after : History) (settled : Settled)
+    → Settles strict old new limit before after settled
     → Settles strict old new limit (past ++ before) (past ++ after) settled
 settles_behind strict past old new limit before after settled (learnt, told, is, settles, acted) =
     (learnt, told, ap (λ xs. past ++ xs) is ∙ sym (append_assoc past before told), settles, acted)
 
 -- what settling leads to has let go of what failed servers held
-settled_gone : (held : Held) (history : History) (limit : ℕ) (outcomes : List Outcome) → let s = settle kept_tree (world_of held history) limit outcomes in let_go s.world ≡ s.world
+settled_gone : (held : Held) (history : History) (limit : ℕ) (outcomes : List Outcome)
+    → let s = settle kept_tree (world_of held history) limit outcomes in let_go s.world ≡ s.world
 settled_gone held history limit outcomes =
     let kept = kept_world held history in
     let s = settle kept_tree (let_go kept) limit outcomes in
-    let ran : s.world ≡ let_go (run_keeping kept_tree kept s.events) = settling_is_a_run kept_tree (let_go kept) limit outcomes ∙ keeping_runs kept_tree kept s.events in
+    let ran : s.world ≡ let_go (run_keeping kept_tree kept s.events) = settling_is_a_run kept_tree (let_go kept) limit outcomes
+    ∙ keeping_runs kept_tree kept s.events in
     ap let_go ran ∙ let_go_twice (run_keeping kept_tree kept s.events) ∙ sym ran
 
 -- the processes settled as the world of the definition does
-pub settled_as_defined : (strict : Bool) (old new : Held) (limit : ℕ) (before after : History) (settled : Settled) → Settles strict old new limit before after settled
+pub settled_as_defined : (strict : Bool) (old new : Held) (limit : ℕ) (before after : History) (settled : Settled)
+    → Settles strict old new limit before after settled
     → HasSettledBy strict (world_of old before) limit settled (world_of new after)
 settled_as_defined strict old new limit before after settled (learnt, told, is, settles, acted) = (
   learnt,
@@ -46,38 +50,44 @@ settled_as_defined strict old new limit before after settled (learnt, told, is, 
   λ later. (
     settles.ended before later,
     settles.left before later,
-    leads_on (settle kept_tree (world_of old before) limit (learnt ++ later)).world new (before ++ told) (settled_gone old before limit (learnt ++ later)) (settles.leads before later)
+    leads_on (settle kept_tree (world_of old before) limit (learnt ++ later)).world new (before ++ told)
+        (settled_gone old before limit (learnt ++ later)) (settles.leads before later)
         ∙ ap (world_of new) (sym is),
   ),
 )
 
 -- and the past goes on
-pub past_settles : (strict : Bool) (restored forgotten : Bool) (old new : Held) (limit : ℕ) (before after : History) (settled : Settled) → HasPast restored forgotten false old before
+pub past_settles : (strict : Bool) (restored forgotten : Bool) (old new : Held) (limit : ℕ) (before after : History) (settled : Settled)
+    → HasPast restored forgotten false old before
     → Settles strict old new limit before after settled → HasPast restored forgotten false new after
 past_settles strict restored forgotten old new limit before after settled had settles =
     let v = world_of old (had.past ++ before) in
     let (learnt, acted, ends) =
-    settled_as_defined strict old new limit (had.past ++ before) (had.past ++ after) settled (settles_behind strict had.past old new limit before after settled settles) in
+    settled_as_defined strict old new limit (had.past ++ before) (had.past ++ after) settled
+    (settles_behind strict had.past old new limit before after settled settles) in
     goes_on restored forgotten old new before after (settle kept_tree v limit (learnt ++ [])).events had
     (sym (settling_is_a_run kept_tree v limit (learnt ++ [])) ∙ (ends []).2)
 
 -- where settling ended quiet, no message can be taken
-pub quiet_is_rest : (strict : Bool) (restored forgotten : Bool) (old new : Held) (limit : ℕ) (before after : History) → HasPast restored forgotten false old before
+pub quiet_is_rest : (strict : Bool) (restored forgotten : Bool) (old new : Held) (limit : ℕ) (before after : History)
+    → HasPast restored forgotten false old before
     → Settles strict old new limit before after Quiet → IsAtRest (world_of new after)
 quiet_is_rest strict restored forgotten old new limit before after had settles from to =
     let v = world_of old (had.past ++ before) in
     let w = world_of new (had.past ++ after) in
     let (learnt, acted, ends) =
-    settled_as_defined strict old new limit (had.past ++ before) (had.past ++ after) Quiet (settles_behind strict had.past old new limit before after Quiet settles) in
+    settled_as_defined strict old new limit (had.past ++ before) (had.past ++ after)
+    Quiet (settles_behind strict had.past old new limit before after Quiet settles) in
     let (ended, taken, leads) = ends [] in
     let done = settle kept_tree v limit (learnt ++ []) in
     let ran = sym (settling_is_a_run kept_tree v limit (learnt ++ [])) ∙ leads in
     let here = stands_later restored forgotten old new before (had.past ++ after) done.events had ran in
-    let counted : old.master.clients ≡ had.clients =
+    let counted : (kept_world old []).master.clients ≡ had.clients =
     ap (λ (u : World (KeptState Tree)). u.master.clients) (sym (had.stands refl))
     ∙ (after_within_from had.tree had.servers had.clients had.events had.opens).counted in
     let none : list_any (is_enabled done.world) (deliveries had.clients) ≡ false =
-    subst (λ n. list_any (is_enabled done.world) (deliveries n) ≡ false) counted (quiet_has_nothing_to_take kept_tree v limit (learnt ++ []) (sym ended)) in
+    subst (λ n. list_any (is_enabled done.world) (deliveries n) ≡ false) counted
+    (quiet_has_nothing_to_take kept_tree v limit (learnt ++ []) (sym ended)) in
     let rest : is_enabled w (Take from to) ≡ false =
     elim (links_are_visited_from had.tree had.servers had.clients (had.events ++ done.events) from to had.opens) [
       | inl empty ↦

@@ -1,22 +1,27 @@
 -- Places that are passed by: nothing is under way from them, or to them.
-use Rattle.std.proofs.Common.{Bool, ◌≡◌, ℕ, ◌+◌, ◌-◌, ◌<◌, ◌≤◌, zero, suc, true, false, List, [], length, take, get_or, inl, inr, refl, sym, ap, subst, ◌∙◌, arith}
+use Rattle.std.proofs.Common.{Bool, ◌≡◌, ℕ, ◌+◌, ◌-◌, ◌<◌, ◌≤◌, zero, suc, true, false, List}
+use Rattle.std.proofs.Common.{[], length, take, get_or, inl, inr, refl, sym, ap, subst, ◌∙◌, arith}
 use Rattle.std.proofs.lemmas.List.{take_all}
 use Rattle.std.proofs.lemmas.List.FromFn.{get_or-map-range_with_len, length-map-range_with_len}
 use Rattle.std.proofs.lemmas.Bool.Decides.{nat_tests}
-use Rattle.std.specs.Prelude.{nat_lt}
+use Rattle.std.specs.Prelude.{nat_lt, is_some}
 use Rattle.zcalls.proofs.Among.{test}
 use Rattle.zprotocol.specs.declared.limits.TheConstants.{MAX_SERVERS, PROCESSES}
 use Rattle.zprotocol.specs.declared.process.Process.{Process}
-use Rattle.zprotocol.specs.declared.process.Process.TheVariants.{Master, Server, Client}
+use Rattle.zprotocol.specs.declared.process.Process.TheVariants.{Client}
 use Rattle.zprotocol.specs.Places.{place_of, process_at}
 use Rattle.zprotocol.proofs.Places.{place_of-process_at}
-use Rattle.zworld_model.specs.Settle.{processes}
+use Rattle.zworld_model.specs.Settle.{processes, retry_events}
 use Rattle.zlinks.specs.Places.{links_of, is_silent, Between}
-use Rattle.zlinks.proofs.Places.{server_place}
+use Rattle.zlinks.specs.support.Counts.{passing}
+use Rattle.zlinks.proofs.Counts.{fails_at}
+use Rattle.zactor.specs.Acting.{TreeStanding}
+use Rattle.zworld_model.specs.Does.{AtMaster, AtServer, AtClient, Out}
+use Rattle.zworld.specs.support.Standing.{waits}
 use Rattle.zlinks.proofs.Searches.{silent_links}
-use Rattle.zworld.specs.Held.{MemberView, Held, SendsNothing, member_at, owes, last_words, kept_world}
+use Rattle.zworld.specs.Held.{Held, SendsNothing, bystander, client_of, standing_at, kept_world}
 use Rattle.zworld.specs.support.Settling.{Point, Tries, takes, takes_from}
-use Rattle.zworld.proofs.Tries.{silent_tries, empty_try, one_more_receiver, one_more_sender}
+use Rattle.zworld.proofs.Tries.{goes_nowhere, idle_retry, one_more_retry, silent_tries, empty_try, one_more_receiver, one_more_sender}
 
 -- there are so many processes
 pub length-processes : (clients : ℕ) → length (processes clients) ≡ MAX_SERVERS + 1 + clients
@@ -24,43 +29,34 @@ length-processes clients = length-map-range_with_len process_at 0 (MAX_SERVERS +
 
 -- each stands in its place
 pub listed : (clients place : ℕ) → place < MAX_SERVERS + 1 + clients → process_at place ≡ get_or (processes clients) place (process_at place)
-listed clients place inside = sym (get_or-map-range_with_len process_at 0 (MAX_SERVERS + 1 + clients) place place (process_at place) inside (omega arith))
+listed clients place inside =
+    sym (get_or-map-range_with_len process_at 0 (MAX_SERVERS + 1 + clients) place place (process_at place) inside (omega arith))
 
--- the last words of a server are for the master
-pub no_words : (members : List MemberView) (from to : Process) → 0 < place_of to → last_words members from to ≡ []
-no_words members from Master some = absurd (omega (arith, some))
-no_words members Master (Server t) some = refl
-no_words members Master (Client t) some = refl
-no_words members (Server s) (Server t) some = refl
-no_words members (Server s) (Client t) some = refl
-no_words members (Client s) (Server t) some = refl
-no_words members (Client s) (Client t) some = refl
-
--- so nothing is under way to a process behind the master
-pub empty_link : (inside held : Held) (from to : Process) → inside ≡ held → links_of inside.links from to ≡ [] → 0 < place_of to
+-- nothing is under way on a channel that is empty
+pub empty_link : (inside held : Held) (from to : Process) → inside ≡ held → links_of inside.links from to ≡ []
     → (kept_world held []).links from to ≡ []
-empty_link inside held from to same none some =
-    let empty : links_of held.links from to ≡ [] = ap (λ (h : Held). links_of h.links from to) (sym same) ∙ none in
-    rw (empty, no_words held.members from to some) refl
+empty_link inside held from to same none = ap (λ (h : Held). links_of h.links from to) (sym same) ∙ none
 
--- and nothing of a process that put nothing, where no server owes its last words
-pub silent_place : (inside held : Held) (from to : Process) (at bound : ℕ) → inside ≡ held → is_silent inside.links from ≡ true
-    → at ≤ place_of from → place_of from < bound → bound ≤ PROCESSES
-    → ((s : ℕ) → at ≤ s → 0 < s → s ≤ MAX_SERVERS → s < bound → owes (member_at held.members s) ≡ false)
-    → (kept_world held []).links from to ≡ []
-silent_place inside held from to at bound same silent behind before few paid =
-    let quiet : links_of held.links from to ≡ [] = silent_links held.links from to (ap (λ (h : Held). is_silent h.links from) (sym same) ∙ silent) in
-    rw (quiet, words from to behind before) refl
-  where
-    words : (p q : Process) → at ≤ place_of p → place_of p < bound → last_words held.members p q ≡ []
-    words Master q after until = refl
-    words (Client c) q after until = refl
-    words (Server s) (Server t) after until = refl
-    words (Server s) (Client c) after until = refl
-    words (Server s) Master after until =
-        let stands = server_place s (omega (arith, until, few)) in
-        let none = paid s (omega (arith, after, stands.0)) stands.2 stands.1 (omega (arith, until, stands.0)) in
-        rw none refl
+-- nor on any from a process that is silent
+pub silent_place : (inside held : Held) (from : Process) → inside ≡ held → is_silent inside.links from ≡ true → SendsNothing (kept_world held []) from
+silent_place inside held from same silent to =
+    silent_links held.links from to (ap (λ (h : Held). is_silent h.links from) (sym same) ∙ silent)
+
+-- where no client waits, no call is sent once more
+waits_not : (standing : TreeStanding) → waits standing ≡ false → is_some (client_of standing).outstanding ≡ false
+waits_not (AtMaster v) not = refl
+waits_not (AtServer v) not = refl
+waits_not (AtClient v) not = not
+waits_not Out not = refl
+
+pub no_retries : (strict : Bool) (n : ℕ) (p : Point) → passing waits p.held.actors ≡ 0 → Tries strict (retry_events n) p p
+no_retries strict zero p none = goes_nowhere strict (λ s. s) p
+no_retries strict (suc n) p none =
+    let next : n + 1 ≡ suc n = omega arith in
+    subst (λ k. Tries strict (retry_events k) p p) next
+    (one_more_retry strict n n p p p refl (no_retries strict n p none)
+    (idle_retry strict n p (waits_not (standing_at p.held.actors (Client n))
+    (fails_at waits p.held.actors (place_of (Client n)) (bystander (Client n)) refl none))))
 
 -- the process that was asked for by its place is that of the list
 pub listed_as : (clients place : ℕ) (p : Process) → p ≡ process_at place → place < length (processes clients) → p ≡ get_or (processes clients) place p
@@ -75,8 +71,10 @@ module _ (strict : Bool) (clients : ℕ) (p : Point) where
   -- receivers to which nothing is under way
   pub skipped_receivers : (from : Process) (a : Point) (place k : ℕ) → place + k ≤ PROCESSES
       → Between place (place + k) (λ to. (kept_world p.held []).links from to ≡ [])
-      → Tries strict (takes_from (take place (processes clients)) from) a p → Tries strict (takes_from (take (place + k) (processes clients)) from) a p
-  skipped_receivers from a place zero few none tries = subst (λ n. Tries strict (takes_from (take n (processes clients)) from) a p) (let same : place ≡ place + 0 = omega arith in same) tries
+      → Tries strict (takes_from (take place (processes clients)) from) a p
+      → Tries strict (takes_from (take (place + k) (processes clients)) from) a p
+  skipped_receivers from a place zero few none tries =
+      subst (λ n. Tries strict (takes_from (take n (processes clients)) from) a p) (let same : place ≡ place + 0 = omega arith in same) tries
   skipped_receivers from a place (suc k) few none tries =
       let next : (place + k) + 1 ≡ place + suc k = omega arith in
       let before = skipped_receivers from a place k (omega (arith, few)) (λ to behind here. none to behind (omega (arith, here))) tries in
@@ -86,11 +84,13 @@ module _ (strict : Bool) (clients : ℕ) (p : Point) where
       (elim (test (nat_lt (place + k) (MAX_SERVERS + 1 + clients))) [
         | inl inside ↦
             let small : place + k < MAX_SERVERS + 1 + clients = grind (arith, nat_tests, inside) in
-            one_more_receiver strict (processes clients) (place + k) from to a p p (omega (arith, small, length-processes clients)) (listed clients (place + k) small) before
+            one_more_receiver strict (processes clients) (place + k) from to a p p (omega (arith, small, length-processes clients))
+            (listed clients (place + k) small) before
             (empty_try strict from to p (none to (omega (arith, at)) (omega (arith, at))))
         | inr outside ↦
             let large : MAX_SERVERS + 1 + clients ≤ place + k = grind (arith, nat_tests, outside) in
-            subst (λ ps. Tries strict (takes_from ps from) a p) (sym (past (processes clients) (place + k) (omega (arith, large, length-processes clients)))) before
+            subst (λ ps. Tries strict (takes_from ps from) a p)
+            (sym (past (processes clients) (place + k) (omega (arith, large, length-processes clients)))) before
       ])
 
   pub receivers_to : (from : Process) (a : Point) (place next : ℕ) → place ≤ next → next ≤ PROCESSES
@@ -99,13 +99,17 @@ module _ (strict : Bool) (clients : ℕ) (p : Point) where
   receivers_to from a place next ahead few none tries =
       let far : place + (next - place) ≡ next = omega (arith, ahead) in
       subst (λ n. Tries strict (takes_from (take n (processes clients)) from) a p) far
-      (skipped_receivers from a place (next - place) (omega (arith, far, few)) (λ to behind before. none to behind (omega (arith, before, far))) tries)
+      (skipped_receivers from a place (next - place) (omega (arith, far, few))
+      (λ to behind before. none to behind (omega (arith, before, far))) tries)
 
   -- and senders of which nothing is
   pub skipped_senders : (a : Point) (place k : ℕ) → place + k ≤ PROCESSES
       → Between place (place + k) (SendsNothing (kept_world p.held []))
-      → Tries strict (takes (processes clients) (take place (processes clients))) a p → Tries strict (takes (processes clients) (take (place + k) (processes clients))) a p
-  skipped_senders a place zero few none tries = subst (λ n. Tries strict (takes (processes clients) (take n (processes clients))) a p) (let same : place ≡ place + 0 = omega arith in same) tries
+      → Tries strict (takes (processes clients) (take place (processes clients))) a p
+      → Tries strict (takes (processes clients) (take (place + k) (processes clients))) a p
+  skipped_senders a place zero few none tries =
+      subst (λ n. Tries strict (takes (processes clients) (take n (processes clients))) a p)
+      (let same : place ≡ place + 0 = omega arith in same) tries
   skipped_senders a place (suc k) few none tries =
       let next : (place + k) + 1 ≡ place + suc k = omega arith in
       let before = skipped_senders a place k (omega (arith, few)) (λ from behind here. none from behind (omega (arith, here))) tries in
@@ -115,16 +119,19 @@ module _ (strict : Bool) (clients : ℕ) (p : Point) where
       (elim (test (nat_lt (place + k) (MAX_SERVERS + 1 + clients))) [
         | inl inside ↦
             let small : place + k < MAX_SERVERS + 1 + clients = grind (arith, nat_tests, inside) in
-            one_more_sender strict (processes clients) (processes clients) (place + k) from a p p (omega (arith, small, length-processes clients)) (listed clients (place + k) small) before
+            one_more_sender strict (processes clients) (processes clients) (place + k) from a p p (omega (arith, small, length-processes clients))
+            (listed clients (place + k) small) before
             (silent_tries strict from (processes clients) p (none from (omega (arith, at)) (omega (arith, at))))
         | inr outside ↦
             let large : MAX_SERVERS + 1 + clients ≤ place + k = grind (arith, nat_tests, outside) in
-            subst (λ ps. Tries strict (takes (processes clients) ps) a p) (sym (past (processes clients) (place + k) (omega (arith, large, length-processes clients)))) before
+            subst (λ ps. Tries strict (takes (processes clients) ps) a p)
+            (sym (past (processes clients) (place + k) (omega (arith, large, length-processes clients)))) before
       ])
 
   pub senders_to : (a : Point) (place next : ℕ) → place ≤ next → next ≤ PROCESSES
       → Between place next (SendsNothing (kept_world p.held []))
-      → Tries strict (takes (processes clients) (take place (processes clients))) a p → Tries strict (takes (processes clients) (take next (processes clients))) a p
+      → Tries strict (takes (processes clients) (take place (processes clients))) a p
+      → Tries strict (takes (processes clients) (take next (processes clients))) a p
   senders_to a place next ahead few none tries =
       let far : place + (next - place) ≡ next = omega (arith, ahead) in
       subst (λ n. Tries strict (takes (processes clients) (take n (processes clients))) a p) far

@@ -1,9 +1,12 @@
 -- Events that happened, and events that didn't.
-use Rattle.std.proofs.Common.{◌≡◌, true, false, if◌then◌else◌, [], ◌++◌, refl, sym, ap, subst, ◌∙◌, append-nil}
-use Rattle.std.specs.Prelude.{not}
+use Rattle.std.proofs.Common.{◌≡◌, ◌<◌, ℕ, inl, inr, arith, true, false, if◌then◌else◌, [], ◌++◌, refl, sym, ap, subst, ◌∙◌, append-nil}
+use Rattle.std.specs.Prelude.{◌&&◌, not}
 use mathlib.Core.Bool.{true≢false}
 use Rattle.ztree.specs.Tree.{Tree}
 use Rattle.zcalls.specs.Kept.{KeptState}
+use Rattle.zcalls.proofs.Among.{test}
+use Rattle.zprotocol.specs.declared.limits.TheConstants.{PROCESSES}
+use Rattle.zprotocol.specs.Places.{is_server, place_of}
 use Rattle.zprotocol.specs.declared.process.Process.TheVariants.{Master, Server, Client}
 use Rattle.zprotocol.specs.server.Machine.{kept_tree}
 use Rattle.zworld_model.specs.declared.event.Event.{Event}
@@ -19,12 +22,26 @@ use Rattle.zworld_model.proofs.Alike.{alike_itself, alike_let_go, alike_back}
 use Rattle.zworld.specs.declared.did.Did.{Did}
 use Rattle.zworld.specs.declared.did.Did.TheVariants as did
 use Rattle.zworld.specs.declared.did.IdleCause.{IdleCause}
-use Rattle.zworld.specs.Held.{Held, kept_world}
+use Rattle.zactor.specs.Acting.{has_stopped}
+use Rattle.zworld.specs.Held.{Held, standing_at, kept_world}
 use Rattle.zworld.specs.Did.{IsCause}
 use Rattle.zworld.specs.support.Stepped.{HasStepped}
 
+-- a server that has a place has a server's number
+pub is_one : (s : ℕ) → place_of (Server s) < PROCESSES → is_server s ≡ true
+is_one s inside = elim (test (is_server s)) [
+  | inl is ↦ is
+  | inr not ↦ let never : PROCESSES < PROCESSES = rw not at inside in absurd (omega (arith, never))
+]
+
+-- and can fail, if it hasn't stopped
+pub can_fail : (held : Held) (s : ℕ) → is_server s ≡ true → has_stopped (standing_at held.actors (Server s)) ≡ false
+    → is_enabled (kept_world held []) (Fail s) ≡ true
+can_fail held s one lives = ap (λ b. b && not (has_stopped (standing_at held.actors (Server s)))) one ∙ ap not lives
+
 -- what is enabled doesn't hang on the history
-pub enabled_anyway : (held : Held) (history : History) (event : Event) → is_enabled (kept_world held history) event ≡ is_enabled (kept_world held []) event
+pub enabled_anyway : (held : Held) (history : History) (event : Event)
+    → is_enabled (kept_world held history) event ≡ is_enabled (kept_world held []) event
 enabled_anyway held history (Begin c call) = refl
 enabled_anyway held history (Retry c) = refl
 enabled_anyway held history (Take from to) = refl
@@ -74,7 +91,8 @@ read_anyway held history event outcome =
 pub happens_not : (w : World (KeptState Tree)) (event : Event) → is_enabled w event ≡ false → happens kept_tree w event ≡ w
 happens_not w event off = ap (λ b. if b then let_go (acts kept_tree w event) else w) off
 
-pub happens_so : (w : World (KeptState Tree)) (event : Event) → is_enabled w event ≡ true → happens kept_tree w event ≡ let_go (acts kept_tree w event)
+pub happens_so : (w : World (KeptState Tree)) (event : Event) → is_enabled w event ≡ true
+    → happens kept_tree w event ≡ let_go (acts kept_tree w event)
 happens_so w event on = ap (λ b. if b then let_go (acts kept_tree w event) else w) on
 
 -- what let go is alike to what the other is alike to
@@ -90,8 +108,10 @@ idle_stepped held event why off caused = record {
   caused = λ other is. subst (λ c. IsCause held event c) (same_cause why other is) caused;
   fits = refl;
   leads = λ history.
-      subst (λ e. IsAlike (happens kept_tree (kept_world held history) e) (kept_world held (history ++ []))) (sym (read_acted (kept_world held []) event))
-      (subst (λ w. IsAlike w (kept_world held (history ++ []))) (sym (happens_not (kept_world held history) event (enabled_anyway held history event ∙ off)))
+      subst (λ e. IsAlike (happens kept_tree (kept_world held history) e) (kept_world held (history ++ [])))
+      (sym (read_acted (kept_world held []) event))
+      (subst (λ w. IsAlike w (kept_world held (history ++ [])))
+      (sym (happens_not (kept_world held history) event (enabled_anyway held history event ∙ off)))
       (subst (λ h. IsAlike (kept_world held history) (kept_world held h)) (sym (append-nil history)) (alike_itself (kept_world held history))));
 }
   where
@@ -108,7 +128,9 @@ done_stepped old new event told on alike = record {
   caused = λ why is. let never : ⊥ = cc in absurd never;
   fits = refl;
   leads = λ history.
-      subst (λ e. IsAlike (happens kept_tree (kept_world old history) e) (kept_world new (history ++ told))) (sym (read_acted (kept_world old []) event))
-      (subst (λ w. IsAlike w (kept_world new (history ++ told))) (sym (happens_so (kept_world old history) event (enabled_anyway old history event ∙ on)))
+      subst (λ e. IsAlike (happens kept_tree (kept_world old history) e) (kept_world new (history ++ told)))
+      (sym (read_acted (kept_world old []) event))
+      (subst (λ w. IsAlike w (kept_world new (history ++ told)))
+      (sym (happens_so (kept_world old history) event (enabled_anyway old history event ∙ on)))
       (gone_too _ _ (alike history)));
 }

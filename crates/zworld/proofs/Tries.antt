@@ -1,5 +1,7 @@
 -- A settling goes on where the processes do: ways from one point to another, and events that are tried.
-use Rattle.std.proofs.Common.{◌≡◌, ℕ, ◌-◌, ◌<◌, ◌+◌, zero, suc, Bool, true, false, not, if◌then◌else◌, nat_lt, List, [], ◌∷◌, ◌++◌, length, take, drop, get_or, refl, sym, ap, subst, ◌∙◌, append-nil, append_assoc, lt-ltb, arith}
+use Rattle.std.proofs.Common.{◌≡◌, ℕ, ◌-◌, ◌<◌, ◌+◌, zero, suc, Bool, true, false, not, if◌then◌else◌, nat_lt, List, []}
+use Rattle.std.proofs.Common.{◌∷◌, ◌++◌, length, take, drop, get_or, refl, sym, ap, subst, ◌∙◌, append-nil}
+use Rattle.std.proofs.Common.{append_assoc, lt-ltb, arith}
 use Rattle.std.specs.Prelude.{◌&&◌, ◌||◌, is_some}
 use Rattle.std.specs.List.{list_any}
 use Rattle.std.proofs.Math.Seq.{take-suc}
@@ -22,7 +24,7 @@ use Rattle.zworld_model.proofs.Alike.{have_the_same_enabled, stay_alike, alike_i
 use Rattle.zworld_model.proofs.Settling.{none_is_done, none_may_be_done}
 use Rattle.zworld.specs.declared.did.Did.{Did}
 use Rattle.zworld.specs.declared.did.Did.TheVariants as became
-use Rattle.zworld.specs.Held.{Held, nobody, kept_world}
+use Rattle.zworld.specs.Held.{Held, kept_world}
 use Rattle.zworld.specs.Did.{is_idle, is_short, outcome_of}
 use Rattle.zworld.specs.Steps.{AreActed}
 use Rattle.zworld.specs.support.Stepped.{HasStepped}
@@ -47,7 +49,8 @@ acted_at became.Unheard whole = absurd (true≢false whole)
 acted_at became.Stopped whole = absurd (true≢false whole)
 
 -- tries of events and of more
-tries_both : (s : TreeSettling) (events more : List Event) → with_tries kept_tree s (events ++ more) ≡ with_tries kept_tree (with_tries kept_tree s events) more
+tries_both : (s : TreeSettling) (events more : List Event) → with_tries kept_tree s (events ++ more)
+    ≡ with_tries kept_tree (with_tries kept_tree s events) more
 tries_both s [] more = refl
 tries_both s (event ∷ events) more = tries_both (with_try kept_tree s event) events more
 
@@ -64,13 +67,15 @@ module _ (strict : Bool) where
   goes_nowhere whole p = ([], [], sym (append-nil p.seen), λ history outcomes s stands. (s, still p history outcomes s stands, refl), λ strictly. tt)
 
   -- one way after another
-  pub goes_on_with : (whole middle last : TreeSettling → TreeSettling) (a b c : Point) → GoesOn strict whole middle a b → GoesOn strict middle last b c → GoesOn strict whole last a c
+  pub goes_on_with : (whole middle last : TreeSettling → TreeSettling) (a b c : Point) → GoesOn strict whole middle a b
+      → GoesOn strict middle last b c → GoesOn strict whole last a c
   goes_on_with whole middle last a b c (told, given, more, leads, acted) (told_next, given_next, more_next, leads_next, acted_next) = (
     told ++ told_next,
     given ++ given_next,
     more_next ∙ ap (λ xs. xs ++ given_next) more ∙ append_assoc a.seen given given_next,
     λ history outcomes s stands.
-        let first = leads history (told_next ++ outcomes) s (subst (λ os. StandsAt a.held history a.left os s) (append_assoc told told_next outcomes) stands) in
+        let first = leads history (told_next ++ outcomes) s (subst (λ os. StandsAt a.held history a.left os s)
+        (append_assoc told told_next outcomes) stands) in
         let second = leads_next (history ++ given) outcomes first.0 first.1 in
         let both : (history ++ given) ++ given_next ≡ history ++ (given ++ given_next) = append_assoc history given given_next in
         (second.0, subst (λ h. StandsAt c.held h c.left outcomes second.0) both second.1, first.2 ∙ second.2),
@@ -78,7 +83,8 @@ module _ (strict : Bool) where
   )
 
   -- a way that is the first of a longer one
-  pub under : (whole done rest : TreeSettling → TreeSettling) (a b : Point) → ((s : TreeSettling) → whole s ≡ rest (done s)) → Does strict done a b → GoesOn strict whole rest a b
+  pub under : (whole done rest : TreeSettling → TreeSettling) (a b : Point) → ((s : TreeSettling) → whole s ≡ rest (done s))
+      → Does strict done a b → GoesOn strict whole rest a b
   under whole done rest a b is (told, given, more, leads, acted) = (
     told,
     given,
@@ -90,25 +96,30 @@ module _ (strict : Bool) where
   tries_then : (events more : List Event) (a b c : Point) → Tries strict events a b → Tries strict more b c → Tries strict (events ++ more) a c
   tries_then events more a b c first second =
       goes_on_with (λ s. with_tries kept_tree s (events ++ more)) (λ s. with_tries kept_tree s more) (λ s. s) a b c
-      (under (λ s. with_tries kept_tree s (events ++ more)) (λ s. with_tries kept_tree s events) (λ s. with_tries kept_tree s more) a b (λ s. tries_both s events more) first) second
+      (under (λ s. with_tries kept_tree s (events ++ more)) (λ s. with_tries kept_tree s events) (λ s. with_tries kept_tree s more)
+      a b (λ s. tries_both s events more) first) second
 
   -- so tries of deliveries to one more process, from one more process, and of one more retry
   pub one_more_receiver : (receivers : List Process) (i : ℕ) (from to : Process) (a b c : Point) → i < length receivers → to ≡ get_or receivers i to
-      → Tries strict (takes_from (take i receivers) from) a b → Tries strict (Take from to ∷ []) b c → Tries strict (takes_from (take (i + 1) receivers) from) a c
+      → Tries strict (takes_from (take i receivers) from) a b → Tries strict (Take from to ∷ []) b c
+      → Tries strict (takes_from (take (i + 1) receivers) from) a c
   one_more_receiver receivers i from to a b c inside is first second =
       subst (λ es. Tries strict es a c)
       (sym (ap (λ ps. takes_from ps from) (taken_more receivers i to inside is) ∙ map-append (λ p. Take from p) (take i receivers) (to ∷ [])))
       (tries_then (takes_from (take i receivers) from) (Take from to ∷ []) a b c first second)
 
-  pub one_more_sender : (receivers senders : List Process) (i : ℕ) (from : Process) (a b c : Point) → i < length senders → from ≡ get_or senders i from
-      → Tries strict (takes receivers (take i senders)) a b → Tries strict (takes_from receivers from) b c → Tries strict (takes receivers (take (i + 1) senders)) a c
+  pub one_more_sender : (receivers senders : List Process) (i : ℕ) (from : Process) (a b c : Point) → i < length senders
+      → from ≡ get_or senders i from
+      → Tries strict (takes receivers (take i senders)) a b → Tries strict (takes_from receivers from) b c
+      → Tries strict (takes receivers (take (i + 1) senders)) a c
   one_more_sender receivers senders i from a b c inside is first second =
       let both : takes receivers (take (i + 1) senders) ≡ takes receivers (take i senders) ++ takes_from receivers from =
       ap (takes receivers) (taken_more senders i from inside is) ∙ flat_map-append (takes_from receivers) (take i senders) (from ∷ [])
       ∙ ap (λ es. takes receivers (take i senders) ++ es) (append-nil (takes_from receivers from)) in
       subst (λ es. Tries strict es a c) (sym both) (tries_then (takes receivers (take i senders)) (takes_from receivers from) a b c first second)
 
-  pub one_more_retry : (n client : ℕ) (a b c : Point) → client ≡ n → Tries strict (retry_events n) a b → Tries strict (Retry client ∷ []) b c → Tries strict (retry_events (n + 1)) a c
+  pub one_more_retry : (n client : ℕ) (a b c : Point) → client ≡ n → Tries strict (retry_events n) a b
+      → Tries strict (Retry client ∷ []) b c → Tries strict (retry_events (n + 1)) a c
   one_more_retry n client a b c is first second =
       let both : retry_events (n + 1) ≡ retry_events n ++ Retry client ∷ [] =
       map-range_with_len_more Retry 0 n n (omega arith) ∙ ap (λ m. retry_events n ++ Retry m ∷ []) (sym is) in
@@ -116,9 +127,15 @@ module _ (strict : Bool) where
 
   -- tries that change no settling
   tries_nothing : (events : List Event) (p : Point)
-      → ((history : History) (outcomes : List Outcome) (s : TreeSettling) → StandsAt p.held history p.left outcomes s → with_tries kept_tree s events ≡ s) → Tries strict events p p
-  tries_nothing events p nothing =
-      ([], [], sym (append-nil p.seen), λ history outcomes s stands. (s, still p history outcomes s stands, nothing history outcomes s stands), λ strictly. tt)
+      → ((history : History) (outcomes : List Outcome) (s : TreeSettling) → StandsAt p.held history p.left outcomes s
+      → with_tries kept_tree s events ≡ s) → Tries strict events p p
+  tries_nothing events p nothing = (
+    [],
+    [],
+    sym (append-nil p.seen),
+    λ history outcomes s stands. (s, still p history outcomes s stands, nothing history outcomes s stands),
+    λ strictly. tt,
+  )
 
   -- where no more may be done, nothing is
   pub spent_tries : (events : List Event) (p : Point) → p.left ≡ 0 → Tries strict events p p
@@ -151,7 +168,8 @@ module _ (strict : Bool) where
       (one_more_retry (n + k) (n + k) a b b refl (spent_retries n k a b none tries) (spent_tries (Retry (n + k) ∷ []) b none))
 
   -- from a process that has put nothing, nothing is taken
-  pub silent_tries : (from : Process) (receivers : List Process) (p : Point) → ((to : Process) → (kept_world p.held []).links from to ≡ []) → Tries strict (takes_from receivers from) p p
+  pub silent_tries : (from : Process) (receivers : List Process) (p : Point) → ((to : Process) → (kept_world p.held []).links from to ≡ [])
+      → Tries strict (takes_from receivers from) p p
   silent_tries from receivers p silent =
       tries_nothing (takes_from receivers from) p (λ history outcomes s stands.
       none_is_done kept_tree s (takes_from receivers from) (none_taken receivers s (λ to.
@@ -160,10 +178,11 @@ module _ (strict : Bool) where
       none_taken : (receivers : List Process) (s : TreeSettling) → ((to : Process) → is_enabled s.world (Take from to) ≡ false)
           → list_any (is_enabled s.world) (takes_from receivers from) ≡ false
       none_taken [] s none = refl
-      none_taken (to ∷ receivers) s none = ap (λ b. b || list_any (is_enabled s.world) (takes_from receivers from)) (none to) ∙ none_taken receivers s none
+      none_taken (to ∷ receivers) s none = ap (λ b. b || list_any (is_enabled s.world) (takes_from receivers from)) (none to)
+          ∙ none_taken receivers s none
 
   -- nor is anything sent once more by a client that waits for nothing
-  pub idle_retry : (c : ℕ) (p : Point) → is_some (get_or p.held.clients c nobody).outstanding ≡ false → Tries strict (Retry c ∷ []) p p
+  pub idle_retry : (c : ℕ) (p : Point) → is_some ((kept_world p.held []).clients c).outstanding ≡ false → Tries strict (Retry c ∷ []) p p
   idle_retry c p none =
       tries_nothing (Retry c ∷ []) p (λ history outcomes s stands.
       none_is_done kept_tree s (Retry c ∷ []) (ap (λ b. b || false)
@@ -204,20 +223,24 @@ module _ (strict : Bool) where
     stays idle history =
         let later = kept_world new (history ++ given) in
         let off : is_enabled (kept_world old history) event ≡ false =
-        enabled_at history 0 [] (opening_settling (kept_world old history) 0 []) (record { alike = alike_itself (kept_world old history); remaining = refl; coming = refl }) ∙ ap not idle in
-        let reads : read kept_tree (kept_world old []) event (outcome_of did) ≡ event = ap (read kept_tree (kept_world old []) event) (idle_acted idle) ∙ read_acted (kept_world old []) event in
+        enabled_at history 0 [] (opening_settling (kept_world old history) 0 [])
+        (record { alike = alike_itself (kept_world old history); remaining = refl; coming = refl }) ∙ ap not idle in
+        let reads : read kept_tree (kept_world old []) event (outcome_of did)
+        ≡ event = ap (read kept_tree (kept_world old []) event) (idle_acted idle) ∙ read_acted (kept_world old []) event in
         subst (λ w. IsAlike w later) (happens_not (kept_world old history) event off)
         (subst (λ e. IsAlike (happens kept_tree (kept_world old history) e) later) reads (stepped.leads history))
 
     -- and one that was done
-    goes : (history : History) (more : ℕ) (outcomes : List Outcome) (s : TreeSettling) → is_idle did ≡ false → 0 < more → StandsAt old history more (outcome_of did ∷ outcomes) s
+    goes : (history : History) (more : ℕ) (outcomes : List Outcome) (s : TreeSettling) → is_idle did ≡ false → 0 < more
+        → StandsAt old history more (outcome_of did ∷ outcomes) s
         → (t : TreeSettling) × StandsAt new (history ++ given) (more - 1) outcomes t × (with_try kept_tree s event ≡ t)
     goes history more outcomes s active some stands =
         let outcome = outcome_of did in
         let now = kept_world old history in
         let on : is_enabled s.world event ≡ true = enabled_at history more (outcome ∷ outcomes) s stands ∙ ap not active in
         let may : nat_lt 0 s.left ≡ true = ap (nat_lt 0) stands.remaining ∙ lt-ltb 0 more some in
-        let reads : read kept_tree s.world event outcome ≡ read kept_tree (kept_world old []) event outcome = read_alike kept_tree s.world now event outcome stands.alike ∙ read_anyway old history event outcome in
+        let reads : read kept_tree s.world event outcome ≡ read kept_tree (kept_world old []) event outcome = read_alike
+        kept_tree s.world now event outcome stands.alike ∙ read_anyway old history event outcome in
         let next : TreeSettling = with_event kept_tree s (read kept_tree s.world event outcome) in (
           next,
           record {
@@ -231,11 +254,13 @@ module _ (strict : Bool) where
               ∙ ap (λ os. with_event kept_tree s (read kept_tree s.world event (next_outcome os))) stands.coming,
         )
 
-    pub stepped_tries : (left after : ℕ) (before seen : History) → 0 < left → after ≡ (if is_idle did then left else left - 1) → seen ≡ before ++ given → (strict ≡ true → outcome_of did ≡ Acted)
+    pub stepped_tries : (left after : ℕ) (before seen : History) → 0 < left → after ≡ (if is_idle did then left else left - 1)
+        → seen ≡ before ++ given → (strict ≡ true → outcome_of did ≡ Acted)
         → Tries strict (event ∷ []) (record { held = old; left = left; seen = before }) (record { held = new; left = after; seen = seen })
     stepped_tries left after before seen some is more acted = by_idle (is_idle did) refl
       where
-        by_idle : (idle : Bool) → is_idle did ≡ idle → Tries strict (event ∷ []) (record { held = old; left = left; seen = before }) (record { held = new; left = after; seen = seen })
+        by_idle : (idle : Bool) → is_idle did ≡ idle → Tries strict (event ∷ []) (record { held = old; left = left; seen = before })
+            (record { held = new; left = after; seen = seen })
         by_idle true idle =
             let same : after ≡ left = is ∙ ap (λ b. if b then left else left - 1) idle in (
               [],
@@ -273,7 +298,8 @@ pub strict_tries : (strict : Bool) (events : List Event) (a b : Point) → Tries
 strict_tries strict events a b (told, given, more, leads, acted) = (told, given, more, leads, λ strictly. acted refl)
 
 -- no server takes part where a client sends its call once more
-pub retried_acted : (held : Held) (client : ℕ) (did : Did) → is_fitting kept_tree (kept_world held []) (Retry client) (outcome_of did) ≡ true → outcome_of did ≡ Acted
+pub retried_acted : (held : Held) (client : ℕ) (did : Did) → is_fitting kept_tree (kept_world held []) (Retry client) (outcome_of did) ≡ true
+    → outcome_of did ≡ Acted
 retried_acted held client (became.Idle cause) fits = refl
 retried_acted held client became.Done fits = refl
 retried_acted held client became.Unheard fits = absurd (true≢false (sym fits))

@@ -32,9 +32,9 @@ outcome_of other = outcome.Acted
 -- why an event isn't enabled: the fault of the client or of the master, or nothing to say
 abbrev pub IsCause : Held → Event → IdleCause → Type 0
 IsCause old (event.Begin client call) (cause.Begin fault) =
-    (nat_lt client old.master.clients ≡ true) × (begin_fault ((kept_world old []).clients client) ≡ Some fault)
-IsCause old (event.Begin client call) why = (why ≡ cause.Nothing) × (nat_lt client old.master.clients ≡ false)
-IsCause old (event.Order order) (cause.Order fault) = order_fault old.master order ≡ Some fault
+    (nat_lt client (kept_world old []).master.clients ≡ true) × (begin_fault ((kept_world old []).clients client) ≡ Some fault)
+IsCause old (event.Begin client call) why = (why ≡ cause.Nothing) × (nat_lt client (kept_world old []).master.clients ≡ false)
+IsCause old (event.Order order) (cause.Order fault) = order_fault (kept_world old []).master order ≡ Some fault
 IsCause old (event.Order order) why = ⊥
 IsCause old event why = why ≡ cause.Nothing
 

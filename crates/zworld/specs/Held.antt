@@ -1,85 +1,66 @@
 -- What the program holds of a world, and the world that it stands for. Van Renesse and Schneider,
 -- "Chain Replication for Supporting High Throughput and Availability" (OSDI 2004), section 3: a
 -- failed server is never heard of again, except for what it had sent.
-use Rattle.std.specs.Prelude.{◌≡◌, ℕ, zero, suc, Bool, true, false, Option, None, Some, is_none, List, [], ◌∷◌, ◌++◌, get_or, if◌then◌else◌}
+use Rattle.std.specs.Prelude.{◌≡◌, None, List, [], get_or}
 use Rattle.ztree.specs.Tree.{Tree}
 use Rattle.zcalls.specs.Kept.{KeptState}
-use Rattle.zprotocol.specs.declared.message.Message.TheVariants as message
 use Rattle.zprotocol.specs.declared.process.Process.{Process}
-use Rattle.zprotocol.specs.declared.process.Process.TheVariants.{Master, Server}
+use Rattle.zprotocol.specs.declared.process.Process.TheVariants.{Master, Server, Client}
+use Rattle.zprotocol.specs.Places.{place_of}
 use Rattle.zprotocol.specs.server.View.{ServerView, Transfer, spare}
 use Rattle.zprotocol.specs.client.View.{ClientView}
-use Rattle.zprotocol.specs.master.View.{MasterView}
+use Rattle.zprotocol.specs.master.View.{MasterView, opening_master}
+use Rattle.zactor.specs.Acting.{TreeStanding, has_stopped}
 use Rattle.zlinks.specs.Places.{Channels, links_of}
+use Rattle.zworld_model.specs.Does.{AtMaster, AtServer, AtClient}
 use Rattle.zworld_model.specs.History.{History}
-use Rattle.zworld_model.specs.Links.{Links}
 use Rattle.zworld_model.specs.World.{World}
 use Rattle.zworld_model.specs.Events.{let_go}
 
--- one of the servers: its view, or none where it has failed, and whether it still owes the master
--- its failure notice
-pub record MemberView : Type 0 where
-  pub view : Option (ServerView (KeptState Tree))
-  pub owes_gone : Bool
-
--- the channels that hold messages
+-- the channels as they are kept
 abbrev pub HeldChannels : Type 0
 HeldChannels = Channels (Transfer (KeptState Tree))
 
--- all processes and channels: the servers from 1 on, the clients from 0 on, the master, and the
--- messages in flight except Gone
+-- where each process stands, by its place, and the messages in flight
 pub record Held : Type 0 where
-  pub members : List MemberView
-  pub clients : List ClientView
-  pub master : MasterView
+  pub actors : List TreeStanding
   pub links : HeldChannels
-
--- a running server with this view
-abbrev pub running : ServerView (KeptState Tree) → MemberView
-running view = record { view = Some view; owes_gone = false }
-
--- a server that takes no part
-abbrev pub bystander : MemberView
-bystander = running spare
-
--- a server that has just failed
-abbrev pub gone_member : MemberView
-gone_member = record { view = None; owes_gone = true }
-
--- the member of this number
-abbrev pub member_at : List MemberView → ℕ → MemberView
-member_at members zero = bystander
-member_at members (suc place) = get_or members place bystander
-
--- the view of a member; one that has failed has dropped what it held
-abbrev pub view_of : MemberView → ServerView (KeptState Tree)
-view_of member = elim member.view [ None ↦ spare | Some view ↦ view ]
-
--- a member has failed
-abbrev pub is_gone : MemberView → Bool
-is_gone member = is_none member.view
-
--- a member has failed, and still owes the master its failure notice
-abbrev pub owes : MemberView → Bool
-owes member = elim member.view [ None ↦ member.owes_gone | Some view ↦ false ]
-
--- the failure notice of a failed server, until the master has received it
-abbrev pub last_words : List MemberView → Links (KeptState Tree)
-last_words members (Server s) Master = if owes (member_at members s) then message.Gone ∷ [] else []
-last_words members from to = []
 
 -- a client that the world doesn't have
 abbrev pub nobody : ClientView
 nobody = record { number = 0; outstanding = None; epoch = 0; head = None; tail = None }
 
+-- where a process stands that isn't held: it takes no part
+abbrev pub bystander : Process → TreeStanding
+bystander Master = AtMaster (opening_master 1 0)
+bystander (Server s) = AtServer spare
+bystander (Client c) = AtClient nobody
+
+-- where a process stands
+abbrev pub standing_at : List TreeStanding → Process → TreeStanding
+standing_at actors process = get_or actors (place_of process) (bystander process)
+
+-- the views of those that stand there. A server that has stopped has dropped what it held
+abbrev pub master_of : TreeStanding → MasterView
+master_of (AtMaster v) = v
+master_of standing = opening_master 1 0
+
+abbrev pub view_of : TreeStanding → ServerView (KeptState Tree)
+view_of (AtServer v) = v
+view_of standing = spare
+
+abbrev pub client_of : TreeStanding → ClientView
+client_of (AtClient v) = v
+client_of standing = nobody
+
 -- the world that is held, with this history, whatever lies on channels into failed servers
 abbrev pub kept_world : Held → History → World (KeptState Tree)
 kept_world held history = record {
-  servers = λ s. elim (member_at held.members s).view [ None ↦ spare | Some view ↦ view ];
-  clients = λ c. get_or held.clients c nobody;
-  master = held.master;
-  failed = λ s. is_none (member_at held.members s).view;
-  links = λ from to. links_of held.links from to ++ last_words held.members from to;
+  servers = λ s. view_of (standing_at held.actors (Server s));
+  clients = λ c. client_of (standing_at held.actors (Client c));
+  master = master_of (standing_at held.actors Master);
+  failed = λ s. has_stopped (standing_at held.actors (Server s));
+  links = links_of held.links;
   history = history;
 }
 

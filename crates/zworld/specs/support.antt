@@ -1,8 +1,7 @@
 pub mod Codes
-pub mod Counts
-pub mod Members
+pub mod Standing
 pub mod Posting
-pub mod Fronts
+pub mod Giving
 pub mod Opening
 pub mod Settled
 pub mod Settling

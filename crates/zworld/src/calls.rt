@@ -3,13 +3,14 @@
 ghost use Rattle.std.specs.Prelude.{◌≡◌, [], IfNone, IfOk, IfSome, OnErr};
 ghost use Rattle.zcalls.specs.declared.call.Call.{Call};
 ghost use Rattle.zworld_model.specs.declared.event.Event.TheVariants.{Begin, Retry};
+ghost use Rattle.zworld.specs.support.Giving.{begun_number};
 ghost use Rattle.zworld.specs.support.Stepped.{CanHappen, Goes, HasStepped, IsIdle};
 
 use crate::did::{Did, IdleCause};
-use crate::post::post;
 use crate::processes::Processes;
+use zactor::{ActFault, Done, Handed, Input};
 use zalloc::Memory;
-use zcalls::{Call, ClientId};
+use zcalls::{Call, CallNumber, ClientId};
 use zprotocol::Process;
 use zworld_model::CallEvent;
 
@@ -39,22 +40,20 @@ impl Processes {
             drop(call);
             return Err(Memory);
         };
-        let core = &mut self.clients[client.number() as usize];
-        let Ok(number) = core.begin(call, &mut self.out) else {
-            // Nothing else refuses a call that can be invoked.
-            drop(told);
-            return Err(Memory);
+        let mut handed = Handed::Nothing;
+        let done = self.give(&Process::Client(client), Input::Begin(call), &mut handed);
+        drop(handed);
+        let done = match done {
+            Ok(done) => done,
+            Err(fault) => {
+                drop(fault);
+                drop(told);
+                return Err(Memory);
+            }
         };
-        self.waiting += 1;
-        let Ok(()) = post(
-            self.alloc,
-            &mut self.links,
-            &self.members,
-            &Process::Client(client),
-            &mut self.out,
-        ) else {
-            drop(told);
-            return Err(Memory);
+        // Nothing else becomes of a call that can be invoked.
+        let Some(number) = begun_number(done) else {
+            unreachable!();
         };
         seen.push_reserved(CallEvent::Begin(client, number, told));
         Ok(Did::Done)
@@ -66,10 +65,12 @@ impl Processes {
         ensures cannot { IfSome result
             (λ why. (call : Call) → IsIdle self.now (Begin client call) why) }
     {
-        if client.number() >= self.master.clients() {
+        if client.number() >= self.clients() {
             return Some(IdleCause::Nothing);
         }
-        let core = &self.clients[client.number() as usize];
+        let Some(core) = self.actors[Process::Client(client).place()].as_client() else {
+            unreachable!();
+        };
         match core.begin_fault() {
             Some(fault) => Some(IdleCause::Begin(fault)),
             None => None,
@@ -82,18 +83,26 @@ impl Processes {
             (λ did. HasStepped self.old self.new (Retry client) did []) }
         ensures needed { OnErr result (CanHappen self.old (Retry client)) }
     {
-        let core = &self.clients[client.number() as usize];
-        if core.outstanding().is_none() {
-            return Ok(Did::Idle(IdleCause::Nothing));
+        let mut handed = Handed::Nothing;
+        let done = self.give(&Process::Client(client), Input::Retry, &mut handed);
+        drop(handed);
+        match done {
+            Ok(done) => {
+                drop(done);
+                Ok(Did::Done)
+            }
+            Err(ActFault::Refused(_)) => Ok(Did::Idle(IdleCause::Nothing)),
+            Err(ActFault::Memory) => Err(Memory),
         }
-        core.retry(&mut self.out)?;
-        post(
-            self.alloc,
-            &mut self.links,
-            &self.members,
-            &Process::Client(client),
-            &mut self.out,
-        )?;
-        Ok(Did::Done)
+    }
+}
+
+// Returns the number of a call that began.
+fn begun_number(done: Done) -> Option<CallNumber>
+    ensures { result ≡ begun_number done }
+{
+    match done {
+        Done::Began(number) => Some(number),
+        Done::Acted | Done::Unheard | Done::Stopped | Done::Left | Done::Answered(_) => None,
     }
 }

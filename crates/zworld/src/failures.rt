@@ -6,6 +6,7 @@ ghost use Rattle.zworld.specs.support.Stepped.{HasStepped};
 
 use crate::did::{Did, IdleCause};
 use crate::processes::Processes;
+use zactor::{Handed, Input};
 use zprotocol::{Process, ServerId};
 
 impl Processes {
@@ -15,13 +16,18 @@ impl Processes {
     pub(crate) fn fail(&mut self, server: ServerId) -> Did
         ensures { HasStepped self.old self.new (Fail server) result [] }
     {
-        let member = &mut self.members[server.number() as usize - 1];
-        if member.has_failed() {
-            return Did::Idle(IdleCause::Nothing);
+        let mut handed = Handed::Nothing;
+        let done = self.give(&Process::Server(server), Input::Stop, &mut handed);
+        drop(handed);
+        match done {
+            Ok(done) => {
+                drop(done);
+                Did::Done
+            }
+            Err(fault) => {
+                drop(fault);
+                Did::Idle(IdleCause::Nothing)
+            }
         }
-        member.fail();
-        self.owing += 1;
-        self.links.clear(&Process::Server(server));
-        Did::Done
     }
 }

@@ -7,7 +7,7 @@ ghost use Rattle.zworld.specs.Held.{kept_world};
 ghost use Rattle.zworld.specs.Last.{is_another, is_lasting, is_last};
 
 use crate::processes::Processes;
-use zprotocol::{MAX_SERVERS, ServerId};
+use zprotocol::{MAX_SERVERS, Process, ServerId};
 
 impl Processes {
     /// Returns whether no other server lasts.
@@ -44,9 +44,12 @@ impl Processes {
     fn is_lasting(&self, server: ServerId) -> bool
         ensures { result ≡ is_lasting (kept_world self.now []) server }
     {
-        if self.members[server.number() as usize - 1].has_failed() {
+        if self.actors[Process::Server(server).place()].has_stopped() {
             return false;
         }
-        self.master.is_staying(server)
+        let Some(master) = self.actors[0].as_master() else {
+            unreachable!();
+        };
+        master.is_staying(server)
     }
 }

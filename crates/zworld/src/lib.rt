@@ -12,8 +12,6 @@ mod deliveries;
 mod did;
 mod failures;
 mod lasting;
-mod life;
-mod member;
 mod opening;
 mod orders;
 mod post;

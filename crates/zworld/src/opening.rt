@@ -2,24 +2,23 @@
 
 ghost use Rattle.std.specs.Prelude.{◌≡◌, ◌≤◌, [], IfOk};
 ghost use Rattle.ztree.specs.declared.limits.TheConstants.{MAX_CLIENTS};
-ghost use Rattle.zprotocol.specs.client.View.{opening_client};
-ghost use Rattle.zprotocol.specs.server.Machine.{kept_tree};
+ghost use Rattle.zprotocol.specs.server.Machine.{kept_tree, kept_tree_from};
 ghost use Rattle.zserver.specs.Server.{IsFresh};
 ghost use Rattle.zworld_model.specs.World.{opening_world};
 ghost use Rattle.zworld_model.specs.FromTree.{opening_world_from};
 ghost use Rattle.zworld.specs.Held.{kept_world};
-ghost use Rattle.zworld.specs.support.Opening.{opening_members, restored_members, opening_clients};
+ghost use Rattle.zworld.specs.support.Opening.{opening_actor, opening_actors, restored_actors};
+ghost use Rattle.zworld.specs.support.Opening.{opening_client};
 
-use crate::member::Member;
 use crate::processes::Processes;
 use std::alloc::Global;
+use zactor::Actor;
 use zalloc::Memory;
 use zclient::ClientCore;
 use zlinks::Links;
 use zmaster::Master;
-use zprotocol::{MAX_SERVERS, Out, ServerId};
-use zserver::Snapshot;
-use ztree::limits::MAX_CLIENTS;
+use zprotocol::{Out, PROCESSES, Process, ServerId};
+use zserver::{Server, Snapshot};
 
 impl Processes {
     /// Returns the initial state: the chain is the servers up to `last`, and there are this many
@@ -29,23 +28,15 @@ impl Processes {
         ensures { IfOk result (λ a. kept_world a [] ≡ opening_world kept_tree last clients) }
     {
         last.keeps_in_range();
-        let members = opening_members(alloc, last)?;
-        let cores = opening_clients(alloc, last, clients)?;
-        let links = Links::new(alloc)?;
         Ok(Processes {
             alloc,
-            members,
-            clients: cores,
-            master: Master::new(last, clients),
-            links,
+            actors: opening_actors(alloc, last, clients)?,
+            links: Links::new(alloc)?,
             out: Out::new(alloc),
-            owing: 0,
             waiting: 0,
         })
     }
-}
 
-impl Processes {
     /// Returns the initial state of a chain that begins with the snapshot's tree.
     pub(crate) fn restored(
         alloc: Global,
@@ -59,74 +50,98 @@ impl Processes {
             ≡ opening_world_from snapshot.now.machine.plain last clients) }
     {
         last.keeps_in_range();
-        let members = restored_members(alloc, last, snapshot)?;
-        let cores = opening_clients(alloc, last, clients)?;
-        let links = Links::new(alloc)?;
         Ok(Processes {
             alloc,
-            members,
-            clients: cores,
-            master: Master::new(last, clients),
-            links,
+            actors: restored_actors(alloc, last, clients, snapshot)?,
+            links: Links::new(alloc)?,
             out: Out::new(alloc),
-            owing: 0,
             waiting: 0,
         })
     }
 }
 
-// Returns all servers, of which those up to `last` are the chain.
-fn opening_members(alloc: Global, last: ServerId) -> Result<Vec<Member>, Memory>
-    ensures { IfOk result (λ members. members.items ≡ opening_members last) }
+// Returns all processes, of which the servers up to `last` are the chain and this many clients take
+// part.
+fn opening_actors(alloc: Global, last: ServerId, clients: u8) -> Result<Vec<Actor>, Memory>
+    requires { clients ≤ MAX_CLIENTS }
+    ensures { IfOk result (λ actors. actors.items ≡ opening_actors last clients) }
 {
-    let mut members = Vec::new(alloc);
-    for number in 1..MAX_SERVERS + 1 {
-        let Some(id) = ServerId::new(number) else {
+    let mut actors = Vec::new(alloc);
+    for place in 0..PROCESSES {
+        let Some(process) = Process::at(place) else {
             unreachable!();
         };
-        members.push(Member::opening(alloc, id, last)?)?;
+        actors.push(opening_actor(alloc, process, last, clients)?)?;
     }
-    Ok(members)
+    Ok(actors)
 }
 
-// Returns all servers, of which those up to `last` are the chain and hold the snapshot's tree.
-fn restored_members(
+// Returns one of those processes.
+fn opening_actor(
+    alloc: Global,
+    process: Process,
+    last: ServerId,
+    clients: u8,
+) -> Result<Actor, Memory>
+    requires { clients ≤ MAX_CLIENTS }
+    ensures { IfOk result (λ actor. actor ≡ opening_actor kept_tree last clients process) }
+{
+    match process {
+        Process::Master => Ok(Actor::master(Master::new(last, clients))),
+        Process::Server(id) => Ok(Actor::server(Server::opening(alloc, id, last)?)),
+        Process::Client(id) => Ok(opening_client(alloc, id.number(), last, clients)),
+    }
+}
+
+// Returns all processes, where the servers of the chain hold the snapshot's tree.
+fn restored_actors(
     alloc: Global,
     last: ServerId,
+    clients: u8,
     snapshot: &Snapshot,
-) -> Result<Vec<Member>, Memory>
-    requires { IsFresh snapshot.now }
-    ensures { IfOk result (λ members. members.items
-        ≡ restored_members snapshot.now.machine.plain last) }
+) -> Result<Vec<Actor>, Memory>
+    requires few { clients ≤ MAX_CLIENTS }
+    requires fresh { IsFresh snapshot.now }
+    ensures { IfOk result (λ actors. actors.items
+        ≡ restored_actors snapshot.now.machine.plain last clients) }
 {
-    let mut members = Vec::new(alloc);
-    for server in 1..MAX_SERVERS + 1 {
-        let Some(id) = ServerId::new(server) else {
+    let mut actors = Vec::new(alloc);
+    for place in 0..PROCESSES {
+        let Some(process) = Process::at(place) else {
             unreachable!();
         };
-        members.push(Member::restored(alloc, snapshot, id, last)?)?;
+        actors.push(restored_actor(alloc, process, last, clients, snapshot)?)?;
     }
-    Ok(members)
+    Ok(actors)
 }
 
-// Returns the clients, of which this many take part.
-fn opening_clients(alloc: Global, last: ServerId, count: u8) -> Result<Vec<ClientCore>, Memory>
-    ensures { IfOk result (λ clients. clients.items ≡ opening_clients last count) }
+// Returns one of those processes.
+fn restored_actor(
+    alloc: Global,
+    process: Process,
+    last: ServerId,
+    clients: u8,
+    snapshot: &Snapshot,
+) -> Result<Actor, Memory>
+    requires few { clients ≤ MAX_CLIENTS }
+    requires fresh { IsFresh snapshot.now }
+    ensures { IfOk result (λ actor. actor
+        ≡ opening_actor (kept_tree_from snapshot.now.machine.plain) last clients process) }
 {
-    let mut clients = Vec::new(alloc);
-    for number in 0..MAX_CLIENTS {
-        clients.push(opening_client(alloc, number, last, count))?;
+    match process {
+        Process::Master => Ok(Actor::master(Master::new(last, clients))),
+        Process::Server(id) => Ok(Actor::server(Server::restored(alloc, snapshot, id, last)?)),
+        Process::Client(id) => Ok(opening_client(alloc, id.number(), last, clients)),
     }
-    Ok(clients)
 }
 
 // Returns the client of this number.
-fn opening_client(alloc: Global, number: u8, last: ServerId, count: u8) -> ClientCore
+fn opening_client(alloc: Global, number: u8, last: ServerId, count: u8) -> Actor
     ensures { result ≡ opening_client last count number }
 {
     if number < count {
-        ClientCore::new(alloc, last)
+        Actor::client(ClientCore::new(alloc, last))
     } else {
-        ClientCore::outside(alloc)
+        Actor::client(ClientCore::outside(alloc))
     }
 }

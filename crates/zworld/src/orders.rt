@@ -5,10 +5,10 @@ ghost use Rattle.zworld_model.specs.declared.event.Event.TheVariants as event;
 ghost use Rattle.zworld.specs.support.Stepped.{CanHappen, HasStepped};
 
 use crate::did::{Did, IdleCause};
-use crate::post::post;
 use crate::processes::Processes;
+use zactor::{ActFault, Handed, Input, Refusal};
 use zalloc::Memory;
-use zmaster::{MAX_POSTS, Order};
+use zmaster::Order;
 use zprotocol::Process;
 
 impl Processes {
@@ -20,23 +20,17 @@ impl Processes {
             (λ did. HasStepped self.old self.new (event.Order order) did []) }
         ensures needed { OnErr result (CanHappen self.old (event.Order order)) }
     {
-        if let Some(fault) = self.master.order_fault(&order) {
-            return Ok(Did::Idle(IdleCause::Order(fault)));
-        }
-        order.keeps_in_range();
-        self.out.reserve(MAX_POSTS)?;
-        match self.master.order(&order, &mut self.out) {
-            Ok(()) => {
-                post(
-                    self.alloc,
-                    &mut self.links,
-                    &self.members,
-                    &Process::Master,
-                    &mut self.out,
-                )?;
+        let mut handed = Handed::Nothing;
+        let done = self.give(&Process::Master, Input::Obey(order), &mut handed);
+        drop(handed);
+        match done {
+            Ok(done) => {
+                drop(done);
                 Ok(Did::Done)
             }
-            Err(fault) => Ok(Did::Idle(IdleCause::Order(fault))),
+            Err(ActFault::Refused(Refusal::Order(fault))) => Ok(Did::Idle(IdleCause::Order(fault))),
+            Err(ActFault::Refused(_)) => unreachable!(),
+            Err(ActFault::Memory) => Err(Memory),
         }
     }
 }

@@ -1,55 +1,48 @@
 //! All processes and their channels.
 
-ghost use Rattle.std.specs.Prelude.{◌≡◌, [], true, IfOk, OnErr};
+ghost use Rattle.std.specs.Prelude.{◌≡◌, ◌≤◌, [], true, IfErr, IfOk, Ok, OnErr};
+ghost use Rattle.ztree.specs.declared.limits.TheConstants.{MAX_CLIENTS};
+ghost use Rattle.zactor.specs.Acting.{handed_by};
 ghost use Rattle.zworld.specs.Held.{kept_world};
 ghost use Rattle.zworld.specs.Steps.{can_want_memory};
+ghost use Rattle.zworld.specs.support.Giving.{IsGiven, IsNotGiven};
 ghost use Rattle.zworld.specs.support.Stepped.{Goes};
 
 use crate::did::Did;
-use crate::member::Member;
+use crate::post::{end, post, waiting_after};
 use std::alloc::Global;
 use std::marker::Model;
+use zactor::{ActFault, Actor, Done, Handed, Input};
 use zalloc::Memory;
-use zclient::ClientCore;
 use zlinks::Links;
-use zmaster::Master;
-use zprotocol::Out;
+use zprotocol::{Out, Process};
 use zserver::Snapshot;
 use zworld_model::{CallEvent, Event};
 
-/// The servers from 1 on, the clients from 0 on, the master, and the messages in flight except
-/// `Gone`. The list of what an event sends is kept from one event to the next, and is empty between
-/// them. The numbers of owed failure notices and of waiting clients are counted, so that settling
-/// looks for them only where there are some.
+/// The processes, each at its place, and the messages in flight. The list of what an event sends is
+/// kept from one event to the next, and is empty between them. The waiting clients are counted, so
+/// that settling looks for them only where there are some.
 #[derive(Drop)]
 pub(crate) struct Processes {
     pub(crate) alloc: Global,
-    pub(crate) members: Vec<Member>,
-    pub(crate) clients: Vec<ClientCore>,
-    pub(crate) master: Master,
+    pub(crate) actors: Vec<Actor>,
     pub(crate) links: Links<Snapshot>,
     pub(crate) out: Out<Snapshot>,
-    pub(crate) owing: usize,
     pub(crate) waiting: usize,
 }
 
 impl Model for Processes {
     ghost use Rattle.zworld.specs.Held.{Held};
     ghost use Rattle.zworld.specs.support.Codes.{coded_held};
-    ghost use Rattle.zworld.specs.support.Members.{IsFull};
+    ghost use Rattle.zworld.specs.support.Standing.{IsFull};
 
     ghost Value = { Held };
 
     ghost coded = { coded_held };
 
-    ghost view = { λ a. record {
-      members = a.members.items;
-      clients = a.clients.items;
-      master = a.master;
-      links = a.links;
-    } };
+    ghost view = { λ a. record { actors = a.actors.items; links = a.links } };
 
-    ghost invariant = { λ a. IsFull a.members.items a.clients.items a.out.posts a.owing a.waiting };
+    ghost invariant = { λ a. IsFull a.actors.items a.links a.out.posts a.waiting };
 }
 
 impl Processes {
@@ -68,5 +61,51 @@ impl Processes {
             Event::Fail(server) => Ok(self.fail(server)),
             Event::Order(order) => self.order(order),
         }
+    }
+
+    /// Gives a process an input: the only way in which one acts. What it sends is put on its
+    /// channels, except what is for servers that have stopped. A server that stops by this sends
+    /// its failure notice, and what is on channels to it is dropped. What it hands over is put in the
+    /// place that is lent.
+    #[inline(always)]
+    pub(crate) fn give(
+        &mut self,
+        process: &Process,
+        input: Input,
+        handed: &mut Handed,
+    ) -> Result<Done, ActFault>
+        ensures given { IfOk result (IsGiven self.old self.new process.now input) }
+        ensures handed { IfOk result
+            (λ done. handed.new ≡ handed_by input (Ok done) handed.old) }
+        ensures fault { IfErr result (IsNotGiven self.old self.new process.now input) }
+    {
+        let done = self.actors[process.place()].act(input, &mut self.out, handed)?;
+        self.waiting = waiting_after(self.waiting, &done);
+        if done.is_end() {
+            end(&mut self.links, process);
+            return Ok(done);
+        }
+        let Ok(()) = post(
+            self.alloc,
+            &mut self.links,
+            &self.actors,
+            process,
+            &mut self.out,
+        ) else {
+            drop(done);
+            return Err(ActFault::Memory);
+        };
+        Ok(done)
+    }
+
+    /// Returns the number of clients.
+    pub(crate) fn clients(&self) -> u8
+        ensures same { result ≡ (kept_world self.now []).master.clients }
+        ensures few { result ≤ MAX_CLIENTS }
+    {
+        let Some(master) = self.actors[0].as_master() else {
+            unreachable!();
+        };
+        master.clients()
     }
 }

@@ -1,13 +1,10 @@
 //! Settling (running until quiescent): passes over all channels, one retry of each waiting client,
 //! and passes again.
 
-ghost use Rattle.std.specs.Prelude.{◌≡◌, ◌≤◌, ◌<◌, ◌-◌, ◌&&◌, [], IfOk, OnErr};
+ghost use Rattle.std.specs.Prelude.{◌≡◌, ◌≤◌, ◌<◌, ◌-◌, ◌&&◌, IfOk, OnErr};
 ghost use Rattle.std.specs.Prelude.{if◌then◌else◌};
 ghost use Rattle.ztree.specs.declared.limits.TheConstants.{MAX_CLIENTS};
-ghost use Rattle.zprotocol.specs.declared.limits.TheConstants.{PROCESSES};
-ghost use Rattle.zlinks.specs.Places.{Between};
 ghost use Rattle.zworld_model.specs.Settle.{deliveries, retry_events};
-ghost use Rattle.zworld.specs.Held.{SendsNothing, kept_world};
 ghost use Rattle.zworld.specs.Did.{is_idle, is_short};
 ghost use Rattle.zworld.specs.support.Stepped.{Settles};
 ghost use Rattle.zworld.specs.support.Settling.{CanRunOut, StillOrCould};
@@ -34,7 +31,7 @@ impl Processes {
         ensures partly { OnErr result (GoOn seen.new.items seen.old.items) }
         ensures needed { OnErr result (CanRunOut self.old limit) }
     {
-        let clients = self.master.clients();
+        let clients = self.clients();
         let mut left = self.passes(clients, limit, limit, strict, seen)?;
         if self.waiting > 0 {
             left = self.retry_all(clients, left)?;
@@ -74,8 +71,7 @@ impl Processes {
 
     // Makes one pass: a message from each channel, by sender and then by receiver, while more
     // events may be done. Returns how many are left. It skips senders and receivers with nothing in
-    // flight, as they are when it comes there. Failure notices go to the master, so the master is
-    // tried where any server owes one.
+    // flight, as they are when it comes there.
     fn pass(
         &mut self,
         clients: u8,
@@ -91,15 +87,12 @@ impl Processes {
         ensures needed { OnErr result (CanRunOut self.old left) }
     {
         let count = 1 + MAX_SERVERS as usize + clients as usize;
-        let mut sender = self.next_sender(0);
+        let mut sender = self.links.next_sender(0);
         while sender < count {
             let Some(from) = Process::at(sender) else {
                 unreachable!();
             };
-            let mut receiver = 0;
-            if self.owing == 0 {
-                receiver = self.links.next_receiver(&from, 0);
-            }
+            let mut receiver = self.links.next_receiver(&from, 0);
             while receiver < count {
                 let Some(to) = Process::at(receiver) else {
                     unreachable!();
@@ -114,7 +107,7 @@ impl Processes {
                 left = left_after(left, did);
                 receiver = self.links.next_receiver(&from, receiver + 1);
             }
-            sender = self.next_sender(sender + 1);
+            sender = self.links.next_sender(sender + 1);
         }
         Ok(left)
     }
@@ -138,25 +131,6 @@ impl Processes {
             left = left_after(left, did);
         }
         Ok(left)
-    }
-
-    // Returns the first place, from `at` on, of a process with something in flight, a failure
-    // notice included.
-    fn next_sender(&self, at: usize) -> usize
-        ensures few { result ≤ PROCESSES }
-        ensures ahead { at ≤ PROCESSES → at ≤ result }
-        ensures silent { Between at result (SendsNothing (kept_world self.now [])) }
-    {
-        let next = self.links.next_sender(at);
-        if self.owing == 0 {
-            return next;
-        }
-        for server in 1..MAX_SERVERS as usize + 1 {
-            if at <= server && server < next && self.members[server - 1].owes_gone() {
-                return server;
-            }
-        }
-        next
     }
 }
 

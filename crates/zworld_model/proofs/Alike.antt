@@ -26,12 +26,14 @@ Agree v links others = (from to : Process) → has_failed v to ≡ false → lin
 -- what is put keeps that
 put_agrees : {M : Type 0} (v : World M) (links others : Links M) (sender : Process) (posts : List (Post M))
     → Agree v links others → Agree v (put links sender posts) (put others sender posts)
-put_agrees v links others sender posts agree from to alive = ap (λ link. if is_same from sender then link ++ messages_to to posts else link) (agree from to alive)
+put_agrees v links others sender posts agree from to alive = ap (λ link. if is_same from sender then link ++ messages_to to posts else link)
+    (agree from to alive)
 
 -- and so does a front that is taken
 front_agrees : {M : Type 0} (v : World M) (links others : Links M) (sender taker : Process)
     → Agree v links others → Agree v (without_front links sender taker) (without_front others sender taker)
-front_agrees v links others sender taker agree from to alive = ap (λ link. if is_same from sender && is_same to taker then drop 1 link else link) (agree from to alive)
+front_agrees v links others sender taker agree from to alive = ap (λ link. if is_same from sender && is_same to taker
+    then drop 1 link else link) (agree from to alive)
 
 -- what is let go of doesn't hang on what failed servers held
 forgets : {A : Type 0} (b : Bool) (none x y : A) → (b ≡ false → x ≡ y) → (if b then none else x) ≡ (if b then none else y)
@@ -97,7 +99,8 @@ module _ {M : Type 0} (machine : Does M) (v : World M) (others : ℕ → ServerV
 
   -- a server's new view and what it puts
   server_does_alike : (from : Process) (s : ℕ) (did : ServerView M × List (Post M))
-      → IsAlike (did_in (popped from (Server s)) (Server s) (server_effect did)) (did_in (other_popped from (Server s)) (Server s) (server_effect did))
+      → IsAlike (did_in (popped from (Server s)) (Server s) (server_effect did))
+      (did_in (other_popped from (Server s)) (Server s) (server_effect did))
   server_does_alike from s did = record {
     rest = refl;
     servers = λ t alive. ap (λ view. if t == s then did.0 else view) (same_views t alive);
@@ -125,7 +128,8 @@ module _ {M : Type 0} (machine : Does M) (v : World M) (others : ℕ → ServerV
   }
 
   -- worlds that are alike, by one choice in both
-  chosen_alike : (b : Bool) (x y : World M) (p : Process) (d e : Effect M) → IsAlike (did_in x p d) (did_in y p d) → IsAlike (did_in x p e) (did_in y p e)
+  chosen_alike : (b : Bool) (x y : World M) (p : Process) (d e : Effect M) → IsAlike (did_in x p d) (did_in y p d)
+      → IsAlike (did_in x p e) (did_in y p e)
       → IsAlike (did_in x p (if b then d else e)) (did_in y p (if b then d else e))
   chosen_alike true x y p d e first second = first
   chosen_alike false x y p d e first second = second
@@ -142,7 +146,8 @@ module _ {M : Type 0} (machine : Does M) (v : World M) (others : ℕ → ServerV
       let first : World M = popped from (Server s) in
       let second : World M = other_popped from (Server s) in
       let did : ServerView M × List (Post M) = server.server_step machine (v.servers s) from message in
-      subst (λ view. IsAlike (does_in machine first (Server s) (Hear from message)) (did_in second (Server s) (does machine (Server s) (Hear from message) (AtServer view))))
+      subst (λ view. IsAlike (does_in machine first (Server s) (Hear from message))
+      (did_in second (Server s) (does machine (Server s) (Hear from message) (AtServer view))))
       (same_views s alive)
       (chosen_alike (server.is_retirement from message) first second (Server s) stop_effect (server_effect did)
       (stops_alike s _ _ (front_agrees v _ _ from (Server s) agree)) (server_does_alike from s did))
@@ -187,7 +192,8 @@ module _ {M : Type 0} (machine : Does M) (v : World M) (others : ℕ → ServerV
   happens_as : (event : Event) (b : Bool) → is_enabled v event ≡ b → is_enabled other event ≡ b
       → IsAlike (happens machine v event) (happens machine other event)
   happens_as event true here there =
-      rw (here, there) (subst (IsAlike (let_go (acts machine v event))) (alike_let_go _ _ (acts_alike event here)) (alike_itself (let_go (acts machine v event))))
+      rw (here, there) (subst (IsAlike (let_go (acts machine v event))) (alike_let_go _ _ (acts_alike event here))
+      (alike_itself (let_go (acts machine v event))))
   happens_as event false here there = rw (here, there) as_they_are
 
   -- an event
@@ -200,12 +206,15 @@ have_the_same_enabled machine v w event alike =
     enabled_alike machine v w.servers w.links alike.servers alike.links event ∙ ap (λ u. is_enabled u event) (sym alike.rest)
 
 -- do the same at an event that is enabled
-pub alike_acts : {M : Type 0} (machine : Does M) (v w : World M) (event : Event) → IsAlike v w → is_enabled v event ≡ true → IsAlike (acts machine v event) (acts machine w event)
+pub alike_acts : {M : Type 0} (machine : Does M) (v w : World M) (event : Event) → IsAlike v w → is_enabled v event ≡ true
+    → IsAlike (acts machine v event) (acts machine w event)
 alike_acts machine v w event alike enabled =
-    subst (λ u. IsAlike (acts machine v event) (acts machine u event)) (sym alike.rest) (acts_alike machine v w.servers w.links alike.servers alike.links event enabled)
+    subst (λ u. IsAlike (acts machine v event) (acts machine u event)) (sym alike.rest)
+    (acts_alike machine v w.servers w.links alike.servers alike.links event enabled)
 
 -- and stay alike
-pub stay_alike : {M : Type 0} (machine : Does M) (v w : World M) (events : List Event) → IsAlike v w → IsAlike (run machine v events) (run machine w events)
+pub stay_alike : {M : Type 0} (machine : Does M) (v w : World M) (events : List Event) → IsAlike v w
+    → IsAlike (run machine v events) (run machine w events)
 stay_alike machine v w [] alike = alike
 stay_alike machine v w (event ∷ events) alike =
     stay_alike machine (happens machine v event) (happens machine w event) events
@@ -235,7 +244,8 @@ same_both true false x y same equal = absurd (true≢false same)
 same_both false true x y same equal = absurd (true≢false (sym same))
 
 -- a delivery to a server that lives is to the same view
-same_view : {M : Type 0} (v w : World M) → IsAlike v w → (from : Process) (s : ℕ) → is_enabled v (Take from (Server s)) ≡ true → v.servers s ≡ w.servers s
+same_view : {M : Type 0} (v w : World M) → IsAlike v w → (from : Process) (s : ℕ) → is_enabled v (Take from (Server s)) ≡ true
+    → v.servers s ≡ w.servers s
 same_view v w alike from s enabled = alike.servers s (not_failed _ (v.failed s) enabled)
 
 delivery_alike : {M : Type 0} (machine : Does M) (v w : World M) (event : Event) (test : ServerView M → Process → MessageOf M → Bool)

@@ -36,10 +36,12 @@ module _ {M : Type 0} (machine : Does M) where
   taken_keeps : (w : World M) (from to : Process) (m : MessageOf M) → IsBounded w.master → IsBounded (does_in machine w to (Hear from m)).master
   taken_keeps w from Master m bounded = messages_keep w.master from m bounded
   taken_keeps w from (Server s) m bounded =
-      by_choice (λ (x : World M). IsBounded x.master) (is_retirement from m) w (Server s) stop_effect (server_effect (server_step machine (w.servers s) from m)) bounded bounded
+      by_choice (λ (x : World M). IsBounded x.master) (is_retirement from m) w (Server s) stop_effect
+      (server_effect (server_step machine (w.servers s) from m)) bounded bounded
   taken_keeps w from (Client c) m bounded = bounded
 
-  front_keeps : (w : World M) (from to : Process) (link : List (MessageOf M)) → IsBounded w.master → IsBounded (front_step machine w from to link).master
+  front_keeps : (w : World M) (from to : Process) (link : List (MessageOf M)) → IsBounded w.master
+      → IsBounded (front_step machine w from to link).master
   front_keeps w from to [] bounded = bounded
   front_keeps w from to (m ∷ more) bounded = taken_keeps (record w { links = without_front w.links from to }) from to m bounded
 

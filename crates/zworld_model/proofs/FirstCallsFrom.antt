@@ -51,7 +51,8 @@ module _ (t : Tree) (can : CanStart t) where
     replayed : (c n : ℕ) (reply : Reply) → Among (Answer c n reply) seen → IsReplayed (service_of (plain_from t)) (asked ∷ []) c n reply
     unfolding AtAnswer
     replayed c n reply among =
-        each_among (AtAnswer (IsReplayed (service_of (plain_from t)) (asked ∷ []))) seen (tt, ((asked, refl, refl, inl refl), tt)) (Answer c n reply) among
+        each_among (AtAnswer (IsReplayed (service_of (plain_from t)) (asked ∷ []))) seen (tt, ((asked, refl, refl, inl refl), tt))
+        (Answer c n reply) among
 
     -- nothing ends before another begins
     nothing_ends : (a b : Operation) → EndsBefore seen a b → ⊥
@@ -85,14 +86,16 @@ module _ (query : Question) (reply : Reply) where
       ap (λ (did : Operation × Reply). did.1) (sym e) ∙ ap (λ (q : Operation). (operation_step (service_of (plain_from t)) t q).1) all.0
   only_reply t o (p ∷ order) all (inr among) =
       only_reply t o order all.1
-      (subst (λ (q : Operation). Among (o, reply) (replies_from (service_of (plain_from t)) (operation_step (service_of (plain_from t)) t q).0 order)) all.0 among)
+      (subst (λ (q : Operation). Among (o, reply) (replies_from (service_of (plain_from t)) (operation_step (service_of (plain_from t)) t q).0
+      order)) all.0 among)
 
   -- the only call that began
   begun_is_it : (o : Operation) → HasBegun (query_of query reply) o → o ≡ the_query
   begun_is_it o (inl e) = the_same (sym e)
     where
       the_same : Begin o.client o.number o.call ≡ Begin 1 1 (Query query) → o ≡ the_query
-      the_same e = let c : o.client ≡ 1 = cc in let n : o.number ≡ 1 = cc in let q : o.call ≡ Query query = cc in λ i. record { client = c i; number = n i; call = q i }
+      the_same e = let c : o.client ≡ 1 = cc in let n : o.number ≡ 1 = cc in let q : o.call ≡ Query query = cc in λ i.
+          record { client = c i; number = n i; call = q i }
   begun_is_it o (inr (inl e)) = absurd (begin_is_no_answer _ _ _ _ _ _ (sym e))
   begun_is_it o (inr (inr e)) = absurd e
 

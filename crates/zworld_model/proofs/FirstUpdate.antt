@@ -40,7 +40,8 @@ module _ (update : Change) (query : Question) where
   order = done ∷ asked ∷ []
 
   -- both answers are replayed
-  are_replayed : (c n : ℕ) (reply : Reply) → Among (Answer c n reply) (update_is_first update query) → IsReplayed (service_of plain_tree) order c n reply
+  are_replayed : (c n : ℕ) (reply : Reply) → Among (Answer c n reply) (update_is_first update query)
+      → IsReplayed (service_of plain_tree) order c n reply
   unfolding AtAnswer
   are_replayed c n reply among =
       each_among (AtAnswer (IsReplayed (service_of plain_tree) order)) (update_is_first update query)

@@ -24,12 +24,14 @@ module _ {M : Type 0} (machine : Does M) (w : World M) where
       by false is = rw (keeping_enabled event ∙ is, is) refl
 
 -- what happened has let go of what failed servers held, if that was so before
-pub happened_lets_go : {M : Type 0} (machine : Does M) (w : World M) (event : Event) → let_go (happens machine (let_go w) event) ≡ happens machine (let_go w) event
+pub happened_lets_go : {M : Type 0} (machine : Does M) (w : World M) (event : Event) → let_go (happens machine (let_go w) event)
+    ≡ happens machine (let_go w) event
 happened_lets_go machine w event =
     ap let_go (keeping_happens machine w event) ∙ let_go_twice (keeps machine w event) ∙ sym (keeping_happens machine w event)
 
 -- a run
-pub keeping_runs : {M : Type 0} (machine : Does M) (w : World M) (events : List Event) → run machine (let_go w) events ≡ let_go (run_keeping machine w events)
+pub keeping_runs : {M : Type 0} (machine : Does M) (w : World M) (events : List Event) → run machine (let_go w) events
+    ≡ let_go (run_keeping machine w events)
 keeping_runs machine w [] = refl
 keeping_runs machine w (event ∷ events) =
     ap (λ u. run machine u events) (keeping_happens machine w event) ∙ keeping_runs machine (keeps machine w event) events
@@ -40,12 +42,15 @@ none_either_way true = refl
 none_either_way false = refl
 
 -- an opening holds nothing that is let go of
-pub opening_let_go : {M : Type 0} (machine : Does M) (servers clients : ℕ) → let_go (opening_world machine servers clients) ≡ opening_world machine servers clients
+pub opening_let_go : {M : Type 0} (machine : Does M) (servers clients : ℕ) → let_go (opening_world machine servers clients)
+    ≡ opening_world machine servers clients
 opening_let_go machine servers clients =
-    λ i. record (opening_world machine servers clients) { links = λ from to. none_either_way (has_failed (opening_world machine servers clients) to) i }
+    λ i. record (opening_world machine servers clients)
+    { links = λ from to. none_either_way (has_failed (opening_world machine servers clients) to) i }
 
 -- a run from an opening is what is left of the one that keeps
 pub run_lets_go : {M : Type 0} (machine : Does M) (servers clients : ℕ) (events : List Event)
     → run machine (opening_world machine servers clients) events ≡ let_go (run_keeping machine (opening_world machine servers clients) events)
 run_lets_go machine servers clients events =
-    ap (λ w. run machine w events) (sym (opening_let_go machine servers clients)) ∙ keeping_runs machine (opening_world machine servers clients) events
+    ap (λ w. run machine w events) (sym (opening_let_go machine servers clients))
+    ∙ keeping_runs machine (opening_world machine servers clients) events

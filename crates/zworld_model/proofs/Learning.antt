@@ -20,22 +20,33 @@ module _ {M : Type 0} (machine : Does M) where
   pub done_is_learnt : DoneIsLearnt machine
   done_is_learnt whole from learnt s event outcome done goes rest =
       ap whole (append_assoc learnt (outcome ∷ []) rest) ∙ goes (outcome ∷ rest)
-      ∙ ap from (chosen (is_done s event) (with_event machine (record s { outcomes = outcome ∷ rest }) (read machine s.world event outcome)) (record s { outcomes = outcome ∷ rest }) done)
+      ∙ ap from (chosen (is_done s event) (with_event machine (record s { outcomes = outcome ∷ rest }) (read machine s.world event outcome))
+      (record s { outcomes = outcome ∷ rest }) done)
 
   pub idle_is_passed : IdleIsPassed machine
   idle_is_passed whole from learnt s event idle goes rest =
-      goes rest ∙ ap from (unchosen (is_done s event) (with_event machine (record s { outcomes = rest }) (read machine s.world event (next_outcome rest))) (record s { outcomes = rest }) idle)
+      goes rest ∙ ap from (unchosen (is_done s event) (with_event machine (record s { outcomes = rest })
+      (read machine s.world event (next_outcome rest))) (record s { outcomes = rest }) idle)
 
   pub pass_begins : PassBegins machine
   pass_begins whole from learnt s deliveries more not_over goes rest =
-      goes rest ∙ ap (λ b. from (elim b [ true ↦ record s { outcomes = rest } | false ↦ passes machine deliveries more (with_tries machine (record s { outcomes = rest }) deliveries) ])) not_over
+      goes rest ∙ ap (λ b. from (elim b [
+        | true ↦ record s { outcomes = rest }
+        | false ↦ passes machine deliveries more
+            (with_tries machine (record s { outcomes = rest }) deliveries)
+      ])) not_over
 
   pub passes_end : PassesEnd machine
   passes_end whole from learnt s deliveries zero over goes rest = goes rest
   passes_end whole from learnt s deliveries (suc more) over goes rest =
-      goes rest ∙ ap (λ b. from (elim b [ true ↦ record s { outcomes = rest } | false ↦ passes machine deliveries more (with_tries machine (record s { outcomes = rest }) deliveries) ])) over
+      goes rest ∙ ap (λ b. from (elim b [
+        | true ↦ record s { outcomes = rest }
+        | false ↦ passes machine deliveries more
+            (with_tries machine (record s { outcomes = rest }) deliveries)
+      ])) over
 
   pub reading_is_learnt : ReadingIsLearnt machine
   reading_is_learnt whole learnt readings w event events outcome goes rest =
       ap whole (append_assoc learnt (outcome ∷ []) rest) ∙ goes (outcome ∷ rest)
-      ∙ sym (append_assoc readings (read machine w event outcome ∷ []) (read_all machine (happens machine w (read machine w event outcome)) events rest))
+      ∙ sym (append_assoc readings (read machine w event outcome ∷ [])
+      (read_all machine (happens machine w (read machine w event outcome)) events rest))

@@ -16,17 +16,20 @@ use Rattle.zworld_model.specs.declared.history.CallEvent.TheVariants.{Begin, Ans
 use Rattle.zworld_model.specs.History.{History, IsUpdate, HasBegun, IsAnswered, EndsBefore}
 use Rattle.zworld_model.specs.LegalOrder.{Service, operation_step, replies_from, states_from, IsReplayed, IsLegalOrder}
 use Rattle.zworld_model.specs.PlainTree.{service_of, call_step}
-use Rattle.zworld_model.specs.Lives.{state_after, later_event, later_history, later_operation, later_order, CountsFromOne, CountsUpTo, TwoLivesAreOne, TheSecondLifeLeavesTheTree}
+use Rattle.zworld_model.specs.Lives.{state_after, later_event, later_history, later_operation, later_order}
+use Rattle.zworld_model.specs.Lives.{CountsFromOne, CountsUpTo, TwoLivesAreOne, TheSecondLifeLeavesTheTree}
 use Rattle.zworld_model.proofs.Among.{among_map, among_first, among_second, among_image}
 use Rattle.zworld_model.proofs.Orders.{before_first, before_second, before_across, Stand, stand, before_map, before_image, no_two_both, no_two_image}
 
 -- what an event that was counted on was before
-later_begin : (last : ℕ) (e : CallEvent) (c m : ℕ) (call : Call) → later_event last e ≡ Begin c m call → (n : ℕ) × (last + n ≡ m) × (e ≡ Begin c n call)
+later_begin : (last : ℕ) (e : CallEvent) (c m : ℕ) (call : Call) → later_event last e ≡ Begin c m call
+    → (n : ℕ) × (last + n ≡ m) × (e ≡ Begin c n call)
 later_begin last (Begin d n other) c m call is =
     let client : d ≡ c = cc in let same : other ≡ call = cc in (n, cc, λ i. Begin (client i) n (same i))
 later_begin last (Answer d n reply) c m call is = absurd (cc is)
 
-later_answer : (last : ℕ) (e : CallEvent) (c m : ℕ) (reply : Reply) → later_event last e ≡ Answer c m reply → (n : ℕ) × (last + n ≡ m) × (e ≡ Answer c n reply)
+later_answer : (last : ℕ) (e : CallEvent) (c m : ℕ) (reply : Reply) → later_event last e ≡ Answer c m reply
+    → (n : ℕ) × (last + n ≡ m) × (e ≡ Answer c n reply)
 later_answer last (Answer d n other) c m reply is =
     let client : d ≡ c = cc in let same : other ≡ reply = cc in (n, cc, λ i. Answer (client i) n (same i))
 later_answer last (Begin d n call) c m reply is = absurd (cc is)
@@ -37,7 +40,8 @@ module _ {P : Type 0} (service : Service P) where
   state_both p [] b = refl
   state_both p (o ∷ a) b = state_both (operation_step service p o).0 a b
 
-  replies_both : (p : P) (a b : List Operation) → replies_from service p (a ++ b) ≡ replies_from service p a ++ replies_from service (state_after service p a) b
+  replies_both : (p : P) (a b : List Operation) → replies_from service p (a ++ b) ≡ replies_from service p a
+      ++ replies_from service (state_after service p a) b
   replies_both p [] b = refl
   replies_both p (o ∷ a) b = ap (λ rs. (o, (operation_step service p o).1) ∷ rs) (replies_both (operation_step service p o).0 a b)
 
@@ -97,7 +101,8 @@ module _ {P : Type 0} (Lawful : P → Type 0) (service : Service P) (u : P) (fir
   old_number o among = few o (legal.begun o among)
 
   old_answer : (c n : ℕ) (reply : Reply) → Among (Answer c n reply) first → n ≤ last
-  old_answer c n reply among = let r = legal.answered c n reply among in subst (λ m. m ≤ last) r.2 (old_number r.0 (replied_is_among service service.opening r.0 reply a r.3))
+  old_answer c n reply among = let r = legal.answered c n reply among in subst (λ m. m ≤ last) r.2
+      (old_number r.0 (replied_is_among service service.opening r.0 reply a r.3))
 
   new_number : (o : Operation) → Among o (later_order last b) → last < o.number
   new_number o among =
@@ -139,7 +144,11 @@ module _ {P : Type 0} (Lawful : P → Type 0) (service : Service P) (u : P) (fir
         (elim (next.unanswered m.0 m.1) [
           | inl update ↦ inl update
           | inr (reply, told) ↦
-              inr (reply, among_second _ first (later_history last second) (among_map (later_event last) (Answer m.0.client m.0.number reply) second told))
+              inr (
+                reply,
+                among_second _ first (later_history last second)
+                    (among_map (later_event last) (Answer m.0.client m.0.number reply) second told),
+              )
         ])
   ]
 
@@ -147,7 +156,8 @@ module _ {P : Type 0} (Lawful : P → Type 0) (service : Service P) (u : P) (fir
   once =
       no_two_both IsSameCall a (later_order last b) legal.once
       (no_two_image (later_operation last) IsSameCall IsSameCall b (λ x y same. (same.0, (let number = same.1 in omega (arith, number)))) next.once)
-      (λ x y inside behind same. let low = old_number x inside in let high = new_number y behind in let number = same.1 in omega (arith, low, high, number))
+      (λ x y inside behind same. let low = old_number x inside in let high = new_number y behind in let number = same.1
+      in omega (arith, low, high, number))
 
   -- every reply is the replay's
   all_replies : replies_from service service.opening order ≡ replies_from service service.opening a ++ replies_from service u (later_order last b)
@@ -158,8 +168,13 @@ module _ {P : Type 0} (Lawful : P → Type 0) (service : Service P) (u : P) (fir
   answered : (c n : ℕ) (reply : Reply) → Among (Answer c n reply) both → IsReplayed service order c n reply
   answered c n reply among = elim (among_cases _ first (later_history last second) among) [
     | inl inside ↦
-        let r = legal.answered c n reply inside in
-        (r.0, r.1, r.2, subst (Among (r.0, reply)) (sym all_replies) (among_first _ (replies_from service service.opening a) (replies_from service u (later_order last b)) r.3))
+        let r = legal.answered c n reply inside in (
+          r.0,
+          r.1,
+          r.2,
+          subst (Among (r.0, reply)) (sym all_replies) (among_first _ (replies_from service service.opening a)
+              (replies_from service u (later_order last b)) r.3),
+        )
     | inr behind ↦
         let m = among_image (later_event last) (Answer c n reply) second behind in
         let e = later_answer last m.0 c n reply m.2 in
@@ -168,7 +183,8 @@ module _ {P : Type 0} (Lawful : P → Type 0) (service : Service P) (u : P) (fir
           r.1,
           ap (λ k. last + k) r.2 ∙ e.1,
           subst (Among (later_operation last r.0, reply)) (sym all_replies)
-              (among_second _ (replies_from service service.opening a) (replies_from service u (later_order last b)) (replies_later service last u b r.0 reply (subst (Among (r.0, reply)) (replies_anyway service u u b) r.3))),
+              (among_second _ (replies_from service service.opening a) (replies_from service u (later_order last b))
+              (replies_later service last u b r.0 reply (subst (Among (r.0, reply)) (replies_anyway service u u b) r.3))),
         )
   ]
 
@@ -191,7 +207,11 @@ module _ {P : Type 0} (Lawful : P → Type 0) (service : Service P) (u : P) (fir
       let y_number : f.0 ≡ ys.0.number = (let there = f.1 in omega (arith, there, y_is)) in
       let ended : m.0 ≡ Answer xs.0.client xs.0.number reply = e.2 ∙ (λ i. Answer (sym x_client i) (x_number i) reply) in
       let began : m.1 ≡ Begin ys.0.client ys.0.number ys.0.call = f.2 ∙ (λ i. Begin (sym y_client i) (y_number i) (sym y_call i)) in
-      let ends : EndsBefore second xs.0 ys.0 = (reply, subst (λ v. ComesBefore (Answer xs.0.client xs.0.number reply) v second) began (subst (λ v. ComesBefore v m.1 second) ended m.2)) in
+      let ends : EndsBefore second xs.0 ys.0 = (
+        reply,
+        subst (λ v. ComesBefore (Answer xs.0.client xs.0.number reply) v second)
+            began (subst (λ v. ComesBefore v m.1 second) ended m.2),
+      ) in
       subst (λ (p : Operation). ComesBefore p y (later_order last b)) xs.2
       (subst (λ (q : Operation). ComesBefore (later_operation last xs.0) q (later_order last b)) ys.2
       (before_map (later_operation last) xs.0 ys.0 b (next.in_time xs.0 ys.0 ends xs.1 ys.1)))
@@ -209,7 +229,8 @@ module _ {P : Type 0} (Lawful : P → Type 0) (service : Service P) (u : P) (fir
       let m = among_image (later_event last) _ second among in
       let e = later_answer last m.0 o.client o.number reply m.2 in
       let r = next.answered o.client e.0 reply (subst (λ x. Among x second) e.2 m.1) in
-      let above = new_number (later_operation last r.0) (among_map (later_operation last) r.0 b (replied_is_among (record service { opening = u }) u r.0 reply b r.3)) in
+      let above = new_number (later_operation last r.0)
+      (among_map (later_operation last) r.0 b (replied_is_among (record service { opening = u }) u r.0 reply b r.3)) in
       let there = e.1 in
       let number = r.2 in
       omega (arith, above, there, number)
@@ -221,7 +242,8 @@ module _ {P : Type 0} (Lawful : P → Type 0) (service : Service P) (u : P) (fir
         let y_low = few y (before_is_among _ _ first inside).1 in
         before_first x y a (later_order last b) (legal.in_time x y (reply, inside) (stands_first x x_low x_there) (stands_first y y_low y_there))
     | Stand.InEach ended began ↦
-        before_across x y a (later_order last b) (stands_first x (old_answer x.client x.number reply ended) x_there) (stands_second y (later_begins y began) y_there)
+        before_across x y a (later_order last b) (stands_first x (old_answer x.client x.number reply ended) x_there)
+        (stands_second y (later_begins y began) y_there)
     | Stand.InSecond behind ↦
         let m = before_is_among _ _ (later_history last second) behind in
         before_second x y a (later_order last b)
@@ -251,7 +273,8 @@ pub same_service : (t u : Tree) → service_of (plain_from u) ≡ record (servic
 same_service t u = λ i. record { opening = u; step = λ p client call. same_call t u p client call i }
 
 -- so it gives the same replies
-pub plain_replies : (u p : Tree) (order : List Operation) → replies_from (service_of (plain_from u)) p order ≡ replies_from (service_of plain_tree) p order
+pub plain_replies : (u p : Tree) (order : List Operation) → replies_from (service_of (plain_from u)) p order
+    ≡ replies_from (service_of plain_tree) p order
 plain_replies u p order =
     ap (λ (s : Service Tree). replies_from s p order) (same_service opening_tree u) ∙ replies_anyway (service_of plain_tree) u p order
 

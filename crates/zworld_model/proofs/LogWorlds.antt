@@ -21,7 +21,8 @@ use Rattle.zworld_model.specs.declared.event.Event.{Event}
 use Rattle.zworld_model.specs.declared.event.Event.TheVariants.{Begin, Retry, Take, Ignore, Fail, Order}
 use Rattle.zworld_model.specs.Links.{Links, put, without_front, is_same, messages_to}
 use Rattle.zworld_model.specs.World.{World, at, opening_world}
-use Rattle.zworld_model.specs.Does.{AtClient, Hear, Effect, master_effect, server_effect, stop_effect, client_effect, begin_effect, answer_told, last_post}
+use Rattle.zworld_model.specs.Does.{AtClient, Hear, Effect, master_effect, server_effect, stop_effect, client_effect}
+use Rattle.zworld_model.specs.Does.{begin_effect, answer_told, last_post}
 use Rattle.zworld_model.specs.declared.history.CallEvent.TheVariants as call_event
 use Rattle.zworld_model.specs.History.{History}
 use Rattle.zworld_model.specs.Events.{front_is, is_request, has_failed, is_enabled, goes_on, did_in, does_in, front_step, acts, let_go, happens, run}
@@ -40,7 +41,8 @@ module _ {M N : Type 0} (h : M → N) where
 
   addressed_with : (to : Process) (posts : List (Post M)) → messages_to to (posts_with h posts) ≡ map (message_with h) (messages_to to posts)
   addressed_with to [] = refl
-  addressed_with to (post ∷ posts) = kept_if (is_same to post.0) post.1 (messages_to to posts) (messages_to to (posts_with h posts)) (addressed_with to posts)
+  addressed_with to (post ∷ posts) = kept_if (is_same to post.0) post.1 (messages_to to posts) (messages_to to (posts_with h posts))
+      (addressed_with to posts)
 
   -- what is put
   put_if : (b : Bool) (link more : List (MessageOf M)) (others : List (MessageOf N)) → others ≡ map (message_with h) more
@@ -50,7 +52,8 @@ module _ {M N : Type 0} (h : M → N) where
 
   put_with : (links : Links M) (sender : Process) (posts : List (Post M)) (from to : Process)
       → put (links_with links) sender (posts_with h posts) from to ≡ map (message_with h) (put links sender posts from to)
-  put_with links sender posts from to = put_if (is_same from sender) (links from to) (messages_to to posts) (messages_to to (posts_with h posts)) (addressed_with to posts)
+  put_with links sender posts from to = put_if (is_same from sender) (links from to) (messages_to to posts)
+      (messages_to to (posts_with h posts)) (addressed_with to posts)
 
   -- a front that is taken
   front_if : (b : Bool) (link : List (MessageOf M))
@@ -64,7 +67,8 @@ module _ {M N : Type 0} (h : M → N) where
 
   -- the world without the front of a link
   popped_with : (w : World M) (from to : Process)
-      → record (world_with h w) { links = without_front (links_with w.links) from to } ≡ world_with h (record w { links = without_front w.links from to })
+      → record (world_with h w) { links = without_front (links_with w.links) from to }
+      ≡ world_with h (record w { links = without_front w.links from to })
   popped_with w from to = λ i. record (world_with h w) { links = λ p q. front_with w.links from to p q i }
 
   -- what each process does
@@ -134,7 +138,8 @@ module _ {M N : Type 0} (h : M → N) where
   let_go_with : (w : World M) → let_go (world_with h w) ≡ world_with h (let_go w)
   let_go_with w = λ i. record (world_with h w) {
     servers = λ s. at_if (w.failed s) spare (w.servers s) i;
-    links = λ from to. (ap (λ b. if b then [] else map (message_with h) (w.links from to)) (failed_with w to) ∙ gone_if (has_failed w to) (w.links from to)) i;
+    links = λ from to. (ap (λ b. if b then [] else map (message_with h) (w.links from to)) (failed_with w to)
+        ∙ gone_if (has_failed w to) (w.links from to)) i;
   }
 
   -- the same events are enabled
@@ -152,7 +157,8 @@ module _ {M N : Type 0} (h : M → N) where
   retirement_with from m = refl
 
   -- a choice between two effects
-  chosen_with : (b : Bool) (w : World M) (p : Process) (x y : Effect M) (x' y' : Effect N) → did_in (world_with h w) p x' ≡ world_with h (did_in w p x)
+  chosen_with : (b : Bool) (w : World M) (p : Process) (x y : Effect M) (x' y' : Effect N) → did_in (world_with h w) p x'
+      ≡ world_with h (did_in w p x)
       → did_in (world_with h w) p y' ≡ world_with h (did_in w p y)
       → did_in (world_with h w) p (if b then x' else y') ≡ world_with h (did_in w p (if b then x else y))
   chosen_with true w p x y x' y' first second = first
@@ -181,7 +187,8 @@ module _ {M N : Type 0} (h : M → N) where
         → front_step e (world_with h w) from to (map (message_with h) link) ≡ world_with h (front_step d w from to link)
     takes_front_with w from to [] = refl
     takes_front_with w from to (m ∷ more) =
-        ap (λ u. does_in e u to (Hear from (message_with h m))) (popped_with w from to) ∙ takes_with (record w { links = without_front w.links from to }) from to m
+        ap (λ u. does_in e u to (Hear from (message_with h m))) (popped_with w from to)
+        ∙ takes_with (record w { links = without_front w.links from to }) from to m
 
     -- what an event does
     acts_with : (w : World M) (event : Event) → acts e (world_with h w) event ≡ world_with h (acts d w event)
@@ -190,13 +197,15 @@ module _ {M N : Type 0} (h : M → N) where
         ap (λ did. did_in (world_with h w) (Client c) (begin_effect c call did)) (begins_with h (w.clients c) call)
         ∙ client_does_with w c did.0 did.1 (call_event.Begin c did.0.number call ∷ [])
     acts_with w (Retry c) =
-        ap (λ posts. did_in (world_with h w) (Client c) (record { left = AtClient (w.clients c); posts = posts; told = [] })) (retries_with h (w.clients c))
+        ap (λ posts. did_in (world_with h w) (Client c) (record { left = AtClient (w.clients c); posts = posts; told = [] }))
+        (retries_with h (w.clients c))
         ∙ client_does_with w c (w.clients c) (client.retry_posts (w.clients c)) []
     acts_with w (Take from to) = takes_front_with w from to (w.links from to)
     acts_with w (Ignore from to) = popped_with w from to
     acts_with w (Fail s) = stops_with w s
     acts_with w (Order order) =
-        ap (λ did. did_in (world_with h w) Master (master_effect did)) (orders_with h w.master order) ∙ master_does_with w (master.order_step w.master order)
+        ap (λ did. did_in (world_with h w) Master (master_effect did)) (orders_with h w.master order)
+        ∙ master_does_with w (master.order_step w.master order)
 
     -- where it can happen
     happens_if : (b : Bool) (w acted : World M) (acted' : World N) → acted' ≡ world_with h acted
@@ -205,7 +214,8 @@ module _ {M N : Type 0} (h : M → N) where
     happens_if false w acted acted' did = refl
 
     happens_with : (w : World M) (event : Event) → happens e (world_with h w) event ≡ world_with h (happens d w event)
-    happens_with w event = rw (enabled_with w event) (happens_if (is_enabled w event) w (acts d w event) (acts e (world_with h w) event) (acts_with w event))
+    happens_with w event = rw (enabled_with w event) (happens_if (is_enabled w event) w (acts d w event)
+        (acts e (world_with h w) event) (acts_with w event))
 
     -- a run
     pub run_with : (w : World M) (events : List Event) → run e (world_with h w) events ≡ world_with h (run d w events)
@@ -236,4 +246,5 @@ module _ {M N : Type 0} (h : M → N) where
 -- a run from the opening is the mapped one
 pub runs_with : {M N : Type 0} (h : M → N) {d : Does M} {e : Does N} (same : IsHomomorphism d e h) (servers clients : ℕ) (events : List Event)
     → run e (opening_world e servers clients) events ≡ world_with h (run d (opening_world d servers clients) events)
-runs_with h {d} {e} same servers clients events = ap (λ w. run e w events) (opening_with h same servers clients) ∙ run_with h same (opening_world d servers clients) events
+runs_with h {d} {e} same servers clients events = ap (λ w. run e w events) (opening_with h same servers clients)
+    ∙ run_with h same (opening_world d servers clients) events

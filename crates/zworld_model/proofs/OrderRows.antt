@@ -13,7 +13,8 @@ use Rattle.zworld_model.specs.History.{IsUpdate, HasBegun, IsAnswered, EndsBefor
 use Rattle.zcalls.specs.Operation.{IsSameCall}
 use Rattle.zworld_model.specs.LegalOrder.{IsReplayed}
 use Rattle.zworld_model.specs.support.Counter.{counter, create, name_reply, count_reply}
-use Rattle.zworld_model.specs.support.OrderRows.{Explains, history_with, true_order, first_create, lost_create, lost_exists, last_exists, strange_create}
+use Rattle.zworld_model.specs.support.OrderRows.{Explains, history_with, true_order, first_create, lost_create}
+use Rattle.zworld_model.specs.support.OrderRows.{lost_exists, last_exists, strange_create}
 use Rattle.zworld_model.proofs.Among.{each_among}
 
 -- a beginning is no answer
@@ -78,7 +79,10 @@ pub explained : Explains 2 2 true_order
 explained = record {
   begun = each_among (HasBegun (history_with 2)) true_order (inl refl, (inr (inl refl), (inr (inr (inr (inr (inl refl)))), tt)));
   once = (
-    each_among (λ o. IsSameCall first_create o → ⊥) (lost_create ∷ last_exists ∷ []) ((λ same. omega (arith, same.0)), ((λ same. omega (arith, same.0)), tt)),
+    each_among (λ o. IsSameCall first_create o → ⊥) (lost_create ∷ last_exists ∷ []) (
+      (λ same. omega (arith, same.0)),
+      ((λ same. omega (arith, same.0)), tt),
+    ),
     (each_among (λ o. IsSameCall lost_create o → ⊥) (last_exists ∷ []) ((λ same. omega (arith, same.0)), tt), (λ o among. absurd among, tt)),
   );
   answered = are_replayed;
@@ -137,8 +141,9 @@ wrong_reply legal = elim ((legal.answered 2 1 (count_reply 1) (inr (inr (inr (in
 
 -- client 1 was answered before client 2 began, so its call comes first
 pub against_time : Explains 2 0 (last_exists ∷ first_create ∷ []) → ⊥
-against_time legal = elim (legal.in_time first_create last_exists (name_reply 0, inr (inr (inr (inl (refl, inl refl))))) (inr (inl refl)) (inl refl)) [
-  | inl e ↦ omega (arith, ap (λ o. o.client) e.0)
-  | inr (inl e) ↦ e.1
-  | inr (inr e) ↦ e
-]
+against_time legal = elim (legal.in_time first_create last_exists (name_reply 0, inr (inr (inr (inl (refl, inl refl)))))
+    (inr (inl refl)) (inl refl)) [
+      | inl e ↦ omega (arith, ap (λ o. o.client) e.0)
+      | inr (inl e) ↦ e.1
+      | inr (inr e) ↦ e
+    ]

@@ -33,7 +33,8 @@ stands past w (Server s) left = refl
 stands past w (Client c) (AtClient v) = refl
 stands past w (Client c) left = refl
 
-did_past : {M : Type 0} (past : History) (w : World M) (p : Process) (did : Effect M) → did_in (with_past past w) p did ≡ with_past past (did_in w p did)
+did_past : {M : Type 0} (past : History) (w : World M) (p : Process) (did : Effect M) → did_in (with_past past w) p did
+    ≡ with_past past (did_in w p did)
 did_past past w p did =
     λ i. record (stands past w p did.left i) { links = put w.links p did.posts; history = told past w.history did.told i }
 

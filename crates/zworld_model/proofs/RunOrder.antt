@@ -31,7 +31,8 @@ order = first_down ∷ second_down ∷ []
 are_replayed : (c n : ℕ) (reply : Reply) → Among (Answer c n reply) history → IsReplayed counter order c n reply
 unfolding AtAnswer
 are_replayed c n reply among =
-    each_among (AtAnswer (IsReplayed counter order)) history (tt, (tt, ((second_down, refl, refl, inr (inl refl)), ((first_down, refl, refl, inl refl), tt))))
+    each_among (AtAnswer (IsReplayed counter order)) history
+    (tt, (tt, ((second_down, refl, refl, inr (inl refl)), ((first_down, refl, refl, inl refl), tt))))
     (Answer c n reply) among
 
 -- no call ends before another begins
@@ -72,4 +73,5 @@ no_other legal =
     ]
 
 pub other_order_does_not : ExplainsTheRun (second_down ∷ first_down ∷ []) → ⊥
-other_order_does_not legal = no_other (subst (λ seen. IsLegalOrder (λ state. Unit {0}) counter seen (second_down ∷ first_down ∷ [])) (sym is_history) legal)
+other_order_does_not legal = no_other (subst (λ seen. IsLegalOrder (λ state. Unit {0}) counter seen (second_down ∷ first_down ∷ []))
+    (sym is_history) legal)

@@ -13,7 +13,8 @@ use Rattle.zworld_model.specs.World.{World}
 use Rattle.zworld_model.specs.Events.{is_enabled, happens, run}
 use Rattle.zworld_model.specs.declared.outcome.Outcome.{Outcome}
 use Rattle.zworld_model.specs.Reading.{read}
-use Rattle.zworld_model.specs.Settle.{Settling, opening_settling, settle, settling_end, deliveries, retry_events, with_event, with_try, with_tries, is_over, passes, next_outcome}
+use Rattle.zworld_model.specs.Settle.{Settling, opening_settling, settle, settling_end, deliveries, retry_events}
+use Rattle.zworld_model.specs.Settle.{with_event, with_try, with_tries, is_over, passes, next_outcome}
 
 -- what holds of both outcomes of two tests holds of their choice
 of_both : {A : Type 0} (P : A → Type 0) (a b : Bool) (x y : A) → (a ≡ true → b ≡ true → P x) → P y → P (if a && b then x else y)
@@ -60,9 +61,11 @@ module _ {M : Type 0} (machine : Does M) where
   as_read s event = read machine s.world event (next_outcome s.outcomes)
 
   -- a tried event is done, where one more may be, or nothing is
-  either : (P : Settling M → Type 0) (s : Settling M) (event : Event) → (0 < s.left → P (with_event machine s (as_read s event))) → P s → P (with_try machine s event)
+  either : (P : Settling M → Type 0) (s : Settling M) (event : Event) → (0 < s.left → P (with_event machine s (as_read s event)))
+      → P s → P (with_try machine s event)
   either P s event done idle =
-      of_both P (nat_lt 0 s.left) (is_enabled s.world event) (with_event machine s (as_read s event)) s (λ some enabled. done (ltb-true 0 s.left some)) idle
+      of_both P (nat_lt 0 s.left) (is_enabled s.world event) (with_event machine s (as_read s event)) s
+      (λ some enabled. done (ltb-true 0 s.left some)) idle
 
   -- a fact that a tried event keeps
   abbrev Keeps : (Settling M → Type 0) → Type 0
@@ -84,13 +87,16 @@ module _ {M : Type 0} (machine : Does M) where
 
   -- the settling before its last passes
   abbrev asked_again : World M → ℕ → List Outcome → Settling M
-  asked_again w limit outcomes = with_tries machine (passes machine (deliveries w.master.clients) limit (opening_settling w limit outcomes)) (retry_events w.master.clients)
+  asked_again w limit outcomes = with_tries machine (passes machine (deliveries w.master.clients) limit (opening_settling w limit outcomes))
+      (retry_events w.master.clients)
 
   -- so it holds there
-  asked_again_keeps : (P : Settling M → Type 0) → Keeps P → (w : World M) (limit : ℕ) (outcomes : List Outcome) → P (opening_settling w limit outcomes)
+  asked_again_keeps : (P : Settling M → Type 0) → Keeps P → (w : World M) (limit : ℕ) (outcomes : List Outcome)
+      → P (opening_settling w limit outcomes)
       → P (asked_again w limit outcomes)
   asked_again_keeps P keeps w limit outcomes holds =
-      each_keeps P keeps _ (retry_events w.master.clients) (passes_keep P keeps (deliveries w.master.clients) limit (opening_settling w limit outcomes) holds)
+      each_keeps P keeps _ (retry_events w.master.clients) (passes_keep P keeps (deliveries w.master.clients) limit
+      (opening_settling w limit outcomes) holds)
 
   -- and at the end
   settle_keeps : (P : Settling M → Type 0) → Keeps P → (w : World M) (limit : ℕ) (outcomes : List Outcome) → P (opening_settling w limit outcomes)
@@ -170,7 +176,8 @@ module _ {M : Type 0} (machine : Does M) where
   goes_on s event events false idle some any later = rw (is_idle s event idle) (later any)
 
   -- a pass takes one message at least, where one can be taken and one more may be
-  pub pass_takes : (s : Settling M) (events : List Event) → 0 < s.left → list_any (is_enabled s.world) events ≡ true → (with_tries machine s events).left < s.left
+  pub pass_takes : (s : Settling M) (events : List Event) → 0 < s.left → list_any (is_enabled s.world) events ≡ true
+      → (with_tries machine s events).left < s.left
   pass_takes s [] some any = absurd (true≢false (sym any))
   pass_takes s (event ∷ events) some any = goes_on s event events (is_enabled s.world event) refl some any (pass_takes s events some)
 
@@ -187,11 +194,13 @@ module _ {M : Type 0} (machine : Does M) where
   -- passes end where it is over
   passes_over : (events : List Event) (more : ℕ) (s : Settling M) → s.left ≤ more → is_over (passes machine events more s) events ≡ true
   passes_over events zero s few = let none : (s.left == 0) ≡ true = grind (arith, nat_tests, few) in rw none refl
-  passes_over events (suc more) s few = over_or_on events more s (omega (arith, few)) (is_over s events) refl (passes_over events more (with_tries machine s events))
+  passes_over events (suc more) s few = over_or_on events more s (omega (arith, few)) (is_over s events) refl
+      (passes_over events more (with_tries machine s events))
 
   -- where settling ends quiet, no message can be taken
   pub quiet_has_nothing_to_take : (w : World M) (limit : ℕ) (outcomes : List Outcome) → settling_end (settle machine w limit outcomes) ≡ Quiet
       → list_any (is_enabled (settle machine w limit outcomes).world) (deliveries w.master.clients) ≡ false
   quiet_has_nothing_to_take w limit outcomes quiet =
       let few = asked_again_keeps (λ s. s.left ≤ limit) (falls limit) w limit outcomes (omega arith) in
-      nothing_is_left ((settle machine w limit outcomes).left == 0) _ quiet (passes_over (deliveries w.master.clients) limit (asked_again w limit outcomes) few)
+      nothing_is_left ((settle machine w limit outcomes).left == 0) _ quiet (passes_over (deliveries w.master.clients)
+      limit (asked_again w limit outcomes) few)

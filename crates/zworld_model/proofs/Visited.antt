@@ -1,5 +1,7 @@
 -- Settling visits every link that holds a message.
-use Rattle.std.proofs.Common.{if◌then◌else◌, ◌≡◌, ℕ, ◌+◌, ◌-◌, ◌<◌, ◌≤◌, zero, suc, Bool, true, false, nat_lt, nat_le, ◌==◌, List, [], ◌∷◌, map, Option, Some, None, refl, sym, subst, inl, inr, arith, ltb-true, eqb-true}
+use Rattle.std.proofs.Common.{if◌then◌else◌, ◌≡◌, ℕ, ◌+◌, ◌-◌, ◌<◌, ◌≤◌, zero, suc, Bool, true, false, nat_lt, nat_le}
+use Rattle.std.proofs.Common.{◌==◌, List, [], ◌∷◌, map, Option, Some, None, refl, sym, subst, inl, inr, arith, ltb-true}
+use Rattle.std.proofs.Common.{eqb-true}
 use mathlib.Core.Bool.{true≢false}
 use Rattle.std.specs.Prelude.{◌⊎◌, ◌||◌, flat_map}
 use Rattle.std.specs.List.{AllByRecursion, range_with_len, list_any}
@@ -39,7 +41,8 @@ pub at_most : (s : ℕ) → is_server s ≡ true → s ≤ MAX_SERVERS
 at_most s is = let few = (both (nat_lt 0 s) (nat_le s MAX_SERVERS) is).1 in grind (arith, nat_tests, few)
 
 -- the chain of an opening
-chain_within : (from count : ℕ) → 0 < from → from + count ≤ MAX_SERVERS + 1 → AllByRecursion IsMemberWithin (map (λ s. (s, 0)) (range_with_len from count))
+chain_within : (from count : ℕ) → 0 < from → from + count ≤ MAX_SERVERS + 1
+    → AllByRecursion IsMemberWithin (map (λ s. (s, 0)) (range_with_len from count))
 chain_within from zero some few = tt
 chain_within from (suc count) some few = (is_one from some (omega (arith, few)), chain_within (from + 1) count (omega arith) (omega (arith, few)))
 
@@ -120,7 +123,8 @@ among_processes : (clients : ℕ) (p : Process) → is_process clients p ≡ tru
 among_processes clients p is =
     let place = where_is p is in
     subst (λ q. Among q (processes clients)) place.2
-    (among_map process_at place.0 (range_with_len 0 (MAX_SERVERS + 1 + clients)) (among_range place.0 0 (MAX_SERVERS + 1 + clients) (omega arith) place.1))
+    (among_map process_at place.0 (range_with_len 0 (MAX_SERVERS + 1 + clients))
+    (among_range place.0 0 (MAX_SERVERS + 1 + clients) (omega arith) place.1))
   where
     where_is : (q : Process) → is_process clients q ≡ true → (place : ℕ) × (place < 0 + (MAX_SERVERS + 1 + clients)) × (process_at place ≡ q)
     where_is Master is = (0, omega arith, refl)
@@ -146,10 +150,12 @@ visited clients w from to within (m ∷ more) is =
 
 -- after a run it is so
 pub after_within : (servers clients : ℕ) (events : List Event) → is_server servers ≡ true → IsWithin clients (world_after servers clients events)
-after_within servers clients events is = run_within _ clients kept_tree (opening_world kept_tree servers clients) events (opening_within kept_tree servers clients is)
+after_within servers clients events is = run_within _ clients kept_tree (opening_world kept_tree servers clients) events
+    (opening_within kept_tree servers clients is)
 
 -- also from another tree
-pub after_within_from : (t : Tree) (servers clients : ℕ) (events : List Event) → is_server servers ≡ true → IsWithin clients (world_after_from t servers clients events)
+pub after_within_from : (t : Tree) (servers clients : ℕ) (events : List Event) → is_server servers ≡ true
+    → IsWithin clients (world_after_from t servers clients events)
 after_within_from t servers clients events is =
     run_within _ clients (kept_tree_from t) (opening_world_from t servers clients) events (opening_within (kept_tree_from t) servers clients is)
 
@@ -190,5 +196,6 @@ quiet_is_quiet servers clients limit events outcomes from to is quiet =
     let ended : IsWithin clients done.world =
     subst (IsWithin clients) (sym (settling_is_a_run kept_tree w limit outcomes)) (run_within _ clients kept_tree w done.events within) in
     let none : list_any (is_enabled done.world) (deliveries clients) ≡ false =
-    subst (λ n. list_any (is_enabled done.world) (deliveries n) ≡ false) within.counted (quiet_has_nothing_to_take kept_tree w limit outcomes quiet) in
+    subst (λ n. list_any (is_enabled done.world) (deliveries n) ≡ false) within.counted
+    (quiet_has_nothing_to_take kept_tree w limit outcomes quiet) in
     none_is_left clients done.world from to (visited clients done.world from to ended (done.world.links from to) refl) none

@@ -1,5 +1,6 @@
 -- In every run from an opening all that is on links is between processes of the world.
-use Rattle.std.proofs.Common.{◌≡◌, ℕ, ◌+◌, Bool, true, false, if◌then◌else◌, nat_lt, ◌==◌, List, [], ◌∷◌, ◌++◌, Some, None, refl, sym, ap, subst, ◌∙◌, inl, inr, eqb-true}
+use Rattle.std.proofs.Common.{◌≡◌, ℕ, ◌+◌, Bool, true, false, if◌then◌else◌, nat_lt, ◌==◌, List, [], ◌∷◌, ◌++◌, Some}
+use Rattle.std.proofs.Common.{None, refl, sym, ap, subst, ◌∙◌, inl, inr, eqb-true}
 use mathlib.Core.Bool.{true≢false}
 use Rattle.std.specs.Prelude.{◌&&◌, not, drop, is_some}
 use Rattle.std.specs.List.{AllByRecursion}
@@ -56,7 +57,8 @@ waits_any n c v is beyond = absurd (true≢false (sym is ∙ beyond))
 module _ (M : Type 0) (n : ℕ) where
   -- what is addressed to a process, by the test of the first post
   addressed_by : (to : Process) (post : Post M) (more : List (MessageOf M)) (m : MessageOf M) → GoesWithin n post
-      → (Among m more → (is_process n to ≡ true) × SpeaksWithin n m) → (b : Bool) → is_same to post.0 ≡ b → Among m (if b then post.1 ∷ more else more)
+      → (Among m more → (is_process n to ≡ true) × SpeaksWithin n m) → (b : Bool) → is_same to post.0 ≡ b
+      → Among m (if b then post.1 ∷ more else more)
       → (is_process n to ≡ true) × SpeaksWithin n m
   addressed_by to post more m goes rest true is (inl e) =
       (subst (λ p. is_process n p ≡ true) (sym (same_process to post.0 is)) goes.0, subst (SpeaksWithin n) e goes.1)
@@ -120,7 +122,8 @@ module _ (M : Type 0) (n : ℕ) where
 
   -- a client acts
   client_acts : (w : World M) (c : ℕ) (view : ClientView) (posts : List (Post M)) (told : History) → IsWithin n w → nat_lt c n ≡ true
-      → IsClientWithin n c view → AllByRecursion (GoesWithin n) posts → IsWithin n (did_in w (Client c) (record { left = AtClient view; posts = posts; told = told }))
+      → IsClientWithin n c view → AllByRecursion (GoesWithin n) posts
+      → IsWithin n (did_in w (Client c) (record { left = AtClient view; posts = posts; told = told }))
   client_acts w c view posts told within is good all = record {
     counted = within.counted;
     chain = within.chain;
@@ -131,7 +134,8 @@ module _ (M : Type 0) (n : ℕ) where
   }
 
   -- a client's row
-  client_row : (c : ℕ) (v : ClientView) → nat_lt c n ≡ true → IsClientWithin n c v → (from : Process) (m : MessageOf M) (r : ClientResult (Transfer M))
+  client_row : (c : ℕ) (v : ClientView) → nat_lt c n ≡ true → IsClientWithin n c v
+      → (from : Process) (m : MessageOf M) (r : ClientResult (Transfer M))
       → SpeaksWithin n m → client.IsClientRow v from m r → IsClientWithin n c r.0 × AllByRecursion (GoesWithin n) r.1
   client_row c v is good _ _ _ speaks (client.Ignores from m) = (good, tt)
   client_row c v is good _ _ _ speaks (client.Answers s number call reply waits) =
@@ -154,15 +158,19 @@ module _ (M : Type 0) (n : ℕ) where
 
   module _ (machine : Does M) where
     -- a process takes a message
-    taken_within : (w : World M) (from to : Process) (m : MessageOf M) → IsWithin n w → is_process n from ≡ true → is_process n to ≡ true → SpeaksWithin n m
+    taken_within : (w : World M) (from to : Process) (m : MessageOf M) → IsWithin n w → is_process n from ≡ true
+        → is_process n to ≡ true → SpeaksWithin n m
         → IsWithin n (does_in machine w to (Hear from m))
     taken_within w from Master m within sender taker speaks =
         master_acts w (master_step w.master from m) within
-        (master_within M n w.master (record { counted = within.counted; chain = within.chain; used = within.used }) from m (master_step w.master from m) sender (master_case w.master from m))
+        (master_within M n w.master (record { counted = within.counted; chain = within.chain; used = within.used }) from
+        m (master_step w.master from m) sender (master_case w.master from m))
     taken_within w from (Server s) m within sender taker speaks =
-        by_choice (IsWithin n) (is_retirement from m) w (Server s) stop_effect (server_effect (server_step machine (w.servers s) from m)) (stops_within w s within taker)
+        by_choice (IsWithin n) (is_retirement from m) w (Server s) stop_effect (server_effect (server_step machine (w.servers s) from m))
+        (stops_within w s within taker)
         (server_acts w s (server_step machine (w.servers s) from m) within taker
-        (row_within M n machine (w.servers s) (within.views s) from m (server_step machine (w.servers s) from m) sender speaks (server_case machine (w.servers s) from m)))
+        (row_within M n machine (w.servers s) (within.views s) from m (server_step machine (w.servers s) from m) sender
+        speaks (server_case machine (w.servers s) from m)))
     taken_within w from (Client c) m within sender taker speaks =
         let did : ClientResult (Transfer M) = client_step (w.clients c) from m in
         let good = client_row c (w.clients c) taker (within.callers c) from m did speaks (client_case (w.clients c) from m) in
@@ -191,7 +199,8 @@ module _ (M : Type 0) (n : ℕ) where
     ]
 
     -- what a client puts at a call and at a retry
-    begun_within : (w : World M) (c : ℕ) (call : Call) → IsWithin n w → nat_lt c n ≡ true → IsWithin n (does_in machine w (Client c) (given.Begin call))
+    begun_within : (w : World M) (c : ℕ) (call : Call) → IsWithin n w → nat_lt c n ≡ true
+        → IsWithin n (does_in machine w (Client c) (given.Begin call))
     unfolding begin_step
     begun_within w c call within is =
         let v : ClientView = record (w.clients c) { number = (w.clients c).number + 1; outstanding = Some ((w.clients c).number + 1, call) } in

@@ -1,5 +1,6 @@
 -- The three tables speak of processes of the world alone, where what they know and hear does.
-use Rattle.std.proofs.Common.{◌≡◌, ℕ, ◌+◌, ◌≤◌, zero, suc, Bool, true, false, if◌then◌else◌, nat_lt, ◌==◌, List, [], ◌∷◌, ◌++◌, map, Option, Some, None, refl, subst, arith}
+use Rattle.std.proofs.Common.{◌≡◌, ℕ, ◌+◌, ◌≤◌, zero, suc, Bool, true, false, if◌then◌else◌, nat_lt, ◌==◌, List, []}
+use Rattle.std.proofs.Common.{◌∷◌, ◌++◌, map, Option, Some, None, refl, subst, arith}
 use Rattle.std.specs.Prelude.{◌&&◌, not, filter}
 use Rattle.std.specs.List.{AllByRecursion, range_with_len, last_or}
 use Rattle.std.proofs.lemmas.Bool.{lt-ltb}
@@ -13,7 +14,8 @@ use Rattle.zprotocol.specs.declared.process.Process.TheVariants.{Server, Client}
 use Rattle.zprotocol.specs.server.Machine.{Does}
 use Rattle.zprotocol.specs.server.View.{ServerView, Neighbour, Transfer, MessageOf, Post}
 use Rattle.zprotocol.specs.server.Table.{ServerResult, ack_posts, answer_posts, forward_post, entries_above, missing_posts}
-use Rattle.zprotocol.specs.server.support.Cases.{IsAccepted, Processes, Forwards, IsRow, Ignores, Submits, Updates, Asks, Acknowledges, Shows, Turns, Follows, Leads, Ends}
+use Rattle.zprotocol.specs.server.support.Cases.{IsAccepted, Processes, Forwards, IsRow, Ignores, Submits, Updates}
+use Rattle.zprotocol.specs.server.support.Cases.{Asks, Acknowledges, Shows, Turns, Follows, Leads, Ends}
 use Rattle.zprotocol.specs.client.View.{ClientView}
 use Rattle.zprotocol.specs.client.Table.{call_posts, outstanding_posts}
 use Rattle.zprotocol.specs.master.View.{MasterView, with_number, members, is_joining, first_of, head_of, tail_of}
@@ -23,7 +25,8 @@ use Rattle.zprotocol.specs.master.Order.{server_of}
 use Rattle.zprotocol.specs.master.Table.{before, config_posts, MendedChain, order_step}
 use Rattle.zprotocol.specs.master.support.Cases as master
 use Rattle.zprotocol.specs.Places.{is_server}
-use Rattle.zworld_model.specs.support.Within.{is_process, IsServer, IsNamed, IsNear, IsOfClient, SpeaksWithin, GoesWithin, IsViewWithin, IsMemberWithin}
+use Rattle.zworld_model.specs.support.Within.{is_process, IsServer, IsNamed, IsNear, IsOfClient, SpeaksWithin}
+use Rattle.zworld_model.specs.support.Within.{GoesWithin, IsViewWithin, IsMemberWithin}
 
 -- a fact of all that two lists hold
 pub all_both : {A : Type 0} (P : A → Type 0) (xs ys : List A) → AllByRecursion P xs → AllByRecursion P ys → AllByRecursion P (xs ++ ys)
@@ -31,7 +34,8 @@ all_both P [] ys first second = second
 all_both P (x ∷ xs) ys first second = (first.0, all_both P xs ys first.1 second)
 
 -- a choice between two lists
-all_chosen : {A : Type 0} (P : A → Type 0) (b : Bool) (xs ys : List A) → AllByRecursion P xs → AllByRecursion P ys → AllByRecursion P (if b then xs else ys)
+all_chosen : {A : Type 0} (P : A → Type 0) (b : Bool) (xs ys : List A) → AllByRecursion P xs → AllByRecursion P ys
+    → AllByRecursion P (if b then xs else ys)
 all_chosen P true xs ys first second = first
 all_chosen P false xs ys first second = second
 
@@ -47,7 +51,8 @@ all_front P [] ys all = (tt, all)
 all_front P (x ∷ xs) ys all = let rest = all_front P xs ys all.1 in ((all.0, rest.0), rest.1)
 
 -- the numbers of a chain
-numbers_within : (chain : List Neighbour) → AllByRecursion IsMemberWithin chain → AllByRecursion (λ s. is_server s ≡ true) (map (λ member. member.0) chain)
+numbers_within : (chain : List Neighbour) → AllByRecursion IsMemberWithin chain
+    → AllByRecursion (λ s. is_server s ≡ true) (map (λ member. member.0) chain)
 numbers_within [] all = tt
 numbers_within (t ∷ chain) all = (all.0, numbers_within chain all.1)
 
@@ -66,7 +71,8 @@ named_if false x y first second = second
 before_within : (s epoch : ℕ) (chain : List Neighbour) → AllByRecursion IsMemberWithin chain → IsNamed (before s epoch chain)
 before_within s epoch [] all = tt
 before_within s epoch (p ∷ []) all = tt
-before_within s epoch (p ∷ (t ∷ rest)) all = named_if ((t.0 == s) && (t.1 == epoch)) (Some p.0) (before s epoch (t ∷ rest)) all.0 (before_within s epoch (t ∷ rest) all.1)
+before_within s epoch (p ∷ (t ∷ rest)) all = named_if ((t.0 == s) && (t.1 == epoch)) (Some p.0) (before s epoch (t ∷ rest))
+    all.0 (before_within s epoch (t ∷ rest) all.1)
 
 -- the used numbers with one more
 more_used : (s : ℕ) (numbers : List ℕ) → is_server s ≡ true → AllByRecursion IsServer numbers → AllByRecursion IsServer (with_number s numbers)
@@ -125,7 +131,8 @@ module _ (M : Type 0) (n : ℕ) where
   missing_within v m t epoch (Some k) view near =
       forwards_within (t, epoch) (entries_above k v.sent) near (all_filtered (IsOfClient n) (λ e. nat_lt k e.0) v.sent view.of_clients)
 
-  acks_all_within : (v : ServerView M) (machine : Option M) → IsViewWithin n v → GoWithin (elim machine [ None ↦ [] | Some m ↦ ack_posts v.pred v.last ])
+  acks_all_within : (v : ServerView M) (machine : Option M) → IsViewWithin n v
+      → GoWithin (elim machine [ None ↦ [] | Some m ↦ ack_posts v.pred v.last ])
   acks_all_within v None view = tt
   acks_all_within v (Some m) view = acks_within v.pred v.last view.near_pred
 
@@ -181,9 +188,11 @@ module _ (M : Type 0) (n : ℕ) where
       let all = numbers_within v.chain within.chain in
       let head : IsNamed (head_of v) = first_within (members v) all in
       clients_within v.epoch (head_of v) (tail_of v) 0 v.clients (omega (arith, within.counted)) head
-      (last_within (head_of v) (filter (λ s. not (is_joining v s)) (members v)) head (all_filtered (λ s. is_server s ≡ true) (λ s. not (is_joining v s)) (members v) all))
+      (last_within (head_of v) (filter (λ s. not (is_joining v s)) (members v)) head
+      (all_filtered (λ s. is_server s ≡ true) (λ s. not (is_joining v s)) (members v) all))
 
-  mended_within : (epoch s : ℕ) (chain : List Neighbour) (done : MendedChain (Transfer M)) → AllByRecursion IsMemberWithin chain → master.IsMended epoch s chain done
+  mended_within : (epoch s : ℕ) (chain : List Neighbour) (done : MendedChain (Transfer M)) → AllByRecursion IsMemberWithin chain
+      → master.IsMended epoch s chain done
       → AllByRecursion IsMemberWithin done.0 × GoWithin done.1
   mended_within epoch s _ _ all (master.Only k) = (tt, tt)
   mended_within epoch s _ _ all (master.First k t rest) = (all.1, ((all.1.0, tt), tt))
@@ -205,7 +214,8 @@ module _ (M : Type 0) (n : ℕ) where
       let w : MasterView = record v { joining = None; epoch = v.epoch + 1 } in
       let same : IsMasterWithin n w = record { counted = within.counted; chain = within.chain; used = within.used } in
       (same, configs_within w same)
-  master_within v within _ _ _ from (master.LeavesOutside s out) = (record { counted = within.counted; chain = within.chain; used = more_used s v.used from within.used }, tt)
+  master_within v within _ _ _ from (master.LeavesOutside s out) =
+      (record { counted = within.counted; chain = within.chain; used = more_used s v.used from within.used }, tt)
   master_within v within _ _ _ from (master.Leaves s chain among mended) =
       let left = mended_within (v.epoch + 1) s v.chain chain within.chain mended in
       let same : IsMasterWithin n (master.after_gone v s chain) = record { counted = within.counted; chain = left.0; used = within.used } in
@@ -236,5 +246,6 @@ module _ (M : Type 0) (n : ℕ) where
   pub order_within : (v : MasterView) (order : Order) → IsMasterWithin n v → is_server (server_of order) ≡ true
       → IsMasterWithin n (order_step {T = Transfer M} v order).0 × GoWithin (order_step {T = Transfer M} v order).1
   unfolding order_step join_found
-  order_within v (Join s) within is = found_within v s within is (last_or None (members v)) (last_within None (members v) tt (numbers_within v.chain within.chain))
+  order_within v (Join s) within is = found_within v s within is (last_or None (members v))
+      (last_within None (members v) tt (numbers_within v.chain within.chain))
   order_within v (Retire s) within is = (record { counted = within.counted; chain = within.chain; used = within.used }, ((is, tt), tt))

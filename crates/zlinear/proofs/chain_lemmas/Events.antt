@@ -19,7 +19,8 @@ use Rattle.zlinear.specs.chain.Sound.{IsSound, IsSoundAfter}
 module _ {P : Type 0} (plain : Plain P) where
   -- an event that isn't enabled changes nothing
   pub where_enabled : (t : Account) (event : Event) → IsSound plain t
-      → (is_enabled t.world event ≡ true → IsSoundAfter plain t (account_by plain t event (acts (log_machine plain) t.world event))) → IsSoundAfter plain t (next_account plain t event)
+      → (is_enabled t.world event ≡ true → IsSoundAfter plain t (account_by plain t event (acts (log_machine plain) t.world event)))
+      → IsSoundAfter plain t (next_account plain t event)
   where_enabled t event s did = elim (test (is_enabled t.world event)) [ inl e ↦ rw e (did e) | inr f ↦ rw f (s, prefix_same t.committed) ]
 
   -- there are no new items where nothing more is committed
@@ -28,7 +29,12 @@ module _ {P : Type 0} (plain : Plain P) where
 
   -- an event after which nothing more is committed
   pub quiet_event : (t : Account) (w : LogWorld) → IsSound plain (record t { world = w })
-      → IsSoundAfter plain t (record { world = w; committed = t.committed; items = t.items ++ new_items plain (length t.world.history) t.committed t.committed })
+      → IsSoundAfter plain t (record {
+        world = w;
+        committed = t.committed;
+        items = t.items ++ new_items plain
+            (length t.world.history) t.committed t.committed;
+      })
   quiet_event t w s = (
     subst (λ more. IsSound plain (record { world = w; committed = t.committed; items = t.items ++ more })) (sym (nothing_new t))
         (subst (λ items. IsSound plain (record { world = w; committed = t.committed; items = items })) (sym (append-nil t.items)) s),
@@ -45,6 +51,9 @@ module _ {P : Type 0} (plain : Plain P) where
       alive : has_failed t.world to ≡ false
       alive = not_true (has_failed t.world to) (right_of (front_is (λ m. true) (t.world.links from to)) (not (has_failed t.world to)) e)
 
-      by : (link : List LogMessage) → t.world.links from to ≡ link → IsSoundAfter plain t (account_by plain t (Take from to) (front_step (log_machine plain) t.world from to (t.world.links from to)))
-      by [] is = absurd (let none : ◌≡◌ {A = Bool} false true = sym (ap (front_is (λ m. true)) is) ∙ left_of (front_is (λ m. true) (t.world.links from to)) (not (has_failed t.world to)) e in cc none)
-      by (m ∷ rest) is = subst (λ l. IsSoundAfter plain t (account_by plain t (Take from to) (front_step (log_machine plain) t.world from to l))) (sym is) (did m rest is alive)
+      by : (link : List LogMessage) → t.world.links from to ≡ link
+          → IsSoundAfter plain t (account_by plain t (Take from to) (front_step (log_machine plain) t.world from to (t.world.links from to)))
+      by [] is = absurd (let none : ◌≡◌ {A = Bool} false true = sym (ap (front_is (λ m. true)) is)
+          ∙ left_of (front_is (λ m. true) (t.world.links from to)) (not (has_failed t.world to)) e in cc none)
+      by (m ∷ rest) is = subst (λ l. IsSoundAfter plain t (account_by plain t (Take from to) (front_step (log_machine plain) t.world from to l)))
+          (sym is) (did m rest is alive)

@@ -13,7 +13,9 @@ use Rattle.zlinear.specs.legal.Prefix.{IsPrefix}
 use Rattle.zlinear.specs.chain.Flow.{final_log}
 use Rattle.zlinear.specs.chain.Chain.{IsAhead}
 use Rattle.zlinear.specs.chain.Sound.{ChainIsOrdered}
-use Rattle.zlinear.specs.chain.support.WrongTables.{call, two_members, EarlyAnswersAreRefuted, AnyQueriesAreRefuted, OldTailsAreRefuted, AnySubmitsAreRefuted, AnyUpdatesAreRefuted, AnySnapshotsAreRefuted, SecondActsAreRefuted}
+use Rattle.zlinear.specs.chain.support.WrongTables.{call, two_members, EarlyAnswersAreRefuted, AnyQueriesAreRefuted}
+use Rattle.zlinear.specs.chain.support.WrongTables.{OldTailsAreRefuted, AnySubmitsAreRefuted, AnyUpdatesAreRefuted}
+use Rattle.zlinear.specs.chain.support.WrongTables.{AnySnapshotsAreRefuted, SecondActsAreRefuted}
 
 -- a longer list begins no empty one
 begins_nothing : {A : Type 0} (x : A) (xs : List A) → IsPrefix (x ∷ xs) [] → ⊥
@@ -32,7 +34,8 @@ pub old_tails_are_refuted : OldTailsAreRefuted
 old_tails_are_refuted query = (_, inl refl, λ given. given.1)
 
 -- with nothing at the second member, and nothing that counts under way to it, the two are in order
-in_order : (first : List Entry) (links : Links (List Entry)) → final_log (two_members first (Some []) links) 2 ≡ Some [] → links Master (Server 1) ≡ []
+in_order : (first : List Entry) (links : Links (List Entry)) → final_log (two_members first (Some []) links) 2 ≡ Some []
+    → links Master (Server 1) ≡ []
     → ChainIsOrdered (two_members first (Some []) links)
 in_order first links nothing no_orders x y (inl (is_first, inl is_second)) log is =
     let same : [] ≡ log = cc (sym nothing ∙ subst (λ z. final_log (two_members first (Some []) links) z ≡ Some log) (sym is_second) is) in

@@ -1,5 +1,6 @@
 -- The events of clients: a call is sent again, and a message is taken.
-use Rattle.std.proofs.Common.{◌≡◌, ℕ, ◌≤◌, Bool, true, false, if◌then◌else◌, nat_lt, ◌==◌, List, [], ◌∷◌, ◌++◌, length, Option, Some, None, refl, sym, ap, ◌∙◌, subst, inl, inr, eqb-true, eq-eqb, arith}
+use Rattle.std.proofs.Common.{◌≡◌, ℕ, ◌≤◌, Bool, true, false, if◌then◌else◌, nat_lt, ◌==◌, List, [], ◌∷◌, ◌++◌, length}
+use Rattle.std.proofs.Common.{Option, Some, None, refl, sym, ap, ◌∙◌, subst, inl, inr, eqb-true, eq-eqb, arith}
 use Rattle.zcalls.specs.declared.call.Call.{Call}
 use Rattle.zcalls.specs.declared.call.Entry.{Entry}
 use Rattle.zcalls.specs.declared.reply.Reply.{Reply}
@@ -38,10 +39,12 @@ module _ {P : Type 0} (plain : Plain P) (t : Account) (s : IsSound plain t) (c :
     answered = s.answered;
     once = s.once;
     numbered = λ o a. at_cases (λ (v : ClientView). o.number ≤ v.number) c view t.world.clients o.client
-        (λ e. let low : o.number ≤ (t.world.clients c).number = subst (λ d. o.number ≤ (t.world.clients d).number) e (s.numbered o a) in omega (arith, number))
+        (λ e. let low : o.number ≤ (t.world.clients c).number = subst (λ d. o.number ≤ (t.world.clients d).number) e (s.numbered o a)
+        in omega (arith, number))
         (λ f. s.numbered o a);
     waits = λ d m of is. at_cases (λ (v : ClientView). v.outstanding ≡ Some (m, of)
-        → HasBegun t.world.history (record { client = d; number = m; call = of }) × ((r : Reply) → Among (Answer d m r) t.world.history → ⊥)) c view t.world.clients d
+        → HasBegun t.world.history (record { client = d; number = m; call = of }) × ((r : Reply) → Among (Answer d m r) t.world.history → ⊥))
+        c view t.world.clients d
         (λ e is'. s.waits d m of (ap (λ x. (t.world.clients x).outstanding) e ∙ sym outstanding ∙ is')) (λ f is'. s.waits d m of is') is;
   }
 
@@ -65,7 +68,8 @@ module _ {P : Type 0} (plain : Plain P) (t : Account) (s : IsSound plain t) (c n
 
   fresh : (x : CallEvent) → Among x t.world.history → IsSameEvent x (Answer c n r) → ⊥
   fresh (Begin d m other) a same = same
-  fresh (Answer d m r') a same = (s.waits c n of waits).1 r' (subst (λ x. Among (Answer x n r') t.world.history) same.0 (subst (λ x. Among (Answer d x r') t.world.history) same.1 a))
+  fresh (Answer d m r') a same = (s.waits c n of waits).1 r' (subst (λ x. Among (Answer x n r') t.world.history) same.0
+      (subst (λ x. Among (Answer d x r') t.world.history) same.1 a))
 
   answer_calls : (posts : List (Post (List Entry))) → AreGoodCalls t.world t.items (with_client t.world c view posts ended)
   answer_calls posts = record {
@@ -98,7 +102,8 @@ module _ {P : Type 0} (plain : Plain P) (t : Account) (s : IsSound plain t) (c :
   after did = record t { world = did_in t.world (Client c) (client_effect c did) }
 
   unchanged : IsSound plain (after (client.no_effect (t.world.clients c)))
-  unchanged = client_sound plain t s c (t.world.clients c) [] t.world.history (again_calls plain t s c (t.world.clients c) refl refl []) (λ post a. absurd a)
+  unchanged = client_sound plain t s c (t.world.clients c) [] t.world.history (again_calls plain t s c (t.world.clients c) refl refl [])
+      (λ post a. absurd a)
 
   answer_by : (number : ℕ) (reply : Reply) → IsGiven t.items c number reply → (o : Option (ℕ × Call)) → (t.world.clients c).outstanding ≡ o
       → IsSound plain (after (if elim o as (λ x. Bool) [ None ↦ false | Some waits ↦ waits.0 == number ]
@@ -110,7 +115,8 @@ module _ {P : Type 0} (plain : Plain P) (t : Account) (s : IsSound plain t) (c :
     | inr f ↦ rw f unchanged
   ]
 
-  answer_taken : (number : ℕ) (reply : Reply) → IsGiven t.items c number reply → IsSound plain (after (client.answer_row (t.world.clients c) number reply))
+  answer_taken : (number : ℕ) (reply : Reply) → IsGiven t.items c number reply
+      → IsSound plain (after (client.answer_row (t.world.clients c) number reply))
   unfolding client.answer_row
   answer_taken number reply given = answer_by number reply given (t.world.clients c).outstanding refl
 
@@ -122,7 +128,8 @@ module _ {P : Type 0} (plain : Plain P) (t : Account) (s : IsSound plain t) (c :
   ]
 
   -- all that a client may hear
-  pub message_taken : (from : Process) (m : LogMessage) → IsJustified t.world t.items from (Client c) m → IsSound plain (after (client.client_step (t.world.clients c) from m))
+  pub message_taken : (from : Process) (m : LogMessage) → IsJustified t.world t.items from (Client c) m
+      → IsSound plain (after (client.client_step (t.world.clients c) from m))
   unfolding client.client_step
   message_taken (Server p) (message.Answer number reply) justified = answer_taken number reply justified
   message_taken Master (message.Config epoch head tail) justified = config_taken epoch head tail

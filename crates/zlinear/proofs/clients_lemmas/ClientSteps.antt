@@ -1,5 +1,6 @@
 -- A client does something: it has a new view, puts requests of calls that began, and the history goes on.
-use Rattle.std.proofs.Common.{◌≡◌, ◌⊎◌, ℕ, zero, suc, ◌+◌, ◌≤◌, true, ◌==◌, List, [], ◌∷◌, ◌++◌, length, length-append, take, Option, Some, None, refl, sym, ap, subst, inl, inr, eq-eqb, arith}
+use Rattle.std.proofs.Common.{◌≡◌, ◌⊎◌, ℕ, zero, suc, ◌+◌, ◌≤◌, true, ◌==◌, List, [], ◌∷◌, ◌++◌, length, length-append}
+use Rattle.std.proofs.Common.{take, Option, Some, None, refl, sym, ap, subst, inl, inr, eq-eqb, arith}
 use Rattle.zcalls.specs.declared.call.Call.{Call}
 use Rattle.zcalls.specs.declared.call.Call.TheVariants as call
 use Rattle.zcalls.specs.declared.call.Entry.{Entry}
@@ -42,7 +43,8 @@ pub record AreGoodCalls (w : LogWorld) (items : List Item) (later : LogWorld) : 
   pub numbered : AreNumbered later.clients later.history
   pub waits : WaitsAreOpen later
 
-module _ {P : Type 0} (plain : Plain P) (t : Account) (s : IsSound plain t) (c : ℕ) (view : ClientView) (posts : List (Post (List Entry))) (history : History) where
+module _ {P : Type 0} (plain : Plain P) (t : Account) (s : IsSound plain t) (c : ℕ) (view : ClientView) (posts : List
+    (Post (List Entry))) (history : History) where
   abbrev w : LogWorld
   w = t.world
 
@@ -72,7 +74,8 @@ module _ {P : Type 0} (plain : Plain P) (t : Account) (s : IsSound plain t) (c :
     begun = λ x log is e a. calls.more _ (s.begun x log is e a);
     committed_begun = λ e a. calls.more _ (s.committed_begun e a);
     justified = λ from to m a. elim (put_among w.links (Client c) posts from to m a) [
-      | inl old ↦ justified_later w later t.items t.items (record { begun = calls.more; given = λ i b. b; opened = λ z k h. h; failed = λ z h. h }) from to m (s.justified from to m old)
+      | inl old ↦ justified_later w later t.items t.items
+          (record { begun = calls.more; given = λ i b. b; opened = λ z k h. h; failed = λ z h. h }) from to m (s.justified from to m old)
       | inr put ↦ subst (λ p. IsJustified later t.items p to m) (sym put.0) (new (to, m) put.1)
     ];
     acted = s.acted;
@@ -101,12 +104,14 @@ in_time_later h e items in_time i a =
     (omega arith, among_take_more i.time h e (Begin i.operation.client i.operation.number i.operation.call) old.1)
 
 -- answers stay in time, where the new event is
-pub answered_later : (items : List Item) (k : ℕ) (h : History) (e : CallEvent) → AreAnsweredInTime items k h → ((n : ℕ) → length h + k ≡ n → IsAnsweredBy items n e) → AreAnsweredInTime items k (h ++ e ∷ [])
+pub answered_later : (items : List Item) (k : ℕ) (h : History) (e : CallEvent) → AreAnsweredInTime items k h
+    → ((n : ℕ) → length h + k ≡ n → IsAnsweredBy items n e) → AreAnsweredInTime items k (h ++ e ∷ [])
 answered_later items k [] e h last = (last k (omega arith), tt)
 answered_later items k (x ∷ more) e h last = (h.0, answered_later items (k + 1) more e h.1 (λ n is. last n (omega (arith, is))))
 
 -- the number of an event's call
-answered_call : {P : Type 0} (plain : Plain P) (t : Account) → IsSound plain t → (c n : ℕ) (r : Reply) → Among (Answer c n r) t.world.history → n ≤ (t.world.clients c).number
+answered_call : {P : Type 0} (plain : Plain P) (t : Account) → IsSound plain t → (c n : ℕ) (r : Reply)
+    → Among (Answer c n r) t.world.history → n ≤ (t.world.clients c).number
 answered_call plain t s c n r a =
     let m = given t.items 0 t.world.history s.answered c n r a in
     let begun = among_take m.0.time t.world.history _ (s.in_time m.0 m.1).1 in
@@ -152,7 +157,8 @@ module _ {P : Type 0} (plain : Plain P) (t : Account) (s : IsSound plain t) (c :
     once = no_two_last IsSameEvent t.world.history (Begin c n new) fresh s.once;
     numbered = λ o a. elim (begun_last o a) [
       | inl b ↦ at_cases (λ (v : ClientView). o.number ≤ v.number) c view t.world.clients o.client
-          (λ e. let low : o.number ≤ (t.world.clients c).number = subst (λ d. o.number ≤ (t.world.clients d).number) e (s.numbered o b) in omega arith)
+          (λ e. let low : o.number ≤ (t.world.clients c).number = subst (λ d. o.number ≤ (t.world.clients d).number) e
+          (s.numbered o b) in omega arith)
           (λ f. s.numbered o b)
       | inr p ↦ at_cases (λ (v : ClientView). o.number ≤ v.number) c view t.world.clients o.client
           (λ e. let is : n ≡ o.number = p.1 in omega arith)
@@ -171,7 +177,8 @@ module _ {P : Type 0} (plain : Plain P) (t : Account) (s : IsSound plain t) (c :
 
 -- requests of a call that began
 module _ (w : LogWorld) (items : List Item) (c : ℕ) where
-  to_justified : (server : Option ℕ) (m : LogMessage) → ((s : ℕ) → IsJustified w items (Client c) (Server s) m) → (post : Post (List Entry)) → Among post (client.to_server server m)
+  to_justified : (server : Option ℕ) (m : LogMessage) → ((s : ℕ) → IsJustified w items (Client c) (Server s) m)
+      → (post : Post (List Entry)) → Among post (client.to_server server m)
       → IsJustified w items (Client c) post.0 post.1
   to_justified None m h post a = absurd a
   to_justified (Some s) m h post (inl e) = subst (λ (q : Post (List Entry)). IsJustified w items (Client c) q.0 q.1) e (h s)
@@ -183,19 +190,22 @@ module _ (w : LogWorld) (items : List Item) (c : ℕ) where
   sent_justified head tail number (call.Query query) h post a = to_justified tail (message.Query number query) (λ s. h) post a
 
   -- what a client sends is justified where its call has begun
-  pub send_justified : (v : ClientView) → ((n : ℕ) (of : Call) → v.outstanding ≡ Some (n, of) → HasBegun w.history (record { client = c; number = n; call = of }))
+  pub send_justified : (v : ClientView) → ((n : ℕ) (of : Call) → v.outstanding ≡ Some (n, of)
+      → HasBegun w.history (record { client = c; number = n; call = of }))
       → (post : Post (List Entry)) → Among post (client.outstanding_posts v) → IsJustified w items (Client c) post.0 post.1
   send_justified v h post a = by v.outstanding h a
     where
       by : (o : Option (ℕ × Call)) → ((n : ℕ) (of : Call) → o ≡ Some (n, of) → HasBegun w.history (record { client = c; number = n; call = of }))
-          → Among post (elim o as (λ x. List (Post (List Entry))) [ None ↦ [] | Some waits ↦ client.call_posts v.head v.tail waits.0 waits.1 ]) → IsJustified w items (Client c) post.0 post.1
+          → Among post (elim o as (λ x. List (Post (List Entry))) [ None ↦ [] | Some waits ↦ client.call_posts v.head v.tail waits.0 waits.1 ])
+          → IsJustified w items (Client c) post.0 post.1
       by None h a = absurd a
       by (Some waits) h a = sent_justified v.head v.tail waits.0 waits.1 (h waits.0 waits.1 refl) post a
 
 -- the event Begin
 pub begin_sound : {P : Type 0} (plain : Plain P) (t : Account) → IsSound plain t → (c : ℕ) (new : Call)
     → IsSound plain (record t {
-      world = with_client t.world c (client.begin_step {T = Transfer (List Entry)} (t.world.clients c) new).0 (client.begin_step (t.world.clients c) new).1
+      world = with_client t.world c (client.begin_step {T = Transfer (List Entry)} (t.world.clients c) new).0
+          (client.begin_step (t.world.clients c) new).1
           (t.world.history ++ Begin c (client.begin_step {T = Transfer (List Entry)} (t.world.clients c) new).0.number new ∷ []);
     })
 unfolding client.begin_step

@@ -25,13 +25,20 @@ use Rattle.zlinear.proofs.clients_lemmas.ClientMessages.{again_sound, message_ta
 
 module _ {P : Type 0} (plain : Plain P) where
   -- a client hears
-  client_hears : (t : Account) → IsSound plain t → (from : Process) (c : ℕ) (m : LogMessage) (rest : List LogMessage) → t.world.links from (Client c) ≡ m ∷ rest
+  client_hears : (t : Account) → IsSound plain t → (from : Process) (c : ℕ) (m : LogMessage) (rest : List LogMessage)
+      → t.world.links from (Client c) ≡ m ∷ rest
       → IsSound plain (record t { world = front_step (log_machine plain) t.world from (Client c) (m ∷ rest) })
   client_hears t s from c m rest link =
       let popped : Account = record t { world = record t.world { links = without_front t.world.links from (Client c) } } in
       message_taken plain popped (dropped_sound plain t s from (Client c) (kept_not_to t.world from (Client c) (λ z. refl))) c from m
       (justified_later t.world popped.world t.items t.items
-      (record { begun = λ o h. h; given = λ i h. h; opened = λ z k h. (h.0, λ p a. h.1 p (front_among t.world.links from (Client c) Master (Server z) (message.NewPred k p) a)); failed = λ z h. h })
+      (record {
+        begun = λ o h. h;
+        given = λ i h. h;
+        opened = λ z k h.
+            (h.0, λ p a. h.1 p (front_among t.world.links from (Client c) Master (Server z) (message.NewPred k p) a));
+        failed = λ z h. h;
+      })
       from (Client c) m (s.justified from (Client c) m (subst (Among m) (sym link) (inl refl))))
 
   -- the events Take at a client

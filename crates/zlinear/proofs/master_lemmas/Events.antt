@@ -51,7 +51,10 @@ is_member v x free = elim (test (is_among x (members v))) [
 module _ {P : Type 0} (plain : Plain P) where
   -- what the master does with a message
   heard : (t : Account) → IsSound plain t → (from : Process) (m : LogMessage) → IsJustified t.world t.items from Master m
-      → IsSound plain (record t { world = world_with_move t.world (master.master_step {T = Transfer (List Entry)} t.world.master from m).0 (master.master_step t.world.master from m).1 })
+      → IsSound plain (record t {
+        world = world_with_move t.world (master.master_step {T = Transfer (List Entry)} t.world.master from m).0
+            (master.master_step t.world.master from m).1;
+      })
   unfolding master.master_step
   heard t s (Server x) (message.Have epoch last) justified = have_heard plain t s x epoch last justified
   heard t s (Server x) (message.Joined epoch) justified = joined_heard plain t s x
@@ -65,7 +68,13 @@ module _ {P : Type 0} (plain : Plain P) where
       let dropped : Account = record t { world = record t.world { links = without_front t.world.links from Master } } in
       heard dropped (dropped_sound plain t s from Master (kept_not_to t.world from Master (λ z. refl))) from m
       (justified_later t.world dropped.world t.items t.items
-      (record { begun = λ o h. h; given = λ i h. h; opened = λ z k h. (h.0, λ p a. h.1 p (front_among t.world.links from Master Master (Server z) (message.NewPred k p) a)); failed = λ z h. h })
+      (record {
+        begun = λ o h. h;
+        given = λ i h. h;
+        opened = λ z k h.
+            (h.0, λ p a. h.1 p (front_among t.world.links from Master Master (Server z) (message.NewPred k p) a));
+        failed = λ z h. h;
+      })
       from Master m (s.justified from Master m (subst (Among m) (sym link) (inl refl))))
 
   -- the events Take at the master
@@ -79,7 +88,10 @@ module _ {P : Type 0} (plain : Plain P) where
 
   -- what it does at an order that isn't refused
   obeyed : (t : Account) → IsSound plain t → (order : Order) → is_none (master.order_fault t.world.master order) ≡ true
-      → IsSound plain (record t { world = world_with_move t.world (master.order_step {T = Transfer (List Entry)} t.world.master order).0 (master.order_step t.world.master order).1 })
+      → IsSound plain (record t {
+        world = world_with_move t.world (master.order_step {T = Transfer (List Entry)} t.world.master order).0
+            (master.order_step t.world.master order).1;
+      })
   obeyed t s (Join x) free = joins_sound plain t s x (not_used t.world.master x free)
   obeyed t s (Retire x) free = retire_ordered plain t s x (is_member t.world.master x free)
 

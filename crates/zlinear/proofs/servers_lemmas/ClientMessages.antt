@@ -1,6 +1,7 @@
 -- The event Take at a server, from a client.
 use Rattle.std.specs.Prelude.{is_none}
-use Rattle.std.proofs.Common.{◌≡◌, ◌⊎◌, ℕ, ◌+◌, true, false, if◌then◌else◌, List, [], ◌∷◌, ◌++◌, length, Option, Some, None, refl, sym, ap, ◌∙◌, subst, inl, inr}
+use Rattle.std.proofs.Common.{◌≡◌, ◌⊎◌, ℕ, ◌+◌, true, false, if◌then◌else◌, List, [], ◌∷◌, ◌++◌, length, Option, Some}
+use Rattle.std.proofs.Common.{None, refl, sym, ap, ◌∙◌, subst, inl, inr}
 use Rattle.zcalls.specs.declared.call.Entry.{Entry}
 use Rattle.zcalls.specs.Lists.{Among, ComesBefore}
 use Rattle.zcalls.specs.Kept.{Plain}
@@ -10,7 +11,8 @@ use Rattle.zprotocol.specs.declared.process.Process.TheVariants.{Server, Client}
 use Rattle.zprotocol.specs.server.View.{ServerView, Neighbour}
 use Rattle.zprotocol.specs.server.Table.{ServerResult}
 use Rattle.zprotocol.specs.server.Table as server
-use Rattle.zprotocol.specs.server.support.Cases.{IsAccepted, IsRow, Processes, Forwards, Ignores, Submits, Updates, Asks, Acknowledges, Shows, Turns, Follows, Leads, Ends}
+use Rattle.zprotocol.specs.server.support.Cases.{IsAccepted, IsRow, Processes, Forwards, Ignores, Submits, Updates}
+use Rattle.zprotocol.specs.server.support.Cases.{Asks, Acknowledges, Shows, Turns, Follows, Leads, Ends}
 use Rattle.zprotocol.proofs.server_lemmas.Cases.{server_case}
 use Rattle.zprotocol.specs.master.View.{members}
 use Rattle.zworld_model.specs.declared.event.Event.TheVariants.{Take}
@@ -21,7 +23,8 @@ use Rattle.zlinear.specs.legal.Prefix.{IsPrefix}
 use Rattle.zlinear.specs.legal.Items.{Item, new_items}
 use Rattle.zlinear.proofs.legal_lemmas.lists.Tests.{left_of}
 use Rattle.zlinear.proofs.legal_lemmas.lists.Prefixes.{prefix_same, prefix_append}
-use Rattle.zlinear.specs.chain.Flow.{log_machine, LogWorld, LogMessage, Log, or_else, log_at, final_log_by, final_log, first_snapshot_by, first_log, length_of}
+use Rattle.zlinear.specs.chain.Flow.{log_machine, LogWorld, LogMessage, Log, or_else, log_at, final_log_by, final_log}
+use Rattle.zlinear.specs.chain.Flow.{first_snapshot_by, first_log, length_of}
 use Rattle.zlinear.specs.chain.Last.{HasExactLast}
 use Rattle.zlinear.specs.chain.Chain.{IsAhead}
 use Rattle.zlinear.specs.chain.Messages.{IsJustified}
@@ -33,7 +36,8 @@ use Rattle.zlinear.proofs.chain_lemmas.tables.RowViews.{row_sent, row_begun, row
 use Rattle.zlinear.proofs.chain_lemmas.places.Heads.{head_is_first}
 use Rattle.zlinear.proofs.chain_lemmas.steps.Takes.{with_view, neighbours_stay}
 use Rattle.zlinear.proofs.chain_lemmas.steps.Views.{IsGoodView}
-use Rattle.zlinear.proofs.chain_lemmas.steps.ServerSteps.{account_with_puts, puts_at_once, account_with_view, view_step_sound, view_step_begins, after_puts}
+use Rattle.zlinear.proofs.chain_lemmas.steps.ServerSteps.{account_with_puts, puts_at_once, account_with_view}
+use Rattle.zlinear.proofs.chain_lemmas.steps.ServerSteps.{view_step_sound, view_step_begins, after_puts}
 use Rattle.zlinear.proofs.servers_lemmas.ServerMessages.{accepted_puts}
 
 -- an entry came to a head
@@ -45,12 +49,14 @@ pub record IsSubmitted (v : ServerView (List Entry)) (machine : Log) : Type 0 wh
   pub new : machine ≡ Some (log ++ entry ∷ [])
 
 module _ {P : Type 0} (plain : Plain P) where
-  accepted_machine : (v : ServerView (List Entry)) (mine : List Entry) (n : ℕ) (e : Entry) (r : ServerResult (List Entry)) → IsAccepted (log_machine plain) v mine n e r → r.0.machine ≡ Some (mine ++ e ∷ [])
+  accepted_machine : (v : ServerView (List Entry)) (mine : List Entry) (n : ℕ) (e : Entry) (r : ServerResult (List Entry))
+      → IsAccepted (log_machine plain) v mine n e r → r.0.machine ≡ Some (mine ++ e ∷ [])
   accepted_machine v mine n e r (Processes ends) = refl
   accepted_machine v mine n e r (Forwards succ is) = refl
 
   -- what a client's message makes of the log
-  client_machine : (v : ServerView (List Entry)) (from : Process) (m : LogMessage) (r : ServerResult (List Entry)) → IsRow (log_machine plain) v from m r → (c : ℕ) → from ≡ Client c
+  client_machine : (v : ServerView (List Entry)) (from : Process) (m : LogMessage) (r : ServerResult (List Entry))
+      → IsRow (log_machine plain) v from m r → (c : ℕ) → from ≡ Client c
       → (r.0.machine ≡ v.machine) ⊎ IsSubmitted v r.0.machine
   client_machine v from m r (Ignores from' m') c is = inl refl
   client_machine v from m r (Submits d number update mine r' has head room did) c is =
@@ -149,15 +155,20 @@ module _ {P : Type 0} (plain : Plain P) (t : Account) (s : IsSound plain t) (c y
   shows log is = elim (machine) [
     | inl same ↦ (log, ap (λ l. or_else l (first_snapshot_by w y old.pred)) (sym same) ∙ sym now_shows ∙ is, prefix_same log)
     | inr new ↦
-        let e : Some (new.log ++ new.entry ∷ []) ≡ Some log = sym (now_shows ∙ ap (λ l. or_else l (first_snapshot_by w y old.pred)) new.new) ∙ is in
-        (new.log, ap (λ l. or_else l (first_snapshot_by w y old.pred)) new.has, subst (IsPrefix new.log) (cc e) (prefix_append new.log (new.entry ∷ [])))
+        let e : Some (new.log ++ new.entry ∷ []) ≡ Some log = sym (now_shows ∙ ap (λ l. or_else l (first_snapshot_by w y old.pred)) new.new) ∙ is in (
+          new.log,
+          ap (λ l. or_else l (first_snapshot_by w y old.pred)) new.has,
+          subst (IsPrefix new.log) (cc e)
+              (prefix_append new.log (new.entry ∷ [])),
+        )
   ]
 
   -- where no query is answered
   module _ (silent : query_items_by plain w (Take (Client c) (Server y)) ≡ []) where
     row_puts : (from : Process) (m' : LogMessage) (r : ServerResult (List Entry)) → IsRow (log_machine plain) old from m' r → from ≡ Client c → m' ≡ m
         → IsJustified w t.items from (Server y) m'
-        → IsSound plain (account_with_view plain t (Client c) y r.0) → IsSound plain (account_with_puts (account_with_view plain t (Client c) y r.0) y r.1)
+        → IsSound plain (account_with_view plain t (Client c) y r.0)
+        → IsSound plain (account_with_puts (account_with_view plain t (Client c) y r.0) y r.1)
     row_puts from m' r (Ignores from' m'') is is_m f sound = sound
     row_puts from m' r (Submits d number update mine r' has head room did) is is_m f sound =
         accepted_puts plain t (Client c) y mine (old.last + 1) (record { client = d; number = number; update = update }) r did
@@ -166,7 +177,8 @@ module _ {P : Type 0} (plain : Plain P) (t : Account) (s : IsSound plain t) (c y
     row_puts from m' r (Asks d number query mine has tail) is is_m f sound =
         let tail_is : tail_log old ≡ Some mine = ap (λ x. if is_none x then old.machine else None) tail ∙ has in
         let front : w.links (Client c) (Server y) ≡ message.Query number query ∷ rest = link ∙ ap (λ x. x ∷ rest) (sym is_m) in
-        let answers = ap (query_items_of_front plain (length w.history) (tail_log old) c) front ∙ ap (λ l. query_items plain (length w.history) l c number query) tail_is in
+        let answers = ap (query_items_of_front plain (length w.history) (tail_log old) c) front
+        ∙ ap (λ l. query_items plain (length w.history) l c number query) tail_is in
         absurd (never (sym answers ∙ silent))
       where
         never : {x : Item} {xs : List Item} → ◌≡◌ {A = List Item} (x ∷ xs) [] → ⊥
@@ -181,7 +193,8 @@ module _ {P : Type 0} (plain : Plain P) (t : Account) (s : IsSound plain t) (c y
     abbrev popped : LogWorld
     popped = record w { links = without_front w.links (Client c) (Server y) }
 
-    is_account : account_with_puts (account_with_view plain t (Client c) y taken.0) y taken.1 ≡ account_by plain t (Take (Client c) (Server y)) (does_in (log_machine plain) popped (Server y) (Hear (Client c) m))
+    is_account : account_with_puts (account_with_view plain t (Client c) y taken.0) y taken.1
+        ≡ account_by plain t (Take (Client c) (Server y)) (does_in (log_machine plain) popped (Server y) (Hear (Client c) m))
     is_account =
         puts_at_once (account_with_view plain t (Client c) y taken.0) y taken.1
         ∙ (λ i.
@@ -193,7 +206,8 @@ module _ {P : Type 0} (plain : Plain P) (t : Account) (s : IsSound plain t) (c y
         })
 
     -- the event, where no query is answered
-    pub take_from_client : IsSoundAfter plain t (account_by plain t (Take (Client c) (Server y)) (does_in (log_machine plain) popped (Server y) (Hear (Client c) m)))
+    pub take_from_client : IsSoundAfter plain t (account_by plain t (Take (Client c) (Server y))
+        (does_in (log_machine plain) popped (Server y) (Hear (Client c) m)))
     take_from_client = after_puts plain t (account_with_view plain t (Client c) y taken.0) _ y taken.1 is_account
         (row_puts (Client c) m taken row refl refl justified (view_step_sound plain t s (Client c) refl y taken.0 good_view shows alive))
         (view_step_begins plain t s (Client c) refl y taken.0 good_view shows alive)

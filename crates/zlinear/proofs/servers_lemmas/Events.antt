@@ -27,22 +27,29 @@ module _ {P : Type 0} (plain : Plain P) where
   module _ (t : Account) (lasts : LastsAreLengths t.world) (s : IsSound plain t) (c y : ℕ) where
     silent : (m : LogMessage) (rest : List LogMessage) → t.world.links (Client c) (Server y) ≡ m ∷ rest
         → query_items_of_front plain (length t.world.history) (tail_log (t.world.servers y)) c (m ∷ rest) ≡ [] → t.world.failed y ≡ false
-        → IsSoundAfter plain t (account_by plain t (Take (Client c) (Server y)) (front_step (log_machine plain) t.world (Client c) (Server y) (m ∷ rest)))
+        → IsSoundAfter plain t (account_by plain t (Take (Client c) (Server y))
+        (front_step (log_machine plain) t.world (Client c) (Server y) (m ∷ rest)))
     silent m rest link none alive =
-        take_from_client plain t s c y m rest link (lasts.views y) alive (ap (query_items_of_front plain (length t.world.history) (tail_log (t.world.servers y)) c) link ∙ none)
+        take_from_client plain t s c y m rest link (lasts.views y) alive
+        (ap (query_items_of_front plain (length t.world.history) (tail_log (t.world.servers y)) c) link ∙ none)
 
-    query_by : (number : ℕ) (query : Query) (rest : List LogMessage) → t.world.links (Client c) (Server y) ≡ message.Query number query ∷ rest → t.world.failed y ≡ false
+    query_by : (number : ℕ) (query : Query) (rest : List LogMessage) → t.world.links (Client c) (Server y) ≡ message.Query number query ∷ rest
+        → t.world.failed y ≡ false
         → (l : Log) → tail_log (t.world.servers y) ≡ l
-        → IsSoundAfter plain t (account_by plain t (Take (Client c) (Server y)) (front_step (log_machine plain) t.world (Client c) (Server y) (message.Query number query ∷ rest)))
+        → IsSoundAfter plain t (account_by plain t (Take (Client c) (Server y))
+        (front_step (log_machine plain) t.world (Client c) (Server y) (message.Query number query ∷ rest)))
     query_by number query rest link alive None is =
-        silent (message.Query number query) rest link (ap (λ l. query_items_of_front plain (length t.world.history) l c (message.Query number query ∷ rest)) is) alive
+        silent (message.Query number query) rest link
+        (ap (λ l. query_items_of_front plain (length t.world.history) l c (message.Query number query ∷ rest)) is) alive
     query_by number query rest link alive (Some log) is = take_query plain t s c y number query rest link (lasts.views y) alive log is
 
     heard : (m : LogMessage) (rest : List LogMessage) → t.world.links (Client c) (Server y) ≡ m ∷ rest → t.world.failed y ≡ false
-        → IsSoundAfter plain t (account_by plain t (Take (Client c) (Server y)) (front_step (log_machine plain) t.world (Client c) (Server y) (m ∷ rest)))
+        → IsSoundAfter plain t (account_by plain t (Take (Client c) (Server y))
+        (front_step (log_machine plain) t.world (Client c) (Server y) (m ∷ rest)))
     heard (message.Query number query) rest link alive = query_by number query rest link alive (tail_log (t.world.servers y)) refl
     heard m rest link alive = silent m rest link refl alive
 
   -- or from a client
   pub servers_hear_clients : (c y : ℕ) → KeepsSoundOver plain (Take (Client c) (Server y))
-  servers_hear_clients c y t lasts s = where_enabled plain t (Take (Client c) (Server y)) s (λ e. front_there plain t (Client c) (Server y) e (heard t lasts s c y))
+  servers_hear_clients c y t lasts s = where_enabled plain t (Take (Client c) (Server y)) s
+      (λ e. front_there plain t (Client c) (Server y) e (heard t lasts s c y))

@@ -1,6 +1,7 @@
 -- The event Take at a tail, of a client's query: it becomes an item, and is answered.
 use Rattle.std.specs.Prelude.{is_none}
-use Rattle.std.proofs.Common.{◌≡◌, ℕ, ◌≤◌, true, false, List, [], ◌∷◌, ◌++◌, length, take, Option, Some, None, refl, sym, ap, ◌∙◌, subst, inl, inr, append-nil, arith}
+use Rattle.std.proofs.Common.{◌≡◌, ℕ, ◌≤◌, true, false, List, [], ◌∷◌, ◌++◌, length, take, Option, Some, None, refl}
+use Rattle.std.proofs.Common.{sym, ap, ◌∙◌, subst, inl, inr, append-nil, arith}
 use Rattle.std.proofs.Math.Seq.{drop-length, take-length}
 use Rattle.zcalls.specs.declared.call.Call.TheVariants as call
 use Rattle.zcalls.specs.declared.call.Entry.{Entry}
@@ -44,22 +45,26 @@ use Rattle.zlinear.proofs.chain_lemmas.steps.ServerSteps.{tail_log_is}
 use Rattle.zlinear.proofs.servers_lemmas.ClientMessages.{good_view, shows, justified}
 
 -- what a tail does with a query
-query_by : (does : Does (List Entry)) (machine : Log) (last : ℕ) (sent : List (ℕ × Entry)) (pred succ : Option Neighbour) (c number : ℕ) (query : Query) (log : List Entry)
+query_by : (does : Does (List Entry)) (machine : Log) (last : ℕ) (sent : List (ℕ × Entry)) (pred succ : Option Neighbour)
+    (c number : ℕ) (query : Query) (log : List Entry)
     → machine ≡ Some log → is_none succ ≡ true
-    → query_row does (view_of machine last sent pred succ) c number query ≡ (view_of machine last sent pred succ, (Client c, message.Answer number (does.ask log query)) ∷ [])
+    → query_row does (view_of machine last sent pred succ) c number query
+    ≡ (view_of machine last sent pred succ, (Client c, message.Answer number (does.ask log query)) ∷ [])
 unfolding query_row
 query_by does None last sent pred succ c number query log has ends = absurd (cc has)
 query_by does (Some mine) last sent pred (Some succ) c number query log has ends = absurd (cc ends)
 query_by does (Some mine) last sent pred None c number query log has ends =
     let same : mine ≡ log = cc has in λ i. (view_of (Some mine) last sent pred None, (Client c, message.Answer number (does.ask (same i) query)) ∷ [])
 
-query_taken : (does : Does (List Entry)) (v : ServerView (List Entry)) (c number : ℕ) (query : Query) (log : List Entry) → v.machine ≡ Some log → is_none v.succ ≡ true
+query_taken : (does : Does (List Entry)) (v : ServerView (List Entry)) (c number : ℕ) (query : Query) (log : List Entry)
+    → v.machine ≡ Some log → is_none v.succ ≡ true
     → server.server_step does v (Client c) (message.Query number query) ≡ (v, (Client c, message.Answer number (does.ask log query)) ∷ [])
 unfolding server.server_step
 query_taken does v c number query log has ends = query_by does v.machine v.last v.sent v.pred v.succ c number query log has ends
 
 module _ {P : Type 0} (plain : Plain P) (t : Account) (s : IsSound plain t) (c y number : ℕ) (query : Query) (rest : List LogMessage)
-    (link : t.world.links (Client c) (Server y) ≡ message.Query number query ∷ rest) (exact : HasExactLast (t.world.servers y)) (alive : t.world.failed y ≡ false)
+    (link : t.world.links (Client c) (Server y) ≡ message.Query number query ∷ rest) (exact : HasExactLast (t.world.servers y))
+    (alive : t.world.failed y ≡ false)
     (log : List Entry) (is_tail : tail_log (t.world.servers y) ≡ Some log) where
   abbrev w : LogWorld
   w = t.world
@@ -74,7 +79,12 @@ module _ {P : Type 0} (plain : Plain P) (t : Account) (s : IsSound plain t) (c y
   reply = plain.ask (after_log plain log).plain query
 
   abbrev item : Item
-  item = record { operation = record { client = c; number = number; call = call.Query query }; reply = plain.ask (after_log plain log).plain query; time = length t.world.history }
+  item = record {
+    operation = record { client = c; number = number; call = call.Query query };
+    reply = plain.ask
+        (after_log plain log).plain query;
+    time = length t.world.history;
+  }
 
   abbrev taken : ServerResult (List Entry)
   taken = server.server_step (log_machine plain) (t.world.servers y) (Client c) (message.Query number query)
@@ -101,7 +111,8 @@ module _ {P : Type 0} (plain : Plain P) (t : Account) (s : IsSound plain t) (c y
   replays : Replays (service_of plain) plain.opening (t.items ++ item ∷ [])
   replays =
       let leads : after_items plain plain.opening t.items ≡ (after_log plain log).plain =
-      items_lead plain plain.opening t.items ∙ ap (after_calls plain plain.opening) s.acted ∙ acted_leads plain (nothing_kept plain.opening) t.committed
+      items_lead plain plain.opening t.items ∙ ap (after_calls plain plain.opening) s.acted
+      ∙ acted_leads plain (nothing_kept plain.opening) t.committed
       ∙ ap (λ l. (after_log plain l).plain) (sym is_committed) in
       replays_more plain plain.opening t.items (item ∷ []) s.replays (ap (λ p. plain.ask p query) leads, tt)
 
@@ -117,18 +128,20 @@ module _ {P : Type 0} (plain : Plain P) (t : Account) (s : IsSound plain t) (c y
   asked_account = record { world = with_view t.world (Client c) y (t.world.servers y); committed = t.committed; items = t.items ++ item ∷ [] }
 
   asked_sound : IsSound plain asked_account
-  asked_sound = view_sound plain t s (Client c) refl y old good t.committed (t.items ++ item ∷ []) (λ i a. among_left i t.items (item ∷ []) a) (record {
-    shown = committed_view w (Client c) y old t.committed
-        (subst (λ v. (l : List Entry) → first_log (with_view w (Client c) y v) y ≡ Some l → (shown : List Entry) × (first_log w y ≡ Some shown) × IsPrefix shown l)
-        (ap (λ (r : ServerResult (List Entry)). r.0) does) (shows plain t s c y m rest link exact alive)) s.committed;
-    tail = tail_holds;
-    committed_begun = s.committed_begun;
-    acted = updates_more t.items (item ∷ []) ∙ append-nil (updates_of t.items) ∙ s.acted;
-    replays = replays;
-    rising = pairwise_last (λ i j. i.time ≤ j.time) t.items item s.rising (λ i a. (s.in_time i a).0);
-    in_time = in_time;
-    answered = in_time_more t.items (t.items ++ item ∷ []) (λ i a. among_left i t.items (item ∷ []) a) 0 w.history s.answered;
-  })
+  asked_sound = view_sound plain t s (Client c) refl y old good t.committed (t.items ++ item ∷ [])
+      (λ i a. among_left i t.items (item ∷ []) a) (record {
+        shown = committed_view w (Client c) y old t.committed
+            (subst (λ v. (l : List Entry) → first_log (with_view w (Client c) y v) y ≡ Some l
+            → (shown : List Entry) × (first_log w y ≡ Some shown) × IsPrefix shown l)
+            (ap (λ (r : ServerResult (List Entry)). r.0) does) (shows plain t s c y m rest link exact alive)) s.committed;
+        tail = tail_holds;
+        committed_begun = s.committed_begun;
+        acted = updates_more t.items (item ∷ []) ∙ append-nil (updates_of t.items) ∙ s.acted;
+        replays = replays;
+        rising = pairwise_last (λ i j. i.time ≤ j.time) t.items item s.rising (λ i a. (s.in_time i a).0);
+        in_time = in_time;
+        answered = in_time_more t.items (t.items ++ item ∷ []) (λ i a. among_left i t.items (item ∷ []) a) 0 w.history s.answered;
+      })
 
   -- and the answer
   answered_sound : IsSound plain (account_with_put asked_account y (Client c) (message.Answer number reply))
@@ -145,14 +158,16 @@ module _ {P : Type 0} (plain : Plain P) (t : Account) (s : IsSound plain t) (c y
       ∙ ap (λ l. committed_after l t.committed) is_tail ∙ is_committed
 
   is_asked : query_items_by plain w (Take (Client c) (Server y)) ≡ item ∷ []
-  is_asked = ap (query_items_of_front plain (length w.history) (tail_log old) c) link ∙ ap (λ l. query_items plain (length w.history) l c number query) is_tail
+  is_asked = ap (query_items_of_front plain (length w.history) (tail_log old) c) link
+      ∙ ap (λ l. query_items plain (length w.history) l c number query) is_tail
 
   nothing_new : new_items plain (length w.history) t.committed (committed_after (tail_log (at y taken.0 w.servers y)) t.committed) ≡ []
   nothing_new =
       ap (new_items plain (length w.history) t.committed) same_committed
       ∙ ap (λ es. all_at_time (length w.history) (acts_from plain.update (after_log plain t.committed) es)) (drop-length t.committed)
 
-  is_account : account_with_put asked_account y (Client c) (message.Answer number reply) ≡ account_by plain t (Take (Client c) (Server y)) (does_in (log_machine plain) popped (Server y) (Hear (Client c) m))
+  is_account : account_with_put asked_account y (Client c) (message.Answer number reply)
+      ≡ account_by plain t (Take (Client c) (Server y)) (does_in (log_machine plain) popped (Server y) (Hear (Client c) m))
   is_account = λ i. record {
     world = did_in popped (Server y) (server_effect (sym does i));
     committed = sym same_committed i;
@@ -160,5 +175,6 @@ module _ {P : Type 0} (plain : Plain P) (t : Account) (s : IsSound plain t) (c y
   }
 
   -- the event
-  pub take_query : IsSoundAfter plain t (account_by plain t (Take (Client c) (Server y)) (does_in (log_machine plain) popped (Server y) (Hear (Client c) m)))
+  pub take_query : IsSoundAfter plain t (account_by plain t (Take (Client c) (Server y))
+      (does_in (log_machine plain) popped (Server y) (Hear (Client c) m)))
   take_query = (subst (IsSound plain) is_account answered_sound, subst (IsPrefix t.committed) (sym same_committed) (prefix_same t.committed))

@@ -15,7 +15,8 @@ use Rattle.zprotocol.specs.declared.process.Process.TheVariants.{Master, Server}
 use Rattle.zprotocol.specs.server.View.{ServerView, Post}
 use Rattle.zprotocol.specs.server.Table.{ServerResult, ack_posts, answer_posts}
 use Rattle.zprotocol.specs.server.Table as server
-use Rattle.zprotocol.specs.server.support.Cases.{IsAccepted, IsRow, Processes, Forwards, Ignores, Submits, Updates, Asks, Acknowledges, Shows, Turns, Follows, Leads, Ends}
+use Rattle.zprotocol.specs.server.support.Cases.{IsAccepted, IsRow, Processes, Forwards, Ignores, Submits, Updates}
+use Rattle.zprotocol.specs.server.support.Cases.{Asks, Acknowledges, Shows, Turns, Follows, Leads, Ends}
 use Rattle.zprotocol.proofs.server_lemmas.Cases.{server_case}
 use Rattle.zworld_model.specs.declared.event.Event.TheVariants.{Take}
 use Rattle.zworld_model.specs.History.{HasBegun}
@@ -33,7 +34,9 @@ use Rattle.zlinear.specs.chain.Sound.{IsSound, IsSoundAfter}
 use Rattle.zlinear.proofs.chain_lemmas.links.Links.{at_same}
 use Rattle.zlinear.proofs.chain_lemmas.places.Pairs.{log_member}
 use Rattle.zlinear.proofs.chain_lemmas.steps.Sends.{put_sent}
-use Rattle.zlinear.proofs.chain_lemmas.steps.ServerSteps.{account_with_puts, puts_at_once, puts_unread, acks_unread, answers_unread, account_with_view, view_step_sound, view_step_begins, after_puts, IsUnreadAndJustified}
+use Rattle.zlinear.proofs.chain_lemmas.steps.ServerSteps.{account_with_puts, puts_at_once, puts_unread, acks_unread}
+use Rattle.zlinear.proofs.chain_lemmas.steps.ServerSteps.{answers_unread, account_with_view, view_step_sound}
+use Rattle.zlinear.proofs.chain_lemmas.steps.ServerSteps.{view_step_begins, after_puts, IsUnreadAndJustified}
 use Rattle.zlinear.proofs.servers_lemmas.ServerViews.{good_view, good_first_log}
 
 -- the view after an entry was accepted where there is no successor commits the entry
@@ -54,17 +57,25 @@ module _ {P : Type 0} (plain : Plain P) where
       → ((x k : ℕ) → (t.world.servers y).succ ≡ Some (x, k) → IsOpened (account_with_view plain t from y r.0).world x k)
       → IsSound plain (account_with_view plain t from y r.0) → IsSound plain (account_with_puts (account_with_view plain t from y r.0) y r.1)
   accepted_puts t from y mine n e r (Processes ends) next member begun opened s =
-      let after : Account = account_with_view plain t from y (record (t.world.servers y) { machine = Some ((log_machine plain).apply mine e).0; last = n }) in
+      let after : Account = account_with_view plain t from y
+      (record (t.world.servers y) { machine = Some ((log_machine plain).apply mine e).0; last = n }) in
       let all : after.committed ≡ mine ++ e ∷ [] = ap (λ x. committed_after (if is_none x then Some (mine ++ e ∷ []) else None) t.committed) ends in
       puts_unread plain after y (answer_posts e ((log_machine plain).apply mine e).1 ++ ack_posts (t.world.servers y).pred n)
       (λ post a. elim (among_cases post (answer_posts e ((log_machine plain).apply mine e).1) (ack_posts (t.world.servers y).pred n) a) [
-        | inl b ↦ answers_unread after.world after.items y e ((log_machine plain).apply mine e).1 (λ reply is. reply_given after s mine e reply all is) post b
+        | inl b ↦ answers_unread after.world after.items y e ((log_machine plain).apply mine e).1
+            (λ reply is. reply_given after s mine e reply all is) post b
         | inr c ↦ acks_unread after.world after.items y (t.world.servers y).pred n post c
       ]) s
   accepted_puts t from y mine n e r (Forwards succ is) next member begun opened s =
-      let v : ServerView (List Entry) = record (t.world.servers y) { machine = Some (mine ++ e ∷ []); last = n; sent = (t.world.servers y).sent ++ (n, e) ∷ [] } in
+      let v : ServerView (List Entry) = record (t.world.servers y) {
+        machine = Some (mine ++ e ∷ []);
+        last = n;
+        sent =
+            (t.world.servers y).sent ++ (n, e) ∷ [];
+      } in
       put_sent plain (account_with_view plain t from y v) y member (mine ++ e ∷ [])
-      (ap (λ (u : ServerView (List Entry)). u.machine) (at_same y v t.world.servers)) succ.0 succ.1 n e (mine, [], refl, next) (opened succ.0 succ.1 is) begun s
+      (ap (λ (u : ServerView (List Entry)). u.machine) (at_same y v t.world.servers)) succ.0 succ.1 n e (mine, [], refl, next)
+      (opened succ.0 succ.1 is) begun s
 
 module _ {P : Type 0} (plain : Plain P) (t : Account) (s : IsSound plain t) (p y : ℕ) (m : LogMessage) (rest : List LogMessage)
     (link : t.world.links (Server p) (Server y) ≡ m ∷ rest) (exact : HasExactLast (t.world.servers y)) (alive : t.world.failed y ≡ false) where
@@ -76,11 +87,13 @@ module _ {P : Type 0} (plain : Plain P) (t : Account) (s : IsSound plain t) (p y
 
   row_puts : (from : Process) (m' : LogMessage) (r : ServerResult (List Entry)) → IsRow (log_machine plain) (w.servers y) from m' r → from ≡ Server p
       → IsJustified w t.items from (Server y) m'
-      → IsSound plain (account_with_view plain t (Server p) y r.0) → IsSound plain (account_with_puts (account_with_view plain t (Server p) y r.0) y r.1)
+      → IsSound plain (account_with_view plain t (Server p) y r.0)
+      → IsSound plain (account_with_puts (account_with_view plain t (Server p) y r.0) y r.1)
   row_puts from m' r (Ignores from' m'') is justified sound = sound
   row_puts from m' r (Submits c number update mine r' has head room did) is justified sound = cc
   row_puts from m' r (Updates q epoch n e mine r' has pred next room did) is justified sound =
-      accepted_puts plain t (Server p) y mine n e r did (next ∙ ap (λ l. l + 1) (exact ∙ ap length_of has)) (log_member w s.blank s.live y alive mine has) justified.1
+      accepted_puts plain t (Server p) y mine n e r did (next ∙ ap (λ l. l + 1) (exact ∙ ap length_of has))
+      (log_member w s.blank s.live y alive mine has) justified.1
       (λ x k succ. s.successors y x k succ) sound
   row_puts from m' r (Asks c number query mine has tail) is justified sound = cc
   row_puts from m' r (Acknowledges q epoch n succ) is justified sound =
@@ -90,9 +103,11 @@ module _ {P : Type 0} (plain : Plain P) (t : Account) (s : IsSound plain t) (p y
   row_puts from m' r (Shows q epoch transfer none pred) is justified sound =
       let v : ServerView (List Entry) = record (w.servers y) { machine = Some transfer.machine; last = transfer.last; sent = [] } in
       let after = account_with_view plain t (Server p) y v in
-      puts_unread plain after y ((Server q, message.Ack epoch transfer.last) ∷ (Master, message.Joined epoch) ∷ []) (two after.world after.items q epoch transfer.last) sound
+      puts_unread plain after y ((Server q, message.Ack epoch transfer.last) ∷ (Master, message.Joined epoch) ∷ [])
+      (two after.world after.items q epoch transfer.last) sound
     where
-      two : (u : LogWorld) (items : List Item) (q epoch last : ℕ) (post : Post (List Entry)) → Among post ((Server q, message.Ack epoch last) ∷ (Master, message.Joined epoch) ∷ [])
+      two : (u : LogWorld) (items : List Item) (q epoch last : ℕ) (post : Post (List Entry))
+          → Among post ((Server q, message.Ack epoch last) ∷ (Master, message.Joined epoch) ∷ [])
           → IsUnreadAndJustified u items y post
       two u items q epoch last post (inl e) = subst (IsUnreadAndJustified u items y) e (tt, tt)
       two u items q epoch last post (inr (inl e)) = subst (IsUnreadAndJustified u items y) e (tt, tt)
@@ -105,13 +120,16 @@ module _ {P : Type 0} (plain : Plain P) (t : Account) (s : IsSound plain t) (p y
   all_puts : IsSound plain (account_with_puts (account_with_view plain t (Server p) y taken.0) y taken.1)
   all_puts =
       row_puts (Server p) m taken (server_case (log_machine plain) (w.servers y) (Server p) m) refl
-      (s.justified (Server p) (Server y) m (subst (Among m) (sym link) (inl refl))) (view_step_sound plain t s (Server p) refl y taken.0 (good_view plain t s p y m rest link exact) (good_first_log plain t s p y m rest link exact) alive)
+      (s.justified (Server p) (Server y) m (subst (Among m) (sym link) (inl refl)))
+      (view_step_sound plain t s (Server p) refl y taken.0 (good_view plain t s p y m rest link exact)
+      (good_first_log plain t s p y m rest link exact) alive)
 
   -- the whole step
   abbrev popped : LogWorld
   popped = record w { links = without_front w.links (Server p) (Server y) }
 
-  is_account : account_with_puts (account_with_view plain t (Server p) y taken.0) y taken.1 ≡ account_by plain t (Take (Server p) (Server y)) (does_in (log_machine plain) popped (Server y) (Hear (Server p) m))
+  is_account : account_with_puts (account_with_view plain t (Server p) y taken.0) y taken.1
+      ≡ account_by plain t (Take (Server p) (Server y)) (does_in (log_machine plain) popped (Server y) (Hear (Server p) m))
   is_account =
       puts_at_once (account_with_view plain t (Server p) y taken.0) y taken.1
       ∙ (λ i.
@@ -123,6 +141,8 @@ module _ {P : Type 0} (plain : Plain P) (t : Account) (s : IsSound plain t) (p y
       })
 
   -- the event
-  pub take_from_server : IsSoundAfter plain t (account_by plain t (Take (Server p) (Server y)) (does_in (log_machine plain) popped (Server y) (Hear (Server p) m)))
+  pub take_from_server : IsSoundAfter plain t (account_by plain t (Take (Server p) (Server y))
+      (does_in (log_machine plain) popped (Server y) (Hear (Server p) m)))
   take_from_server = after_puts plain t (account_with_view plain t (Server p) y taken.0) _ y taken.1 is_account all_puts
-      (view_step_begins plain t s (Server p) refl y taken.0 (good_view plain t s p y m rest link exact) (good_first_log plain t s p y m rest link exact) alive)
+      (view_step_begins plain t s (Server p) refl y taken.0 (good_view plain t s p y m rest link exact)
+      (good_first_log plain t s p y m rest link exact) alive)

@@ -54,5 +54,6 @@ module _ {P : Type 0} (plain : Plain P) (t : Account) (s : IsSound plain t) (p y
       }
 
   -- what it shows first only grows
-  pub good_first_log : (log : List Entry) → first_log (with_view w (Server p) y taken.0) y ≡ Some log → (shown : List Entry) × (first_log w y ≡ Some shown) × IsPrefix shown log
+  pub good_first_log : (log : List Entry) → first_log (with_view w (Server p) y taken.0) y ≡ Some log
+      → (shown : List Entry) × (first_log w y ≡ Some shown) × IsPrefix shown log
   good_first_log = first_log_taker plain w p y m rest link exact

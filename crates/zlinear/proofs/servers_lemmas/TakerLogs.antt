@@ -9,7 +9,9 @@ use Rattle.zprotocol.specs.server.Table.{server_step}
 use Rattle.zprotocol.proofs.server_lemmas.Cases.{server_case}
 use Rattle.zlinear.specs.legal.Prefix.{IsPrefix}
 use Rattle.zlinear.proofs.legal_lemmas.lists.Prefixes.{prefix_same}
-use Rattle.zlinear.specs.chain.Flow.{log_machine, LogWorld, LogMessage, Log, log_with_message, flow, snapshot_of, first_snapshot, or_else, log_at, final_log_by, final_log, first_snapshot_by, first_log}
+use Rattle.zlinear.specs.chain.Flow.{log_machine, LogWorld, LogMessage, Log, log_with_message, flow, snapshot_of}
+use Rattle.zlinear.specs.chain.Flow.{first_snapshot, or_else, log_at, final_log_by, final_log, first_snapshot_by}
+use Rattle.zlinear.specs.chain.Flow.{first_log}
 use Rattle.zlinear.specs.chain.Last.{HasExactLast}
 use Rattle.zlinear.proofs.chain_lemmas.flow.Flow.{Grows, flowed_grows, flowed_first}
 use Rattle.zlinear.proofs.chain_lemmas.links.Links.{at_same}
@@ -35,7 +37,8 @@ module _ {P : Type 0} (plain : Plain P) (w : LogWorld) (p y : ℕ) (m : LogMessa
   w1 = with_view w (Server p) y (server_step (log_machine plain) (w.servers y) (Server p) m).0
 
   same_pred : new.pred ≡ old.pred
-  same_pred = (neighbours_stay plain old (Server p) m (server_step (log_machine plain) old (Server p) m) (server_case (log_machine plain) old (Server p) m) refl).0
+  same_pred = (neighbours_stay plain old (Server p) m (server_step (log_machine plain) old (Server p) m)
+      (server_case (log_machine plain) old (Server p) m) refl).0
 
   view_here : w1.servers y ≡ new
   view_here = at_same y new w.servers
@@ -56,7 +59,8 @@ module _ {P : Type 0} (plain : Plain P) (w : LogWorld) (p y : ℕ) (m : LogMessa
 
   -- what it would hold in the end
   final_log_here : (log : Log) (pred : Option Neighbour) → new.machine ≡ log → new.pred ≡ pred → final_log w1 y ≡ final_log_by w1 y log pred
-  final_log_here log pred a b = ap (λ (u : ServerView (List Entry)). final_log_by w1 y u.machine u.pred) view_here ∙ (λ i. final_log_by w1 y (a i) (b i))
+  final_log_here log pred a b = ap (λ (u : ServerView (List Entry)). final_log_by w1 y u.machine u.pred) view_here
+      ∙ (λ i. final_log_by w1 y (a i) (b i))
 
   others : (pred : Option Neighbour) → ((k : ℕ) → pred ≡ Some (p, k) → ⊥) → (log : Log) → final_log_by w1 y log pred ≡ final_log_by w y log pred
   others None other log = refl
@@ -84,14 +88,17 @@ module _ {P : Type 0} (plain : Plain P) (w : LogWorld) (p y : ℕ) (m : LogMessa
     | inr f ↦ ap (first_snapshot pred.1) (front_not_from w.links (Server p) (Server y) (Server pred.0) (Server y) f)
   ]
 
-  first_log_here : (log : Log) (pred : Option Neighbour) → new.machine ≡ log → new.pred ≡ pred → first_log w1 y ≡ or_else log (first_snapshot_by w1 y pred)
-  first_log_here log pred a b = ap (λ (u : ServerView (List Entry)). or_else u.machine (first_snapshot_by w1 y u.pred)) view_here ∙ (λ i. or_else (a i) (first_snapshot_by w1 y (b i)))
+  first_log_here : (log : Log) (pred : Option Neighbour) → new.machine ≡ log → new.pred ≡ pred → first_log w1 y
+      ≡ or_else log (first_snapshot_by w1 y pred)
+  first_log_here log pred a b = ap (λ (u : ServerView (List Entry)). or_else u.machine (first_snapshot_by w1 y u.pred)) view_here
+      ∙ (λ i. or_else (a i) (first_snapshot_by w1 y (b i)))
 
   -- without a log it shows what it did
   first_log_empty : old.machine ≡ None → first_log w1 y ≡ first_log w y
   first_log_empty none = elim (is_pred old.pred p) [
     | inl h ↦
-        first_log_here (snapshot_of h.0 m) (Some (p, h.0)) (takes_flows plain old p h.0 m exact h.1 ∙ ap (λ l. log_with_message h.0 l m) none ∙ flowed_first h.0 m) (same_pred ∙ h.1)
+        first_log_here (snapshot_of h.0 m) (Some (p, h.0)) (takes_flows plain old p h.0 m exact h.1
+        ∙ ap (λ l. log_with_message h.0 l m) none ∙ flowed_first h.0 m) (same_pred ∙ h.1)
         ∙ ap (λ l. or_else (snapshot_of h.0 m) (first_snapshot h.0 l)) link_here
         ∙ sym (ap (first_snapshot h.0) link)
         ∙ sym (λ i. or_else (none i) (first_snapshot_by w y (h.1 i)))
@@ -100,7 +107,8 @@ module _ {P : Type 0} (plain : Plain P) (w : LogWorld) (p y : ℕ) (m : LogMessa
   ]
 
   -- with one it shows more
-  first_log_more : (mine : List Entry) → old.machine ≡ Some mine → (log : List Entry) → first_log w1 y ≡ Some log → (shown : List Entry) × (first_log w y ≡ Some shown) × IsPrefix shown log
+  first_log_more : (mine : List Entry) → old.machine ≡ Some mine → (log : List Entry) → first_log w1 y ≡ Some log
+      → (shown : List Entry) × (first_log w y ≡ Some shown) × IsPrefix shown log
   first_log_more mine is log h =
       let more = taker_grows mine is in
       let now : first_log w1 y ≡ Some more.0 = first_log_here (Some more.0) new.pred more.1 refl in

@@ -1,9 +1,14 @@
--- Channels in the order of their senders and then of their receivers, and where one stands among
--- them.
+-- Channels in the order of their senders and then of their receivers, which is that of delivery, and
+-- where one stands among those that are kept. These stand the other way round.
 use Rattle.std.specs.Prelude.{◌≡◌, ℕ, suc, ◌<◌, ◌≤◌, ◌==◌, nat_lt, Bool, not, if◌then◌else◌, [], ◌∷◌, ◌++◌, length, take, drop, get_or}
 use Rattle.std.specs.List.{AllByRecursion}
 use Rattle.zprotocol.specs.declared.message.Message.{Message}
-use Rattle.zlinks.specs.Places.{Channel, Channels}
+use Rattle.zprotocol.specs.declared.process.Process.{Process}
+use Rattle.zlinks.specs.Places.{Channel, Sent, Queues, sent_of}
+
+-- this was sent on the channels
+abbrev pub Holds : {T : Type 0} → Sent T → Queues T → Type 0
+Holds sent links = (p q : Process) → sent_of sent p q ≡ links p q
 
 -- a channel with one message more
 abbrev pub longer : {T : Type 0} → Channel T → Message T → Channel T
@@ -17,7 +22,7 @@ is_for_others to channel = not (channel.to == to)
 abbrev pub Precedes : (from to next_from next_to : ℕ) → Type 0
 Precedes from to next_from next_to = (from ≤ next_from) × (next_from ≤ from → to < next_to)
 
--- a channel stands before these places
+-- a channel comes before these places
 abbrev pub IsBefore : {T : Type 0} → Channel T → (from to : ℕ) → Type 0
 IsBefore channel from to = Precedes channel.from channel.to from to
 
@@ -25,38 +30,38 @@ IsBefore channel from to = Precedes channel.from channel.to from to
 abbrev pub is_before : {T : Type 0} → Channel T → (from to : ℕ) → Bool
 is_before channel from to = if channel.from == from then nat_lt channel.to to else nat_lt channel.from from
 
--- it stands behind them
+-- it comes behind them
 abbrev pub IsBehind : {T : Type 0} → Channel T → (from to : ℕ) → Type 0
 IsBehind channel from to = Precedes from to channel.from channel.to
 
--- it stands at them or behind them
+-- it is at them or comes behind them
 abbrev pub IsFrom : {T : Type 0} → Channel T → (from to : ℕ) → Type 0
 IsFrom channel from to = (from ≤ channel.from) × (channel.from ≤ from → to ≤ channel.to)
 
--- the channels are in order, each once
-abbrev pub AreSorted : {T : Type 0} → Channels T → Type 0
+-- the channels are in order, each once: the one that comes first stands last
+abbrev pub AreSorted : {T : Type 0} → Sent T → Type 0
 AreSorted [] = Unit {0}
-AreSorted (channel ∷ channels) = AllByRecursion (λ other. IsBefore channel other.from other.to) channels × AreSorted channels
+AreSorted (channel ∷ channels) = AllByRecursion (λ other. IsBehind channel other.from other.to) channels × AreSorted channels
 
--- so many channels stand before these places
-pub record IsFirstFrom {T : Type 0} (channels : Channels T) (from to count : ℕ) : Type 0 where
+-- so many channels are at these places or come behind them
+pub record IsCountFrom {T : Type 0} (channels : Sent T) (from to count : ℕ) : Type 0 where
   pub within : count ≤ length channels
-  pub before : AllByRecursion (λ channel. IsBefore channel from to) (take count channels)
-  pub others : AllByRecursion (λ channel. IsFrom channel from to) (drop count channels)
+  pub counted : AllByRecursion (λ channel. IsFrom channel from to) (take count channels)
+  pub before : AllByRecursion (λ channel. IsBefore channel from to) (drop count channels)
 
--- channels before these places, and channels behind them, all in order
-pub record IsAround {T : Type 0} (front back : Channels T) (from to : ℕ) : Type 0 where
-  pub before : AllByRecursion (λ channel. IsBefore channel from to) front
-  pub behind : AllByRecursion (λ channel. IsBehind channel from to) back
+-- channels that come behind these places, and channels that come before them, all in order
+pub record IsAround {T : Type 0} (front back : Sent T) (from to : ℕ) : Type 0 where
+  pub behind : AllByRecursion (λ channel. IsBehind channel from to) front
+  pub before : AllByRecursion (λ channel. IsBefore channel from to) back
   pub sorted : AreSorted (front ++ back)
 
 -- the channel between these places stands here
-pub record IsFound {T : Type 0} (channels : Channels T) (from to at : ℕ) : Type 0 where
+pub record IsFound {T : Type 0} (channels : Sent T) (from to at : ℕ) : Type 0 where
   pub within : at < length channels
   pub places : (channel : Channel T) → channel ≡ get_or channels at channel → (channel.from ≡ from) × (channel.to ≡ to)
   pub around : IsAround (take at channels) (drop (suc at) channels) from to
 
 -- it doesn't hold messages, and would stand here
-pub record IsGap {T : Type 0} (channels : Channels T) (from to at : ℕ) : Type 0 where
+pub record IsGap {T : Type 0} (channels : Sent T) (from to at : ℕ) : Type 0 where
   pub within : at ≤ length channels
   pub around : IsAround (take at channels) (drop at channels) from to

@@ -1,31 +1,33 @@
--- The members and the clients of an initial state.
+-- The processes of an initial state.
 use Rattle.std.specs.Prelude.{ℕ, List, map}
 use Rattle.std.specs.List.{range_with_len}
 use Rattle.ztree.specs.Tree.{Tree}
 use Rattle.zcalls.specs.Kept.{KeptState}
-use Rattle.ztree.specs.declared.limits.TheConstants.{MAX_CLIENTS}
-use Rattle.zprotocol.specs.client.View.{ClientView, opening_client}
-use Rattle.zprotocol.specs.declared.limits.TheConstants.{MAX_SERVERS}
+use Rattle.zprotocol.specs.declared.limits.TheConstants.{PROCESSES}
+use Rattle.zprotocol.specs.declared.process.Process.{Process}
+use Rattle.zprotocol.specs.declared.process.Process.TheVariants.{Master, Server, Client}
+use Rattle.zprotocol.specs.Places.{process_at}
+use Rattle.zprotocol.specs.client.View as client
+use Rattle.zprotocol.specs.master.View.{opening_master}
 use Rattle.zprotocol.specs.server.Machine.{Does, kept_tree, kept_tree_from}
 use Rattle.zprotocol.specs.server.View.{opening_server}
-use Rattle.zworld.specs.Held.{MemberView, running}
+use Rattle.zactor.specs.Acting.{TreeStanding}
+use Rattle.zworld_model.specs.Does.{AtMaster, AtServer, AtClient}
 
--- the server of the second number, where the chain goes up to the first
-abbrev pub opening_member : ℕ → ℕ → MemberView
-opening_member last s = running (opening_server kept_tree last s)
+-- the client of the last number, where the chain goes up to the first and so many take part
+abbrev pub opening_client : ℕ → ℕ → ℕ → TreeStanding
+opening_client last clients number = AtClient (client.opening_client last clients number)
 
--- the server of the second number, where the chain goes up to the first and these are its machines
-abbrev pub member_with : Does (KeptState Tree) → ℕ → ℕ → MemberView
-member_with machine last s = running (opening_server machine last s)
+-- a process, where the chain goes up to this server and this many clients take part
+abbrev pub opening_actor : Does (KeptState Tree) → ℕ → ℕ → Process → TreeStanding
+opening_actor machine last clients Master = AtMaster (opening_master last clients)
+opening_actor machine last clients (Server s) = AtServer (opening_server machine last s)
+opening_actor machine last clients (Client c) = opening_client last clients c
 
--- all servers, where the chain goes up to this one and begins with this tree
-abbrev pub restored_members : Tree → ℕ → List MemberView
-restored_members t last = map (member_with (kept_tree_from t) last) (range_with_len 1 MAX_SERVERS)
+-- all processes
+abbrev pub opening_actors : ℕ → ℕ → List TreeStanding
+opening_actors last clients = map (λ place. opening_actor kept_tree last clients (process_at place)) (range_with_len 0 PROCESSES)
 
--- all servers, where the chain goes up to this one
-abbrev pub opening_members : ℕ → List MemberView
-opening_members last = map (opening_member last) (range_with_len 1 MAX_SERVERS)
-
--- all clients, of which this many take part
-abbrev pub opening_clients : ℕ → ℕ → List ClientView
-opening_clients last count = map (opening_client last count) (range_with_len 0 MAX_CLIENTS)
+-- the same, where the chain begins with this tree
+abbrev pub restored_actors : Tree → ℕ → ℕ → List TreeStanding
+restored_actors t last clients = map (λ place. opening_actor (kept_tree_from t) last clients (process_at place)) (range_with_len 0 PROCESSES)

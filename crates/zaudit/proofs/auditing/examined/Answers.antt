@@ -9,7 +9,8 @@ returns-then-not-agree-clause-mismatch c is =
     let t = c.args.traces.now in
     let replayed = c.in_default-replay.ensures.replayed in
     let differs = c.agree.ensures.no c.if-not-agree.true in
-    mismatched_by t replayed.0 (world_in c.replay.new.world) replayed.1 replayed.2 (c.all_rise.ensures.yes c.if-not-all_rise.false) differs.0 differs.1
+    mismatched_by t replayed.0 (world_in c.replay.new.world) replayed.1 replayed.2 (c.all_rise.ensures.yes c.if-not-all_rise.false)
+    differs.0 differs.1
     (λ same. differs.2 (ap (told_of differs.0) c.history.ensures.history ∙ same))
 
 pub returns-clause-found : goal.returns-clause-found

@@ -9,4 +9,5 @@ replay_rest-requires-clause-replayed c =
     let t = c.args.traces.now in
     let made : c.in_ok-read.read.items ≡ replicate c.count_of.result 0 = c.in_ok-read.ensures in
     let lent : c.deref_mut.result.now ≡ c.in_ok-read.read.items = c.deref_mut.ensures.value in
-    subst (λ read. HasReplayed t read (world_in c.args.world.now)) (sym (lent ∙ made)) (replayed_nothing t c.count_of.result (world_in c.args.world.now) c.requires.opening)
+    subst (λ read. HasReplayed t read (world_in c.args.world.now)) (sym (lent ∙ made))
+    (replayed_nothing t c.count_of.result (world_in c.args.world.now) c.requires.opening)

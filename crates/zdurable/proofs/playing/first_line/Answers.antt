@@ -8,7 +8,8 @@ use Rattle.zdurable.proofs.playing.first_line.Goals as goal
 pub returns-in-Some-clause-first : goal.returns-in-Some-clause-first
 returns-in-Some-clause-first c =
     let text = c.args.text.now in
-    let next = cut_at_first text c.in-Some.end (λ j below. c.in-Some.ensures.0.before j (omega arith) below) c.in-Some.ensures.0.high c.in-Some.ensures.1 in
+    let next = cut_at_first text c.in-Some.end (λ j below. c.in-Some.ensures.0.before j (omega arith) below)
+    c.in-Some.ensures.0.high c.in-Some.ensures.1 in
     ap lines_of next.whole ∙ lines-line _ _ next.part
 
 pub returns-in-Some-clause-shorter : goal.returns-in-Some-clause-shorter

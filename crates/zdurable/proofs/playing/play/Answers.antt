@@ -23,5 +23,6 @@ pub returns : goal.returns
 returns c =
     let so_far = c.loop-rest.invariant in
     let none : length c.loop-rest.rest.now ≡ 0 = grind (arith, nat_tests) in
-    subst (λ lines. PlaysLines lines c.args.world.now c.loop-rest.world c.args.answers.now c.loop-rest.answers c.args.kept.now.items c.loop-rest.kept.items)
+    subst (λ lines. PlaysLines lines c.args.world.now c.loop-rest.world c.args.answers.now c.loop-rest.answers
+    c.args.kept.now.items c.loop-rest.kept.items)
     (sym (so_far.1 ∙ lines-done so_far.0 c.loop-rest.rest.now none)) so_far.2

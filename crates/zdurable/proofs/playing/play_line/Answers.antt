@@ -9,5 +9,6 @@ returns-then-branch c =
 
 pub returns : goal.returns
 returns c =
-    played_line c.args.line.now c.args.world.now c.play_and_keep.new.world c.args.answers.now c.play_and_keep.new.answers c.args.kept.now.items c.play_and_keep.new.kept.items
+    played_line c.args.line.now c.args.world.now c.play_and_keep.new.world c.args.answers.now c.play_and_keep.new.answers
+    c.args.kept.now.items c.play_and_keep.new.kept.items
     (sym c.in_ok-refuses.ensures ∙ c.if-branch.false) c.in_ok-play_and_keep.ensures.played c.in_ok-play_and_keep.ensures.keeps

@@ -14,7 +14,17 @@ returns c = record {
     acted = true ∷ [];
     others = refl;
   };
-  not_at_all = λ s batch. record { came = []; kept_are = refl; marks = []; of_each = refl; batches_are = refl; answers_are = refl; acted = []; others = refl };
+  not_at_all = λ s batch. record {
+    came = [];
+    kept_are = refl;
+    marks = [];
+    of_each = refl;
+    batches_are = refl;
+    answers_are =
+        refl;
+    acted = [];
+    others = refl;
+  };
   undone = λ s batch answer h. undone s batch h.came h.marks h.kept_are h.batches_are;
   twice = λ s batch answer one other h. twice s batch one other h.came h.marks h.acted h.kept_are h.of_each h.batches_are h.others;
 }

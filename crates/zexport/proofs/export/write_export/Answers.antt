@@ -77,14 +77,17 @@ pub returns-clause-took : goal.returns-clause-took
 returns-clause-took g c =
     let t = c.args.machine.now.state.service.plain in
     let so_far = c.loop-path.invariant in
-    let none : c.loop-path.path-iterator.rest.items ≡ [] = nil_from_length _ (omega (arith, c.in-None.ensures.steps.0, c.loop-path.path-iterator.rest.ok)) in
-    subst (λ (x : List ℕ). g.K.Sink.took c.args.sink.now x c.loop-path.sink) (writing_done t so_far.0 (subst (IsWriting t so_far.0) none so_far.3)) so_far.1
+    let none : c.loop-path.path-iterator.rest.items
+    ≡ [] = nil_from_length _ (omega (arith, c.in-None.ensures.steps.0, c.loop-path.path-iterator.rest.ok)) in
+    subst (λ (x : List ℕ). g.K.Sink.took c.args.sink.now x c.loop-path.sink)
+    (writing_done t so_far.0 (subst (IsWriting t so_far.0) none so_far.3)) so_far.1
 
 pub returns-clause-has_lines : goal.returns-clause-has_lines
 returns-clause-has_lines g c =
     let t = c.args.machine.now.state.service.plain in
     let so_far = c.loop-path.invariant in
-    let none : c.loop-path.path-iterator.rest.items ≡ [] = nil_from_length _ (omega (arith, c.in-None.ensures.steps.0, c.loop-path.path-iterator.rest.ok)) in
+    let none : c.loop-path.path-iterator.rest.items
+    ≡ [] = nil_from_length _ (omega (arith, c.in-None.ensures.steps.0, c.loop-path.path-iterator.rest.ok)) in
     record {
       lawful = c.keeps_lawful.ensures.lawful;
       paths = c.keeps_lawful.ensures.paths;

@@ -13,7 +13,8 @@ use types.Logic.{Logic, sem}
 use types.SemTy.{Body}
 use contract.Monad.{Fun, fact}
 use contract.Running.{tables, tables_of}
-use types.Kit.{‵, raw, ◌⊛◌, some, later, ◌$◌, ◌∵◌, !, qed, by, move, keep, use1, use2, use3, split, join, pick, fsplit, fjoin, feq_l, feq_i, suffices, show, frame, await, done}
+use types.Kit.{‵, raw, ◌⊛◌, some, later, ◌$◌, ◌∵◌, !, qed, by, move, keep, use1, use2, use3, split, join, pick, fsplit}
+use types.Kit.{fjoin, feq_l, feq_i, suffices, show, frame, await, done}
 use types.Tokens.{lft_new, lft_end, lent_back}
 use types.Run.{and_then, no_more, returns, enter, addr, stop, of_opd}
 use types.Part.{agg}
@@ -62,7 +63,8 @@ module _ {M : Type 1} {𝓤 : Ura M} (𝓛 : Logic 𝓤) (at_mem : Memory → SP
   abbrev Of : Contract 𝓤
   Of = triple_of 𝓛 of.signature (of.spec 𝓛 at_mem run)
 
-module _ {M : Type 1} {𝓤 : Ura M} (𝓛 : Logic 𝓤) (at_mem : Memory → SProp 𝓤) (run : Routine → Fun 𝓤) (C : Calls 𝓤 𝓛.H) (Λ : Loops 𝓤 𝓛.H) (fm : FmC 𝓤 𝓛.H 𝓛.laws C)
+module _ {M : Type 1} {𝓤 : Ura M} (𝓛 : Logic 𝓤) (at_mem : Memory → SProp 𝓤) (run : Routine
+    → Fun 𝓤) (C : Calls 𝓤 𝓛.H) (Λ : Loops 𝓤 𝓛.H) (fm : FmC 𝓤 𝓛.H 𝓛.laws C)
     (known : Triple 𝓤 (C #came) (Of 𝓛 at_mem run)) (h : Server) (q : Share) (xs : List ℕ) (m : ℕ) (number : m < 2 ^ 32) where
   open 𝓛 use {H}
 
@@ -104,9 +106,11 @@ module _ {M : Type 1} {𝓤 : Ura M} (𝓛 : Logic 𝓤) (at_mem : Memory → SP
     Told new r = sep 𝓤 (sem 𝓛 (part_at S full_share new b o)) (sep 𝓤 (sem 𝓛 (part_at (Array u8 n) q xs c i)) (fact 𝓤 (TakesAs (Comes xs m) h new r)))
 
     exits : (new : Server) (r : ℕ) (v : Val) → TakesAs (Comes xs m) h new r
-        → ent 𝓤 (sep 𝓤 (sem 𝓛 Counted) (sep 𝓤 (sem 𝓛 (part_at S full_share new b o)) (sep 𝓤 (sem 𝓛 (u32.own_val r (v ∷ []))) (Entry at from n)))) (Post at from n v)
+        → ent 𝓤 (sep 𝓤 (sem 𝓛 Counted) (sep 𝓤 (sem 𝓛 (part_at S full_share new b o)) (sep 𝓤 (sem 𝓛 (u32.own_val r (v ∷ []))) (Entry at from n))))
+        (Post at from n v)
     exits new r v e =
-        qed 𝓛 (‵ Counted ∷ ‵ (part_at S full_share new b o) ∷ ‵ (u32.own_val r (v ∷ [])) ∷ (‵ ftrue ⊛ ‵ (owns (RawPtr ∷ u32 ∷ RawPtr ∷ usize ∷ []) (args at from n) (passed at from n))) ∷ []) ∵
+        qed 𝓛 (‵ Counted ∷ ‵ (part_at S full_share new b o) ∷ ‵ (u32.own_val r (v ∷ []))
+        ∷ (‵ ftrue ⊛ ‵ (owns (RawPtr ∷ u32 ∷ RawPtr ∷ usize ∷ []) (args at from n) (passed at from n))) ∷ []) ∵
         use1 𝓛 (‵ (part_at (Array u8 n) q xs c i)) (bytes_whole 𝓛 q n xs c i) $
         suffices ! _ (ends_at 𝓛 f.ended stayed (f.clauses 𝓛 at_mem run) (bound at from n) v r (tt, (tt, (tt, (tt, tt)))) (tt, (tt, (tt, (tt, tt))))) $
         move ! (3 ∷ []) $ split ! $ move ! (1 ∷ 4 ∷ []) $ join ! $ move ! (1 ∷ 0 ∷ []) $ join ! $ frame ! $
@@ -116,29 +120,44 @@ module _ {M : Type 1} {𝓤 : Ura M} (𝓛 : Logic 𝓤) (at_mem : Memory → SP
     walk low =
         let fits : n < 2 ^ 64 = omega arith in
         let room : n * 1 < 2 ^ 63 = omega arith in
-        qed 𝓛 (‵ Counted ∷ ‵ (part_at S full_share h b o) ∷ raw (Entry at from n) ∷ []) ∵ enter ! C Λ code.function (vptr b o ∷ vint w32 m ∷ vptr c i ∷ vint w64 n ∷ []) _ $
+        qed 𝓛 (‵ Counted ∷ ‵ (part_at S full_share h b o) ∷ raw (Entry at from n) ∷ []) ∵ enter ! C Λ code.function
+        (vptr b o ∷ vint w32 m ∷ vptr c i ∷ vint w64 n ∷ []) _ $
         alloc_all ! (λ l. pass_all ! refl ((tt, tt), ((tt, record { fits = number }), ((tt, tt), ((tt, record { fits = fits }), tt)))) $
         -- &mut *at, from_raw_parts(from, len)
         sets ! (of_opd ! (get ! refl)) refl (tt, tt) $ sets ! (addr ! (through ! refl (stop !))) refl (tt, tt) $
         sets ! (agg ! (and_then ! (get ! refl) (and_then ! (get ! refl) (no_more !)))) refl (tt, (tt, (record { fits = fits }, tt))) $
         lft_new ! tt (λ α. let κ : Lft = α ∷ [] in move ! (1 ∷ 0 ∷ []) $
-        use2 𝓛 (later ((‵ ((ShrSlice (named 1) κ u8).own_val (record { ref_ptr = (c, i); now = xs }) (slice_val (c, i) n ∷ [])) ⊛ ‵ (flent κ Counted)) ⊛ ‵ (flft κ full_share)))
-        (lends_shr_slice 𝓛 u8 (named 1) κ q xs c i (fits, room) κ ((uint_Copied 𝓛 w8).shares q κ) ((κ, full_share) ∷ []) (Incl-refl κ) (Incl-refl κ)) $ await ! tt $ split ! $ split ! $
+        use2 𝓛 (later ((‵ ((ShrSlice (named 1) κ u8).own_val (record { ref_ptr = (c, i); now = xs }) (slice_val (c, i) n ∷ []))
+        ⊛ ‵ (flent κ Counted)) ⊛ ‵ (flft κ full_share)))
+        (lends_shr_slice 𝓛 u8 (named 1) κ q xs c i (fits, room) κ ((uint_Copied 𝓛 w8).shares q κ) ((κ, full_share) ∷ [])
+        (Incl-refl κ) (Incl-refl κ)) $ await ! tt $ split ! $ split ! $
         -- [the slice; the right to the bytes; its token; the server; what the parameters own; the locals]
         move ! (3 ∷ []) $ lft_new ! tt (λ β. let μ : Lft = β ∷ [] in move ! (1 ∷ []) $
-        use1 𝓛 (later (some (λ (γ : GName). ‵ ((MutRef (named 0) μ S).own_val (record { ref_ptr = (b, o); ghost_name = γ; now = h }) (vptr b o ∷ [])) ⊛ ‵ (flent μ (Body (mem S) b o γ)))))
+        use1 𝓛 (later (some (λ (γ : GName). ‵ ((MutRef (named 0) μ S).own_val (record { ref_ptr = (b, o); ghost_name = γ; now = h })
+        (vptr b o ∷ [])) ⊛ ‵ (flent μ (Body (mem S) b o γ)))))
         (lends_ref 𝓛 S (named 0) μ h b o) $ await ! tt $ pick ! (λ γ. split ! $
         -- [the reference; the right to the server; its token; the slice; the right to the bytes; its token; what the parameters own; the locals]
         let s : Bor (List ℕ) = record { ref_ptr = (c, i); now = xs } in
         let x : MutBor Server = record { ref_ptr = (b, o); ghost_name = γ; now = h } in
-        let y : (Of 𝓛 at_mem run).Ghost = (((μ, (κ, tt)), (full_share, (full_share, tt)), tt, (x, (m, (s, tt))), (vptr b o ∷ [], (vint w32 m ∷ [], (slice_val (c, i) n ∷ [], tt)))), tt) in
-        nothing ! $ move ! (4 ∷ 0 ∷ []) $ fjoin ! $ owned ! u32 (Is u32) (uint_Makes 𝓛 w32) m _ (refl, number) $ fjoin ! $ move ! (1 ∷ 0 ∷ []) $ fjoin ! $
+        let y : (Of 𝓛 at_mem run).Ghost = (
+          (
+            (μ, (κ, tt)),
+            (full_share, (full_share, tt)),
+            tt,
+            (x, (m, (s, tt))),
+            (vptr b o ∷ [], (vint w32 m ∷ [], (slice_val (c, i) n ∷ [], tt))),
+          ),
+          tt,
+        ) in
+        nothing ! $ move ! (4 ∷ 0 ∷ []) $ fjoin ! $ owned ! u32 (Is u32) (uint_Makes 𝓛 w32) m _ (refl, number) $ fjoin
+        ! $ move ! (1 ∷ 0 ∷ []) $ fjoin ! $
         nothing ! $ move ! (5 ∷ 0 ∷ []) $ join ! $ move ! (3 ∷ 0 ∷ []) $ join ! $ join ! $ nothing ! $ move ! (1 ∷ 0 ∷ []) $ join ! $
         use1 𝓛 (raw ((Of 𝓛 at_mem run).pre y)) (id⊢ 𝓤 ((Of 𝓛 at_mem run).pre y)) $
         -- came(.., connection, ..)
         calls_at ! fm (Of 𝓛 at_mem run) known y (and_then ! (get ! refl) (and_then ! (get ! refl) (and_then ! (get ! refl) (no_more !)))) (λ v.
         use1 𝓛 (later (some (λ (r : ℕ). ((‵ (flft μ full_share) ⊛ (‵ (flft κ full_share) ⊛ ‵ ftrue)) ⊛ ‵ (u32.own_val r (v ∷ [])))
-        ⊛ some (λ (ws : Lasts of.ended (μ, (κ, tt)) (x, (m, (s, tt)))). ‵ (lasts of.ended (μ, (κ, tt)) (x, (m, (s, tt))) ws) ⊛ raw (fact 𝓤 (TakesAs (Comes xs m) h ws.0 r)))))) (id⊢ 𝓤 _) $ await ! tt $ pick ! (λ r.
+        ⊛ some (λ (ws : Lasts of.ended (μ, (κ, tt)) (x, (m, (s, tt)))). ‵ (lasts of.ended (μ, (κ, tt)) (x, (m, (s, tt))) ws)
+        ⊛ raw (fact 𝓤 (TakesAs (Comes xs m) h ws.0 r)))))) (id⊢ 𝓤 _) $ await ! tt $ pick ! (λ r.
         split ! $ move ! (1 ∷ []) $ pick ! (λ ws. split ! $ move ! (1 ∷ []) $ heard ! (TakesAs (Comes xs m) h ws.0 r) (λ e.
         -- [the last value; the tokens and the result; the right to the server; the right to the bytes; what the parameters own; the locals]
         fsplit ! $ fsplit ! $ move ! (3 ∷ []) $ split ! $ split ! $
@@ -153,21 +172,38 @@ module _ {M : Type 1} {𝓤 : Ura M} (𝓛 : Logic 𝓤) (at_mem : Memory → SP
 
   -- by the pointers' form: nothing lies at null, and at blocks the count passed is the count of the bytes
   at_each : (p p' : Ptr) (n : ℕ)
-      → ent 𝓤 (sep 𝓤 (Entry p p' n) (sep 𝓤 (sem 𝓛 (lies_at S full_share p h)) (sep 𝓤 (sem 𝓛 (lies_at (Array u8 n) q p' xs)) (fact 𝓤 (n < 2 ^ 63))))) (Runs p p' n)
+      → ent 𝓤 (sep 𝓤 (Entry p p' n) (sep 𝓤 (sem 𝓛 (lies_at S full_share p h))
+      (sep 𝓤 (sem 𝓛 (lies_at (Array u8 n) q p' xs)) (fact 𝓤 (n < 2 ^ 63))))) (Runs p p' n)
   at_each (block_ptr b o) (block_ptr c i) n =
-      qed 𝓛 (raw (Entry (block_ptr b o) (block_ptr c i) n) ∷ ‵ (part_at S full_share h b o) ∷ ‵ (part_at (Array u8 n) q xs c i) ∷ raw (fact 𝓤 (n < 2 ^ 63)) ∷ []) ∵ move ! (3 ∷ []) $ heard ! (n < 2 ^ 63) (λ low. move ! (2 ∷ []) $
+      qed 𝓛 (raw (Entry (block_ptr b o) (block_ptr c i) n) ∷ ‵ (part_at S full_share h b o) ∷ ‵ (part_at (Array u8 n) q xs c i)
+      ∷ raw (fact 𝓤 (n < 2 ^ 63)) ∷ []) ∵ move ! (3 ∷ []) $ heard ! (n < 2 ^ 63) (λ low. move ! (2 ∷ []) $
       use1 𝓛 (‵ (fsep (feq ℕ (length xs) n) (bytes q xs c i))) (bytes_apart 𝓛 q n xs c i) $ fsplit ! $
       feq_l ! (λ e. feq_i ! ℕ (length xs) (length xs) refl $ fjoin ! $ move ! (0 ∷ 2 ∷ 1 ∷ []) $
-      by ! (subst (λ (m : ℕ). m < 2 ^ 63 → ent 𝓤 (sep 𝓤 (sem 𝓛 (Counted b o c i)) (sep 𝓤 (sem 𝓛 (part_at S full_share h b o)) (Entry (block_ptr b o) (block_ptr c i) m))) (Runs (block_ptr b o) (block_ptr c i) m)) e (walk b o c i) low)))
-  at_each (block_ptr b o) null_ptr n = via 𝓤 _ (snd∗ 𝓤 (Entry (block_ptr b o) null_ptr n) _) (via 𝓤 _ (snd∗ 𝓤 (sem 𝓛 (part_at S full_share h b o)) _) (via 𝓤 (never 𝓤) (fst∗ 𝓤 (never 𝓤) (fact 𝓤 (n < 2 ^ 63))) (never_e 𝓤 _)))
-  at_each null_ptr p' n = via 𝓤 _ (snd∗ 𝓤 (Entry null_ptr p' n) _) (via 𝓤 (never 𝓤) (fst∗ 𝓤 (never 𝓤) (sep 𝓤 (sem 𝓛 (lies_at (Array u8 n) q p' xs)) (fact 𝓤 (n < 2 ^ 63)))) (never_e 𝓤 _))
+      by ! (subst (λ (m : ℕ). m < 2 ^ 63
+      → ent 𝓤 (sep 𝓤 (sem 𝓛 (Counted b o c i)) (sep 𝓤 (sem 𝓛 (part_at S full_share h b o)) (Entry (block_ptr b o) (block_ptr c i) m)))
+      (Runs (block_ptr b o) (block_ptr c i) m)) e (walk b o c i) low)))
+  at_each (block_ptr b o) null_ptr n = via 𝓤 _ (snd∗ 𝓤 (Entry (block_ptr b o) null_ptr n) _)
+      (via 𝓤 _ (snd∗ 𝓤 (sem 𝓛 (part_at S full_share h b o)) _) (via 𝓤 (never 𝓤) (fst∗ 𝓤 (never 𝓤) (fact 𝓤 (n < 2 ^ 63))) (never_e 𝓤 _)))
+  at_each null_ptr p' n = via 𝓤 _ (snd∗ 𝓤 (Entry null_ptr p' n) _)
+      (via 𝓤 (never 𝓤) (fst∗ 𝓤 (never 𝓤) (sep 𝓤 (sem 𝓛 (lies_at (Array u8 n) q p' xs)) (fact 𝓤 (n < 2 ^ 63)))) (never_e 𝓤 _))
 
 meets : {M : Type 1} {𝓤 : Ura M} (𝓛 : Logic 𝓤) (at_mem : Memory → SProp 𝓤) (run : Routine → Fun 𝓤) (𝓣 : Tables 𝓤 𝓛.H)
     → Triple 𝓤 (𝓣.C #came) (Of 𝓛 at_mem run) → Meets 𝓛 f.signature (WpFn 𝓤 𝓛.H 𝓣.C 𝓣.Λ code.function) (f.spec 𝓛 at_mem run)
 meets {𝓤 = 𝓤} 𝓛 at_mem run 𝓣 known =
-    walk_Meets 𝓛 f.ended stayed (Goes-none 𝓛 0 (λ _. RawPtr) yes (λ κs a g. refl), (Goes-none 𝓛 0 (λ _. u32) yes (λ κs a g. refl), (Goes-none 𝓛 0 (λ _. RawPtr) yes (λ κs a g. refl), (Goes-none 𝓛 0 (λ _. usize) yes (λ κs a g. refl), tt))))
+    walk_Meets 𝓛 f.ended stayed (
+      Goes-none 𝓛 0 (λ _. RawPtr) yes (λ κs a g. refl),
+      (
+        Goes-none 𝓛 0 (λ _. u32) yes (λ κs a g. refl),
+        (
+          Goes-none 𝓛 0 (λ _. RawPtr) yes (λ κs a g. refl),
+          (Goes-none 𝓛 0 (λ _. usize) yes (λ κs a g. refl), tt),
+        ),
+      ),
+    )
     (f.clauses 𝓛 at_mem run) (WpFn 𝓤 𝓛.H 𝓣.C 𝓣.Λ code.function) (WpFn-mono 𝓤 𝓛.H 𝓛.laws 𝓣 code.function)
-    (walked 𝓛 f.ended stayed (f.clauses 𝓛 at_mem run) (WpFn 𝓤 𝓛.H 𝓣.C 𝓣.Λ code.function) (λ κs. (rawptr_vals, (uint_vals w32, (rawptr_vals, (uint_vals w64, tt))))) (λ κs. (rawptr_Tells, (uint_Tells w32, (rawptr_Tells, (uint_Tells w64, tt)))))
+    (walked 𝓛 f.ended stayed (f.clauses 𝓛 at_mem run) (WpFn 𝓤 𝓛.H 𝓣.C 𝓣.Λ code.function)
+    (λ κs. (rawptr_vals, (uint_vals w32, (rawptr_vals, (uint_vals w64, tt)))))
+    (λ κs. (rawptr_Tells, (uint_Tells w32, (rawptr_Tells, (uint_Tells w64, tt)))))
     (λ κs qs bounds a g are. at_each 𝓛 at_mem run 𝓣.C 𝓣.Λ (fm_of 𝓤 𝓛.H 𝓛.laws 𝓣) known g.0 g.1.0 g.1.1 a.1.0 are.1.0.1 a.0 a.1.1.0 a.1.1.1.0))
 
 pub jellqupas_front_came_spec : {M : Type 1} → stated.statement M

@@ -11,7 +11,8 @@ use prog.Wp.{Calls, Loops, WpFn, Tables}
 use types.Logic.{Logic, sem}
 use contract.Monad.{Fun}
 use contract.Running.{tables, tables_of}
-use types.Kit.{‵, raw, ◌⊛◌, some, later, ◌$◌, ◌∵◌, !, qed, by, move, drop, rewrite, use1, split, join, pick, fjoin, feq_l, feq_i, suffices, await, done}
+use types.Kit.{‵, raw, ◌⊛◌, some, later, ◌$◌, ◌∵◌, !, qed, by, move, drop, rewrite, use1, split, join, pick, fjoin}
+use types.Kit.{feq_l, feq_i, suffices, await, done}
 use types.Run.{and_then, no_more, returns, enter, stop, unit_lit, of_opd, load, look}
 use types.ByLocal.{alloc_all, pass_all, free_all, look_at, get, through, sets, lands_as}
 use sound.WpLaws.{FmC, fm_of, WpFn-mono}
@@ -51,7 +52,8 @@ module _ {M : Type 1} {𝓤 : Ura M} (𝓛 : Logic 𝓤) (at_mem : Memory → SP
   abbrev Of : Contract 𝓤
   Of = triple_of 𝓛 of.signature (of.spec 𝓛 at_mem run)
 
-module _ {M : Type 1} {𝓤 : Ura M} (𝓛 : Logic 𝓤) (at_mem : Memory → SProp 𝓤) (run : Routine → Fun 𝓤) (C : Calls 𝓤 𝓛.H) (Λ : Loops 𝓤 𝓛.H) (fm : FmC 𝓤 𝓛.H 𝓛.laws C)
+module _ {M : Type 1} {𝓤 : Ura M} (𝓛 : Logic 𝓤) (at_mem : Memory → SProp 𝓤) (run : Routine
+    → Fun 𝓤) (C : Calls 𝓤 𝓛.H) (Λ : Loops 𝓤 𝓛.H) (fm : FmC 𝓤 𝓛.H 𝓛.laws C)
     (known : Triple 𝓤 (C #finish) (Of 𝓛 at_mem run)) (h : Server) where
   open 𝓛 use {H}
 
@@ -97,7 +99,8 @@ module _ {M : Type 1} {𝓤 : Ura M} (𝓛 : Logic 𝓤) (at_mem : Memory → SP
         move ! (1 ∷ []) $ nothing ! $ move ! (1 ∷ 0 ∷ []) $ fjoin ! $ nothing ! $ join ! $ nothing ! $ move ! (1 ∷ 0 ∷ []) $ join ! $
         use1 𝓛 (raw ((Of 𝓛 at_mem run).pre y)) (id⊢ 𝓤 ((Of 𝓛 at_mem run).pre y)) $
         calls_at ! fm (Of 𝓛 at_mem run) known y (and_then ! (get ! refl) (no_more !)) (λ u.
-        use1 𝓛 (later (some (λ (r : Unit {0}). (‵ ftrue ⊛ ‵ (feq (List Val) (u ∷ []) (vunit ∷ []))) ⊛ raw (ensured 𝓛 of.ended (of.clauses 𝓛 at_mem run) tt (h, tt) tt r)))) (id⊢ 𝓤 _) $ await ! tt $ pick ! (λ r.
+        use1 𝓛 (later (some (λ (r : Unit {0}). (‵ ftrue ⊛ ‵ (feq (List Val) (u ∷ []) (vunit ∷ []))) ⊛ raw
+        (ensured 𝓛 of.ended (of.clauses 𝓛 at_mem run) tt (h, tt) tt r)))) (id⊢ 𝓤 _) $ await ! tt $ pick ! (λ r.
         split ! $ split ! $ drop ! $ move ! (1 ∷ []) $ drop ! $ feq_l ! (λ e. lands_as ! (ap only e) refl (tt, tt) $
         sets ! (of_opd ! (unit_lit !)) refl (tt, tt) $
         use1 𝓛 (‵ (froom (lone S.mir) b o)) (𝓛.laws.at_room (lone S.mir) b o w) $

@@ -13,7 +13,8 @@ use types.Logic.{Logic, sem}
 use types.SemTy.{Body}
 use contract.Monad.{Fun, fact}
 use contract.Running.{tables, tables_of}
-use types.Kit.{‵, raw, ◌⊛◌, some, later, ◌$◌, ◌∵◌, !, qed, by, move, drop, keep, use1, use2, use3, split, join, pick, fsplit, fjoin, suffices, show, frame, await, done}
+use types.Kit.{‵, raw, ◌⊛◌, some, later, ◌$◌, ◌∵◌, !, qed, by, move, drop, keep, use1, use2, use3, split, join, pick}
+use types.Kit.{fsplit, fjoin, suffices, show, frame, await, done}
 use types.Tokens.{lft_new, lft_end}
 use types.Run.{and_then, no_more, returns, enter, addr, stop, init, of_opd, assigns}
 use types.ByLocal.{alloc_all, pass_all, free_all, look_at, get, through, sets, lands_as}
@@ -58,7 +59,10 @@ use Rattle.zfront_c.proofs.server.Server.TheLaws as S'
 use Rattle.bytes.proofs.Walks.{tells}
 
 abbrev stayed : Stays (f.ended).signature.params (f.ended).kept
-stayed = (stay_none (λ _. HP.the_row) yes, (stay_none (λ _. u8) yes, (stay_none (λ _. u32) yes, (stay_none (λ _. u64) yes, (stay_none (λ _. RawPtr) yes, tt)))))
+stayed = (
+  stay_none (λ _. HP.the_row) yes,
+  (stay_none (λ _. u8) yes, (stay_none (λ _. u32) yes, (stay_none (λ _. u64) yes, (stay_none (λ _. RawPtr) yes, tt)))),
+)
 
 abbrev S : RattleType
 S = server.the_row
@@ -73,8 +77,10 @@ module _ {M : Type 1} {𝓤 : Ura M} (𝓛 : Logic 𝓤) (at_mem : Memory → SP
   abbrev Said : Contract 𝓤
   Said = triple_of 𝓛 said.signature (said.spec 𝓛 at_mem run)
 
-module _ {M : Type 1} {𝓤 : Ura M} (𝓛 : Logic 𝓤) (at_mem : Memory → SProp 𝓤) (run : Routine → Fun 𝓤) (C : Calls 𝓤 𝓛.H) (Λ : Loops 𝓤 𝓛.H) (fm : FmC 𝓤 𝓛.H 𝓛.laws C)
-    (known : Triple 𝓤 (C #make) (Of 𝓛 at_mem run)) (known' : Triple 𝓤 (C #status) (Said 𝓛 at_mem run)) (al : (HP.the_row).Denot) (m : ℕ) (byte : m < 2 ^ 8) (t : ℕ) (half : t < 2 ^ 32) (d : ℕ) (whole : d < 2 ^ 64) where
+module _ {M : Type 1} {𝓤 : Ura M} (𝓛 : Logic 𝓤) (at_mem : Memory → SProp 𝓤) (run : Routine
+    → Fun 𝓤) (C : Calls 𝓤 𝓛.H) (Λ : Loops 𝓤 𝓛.H) (fm : FmC 𝓤 𝓛.H 𝓛.laws C)
+    (known : Triple 𝓤 (C #make) (Of 𝓛 at_mem run)) (known' : Triple 𝓤 (C #status) (Said 𝓛 at_mem run)) (al : (HP.the_row).Denot)
+    (m : ℕ) (byte : m < 2 ^ 8) (t : ℕ) (half : t < 2 ^ 32) (d : ℕ) (whole : d < 2 ^ 64) where
   open 𝓛 use {H}
 
   abbrev Args : Type 0
@@ -108,26 +114,33 @@ module _ {M : Type 1} {𝓤 : Ura M} (𝓛 : Logic 𝓤) (at_mem : Memory → SP
     exits : (new : Server) (r : ℕ) (v : Val) → OpensAs m t d new r
         → ent 𝓤 (sep 𝓤 (sem 𝓛 (part_at S full_share new b o)) (sep 𝓤 (sem 𝓛 (u32.own_val r (v ∷ []))) (Entry at))) (Post at v)
     exits new r v e =
-        qed 𝓛 (‵ (part_at S full_share new b o) ∷ ‵ (u32.own_val r (v ∷ [])) ∷ (‵ ftrue ⊛ ‵ (owns (HP.the_row ∷ u8 ∷ u32 ∷ u64 ∷ RawPtr ∷ []) (args at) (passed at))) ∷ []) ∵
-        suffices ! _ (ends_at 𝓛 f.ended stayed (f.clauses 𝓛 at_mem run) (bound at) v r (tt, (tt, (tt, (tt, (tt, tt))))) (tt, (tt, (tt, (tt, (tt, tt)))))) $
+        qed 𝓛 (‵ (part_at S full_share new b o) ∷ ‵ (u32.own_val r (v ∷ []))
+        ∷ (‵ ftrue ⊛ ‵ (owns (HP.the_row ∷ u8 ∷ u32 ∷ u64 ∷ RawPtr ∷ []) (args at) (passed at))) ∷ []) ∵
+        suffices ! _ (ends_at 𝓛 f.ended stayed (f.clauses 𝓛 at_mem run) (bound at) v r (tt, (tt, (tt, (tt, (tt, tt)))))
+        (tt, (tt, (tt, (tt, (tt, tt)))))) $
         move ! (2 ∷ []) $ split ! $ move ! (1 ∷ 3 ∷ []) $ join ! $ move ! (1 ∷ 0 ∷ []) $ join ! $ frame ! $
         show ! (Told r) new $ says ! e $ done !
 
     walk : ent 𝓤 (sep 𝓤 (Entry at) (sem 𝓛 (froom (lone S.mir) b o))) (Runs at)
     walk =
-        qed 𝓛 (raw (Entry at) ∷ ‵ (froom (lone S.mir) b o) ∷ []) ∵ enter ! C Λ code.function (heap_val ∷ vint w8 m ∷ vint w32 t ∷ vint w64 d ∷ vptr b o ∷ []) _ $
-        alloc_all ! (λ l. pass_all ! refl ((tt, ((tt, tt), tt)), ((tt, record { fits = byte }), ((tt, record { fits = half }), ((tt, record { fits = whole }), ((tt, tt), tt))))) $
+        qed 𝓛 (raw (Entry at) ∷ ‵ (froom (lone S.mir) b o) ∷ []) ∵ enter ! C Λ code.function
+        (heap_val ∷ vint w8 m ∷ vint w32 t ∷ vint w64 d ∷ vptr b o ∷ []) _ $
+        alloc_all ! (λ l. pass_all ! refl
+        ((tt, ((tt, tt), tt)), ((tt, record { fits = byte }), ((tt, record { fits = half }), ((tt, record { fits = whole }), ((tt, tt), tt))))) $
         -- at as *mut Server
         sets ! (of_opd ! (get ! refl)) refl (tt, tt) $
         -- make(alloc, servers, tick_ms, started_ms)
-        let y : (Of 𝓛 at_mem run).Ghost = ((tt, tt, tt, (handle, (m, (t, (d, tt)))), (heap_val ∷ [], (vint w8 m ∷ [], (vint w32 t ∷ [], (vint w64 d ∷ [], tt))))), tt) in
+        let y : (Of 𝓛 at_mem run).Ghost =
+        ((tt, tt, tt, (handle, (m, (t, (d, tt)))), (heap_val ∷ [], (vint w8 m ∷ [], (vint w32 t ∷ [], (vint w64 d ∷ [], tt))))), tt) in
         nothing ! $ owned ! u64 (Is u64) (uint_Makes 𝓛 w64) d _ (refl, whole) $ fjoin ! $
         owned ! u32 (Is u32) (uint_Makes 𝓛 w32) t _ (refl, half) $ fjoin ! $ owned ! u8 (Is u8) (uint_Makes 𝓛 w8) m _ (refl, byte) $ fjoin ! $
         owned ! HP.the_row (Is HP.the_row) (LL.makes HP.the_type HP'.the_plain 𝓛) handle _ heap_is $ fjoin ! $
         nothing ! $ join ! $ nothing ! $ move ! (1 ∷ 0 ∷ []) $ join ! $ use1 𝓛 (raw ((Of 𝓛 at_mem run).pre y)) (id⊢ 𝓤 ((Of 𝓛 at_mem run).pre y)) $
-        calls_at ! fm (Of 𝓛 at_mem run) known y (and_then ! (get ! refl) (and_then ! (get ! refl) (and_then ! (get ! refl) (and_then ! (get ! refl) (no_more !))))) (λ v.
+        calls_at ! fm (Of 𝓛 at_mem run) known y
+        (and_then ! (get ! refl) (and_then ! (get ! refl) (and_then ! (get ! refl) (and_then ! (get ! refl) (no_more !))))) (λ v.
         use1 𝓛 (later (some (λ (r : Server). (‵ ftrue ⊛ ‵ (S.own_val r (v ∷ [])))
-        ⊛ some (λ (ws : Lasts of.ended tt (handle, (m, (t, (d, tt))))). ‵ (lasts of.ended tt (handle, (m, (t, (d, tt)))) ws) ⊛ raw (fact 𝓤 (IsOpened m t d r)))))) (id⊢ 𝓤 _) $ await ! tt $ pick ! (λ r.
+        ⊛ some (λ (ws : Lasts of.ended tt (handle, (m, (t, (d, tt))))). ‵ (lasts of.ended tt (handle, (m, (t, (d, tt)))) ws)
+        ⊛ raw (fact 𝓤 (IsOpened m t d r)))))) (id⊢ 𝓤 _) $ await ! tt $ pick ! (λ r.
         split ! $ move ! (1 ∷ []) $ pick ! (λ ws. split ! $ move ! (1 ∷ []) $ heard ! (IsOpened m t d r) (λ e. drop ! $ split ! $ drop ! $
         tells ! S S'.the_row_laws r (v ∷ []) (λ w is good. lands_as ! (ap only is) refl good $
         -- at.write(..)
@@ -136,7 +149,8 @@ module _ {M : Type 1} {𝓤 : Ura M} (𝓛 : Logic 𝓤) (at_mem : Memory → SP
         -- &mut *at
         sets ! (addr ! (through ! refl (stop !))) refl (tt, tt) $
         lft_new ! tt (λ β. let μ : Lft = β ∷ [] in move ! (1 ∷ []) $
-        use1 𝓛 (later (some (λ (γ : GName). ‵ ((MutRef (named 0) μ S).own_val (record { ref_ptr = (b, o); ghost_name = γ; now = r }) (vptr b o ∷ [])) ⊛ ‵ (flent μ (Body (mem S) b o γ)))))
+        use1 𝓛 (later (some (λ (γ : GName). ‵ ((MutRef (named 0) μ S).own_val (record { ref_ptr = (b, o); ghost_name = γ; now = r })
+        (vptr b o ∷ [])) ⊛ ‵ (flent μ (Body (mem S) b o γ)))))
         (lends_ref 𝓛 S (named 0) μ r b o) $ await ! tt $ pick ! (λ γ. split ! $
         -- [the reference; the right to the server; its token; what the parameters own; the locals]
         let x : MutBor Server = record { ref_ptr = (b, o); ghost_name = γ; now = r } in
@@ -147,7 +161,8 @@ module _ {M : Type 1} {𝓤 : Ura M} (𝓛 : Logic 𝓤) (at_mem : Memory → SP
         -- status(..)
         calls_at ! fm (Said 𝓛 at_mem run) known' y' (and_then ! (get ! refl) (no_more !)) (λ u.
         use1 𝓛 (later (some (λ (c : ℕ). ((‵ (flft μ full_share) ⊛ ‵ ftrue) ⊛ ‵ (u32.own_val c (u ∷ [])))
-        ⊛ some (λ (ws : Lasts said.ended (μ, tt) (x, tt)). ‵ (lasts said.ended (μ, tt) (x, tt) ws) ⊛ raw (fact 𝓤 (IsStatusOf r ws.0 c)))))) (id⊢ 𝓤 _) $ await ! tt $ pick ! (λ c.
+        ⊛ some (λ (ws : Lasts said.ended (μ, tt) (x, tt)). ‵ (lasts said.ended (μ, tt) (x, tt) ws) ⊛ raw (fact 𝓤 (IsStatusOf r ws.0 c))))))
+        (id⊢ 𝓤 _) $ await ! tt $ pick ! (λ c.
         split ! $ move ! (1 ∷ []) $ pick ! (λ ws. split ! $ move ! (1 ∷ []) $ heard ! (IsStatusOf r ws.0 c) (λ kept.
         -- [the last value; the token and the result; the right to the server; what the parameters own; the locals]
         fsplit ! $ fsplit ! $ move ! (3 ∷ []) $ split ! $ split ! $
@@ -167,10 +182,22 @@ meets : {M : Type 1} {𝓤 : Ura M} (𝓛 : Logic 𝓤) (at_mem : Memory → SPr
     → Triple 𝓤 (𝓣.C #make) (Of 𝓛 at_mem run) → Triple 𝓤 (𝓣.C #status) (Said 𝓛 at_mem run)
     → Meets 𝓛 f.signature (WpFn 𝓤 𝓛.H 𝓣.C 𝓣.Λ code.function) (f.spec 𝓛 at_mem run)
 meets {𝓤 = 𝓤} 𝓛 at_mem run 𝓣 known known' =
-    walk_Meets 𝓛 f.ended stayed (Goes-none 𝓛 0 (λ _. HP.the_row) yes (λ κs a g. refl), (Goes-none 𝓛 0 (λ _. u8) yes (λ κs a g. refl), (Goes-none 𝓛 0 (λ _. u32) yes (λ κs a g. refl), (Goes-none 𝓛 0 (λ _. u64) yes (λ κs a g. refl), (Goes-none 𝓛 0 (λ _. RawPtr) yes (λ κs a g. refl), tt)))))
+    walk_Meets 𝓛 f.ended stayed (
+      Goes-none 𝓛 0 (λ _. HP.the_row) yes (λ κs a g. refl),
+      (
+        Goes-none 𝓛 0 (λ _. u8) yes (λ κs a g. refl),
+        (
+          Goes-none 𝓛 0 (λ _. u32) yes (λ κs a g. refl),
+          (Goes-none 𝓛 0 (λ _. u64) yes (λ κs a g. refl), (Goes-none 𝓛 0 (λ _. RawPtr) yes (λ κs a g. refl), tt)),
+        ),
+      ),
+    )
     (f.clauses 𝓛 at_mem run) (WpFn 𝓤 𝓛.H 𝓣.C 𝓣.Λ code.function) (WpFn-mono 𝓤 𝓛.H 𝓛.laws 𝓣 code.function)
-    (walked 𝓛 f.ended stayed (f.clauses 𝓛 at_mem run) (WpFn 𝓤 𝓛.H 𝓣.C 𝓣.Λ code.function) (λ κs. ((λ _. heap_val ∷ []), (uint_vals w8, (uint_vals w32, (uint_vals w64, (rawptr_vals, tt)))))) (λ κs. (heap_Tells, (uint_Tells w8, (uint_Tells w32, (uint_Tells w64, (rawptr_Tells, tt))))))
-    (λ κs qs bounds a g are. at_each 𝓛 at_mem run 𝓣.C 𝓣.Λ (fm_of 𝓤 𝓛.H 𝓛.laws 𝓣) known known' a.0 a.1.0 are.1.0.1 a.1.1.0 are.1.1.0.1 a.1.1.1.0 are.1.1.1.0.1 a.1.1.1.1.0))
+    (walked 𝓛 f.ended stayed (f.clauses 𝓛 at_mem run) (WpFn 𝓤 𝓛.H 𝓣.C 𝓣.Λ code.function)
+    (λ κs. ((λ _. heap_val ∷ []), (uint_vals w8, (uint_vals w32, (uint_vals w64, (rawptr_vals, tt))))))
+    (λ κs. (heap_Tells, (uint_Tells w8, (uint_Tells w32, (uint_Tells w64, (rawptr_Tells, tt))))))
+    (λ κs qs bounds a g are. at_each 𝓛 at_mem run 𝓣.C 𝓣.Λ (fm_of 𝓤 𝓛.H 𝓛.laws 𝓣) known known' a.0 a.1.0 are.1.0.1 a.1.1.0
+    are.1.1.0.1 a.1.1.1.0 are.1.1.1.0.1 a.1.1.1.1.0))
 
 pub jellqupas_front_open_spec : {M : Type 1} → stated.statement M
 unfolding tables_of

@@ -13,7 +13,8 @@ use types.Logic.{Logic, sem}
 use types.SemTy.{Body}
 use contract.Monad.{Fun, fact}
 use contract.Running.{tables, tables_of}
-use types.Kit.{‵, raw, ◌⊛◌, some, later, ◌$◌, ◌∵◌, !, qed, by, move, keep, use1, use3, split, join, pick, fsplit, fjoin, suffices, show, frame, await, done}
+use types.Kit.{‵, raw, ◌⊛◌, some, later, ◌$◌, ◌∵◌, !, qed, by, move, keep, use1, use3, split, join, pick, fsplit, fjoin}
+use types.Kit.{suffices, show, frame, await, done}
 use types.Tokens.{lft_new, lft_end, lent_back}
 use types.Run.{and_then, no_more, returns, enter, addr, stop, of_opd}
 use types.ByLocal.{alloc_all, pass_all, free_all, look_at, get, through, sets, lands_as}
@@ -63,7 +64,8 @@ module _ {M : Type 1} {𝓤 : Ura M} (𝓛 : Logic 𝓤) (at_mem : Memory → SP
   abbrev Of : Contract 𝓤
   Of = triple_of 𝓛 of.signature (of.spec 𝓛 at_mem run)
 
-module _ {M : Type 1} {𝓤 : Ura M} (𝓛 : Logic 𝓤) (at_mem : Memory → SProp 𝓤) (run : Routine → Fun 𝓤) (C : Calls 𝓤 𝓛.H) (Λ : Loops 𝓤 𝓛.H) (fm : FmC 𝓤 𝓛.H 𝓛.laws C)
+module _ {M : Type 1} {𝓤 : Ura M} (𝓛 : Logic 𝓤) (at_mem : Memory → SProp 𝓤) (run : Routine
+    → Fun 𝓤) (C : Calls 𝓤 𝓛.H) (Λ : Loops 𝓤 𝓛.H) (fm : FmC 𝓤 𝓛.H 𝓛.laws C)
     (known : Triple 𝓤 (C #opened) (Of 𝓛 at_mem run)) (h : Server) (q : Share) (xs : List ℕ) (m : ℕ) (number : m < 2 ^ 32) where
   open 𝓛 use {H}
 
@@ -96,16 +98,19 @@ module _ {M : Type 1} {𝓤 : Ura M} (𝓛 : Logic 𝓤) (at_mem : Memory → SP
     Told new r = sep 𝓤 (sem 𝓛 (part_at S full_share new b o)) (sep 𝓤 (sem 𝓛 (part_at P q xs c i)) (fact 𝓤 (TakesAs (Opens m xs) h new r)))
 
     exits : (new : Server) (r : ℕ) (v : Val) → TakesAs (Opens m xs) h new r
-        → ent 𝓤 (sep 𝓤 (sem 𝓛 (part_at P q xs c i)) (sep 𝓤 (sem 𝓛 (part_at S full_share new b o)) (sep 𝓤 (sem 𝓛 (u32.own_val r (v ∷ []))) (Entry at from)))) (Post at from v)
+        → ent 𝓤 (sep 𝓤 (sem 𝓛 (part_at P q xs c i)) (sep 𝓤 (sem 𝓛 (part_at S full_share new b o))
+        (sep 𝓤 (sem 𝓛 (u32.own_val r (v ∷ []))) (Entry at from)))) (Post at from v)
     exits new r v e =
-        qed 𝓛 (‵ (part_at P q xs c i) ∷ ‵ (part_at S full_share new b o) ∷ ‵ (u32.own_val r (v ∷ [])) ∷ (‵ ftrue ⊛ ‵ (owns (RawPtr ∷ u32 ∷ RawPtr ∷ []) (args at from) (passed at from))) ∷ []) ∵
+        qed 𝓛 (‵ (part_at P q xs c i) ∷ ‵ (part_at S full_share new b o) ∷ ‵ (u32.own_val r (v ∷ []))
+        ∷ (‵ ftrue ⊛ ‵ (owns (RawPtr ∷ u32 ∷ RawPtr ∷ []) (args at from) (passed at from))) ∷ []) ∵
         suffices ! _ (ends_at 𝓛 f.ended stayed (f.clauses 𝓛 at_mem run) (bound at from) v r (tt, (tt, (tt, tt))) (tt, (tt, (tt, tt)))) $
         move ! (3 ∷ []) $ split ! $ move ! (1 ∷ 4 ∷ []) $ join ! $ move ! (1 ∷ 0 ∷ []) $ join ! $ frame ! $
         show ! (λ (w : Server). Told w r) new $ move ! (1 ∷ []) $ frame ! $ says ! e $ done !
 
     walk : ent 𝓤 (sep 𝓤 (sem 𝓛 (part_at P q xs c i)) (sep 𝓤 (sem 𝓛 (part_at S full_share h b o)) (Entry at from))) (Runs at from)
     walk =
-        qed 𝓛 (‵ (part_at P q xs c i) ∷ ‵ (part_at S full_share h b o) ∷ raw (Entry at from) ∷ []) ∵ enter ! C Λ code.function (vptr b o ∷ vint w32 m ∷ vptr c i ∷ []) _ $
+        qed 𝓛 (‵ (part_at P q xs c i) ∷ ‵ (part_at S full_share h b o) ∷ raw (Entry at from) ∷ []) ∵ enter ! C Λ
+        code.function (vptr b o ∷ vint w32 m ∷ vptr c i ∷ []) _ $
         alloc_all ! (λ l. pass_all ! refl ((tt, tt), ((tt, record { fits = number }), ((tt, tt), tt))) $
         -- &mut *at, &*password
         sets ! (of_opd ! (get ! refl)) refl (tt, tt) $ sets ! (addr ! (through ! refl (stop !))) refl (tt, tt) $
@@ -115,19 +120,31 @@ module _ {M : Type 1} {𝓤 : Ura M} (𝓛 : Logic 𝓤) (at_mem : Memory → SP
         (lends_free 𝓛 P (named 1) κ q xs c i ((Array-Copied 𝓛 u8 (uint_Copied 𝓛 w8) tt 16).lends q xs c i)) $ await ! tt $ split ! $
         -- [the password; the right to it; its token; the server; what the parameters own; the locals]
         move ! (3 ∷ []) $ lft_new ! tt (λ β. let μ : Lft = β ∷ [] in move ! (1 ∷ []) $
-        use1 𝓛 (later (some (λ (γ : GName). ‵ ((MutRef (named 0) μ S).own_val (record { ref_ptr = (b, o); ghost_name = γ; now = h }) (vptr b o ∷ [])) ⊛ ‵ (flent μ (Body (mem S) b o γ)))))
+        use1 𝓛 (later (some (λ (γ : GName). ‵ ((MutRef (named 0) μ S).own_val (record { ref_ptr = (b, o); ghost_name = γ; now = h })
+        (vptr b o ∷ [])) ⊛ ‵ (flent μ (Body (mem S) b o γ)))))
         (lends_ref 𝓛 S (named 0) μ h b o) $ await ! tt $ pick ! (λ γ. split ! $
         -- [the reference; the right to the server; its token; the password; the right to it; its token; what the parameters own; the locals]
         let s : Bor (List ℕ) = record { ref_ptr = (c, i); now = xs } in
         let x : MutBor Server = record { ref_ptr = (b, o); ghost_name = γ; now = h } in
-        let y : (Of 𝓛 at_mem run).Ghost = (((μ, (κ, tt)), (full_share, (full_share, tt)), tt, (x, (m, (s, tt))), (vptr b o ∷ [], (vint w32 m ∷ [], (vptr c i ∷ [], tt)))), tt) in
-        nothing ! $ move ! (4 ∷ 0 ∷ []) $ fjoin ! $ owned ! u32 (Is u32) (uint_Makes 𝓛 w32) m _ (refl, number) $ fjoin ! $ move ! (1 ∷ 0 ∷ []) $ fjoin ! $
+        let y : (Of 𝓛 at_mem run).Ghost = (
+          (
+            (μ, (κ, tt)),
+            (full_share, (full_share, tt)),
+            tt,
+            (x, (m, (s, tt))),
+            (vptr b o ∷ [], (vint w32 m ∷ [], (vptr c i ∷ [], tt))),
+          ),
+          tt,
+        ) in
+        nothing ! $ move ! (4 ∷ 0 ∷ []) $ fjoin ! $ owned ! u32 (Is u32) (uint_Makes 𝓛 w32) m _ (refl, number) $ fjoin
+        ! $ move ! (1 ∷ 0 ∷ []) $ fjoin ! $
         nothing ! $ move ! (5 ∷ 0 ∷ []) $ join ! $ move ! (3 ∷ 0 ∷ []) $ join ! $ join ! $ nothing ! $ move ! (1 ∷ 0 ∷ []) $ join ! $
         use1 𝓛 (raw ((Of 𝓛 at_mem run).pre y)) (id⊢ 𝓤 ((Of 𝓛 at_mem run).pre y)) $
         -- opened(.., connection, ..)
         calls_at ! fm (Of 𝓛 at_mem run) known y (and_then ! (get ! refl) (and_then ! (get ! refl) (and_then ! (get ! refl) (no_more !)))) (λ v.
         use1 𝓛 (later (some (λ (r : ℕ). ((‵ (flft μ full_share) ⊛ (‵ (flft κ full_share) ⊛ ‵ ftrue)) ⊛ ‵ (u32.own_val r (v ∷ [])))
-        ⊛ some (λ (ws : Lasts of.ended (μ, (κ, tt)) (x, (m, (s, tt)))). ‵ (lasts of.ended (μ, (κ, tt)) (x, (m, (s, tt))) ws) ⊛ raw (fact 𝓤 (TakesAs (Opens m xs) h ws.0 r)))))) (id⊢ 𝓤 _) $ await ! tt $ pick ! (λ r.
+        ⊛ some (λ (ws : Lasts of.ended (μ, (κ, tt)) (x, (m, (s, tt)))). ‵ (lasts of.ended (μ, (κ, tt)) (x, (m, (s, tt))) ws)
+        ⊛ raw (fact 𝓤 (TakesAs (Opens m xs) h ws.0 r)))))) (id⊢ 𝓤 _) $ await ! tt $ pick ! (λ r.
         split ! $ move ! (1 ∷ []) $ pick ! (λ ws. split ! $ move ! (1 ∷ []) $ heard ! (TakesAs (Opens m xs) h ws.0 r) (λ e.
         -- [the last value; the tokens and the result; the right to the server; the right to the password; what the parameters own; the locals]
         fsplit ! $ fsplit ! $ move ! (3 ∷ []) $ split ! $ split ! $
@@ -143,16 +160,22 @@ module _ {M : Type 1} {𝓤 : Ura M} (𝓛 : Logic 𝓤) (at_mem : Memory → SP
   -- by the pointers' form: nothing lies at null
   at_each : (p p' : Ptr) → ent 𝓤 (sep 𝓤 (Entry p p') (sep 𝓤 (sem 𝓛 (lies_at S full_share p h)) (sem 𝓛 (lies_at P q p' xs)))) (Runs p p')
   at_each (block_ptr b o) (block_ptr c i) =
-      qed 𝓛 (raw (Entry (block_ptr b o) (block_ptr c i)) ∷ ‵ (part_at S full_share h b o) ∷ ‵ (part_at P q xs c i) ∷ []) ∵ move ! (2 ∷ 1 ∷ 0 ∷ []) $ by ! (walk b o c i)
-  at_each (block_ptr b o) null_ptr = via 𝓤 _ (snd∗ 𝓤 (Entry (block_ptr b o) null_ptr) _) (via 𝓤 (never 𝓤) (snd∗ 𝓤 (sem 𝓛 (part_at S full_share h b o)) (never 𝓤)) (never_e 𝓤 _))
+      qed 𝓛 (raw (Entry (block_ptr b o) (block_ptr c i)) ∷ ‵ (part_at S full_share h b o) ∷ ‵ (part_at P q xs c i) ∷ [])
+      ∵ move ! (2 ∷ 1 ∷ 0 ∷ []) $ by ! (walk b o c i)
+  at_each (block_ptr b o) null_ptr = via 𝓤 _ (snd∗ 𝓤 (Entry (block_ptr b o) null_ptr) _)
+      (via 𝓤 (never 𝓤) (snd∗ 𝓤 (sem 𝓛 (part_at S full_share h b o)) (never 𝓤)) (never_e 𝓤 _))
   at_each null_ptr p' = via 𝓤 _ (snd∗ 𝓤 (Entry null_ptr p') _) (via 𝓤 (never 𝓤) (fst∗ 𝓤 (never 𝓤) (sem 𝓛 (lies_at P q p' xs))) (never_e 𝓤 _))
 
 meets : {M : Type 1} {𝓤 : Ura M} (𝓛 : Logic 𝓤) (at_mem : Memory → SProp 𝓤) (run : Routine → Fun 𝓤) (𝓣 : Tables 𝓤 𝓛.H)
     → Triple 𝓤 (𝓣.C #opened) (Of 𝓛 at_mem run) → Meets 𝓛 f.signature (WpFn 𝓤 𝓛.H 𝓣.C 𝓣.Λ code.function) (f.spec 𝓛 at_mem run)
 meets {𝓤 = 𝓤} 𝓛 at_mem run 𝓣 known =
-    walk_Meets 𝓛 f.ended stayed (Goes-none 𝓛 0 (λ _. RawPtr) yes (λ κs a g. refl), (Goes-none 𝓛 0 (λ _. u32) yes (λ κs a g. refl), (Goes-none 𝓛 0 (λ _. RawPtr) yes (λ κs a g. refl), tt)))
+    walk_Meets 𝓛 f.ended stayed (
+      Goes-none 𝓛 0 (λ _. RawPtr) yes (λ κs a g. refl),
+      (Goes-none 𝓛 0 (λ _. u32) yes (λ κs a g. refl), (Goes-none 𝓛 0 (λ _. RawPtr) yes (λ κs a g. refl), tt)),
+    )
     (f.clauses 𝓛 at_mem run) (WpFn 𝓤 𝓛.H 𝓣.C 𝓣.Λ code.function) (WpFn-mono 𝓤 𝓛.H 𝓛.laws 𝓣 code.function)
-    (walked 𝓛 f.ended stayed (f.clauses 𝓛 at_mem run) (WpFn 𝓤 𝓛.H 𝓣.C 𝓣.Λ code.function) (λ κs. (rawptr_vals, (uint_vals w32, (rawptr_vals, tt)))) (λ κs. (rawptr_Tells, (uint_Tells w32, (rawptr_Tells, tt))))
+    (walked 𝓛 f.ended stayed (f.clauses 𝓛 at_mem run) (WpFn 𝓤 𝓛.H 𝓣.C 𝓣.Λ code.function)
+    (λ κs. (rawptr_vals, (uint_vals w32, (rawptr_vals, tt)))) (λ κs. (rawptr_Tells, (uint_Tells w32, (rawptr_Tells, tt))))
     (λ κs qs bounds a g are. at_each 𝓛 at_mem run 𝓣.C 𝓣.Λ (fm_of 𝓤 𝓛.H 𝓛.laws 𝓣) known g.0 g.1.0 g.1.1 a.1.0 are.1.0.1 a.0 a.1.1.0))
 
 pub jellqupas_front_opened_spec : {M : Type 1} → stated.statement M

@@ -13,7 +13,8 @@ use types.Logic.{Logic, sem}
 use types.SemTy.{Body}
 use contract.Monad.{Fun, fact}
 use contract.Running.{tables, tables_of}
-use types.Kit.{‵, raw, ◌⊛◌, some, later, ◌$◌, ◌∵◌, !, qed, by, move, keep, use1, use3, split, join, pick, fsplit, fjoin, suffices, show, frame, await, done}
+use types.Kit.{‵, raw, ◌⊛◌, some, later, ◌$◌, ◌∵◌, !, qed, by, move, keep, use1, use3, split, join, pick, fsplit, fjoin}
+use types.Kit.{suffices, show, frame, await, done}
 use types.Tokens.{lft_new, lft_end}
 use types.Run.{and_then, no_more, returns, enter, addr, stop, of_opd}
 use types.ByLocal.{alloc_all, pass_all, free_all, look_at, get, through, sets, lands_as}
@@ -56,7 +57,8 @@ module _ {M : Type 1} {𝓤 : Ura M} (𝓛 : Logic 𝓤) (at_mem : Memory → SP
   abbrev Of : Contract 𝓤
   Of = triple_of 𝓛 of.signature (of.spec 𝓛 at_mem run)
 
-module _ {M : Type 1} {𝓤 : Ura M} (𝓛 : Logic 𝓤) (at_mem : Memory → SProp 𝓤) (run : Routine → Fun 𝓤) (C : Calls 𝓤 𝓛.H) (Λ : Loops 𝓤 𝓛.H) (fm : FmC 𝓤 𝓛.H 𝓛.laws C)
+module _ {M : Type 1} {𝓤 : Ura M} (𝓛 : Logic 𝓤) (at_mem : Memory → SProp 𝓤) (run : Routine
+    → Fun 𝓤) (C : Calls 𝓤 𝓛.H) (Λ : Loops 𝓤 𝓛.H) (fm : FmC 𝓤 𝓛.H 𝓛.laws C)
     (known : Triple 𝓤 (C #piece) (Of 𝓛 at_mem run)) (h : Server) where
   open 𝓛 use {H}
 
@@ -100,7 +102,8 @@ module _ {M : Type 1} {𝓤 : Ura M} (𝓛 : Logic 𝓤) (at_mem : Memory → SP
         -- &mut *at
         sets ! (of_opd ! (get ! refl)) refl (tt, tt) $ sets ! (addr ! (through ! refl (stop !))) refl (tt, tt) $
         lft_new ! tt (λ β. let μ : Lft = β ∷ [] in move ! (2 ∷ []) $
-        use1 𝓛 (later (some (λ (γ : GName). ‵ ((MutRef (named 0) μ S).own_val (record { ref_ptr = (b, o); ghost_name = γ; now = h }) (vptr b o ∷ [])) ⊛ ‵ (flent μ (Body (mem S) b o γ)))))
+        use1 𝓛 (later (some (λ (γ : GName). ‵ ((MutRef (named 0) μ S).own_val (record { ref_ptr = (b, o); ghost_name = γ; now = h })
+        (vptr b o ∷ [])) ⊛ ‵ (flent μ (Body (mem S) b o γ)))))
         (lends_ref 𝓛 S (named 0) μ h b o) $ await ! tt $ pick ! (λ γ. split ! $
         -- [the reference; the right to the server; its token; what the parameters own; the locals]
         let x : MutBor Server = record { ref_ptr = (b, o); ghost_name = γ; now = h } in
@@ -111,7 +114,8 @@ module _ {M : Type 1} {𝓤 : Ura M} (𝓛 : Logic 𝓤) (at_mem : Memory → SP
         -- piece(..)
         calls_at ! fm (Of 𝓛 at_mem run) known y (and_then ! (get ! refl) (no_more !)) (λ v.
         use1 𝓛 (later (some (λ (r : ℕ). ((‵ (flft μ full_share) ⊛ ‵ ftrue) ⊛ ‵ (u32.own_val r (v ∷ [])))
-        ⊛ some (λ (ws : Lasts of.ended (μ, tt) (x, tt)). ‵ (lasts of.ended (μ, tt) (x, tt) ws) ⊛ raw (fact 𝓤 (Shows piece_code h ws.0 r)))))) (id⊢ 𝓤 _) $ await ! tt $ pick ! (λ r.
+        ⊛ some (λ (ws : Lasts of.ended (μ, tt) (x, tt)). ‵ (lasts of.ended (μ, tt) (x, tt) ws) ⊛ raw (fact 𝓤 (Shows piece_code h ws.0 r))))))
+        (id⊢ 𝓤 _) $ await ! tt $ pick ! (λ r.
         split ! $ move ! (1 ∷ []) $ pick ! (λ ws. split ! $ move ! (1 ∷ []) $ heard ! (Shows piece_code h ws.0 r) (λ e.
         -- [the last value; the token and the result; the right to the server; what the parameters own; the locals]
         fsplit ! $ fsplit ! $ move ! (3 ∷ []) $ split ! $ split ! $

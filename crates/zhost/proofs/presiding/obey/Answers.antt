@@ -14,12 +14,12 @@ use Rattle.zhost.proofs.presiding.obey.Goals as goal
 
 pub returns-in-Some-clause-followed : goal.returns-in-Some-clause-followed
 returns-in-Some-clause-followed c received followed =
-    let a = c.args.chief.now.desk in
-    let b = c.follow.new.self.desk in
+    let a = c.args.chief.now.host.desk in
+    let b = c.follow.new.self.host.desk in
     let order = c.in-Deed.order in
     let is : option_to_list (unfollowed c.args.owed) ≡ acts.order_of (Ordered order) ++ [] =
     ap (λ o. option_to_list (unfollowed o)) c.in-Deed.is in
-    followed_more a b (Ordered order) received (unfollowed c.args.owed) None c.in-Some.ensures.done is followed
+    followed_more a b (Ordered order) [] received (unfollowed c.args.owed) None c.in-Some.ensures.done is followed
 
 pub returns-in-Some-clause-unsaid : goal.returns-in-Some-clause-unsaid
 returns-in-Some-clause-unsaid c =
@@ -31,8 +31,8 @@ returns-in-Some-clause-unsaid c =
 pub returns-in-Some-clause-said : goal.returns-in-Some-clause-said
 returns-in-Some-clause-said c before followed were =
     let t = c.args.chief.now in
-    let a = t.desk in
-    let b = c.follow.new.self.desk in
+    let a = t.host.desk in
+    let b = c.follow.new.self.host.desk in
     let view = master_view t in
     let order = c.in-Deed.order in
     let outcome = c.in-Some.outcome in
@@ -42,12 +42,12 @@ returns-in-Some-clause-said c before followed were =
     let waits : unsaid c.args.owed ≡ order ∷ [] = ap (λ o. unsaid o) c.in-Deed.is in
     let asked : option_to_list (unfollowed c.args.owed) ≡ order ∷ [] = ap (λ o. option_to_list (unfollowed o)) c.in-Deed.is in
     let were_said : WereSaid a [] before = subst (λ os. WereSaid a [] os) (ap (λ o. spoken before o) c.in-Deed.is) were in
-    one_more_said b [] before outcome (all_still_said a b [] before c.follow.ensures.same (goes_more a b (Ordered order) did) were_said)
+    one_more_said b [] before outcome (all_still_said a b [] before c.follow.ensures.same (goes_more a b (Ordered order) [] did) were_said)
     (record {
       at = a;
       view = view;
       same = c.follow.ensures.same;
-      stood = t.at;
+      stood = c.in-Some.ensures.stood;
       table = said ∙ ap (λ o. outcome_at view o) (sym is);
       had = λ cut.
           let e = did cut in
@@ -61,7 +61,7 @@ returns-in-Some-clause-said c before followed were =
 
 pub returns-in-None-clause-said : goal.returns-in-None-clause-said
 returns-in-None-clause-said c before followed were =
-    let a = c.args.chief.now.desk in
-    let b = c.follow.new.self.desk in
+    let a = c.args.chief.now.host.desk in
+    let b = c.follow.new.self.host.desk in
     all_still_said a b [] before c.follow.ensures.same (goes_same a b c.in-None.ensures.idle)
     (subst (λ os. WereSaid a [] os) (ap (λ o. spoken before o) c.in-Deed.is) were)

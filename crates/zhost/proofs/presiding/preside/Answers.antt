@@ -14,10 +14,10 @@ use Rattle.zhost.proofs.presiding.preside.Goals as goal
 pub loop-preserved : goal.loop-preserved
 loop-preserved g c =
     let i = c.loop.invariant in
-    let start = c.args.chief.desk in
-    let a = c.loop.chief.desk in
-    let m = c.go_round.new.chief.desk in
-    let b = c.obey-owed.new.chief.desk in
+    let start = c.args.chief.host.desk in
+    let a = c.loop.chief.host.desk in
+    let m = c.go_round.new.host.desk in
+    let b = c.obey-owed.new.chief.host.desk in
     let old = c.loop.inbox in
     let flushed = c.flush.new.self in
     let taken = c.next_order-owed.new.inbox in
@@ -27,40 +27,44 @@ loop-preserved g c =
     let obeyed = c.obey-owed in
     let say = c.say-owed in
     let first = c.args.inbox in (
-      same_desk start m b (same_desk start a m i.0 round.desk) obeyed.ensures.same,
-      round.own,
-      same_inbox first taken told (same_inbox first flushed taken (same_inbox first old flushed i.2 c.flush.ensures.ends) next.ensures.ends) say.ensures.ends,
+      same_desk start m b (same_desk start a m i.0 round.went.same) obeyed.ensures.same,
+      round.seat,
+      same_inbox first taken told (same_inbox first flushed taken (same_inbox first old flushed i.2 c.flush.ensures.ends) next.ensures.ends)
+          say.ensures.ends,
       λ before cut.
           say.ensures.taken
           ∙ subst (λ o. HasFollowed b (taken_of taken) o) (sym say.ensures.followed)
           (obeyed.ensures.followed (taken_of taken)
-          (λ whole. next.ensures.taken (orders_in (trace_of m)) (c.flush.ensures.taken ∙ round.orders (taken_of old) (unfollowed c.loop.owed) (i.3 before) whole)))
+          (λ whole. next.ensures.taken (orders_in (trace_of m)) (c.flush.ensures.taken
+          ∙ round.went.orders (taken_of old) (unfollowed c.loop.owed) (i.3 before) whole)))
           cut,
       λ before.
           say.ensures.said
           (subst (λ orders. AreSaid taken orders) (sym obeyed.ensures.unsaid)
           (next.ensures.said (said_same old flushed (unsaid c.loop.owed) c.flush.ensures.taken c.flush.ensures.said (i.4 before)))),
       λ followed are were.
-          let on = all_still_said a m [] (spoken (said old) c.loop.owed) round.desk round.goes (i.5 followed are were) in
+          let on = all_still_said a m [] (spoken (said old) c.loop.owed) round.went.same round.went.goes (i.5 followed are were) in
           let words = next.ensures.words ∙ ap (λ os. spoken os c.loop.owed) c.flush.ensures.said in
           let now_are = next.ensures.said (said_same old flushed (unsaid c.loop.owed) c.flush.ensures.taken c.flush.ensures.said (i.4 are)) in
           subst (λ os. WereSaid b [] os) (sym say.ensures.words)
           (obeyed.ensures.said (said taken)
-          (λ whole. sym now_are ∙ next.ensures.taken (orders_in (trace_of m)) (c.flush.ensures.taken ∙ round.orders (taken_of old) (unfollowed c.loop.owed) (i.3 followed) whole))
+          (λ whole. sym now_are ∙ next.ensures.taken (orders_in (trace_of m)) (c.flush.ensures.taken
+          ∙ round.went.orders (taken_of old) (unfollowed c.loop.owed) (i.3 followed) whole))
           (subst (λ os. WereSaid m [] os) (sym words) on)),
     )
 
 pub returns-in_default-clause-orders : goal.returns-in_default-clause-orders
 returns-in_default-clause-orders g c before =
-    (unfollowed c.loop.owed, c.go_round.ensures.orders (taken_of c.loop.inbox) (unfollowed c.loop.owed) (c.loop.invariant.3 before))
+    (unfollowed c.loop.owed, c.go_round.ensures.went.orders (taken_of c.loop.inbox) (unfollowed c.loop.owed) (c.loop.invariant.3 before))
 
 pub returns-in_default-clause-outcomes : goal.returns-in_default-clause-outcomes
 returns-in_default-clause-outcomes g c before = (unsaid c.loop.owed, few_unsaid c.loop.owed, c.loop.invariant.4 before)
 
 pub returns-in_default-clause-said : goal.returns-in_default-clause-said
 returns-in_default-clause-said g c followed are were =
-    let a = c.loop.chief.desk in
-    let m = c.go_round.new.chief.desk in
+    let a = c.loop.chief.host.desk in
+    let m = c.go_round.new.host.desk in
+    let round = c.go_round.ensures.went in
     let outcomes = said c.loop.inbox in
     words_said m outcomes c.loop.owed
-    (all_still_said a m [] (spoken outcomes c.loop.owed) c.go_round.ensures.desk c.go_round.ensures.goes (c.loop.invariant.5 followed are were))
+    (all_still_said a m [] (spoken outcomes c.loop.owed) round.same round.goes (c.loop.invariant.5 followed are were))

@@ -3,4 +3,4 @@ use Rattle.zhost.specs.Desks.{SameDesk}
 use Rattle.zhost.proofs.serving.serve.Given as goal
 
 abbrev pub invariant-loop : goal.invariant-loop
-invariant-loop g l = SameDesk l.fn.member.desk l.member.desk × IsSeatOf l.halt l.seat
+invariant-loop g l = SameDesk l.fn.member.host.desk l.member.host.desk × IsSeatOf l.halt l.seat

@@ -3,5 +3,6 @@ use Rattle.zjournal.proofs.beside.begin.Goals as goal
 
 pub returns-clause-untouched : goal.returns-clause-untouched
 returns-clause-untouched g c =
-    untouched_call g.D.Device.seen g.D.Device.may_leave g.D.Device.moment g.D.Device.left_since c.args.device.now c.begin_beside.new.self c.requires.durable (g.met.D.Device.only_now c.args.device.now)
+    untouched_call g.D.Device.seen g.D.Device.may_leave g.D.Device.moment g.D.Device.left_since c.args.device.now
+    c.begin_beside.new.self c.requires.durable (g.met.D.Device.only_now c.args.device.now)
     c.begin_beside.ensures.seen c.begin_beside.ensures.crash c.begin_beside.ensures.time

@@ -5,11 +5,13 @@ use Rattle.zjournal.proofs.gates.open_gate.Goals as goal
 
 pub returns-in_err-write_synced-clause-any_moment : goal.returns-in_err-write_synced-clause-any_moment
 returns-in_err-write_synced-clause-any_moment g c =
-    open_leaves g.D.Device.moment g.D.Device.left_since c.args.device.now c.write_synced.new.device (g.D.Device.seen c.args.device.now) c.args.gate c.requires.within c.write_synced.ensures.any_moment
+    open_leaves g.D.Device.moment g.D.Device.left_since c.args.device.now c.write_synced.new.device (g.D.Device.seen c.args.device.now)
+    c.args.gate c.requires.within c.write_synced.ensures.any_moment
 
 pub returns-clause-any_moment : goal.returns-clause-any_moment
 returns-clause-any_moment g c =
-    open_leaves g.D.Device.moment g.D.Device.left_since c.args.device.now c.write_synced.new.device (g.D.Device.seen c.args.device.now) c.args.gate c.requires.within c.write_synced.ensures.any_moment
+    open_leaves g.D.Device.moment g.D.Device.left_since c.args.device.now c.write_synced.new.device (g.D.Device.seen c.args.device.now)
+    c.args.gate c.requires.within c.write_synced.ensures.any_moment
 
 pub returns-clause-open : goal.returns-clause-open
 returns-clause-open g c =

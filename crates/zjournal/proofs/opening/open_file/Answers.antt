@@ -29,7 +29,8 @@ returns-in-Unopened-clause-read g c =
         texts = made_texts c.args.servers c.requires.some;
         text_is = c.new-in-Unopened.ensures.items;
         end_is = refl;
-        file = opened_head c.args.servers c.requires.some (g.D.Device.seen c.args.device.now) (g.D.Device.seen c.read.new.self) c.read.ensures.seen found (g.D.Device.seen c.open_gate.new.device) c.in_ok-open_gate-in-Unopened.ensures.open;
+        file = opened_head c.args.servers c.requires.some (g.D.Device.seen c.args.device.now) (g.D.Device.seen c.read.new.self)
+            c.read.ensures.seen found (g.D.Device.seen c.open_gate.new.device) c.in_ok-open_gate-in-Unopened.ensures.open;
         durable = c.in_ok-open_gate-in-Unopened.ensures.durable;
       },
     )
@@ -38,7 +39,8 @@ pub returns-in_err-open_gate-in-Unopened-clause-any_moment : goal.returns-in_err
 returns-in_err-open_gate-in-Unopened-clause-any_moment g c batches stands =
     let found = found_of c.args.servers c.deref.result.now (g.D.Device.seen c.args.device.now) c.in_ok-look.field-0 Unopened
     (c.deref.ensures.value ∙ c.in_ok-bytes.ensures.bytes) c.in-Unopened.is c.in_ok-look.ensures.ok in
-    unopened_leaves g.D.Device.seen g.D.Device.may_leave g.D.Device.moment g.D.Device.left_since c.args.device.now c.read.new.self c.requires.durable (g.met.D.Device.only_now c.args.device.now)
+    unopened_leaves g.D.Device.seen g.D.Device.may_leave g.D.Device.moment g.D.Device.left_since c.args.device.now
+    c.read.new.self c.requires.durable (g.met.D.Device.only_now c.args.device.now)
     c.read.ensures.crash c.read.ensures.time c.read.ensures.seen c.args.servers batches stands
     c.requires.some found c.open_gate.new.device c.open_gate.ensures.any_moment
 
@@ -46,31 +48,38 @@ pub returns-in-Unopened-clause-any_moment : goal.returns-in-Unopened-clause-any_
 returns-in-Unopened-clause-any_moment g c batches stands =
     let found = found_of c.args.servers c.deref.result.now (g.D.Device.seen c.args.device.now) c.in_ok-look.field-0 Unopened
     (c.deref.ensures.value ∙ c.in_ok-bytes.ensures.bytes) c.in-Unopened.is c.in_ok-look.ensures.ok in
-    unopened_leaves g.D.Device.seen g.D.Device.may_leave g.D.Device.moment g.D.Device.left_since c.args.device.now c.read.new.self c.requires.durable (g.met.D.Device.only_now c.args.device.now)
+    unopened_leaves g.D.Device.seen g.D.Device.may_leave g.D.Device.moment g.D.Device.left_since c.args.device.now
+    c.read.new.self c.requires.durable (g.met.D.Device.only_now c.args.device.now)
     c.read.ensures.crash c.read.ensures.time c.read.ensures.seen c.args.servers batches stands
     c.requires.some found c.open_gate.new.device c.open_gate.ensures.any_moment
 
 pub returns-in_err-close-in-Kept-clause-any_moment : goal.returns-in_err-close-in-Kept-clause-any_moment
 returns-in_err-close-in-Kept-clause-any_moment g c batches stands =
-    let found = found_of c.args.servers c.deref.result.now (g.D.Device.seen c.args.device.now) c.in_ok-look.field-0 (Kept c.in-Kept.text c.in-Kept.end)
+    let found = found_of c.args.servers c.deref.result.now (g.D.Device.seen c.args.device.now) c.in_ok-look.field-0
+    (Kept c.in-Kept.text c.in-Kept.end)
     (c.deref.ensures.value ∙ c.in_ok-bytes.ensures.bytes) c.in-Kept.is c.in_ok-look.ensures.ok in
-    kept_leaves g.D.Device.seen g.D.Device.may_leave g.D.Device.moment g.D.Device.left_since c.args.device.now c.read.new.self c.requires.durable (g.met.D.Device.only_now c.args.device.now)
+    kept_leaves g.D.Device.seen g.D.Device.may_leave g.D.Device.moment g.D.Device.left_since c.args.device.now
+    c.read.new.self c.requires.durable (g.met.D.Device.only_now c.args.device.now)
     c.read.ensures.crash c.read.ensures.time c.read.ensures.seen c.args.servers batches stands
     found.0 c.in-Kept.end found.1 c.close.new.device c.close.ensures.any_moment
 
 pub returns-clause-any_moment : goal.returns-clause-any_moment
 returns-clause-any_moment g c batches stands =
-    let found = found_of c.args.servers c.deref.result.now (g.D.Device.seen c.args.device.now) c.in_ok-look.field-0 (Kept c.in-Kept.text c.in-Kept.end)
+    let found = found_of c.args.servers c.deref.result.now (g.D.Device.seen c.args.device.now) c.in_ok-look.field-0
+    (Kept c.in-Kept.text c.in-Kept.end)
     (c.deref.ensures.value ∙ c.in_ok-bytes.ensures.bytes) c.in-Kept.is c.in_ok-look.ensures.ok in
-    kept_leaves g.D.Device.seen g.D.Device.may_leave g.D.Device.moment g.D.Device.left_since c.args.device.now c.read.new.self c.requires.durable (g.met.D.Device.only_now c.args.device.now)
+    kept_leaves g.D.Device.seen g.D.Device.may_leave g.D.Device.moment g.D.Device.left_since c.args.device.now
+    c.read.new.self c.requires.durable (g.met.D.Device.only_now c.args.device.now)
     c.read.ensures.crash c.read.ensures.time c.read.ensures.seen c.args.servers batches stands
     found.0 c.in-Kept.end found.1 c.close.new.device c.close.ensures.any_moment
 
 pub returns-clause-read : goal.returns-clause-read
 returns-clause-read g c =
-    let found = found_of c.args.servers c.deref.result.now (g.D.Device.seen c.args.device.now) c.in_ok-look.field-0 (Kept c.in-Kept.text c.in-Kept.end)
+    let found = found_of c.args.servers c.deref.result.now (g.D.Device.seen c.args.device.now) c.in_ok-look.field-0
+    (Kept c.in-Kept.text c.in-Kept.end)
     (c.deref.ensures.value ∙ c.in_ok-bytes.ensures.bytes) c.in-Kept.is c.in_ok-look.ensures.ok in
-    let rests = closed_stands c.args.servers found.0 c.in-Kept.end (g.D.Device.seen c.args.device.now) (g.D.Device.seen c.read.new.self) c.read.ensures.seen found.1 in
+    let rests = closed_stands c.args.servers found.0 c.in-Kept.end (g.D.Device.seen c.args.device.now)
+    (g.D.Device.seen c.read.new.self) c.read.ensures.seen found.1 in
     let closed : g.D.Device.seen c.close.new.device ≡ take c.in-Kept.end (g.D.Device.seen c.read.new.self) ++ 0 ∷ [] = search rules in (
       found.0,
       inl (keeps c.args.servers found.0 (g.D.Device.seen c.args.device.now) c.in-Kept.end found.1),

@@ -10,21 +10,24 @@ pub returns-then-version-ne1-clause-err : goal.returns-then-version-ne1-clause-e
 returns-then-version-ne1-clause-err c = (
   c.in-Some-first-2.given,
   c.in-Some-first-2.last.now,
-  begins c.args.bytes.now c.in-Some.rest.now c.in-Some-first.more.now c.in-Some-first-2.last.now c.in-Some-first.version c.in-Some-first-2.given c.in-Some.ensures.some c.in-Some-first.ensures.some c.in-Some-first-2.ensures.some,
+  begins c.args.bytes.now c.in-Some.rest.now c.in-Some-first.more.now c.in-Some-first-2.last.now c.in-Some-first.version
+      c.in-Some-first-2.given c.in-Some.ensures.some c.in-Some-first.ensures.some c.in-Some-first-2.ensures.some,
   c.if-version-ne1.true,
 )
 
 pub returns-then-given-servers-clause-err : goal.returns-then-given-servers-clause-err
 returns-then-given-servers-clause-err c = (
   c.in-Some-first-2.last.now,
-  begins c.args.bytes.now c.in-Some.rest.now c.in-Some-first.more.now c.in-Some-first-2.last.now c.in-Some-first.version c.in-Some-first-2.given c.in-Some.ensures.some c.in-Some-first.ensures.some c.in-Some-first-2.ensures.some
+  begins c.args.bytes.now c.in-Some.rest.now c.in-Some-first.more.now c.in-Some-first-2.last.now c.in-Some-first.version
+      c.in-Some-first-2.given c.in-Some.ensures.some c.in-Some-first.ensures.some c.in-Some-first-2.ensures.some
       ∙ ap (λ (n : ℕ). 1 ∷ mark ++ n ∷ c.in-Some-first-2.given ∷ c.in-Some-first-2.last.now) c.if-version-ne1.false,
   c.if-given-servers.true,
 )
 
 pub returns-in-None-clause-err : goal.returns-in-None-clause-err
 returns-in-None-clause-err c =
-    head_damaged c.args.servers c.args.bytes.now c.in-Some.rest.now c.in-Some-first.more.now c.in-Some-first-2.last.now c.in-Some-first.version c.in-Some-first-2.given c.in-Some.ensures.some c.in-Some-first.ensures.some c.in-Some-first-2.ensures.some
+    head_damaged c.args.servers c.args.bytes.now c.in-Some.rest.now c.in-Some-first.more.now c.in-Some-first-2.last.now
+    c.in-Some-first.version c.in-Some-first-2.given c.in-Some.ensures.some c.in-Some-first.ensures.some c.in-Some-first-2.ensures.some
     c.if-version-ne1.false c.if-given-servers.false c.in-None.ensures.none
 
 pub returns-in-Some-behind-clause-ok : goal.returns-in-Some-behind-clause-ok

@@ -7,5 +7,10 @@ pub returns-clause-stat : goal.returns-clause-stat
 returns-clause-stat g c =
     let counted = c.in_ok-tree.ensures ∙ ap (λ (t : Tree). counts_of t) c.in_ok-machine.ensures.tree in
     let many : c.len.result ≡ length c.in-Ok.bytes.items = omega (arith, c.len.ensures, c.in-Ok.bytes.ok) in
-    let journal = many ∙ ap (λ (bytes : List ℕ). length bytes) (c.in-Ok.ensures.bytes ∙ c.look.ensures.seen) in
-    (c.in_ok-state.state.state, c.in_ok-state.snapshot, c.in_ok-state.ensures.look, λ i. record { tree = counted i; journal = journal i; snapshot = c.in_ok-state.snapshot })
+    let journal = many ∙ ap (λ (bytes : List ℕ). length bytes) (c.in-Ok.ensures.bytes ∙ c.look.ensures.seen) in (
+      c.in_ok-state.state.state,
+      c.in_ok-state.snapshot,
+      c.in_ok-state.ensures.look,
+      λ i.
+          record { tree = counted i; journal = journal i; snapshot = c.in_ok-state.snapshot },
+    )

@@ -32,5 +32,6 @@ pub returns-clause-fault : goal.returns-clause-fault
 returns-clause-fault g c =
     let read = c.in-Ok.ensures.text in
     subst (IsSuchFile c.args.servers (g.D.Device.seen c.args.device.now)) (sym c.from.ensures)
-    (such_read c.in-Err-read_measured.fault c.args.servers c.number.result (g.D.Device.seen c.args.device.now) c.in-Ok.text.items c.number.ensures.same read.0 read.1 read.2
+    (such_read c.in-Err-read_measured.fault c.args.servers c.number.result (g.D.Device.seen c.args.device.now)
+    c.in-Ok.text.items c.number.ensures.same read.0 read.1 read.2
     (subst (λ t. IsReadFault t c.in-Err-read_measured.fault) c.deref.ensures.value c.in-Err-read_measured.ensures.fault))

@@ -1,5 +1,6 @@
 -- What is under way to a server: more of it, what of it doesn't count, and that logs only grow by it.
-use Rattle.std.proofs.Common.{◌≡◌, ℕ, ◌+◌, nat_lt, ◌==◌, List, [], ◌∷◌, ◌++◌, length, Some, None, refl, sym, ap, ◌∙◌, subst, inl, inr, append_assoc, arith, eqb-true}
+use Rattle.std.proofs.Common.{◌≡◌, ℕ, ◌+◌, nat_lt, ◌==◌, List, [], ◌∷◌, ◌++◌, length, Some, None, refl, sym, ap, ◌∙◌}
+use Rattle.std.proofs.Common.{subst, inl, inr, append_assoc, arith, eqb-true}
 use Rattle.zcalls.specs.declared.call.Entry.{Entry}
 use Rattle.zcalls.proofs.Among.{test}
 use Rattle.zprotocol.specs.declared.limits.TheConstants.{MAX_LOG_NUMBER}
@@ -20,7 +21,8 @@ first_more_of (Some log) later more = refl
 -- the first log of more messages
 pub first_more : (k : ℕ) (ms more : List LogMessage) → first_snapshot k (ms ++ more) ≡ or_else (first_snapshot k ms) (first_snapshot k more)
 first_more k [] more = refl
-first_more k (m ∷ ms) more = ap (or_else (snapshot_of k m)) (first_more k ms more) ∙ sym (first_more_of (snapshot_of k m) (first_snapshot k ms) (first_snapshot k more))
+first_more k (m ∷ ms) more = ap (or_else (snapshot_of k m)) (first_more k ms more)
+    ∙ sym (first_more_of (snapshot_of k m) (first_snapshot k ms) (first_snapshot k more))
 
 -- a message that doesn't count in an epoch
 abbrev pub IsForeign : ℕ → LogMessage → Type 0
@@ -84,14 +86,17 @@ pub flow_below : (k : ℕ) (log : Log) (ms : List LogMessage) → IsBelow (or_el
 flow_below k None [] = tt
 flow_below k (Some log) [] = prefix_same log
 flow_below k None (m ∷ ms) =
-    subst (λ l. IsBelow (or_else l (first_snapshot k ms)) (flow k (log_with_message k None m) ms)) (flowed_first k m) (flow_below k (log_with_message k None m) ms)
+    subst (λ l. IsBelow (or_else l (first_snapshot k ms)) (flow k (log_with_message k None m) ms)) (flowed_first k m)
+    (flow_below k (log_with_message k None m) ms)
 flow_below k (Some log) (m ∷ ms) =
     let grows = flowed_grows k log m in
     below_of log grows.0 (flow k (log_with_message k (Some log) m) ms) grows.2
-    (subst (λ l. IsBelow (or_else l (first_snapshot k ms)) (flow k (log_with_message k (Some log) m) ms)) grows.1 (flow_below k (log_with_message k (Some log) m) ms))
+    (subst (λ l. IsBelow (or_else l (first_snapshot k ms)) (flow k (log_with_message k (Some log) m) ms)) grows.1
+    (flow_below k (log_with_message k (Some log) m) ms))
 
 -- the next entry of a longer log goes on in it
-pub entry_goes_on : (log more : List Entry) (n : ℕ) (e : Entry) → IsPrefix log more → IsEntry more n e → n ≡ length log + 1 → IsPrefix (log ++ e ∷ []) more
+pub entry_goes_on : (log more : List Entry) (n : ℕ) (e : Entry) → IsPrefix log more → IsEntry more n e → n ≡ length log + 1
+    → IsPrefix (log ++ e ∷ []) more
 entry_goes_on log more n e p entry is =
     let same = same_fronts log entry.0 p.0 (e ∷ entry.1) (sym p.1 ∙ entry.2) (let l : n ≡ length entry.0 + 1 = entry.3 in omega arith) in
     (entry.1, entry.2 ∙ ap (λ l. l ++ e ∷ entry.1) (sym same.0) ∙ sym (append_assoc log (e ∷ []) entry.1))

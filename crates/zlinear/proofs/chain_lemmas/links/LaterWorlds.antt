@@ -24,8 +24,10 @@ pub justified_later : (w later : LogWorld) (items more : List Item) → GoesOn w
 justified_later w later items more on (Client c) to (message.Submit number update) h = on.begun _ h
 justified_later w later items more on (Client c) to (message.Query number query) h = on.begun _ h
 justified_later w later items more on (Server s) (Client c) (message.Answer number reply) h = (h.0, on.given h.0 h.1, h.2)
-justified_later w later items more on (Server s) (Server t) (message.Update epoch n entry) h = (on.opened t epoch h.0, on.begun (operation_of entry) h.1)
-justified_later w later items more on (Server s) (Server t) (message.Snapshot epoch transfer) h = (on.opened t epoch h.0, λ e a. on.begun (operation_of e) (h.1 e a))
+justified_later w later items more on (Server s) (Server t) (message.Update epoch n entry) h =
+    (on.opened t epoch h.0, on.begun (operation_of entry) h.1)
+justified_later w later items more on (Server s) (Server t) (message.Snapshot epoch transfer) h =
+    (on.opened t epoch h.0, λ e a. on.begun (operation_of e) (h.1 e a))
 justified_later w later items more on (Server s) Master (message.Have epoch last) h = on.opened s epoch h
 justified_later w later items more on (Server s) Master message.Gone h = on.failed s h
 justified_later w later items more on Master to (message.NewSucc epoch t last) h = on.opened t epoch h

@@ -33,11 +33,13 @@ module _ {M : Type 0} where
   addressed_among : (to : Process) (posts : List (Post M)) (m : MessageOf M) → Among m (messages_to to posts) → Among (to, m) posts
   addressed_among to [] m a = absurd a
   addressed_among to (post ∷ posts) m a = elim (test (is_same to post.0)) [
-    | inl t ↦ first (addressed_among to posts m) (same_process to post.0 t) (subst (λ l. Among m l) (ap (λ b. cond b (post.1 ∷ messages_to to posts) (messages_to to posts)) t) a)
+    | inl t ↦ first (addressed_among to posts m) (same_process to post.0 t)
+        (subst (λ l. Among m l) (ap (λ b. cond b (post.1 ∷ messages_to to posts) (messages_to to posts)) t) a)
     | inr f ↦ inr (addressed_among to posts m (subst (λ l. Among m l) (ap (λ b. cond b (post.1 ∷ messages_to to posts) (messages_to to posts)) f) a))
   ]
     where
-      first : (Among m (messages_to to posts) → Among (to, m) posts) → to ≡ post.0 → Among m (post.1 ∷ messages_to to posts) → Among (to, m) (post ∷ posts)
+      first : (Among m (messages_to to posts) → Among (to, m) posts) → to ≡ post.0 → Among m (post.1 ∷ messages_to to posts)
+          → Among (to, m) (post ∷ posts)
       first rest same (inl e) = inl (λ i. (sym same i, e i))
       first rest same (inr b) = inr (rest b)
 
@@ -45,10 +47,11 @@ module _ {M : Type 0} where
   pub put_among : (links : Links M) (sender : Process) (posts : List (Post M)) (from to : Process) (m : MessageOf M)
       → Among m (put links sender posts from to) → Among m (links from to) ⊎ ((from ≡ sender) × Among (to, m) posts)
   put_among links sender posts from to m a = elim (test (is_same from sender)) [
-    | inl t ↦ elim (among_cases m (links from to) (messages_to to posts) (subst (λ l. Among m l) (ap (λ b. cond b (links from to ++ messages_to to posts) (links from to)) t) a)) [
-      | inl old ↦ inl old
-      | inr new ↦ inr (same_process from sender t, addressed_among to posts m new)
-    ]
+    | inl t ↦ elim (among_cases m (links from to) (messages_to to posts)
+        (subst (λ l. Among m l) (ap (λ b. cond b (links from to ++ messages_to to posts) (links from to)) t) a)) [
+          | inl old ↦ inl old
+          | inr new ↦ inr (same_process from sender t, addressed_among to posts m new)
+        ]
     | inr f ↦ inl (subst (λ l. Among m l) (ap (λ b. cond b (links from to ++ messages_to to posts) (links from to)) f) a)
   ]
 
@@ -58,7 +61,8 @@ module _ {M : Type 0} where
   drop_among (x ∷ link) m a = inr a
 
   -- what is under way without a front was under way with it
-  pub front_among : (links : Links M) (sender taker from to : Process) (m : MessageOf M) → Among m (without_front links sender taker from to) → Among m (links from to)
+  pub front_among : (links : Links M) (sender taker from to : Process) (m : MessageOf M) → Among m (without_front links sender taker from to)
+      → Among m (links from to)
   front_among links sender taker from to m a = elim (test (is_same from sender && is_same to taker)) [
     | inl t ↦ drop_among (links from to) m (subst (λ l. Among m l) (ap (λ b. cond b (drop 1 (links from to)) (links from to)) t) a)
     | inr f ↦ subst (λ l. Among m l) (ap (λ b. cond b (drop 1 (links from to)) (links from to)) f) a

@@ -21,7 +21,8 @@ never_first b (a ∷ chain) s h = elim (test (a.0 == s)) [
   | inr f ↦ never_first a.0 chain s (rw f at h)
 ]
 
-nobody_before : (chain : List Neighbour) (s : ℕ) → place_from None chain s ≡ Some None → NoTwo (λ (x y : ℕ). x ≡ y) (map (λ (m : Neighbour). m.0) chain)
+nobody_before : (chain : List Neighbour) (s : ℕ) → place_from None chain s ≡ Some None
+    → NoTwo (λ (x y : ℕ). x ≡ y) (map (λ (m : Neighbour). m.0) chain)
     → (x : ℕ) → ComesBefore x s (map (λ (m : Neighbour). m.0) chain) → ⊥
 nobody_before [] s h apart x before = before
 nobody_before (a ∷ chain) s h apart x before = elim (test (a.0 == s)) [
@@ -34,7 +35,8 @@ nobody_before (a ∷ chain) s h apart x before = elim (test (a.0 == s)) [
     again same (inr p) = apart.0 s (before_second x s (map (λ (m : Neighbour). m.0) chain) p) same
 
 -- a member with a log and without predecessor has nobody before it
-pub head_is_first : (w : LogWorld) → OrdersLead w → AreDistinct w → (s : ℕ) → IsMember w s → (log : List Entry) → log_at w s ≡ Some log → (w.servers s).pred ≡ None
+pub head_is_first : (w : LogWorld) → OrdersLead w → AreDistinct w → (s : ℕ) → IsMember w s → (log : List Entry)
+    → log_at w s ≡ Some log → (w.servers s).pred ≡ None
     → (x : ℕ) → ComesBefore x s (members w.master) → ⊥
 head_is_first w line apart s member log has head =
     let place = has_place None w.master.chain s member in

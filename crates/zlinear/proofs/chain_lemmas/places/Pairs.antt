@@ -13,7 +13,8 @@ use Rattle.zlinear.specs.chain.Sound.{OrdersLead, AreDistinct, UnusedAreBlank, L
 use Rattle.zlinear.proofs.chain_lemmas.places.Orders.{settled, place_splits_chain}
 
 -- a server that lives and has a log is a member
-pub log_member : (w : LogWorld) → UnusedAreBlank w → LiveAreMembers w → (s : ℕ) → w.failed s ≡ false → (log : List Entry) → log_at w s ≡ Some log → IsMember w s
+pub log_member : (w : LogWorld) → UnusedAreBlank w → LiveAreMembers w → (s : ℕ) → w.failed s ≡ false → (log : List Entry)
+    → log_at w s ≡ Some log → IsMember w s
 log_member w blank live s alive log has = elim (test (is_among s w.master.used)) [
   | inl used ↦ live s used alive
   | inr f ↦
@@ -22,7 +23,8 @@ log_member w blank live s alive log has = elim (test (is_among s w.master.used))
 ]
 
 -- a member has a place
-pub has_place : (before : Option ℕ) (chain : List Neighbour) (s : ℕ) → Among s (map (λ (m : Neighbour). m.0) chain) → (place : Place) × (place_from before chain s ≡ Some place)
+pub has_place : (before : Option ℕ) (chain : List Neighbour) (s : ℕ) → Among s (map (λ (m : Neighbour). m.0) chain)
+    → (place : Place) × (place_from before chain s ≡ Some place)
 has_place before [] s h = absurd h
 has_place before (t ∷ rest) s h = elim (test (t.0 == s)) [
   | inl e ↦ (place_behind before t.1, rw e refl)
@@ -69,7 +71,8 @@ pair_next w apart p s k is =
     let split = place_splits_chain w.master.chain p s k is in
     let front = map (λ (m : Neighbour). m.0) split.front in
     let rest = map (λ (m : Neighbour). m.0) split.rest in
-    let same : members w.master ≡ front ++ p ∷ s ∷ rest = ap (map (λ (m : Neighbour). m.0)) split.is ∙ map_split split.front (p, split.epoch) (s, k) split.rest in
+    let same : members w.master ≡ front ++ p ∷ s ∷ rest = ap (map (λ (m : Neighbour). m.0)) split.is
+    ∙ map_split split.front (p, split.epoch) (s, k) split.rest in
     record {
       before = subst (ComesBefore p s) (sym same) (stands_before front rest p s);
       others = λ a h. elim (before_next front rest p s (subst (NoTwo (λ (x y : ℕ). x ≡ y)) same apart) a (subst (ComesBefore a s) same h)) [

@@ -1,6 +1,7 @@
 -- The tail argument: a member that has no successor after its step commits its whole log.
 use Rattle.std.specs.Prelude.{is_none}
-use Rattle.std.proofs.Common.{◌≡◌, ◌⊎◌, ℕ, true, ◌==◌, List, [], ◌++◌, length, Option, Some, None, sym, ap, ◌∙◌, subst, inl, inr, eqb-true, append-nil}
+use Rattle.std.proofs.Common.{◌≡◌, ◌⊎◌, ℕ, true, ◌==◌, List, [], ◌++◌, length, Option, Some, None, sym, ap, ◌∙◌, subst}
+use Rattle.std.proofs.Common.{inl, inr, eqb-true, append-nil}
 use Rattle.zcalls.specs.declared.call.Entry.{Entry}
 use Rattle.zcalls.specs.Lists.{Among, ComesBefore}
 use Rattle.zcalls.specs.Kept.{Plain}
@@ -26,24 +27,29 @@ use Rattle.zlinear.proofs.chain_lemmas.steps.Takes.{with_view, first_log_elsewhe
 use Rattle.zlinear.proofs.chain_lemmas.steps.Views.{AreGoodLists}
 
 -- who shows a log could have one
-pub final_log_of_first_log : (w : LogWorld) (s : ℕ) (log : List Entry) → first_log w s ≡ Some log → (more : List Entry) × (final_log w s ≡ Some more) × IsPrefix log more
+pub final_log_of_first_log : (w : LogWorld) (s : ℕ) (log : List Entry) → first_log w s ≡ Some log
+    → (more : List Entry) × (final_log w s ≡ Some more) × IsPrefix log more
 final_log_of_first_log w s log is = by (w.servers s).pred is
   where
     none : (l : Log) → or_else l None ≡ Some log → IsBelow (Some log) l
     none None h = absurd (cc h)
     none (Some l) h = ([], (let e : Some l ≡ Some log = h in cc e) ∙ sym (append-nil log))
 
-    by : (pred : Option Neighbour) → or_else (log_at w s) (first_snapshot_by w s pred) ≡ Some log → (more : List Entry) × (final_log_by w s (log_at w s) pred ≡ Some more) × IsPrefix log more
+    by : (pred : Option Neighbour) → or_else (log_at w s) (first_snapshot_by w s pred) ≡ Some log
+        → (more : List Entry) × (final_log_by w s (log_at w s) pred ≡ Some more) × IsPrefix log more
     by None h = below_some log (log_at w s) (none (log_at w s) h)
     by (Some pred) h = below_some log (final_log_by w s (log_at w s) (Some pred))
         (subst (λ l. IsBelow l (final_log_by w s (log_at w s) (Some pred))) h (flow_below pred.1 (log_at w s) (w.links (Server pred.0) (Server s))))
 
 module _ {P : Type 0} (plain : Plain P) (t : Account) (s : IsSound plain t) (from : Process)
-    (y : ℕ) (y_in : IsMember t.world y) (v : ServerView (List Entry)) (log : List Entry) (has : v.machine ≡ Some log) (longer : IsPrefix t.committed log)
+    (y : ℕ) (y_in : IsMember t.world y) (v : ServerView (List Entry)) (log : List Entry) (has : v.machine ≡ Some log)
+    (longer : IsPrefix t.committed log)
     (begun : AllBegun t.world.history log)
-    (ahead_of : (x : ℕ) → ComesBefore x y (members t.world.master) → (l : List Entry) → final_log (with_view t.world from y v) y ≡ Some l → IsAhead t.world x l)
+    (ahead_of : (x : ℕ) → ComesBefore x y (members t.world.master) → (l : List Entry) → final_log (with_view t.world from y v) y ≡ Some l
+    → IsAhead t.world x l)
     (sound : (committed : List Entry) (items : List Item) → ((i : Item) → Among i t.items → Among i items)
-    → AreGoodLists plain (with_view t.world from y v) committed items → IsSound plain (record { world = with_view t.world from y v; committed = committed; items = items }))
+    → AreGoodLists plain (with_view t.world from y v) committed items
+    → IsSound plain (record { world = with_view t.world from y v; committed = committed; items = items }))
     (nobody : (z : ℕ) → ComesBefore y z (members t.world.master) → (l : List Entry) → final_log t.world z ≡ Some l → ⊥) where
   abbrev w : LogWorld
   w = t.world
@@ -65,9 +71,17 @@ module _ {P : Type 0} (plain : Plain P) (t : Account) (s : IsSound plain t) (fro
   ahead z before =
       let more = final_log_of_log w1 y log log_here in
       let h = ahead_of z before more.0 more.1 in
-      record { own = h.own; holds = h.holds; begins = prefix_of log more.0 h.own more.2 h.begins; has_successor = h.has_successor; no_tail_order = h.no_tail_order }
+      record {
+        own = h.own;
+        holds = h.holds;
+        begins = prefix_of log more.0 h.own more.2 h.begins;
+        has_successor =
+            h.has_successor;
+        no_tail_order = h.no_tail_order;
+      }
 
-  shown_there : (z : ℕ) (shown : List Entry) → (ComesBefore z y (members w.master) ⊎ ComesBefore y z (members w.master)) → first_log w z ≡ Some shown → IsPrefix log shown
+  shown_there : (z : ℕ) (shown : List Entry) → (ComesBefore z y (members w.master) ⊎ ComesBefore y z (members w.master))
+      → first_log w z ≡ Some shown → IsPrefix log shown
   shown_there z shown (inl before) is =
       let h = ahead z before in
       let mine : Some h.own ≡ Some shown = sym (ap (λ l. or_else l (first_snapshot_by w z (w.servers z).pred)) h.holds) ∙ is in
@@ -85,7 +99,8 @@ module _ {P : Type 0} (plain : Plain P) (t : Account) (s : IsSound plain t) (fro
     ]
   ]
 
-  tail_there : (z : ℕ) (l : List Entry) → (ComesBefore z y (members w.master) ⊎ ComesBefore y z (members w.master)) → log_at w z ≡ Some l → is_none (w.servers z).succ ≡ true → l ≡ log
+  tail_there : (z : ℕ) (l : List Entry) → (ComesBefore z y (members w.master) ⊎ ComesBefore y z (members w.master))
+      → log_at w z ≡ Some l → is_none (w.servers z).succ ≡ true → l ≡ log
   tail_there z l (inl before) is ends = let h = (ahead z before).has_successor in cc
   tail_there z l (inr behind) is ends = let more = final_log_of_log w z l is in absurd (nobody z behind more.0 more.1)
 
@@ -95,7 +110,8 @@ module _ {P : Type 0} (plain : Plain P) (t : Account) (s : IsSound plain t) (fro
     | inr f ↦ elim (two_places z y (members w.master) member y_in) [
       | inl e ↦ let mine : Some l ≡ Some log = sym (subst (λ x. log_at w1 x ≡ Some l) e is) ∙ log_here in cc mine
       | inr p ↦ let old = at_other y v w.servers z f in
-          tail_there z l p (sym (ap (λ (u : ServerView (List Entry)). u.machine) old) ∙ is) (sym (ap (λ (u : ServerView (List Entry)). is_none u.succ) old) ∙ ends)
+          tail_there z l p (sym (ap (λ (u : ServerView (List Entry)). u.machine) old) ∙ is)
+          (sym (ap (λ (u : ServerView (List Entry)). is_none u.succ) old) ∙ ends)
     ]
   ]
 

@@ -23,7 +23,8 @@ below_grows log None h = absurd h
 below_grows log (Some new) h = (new, refl, h)
 
 -- what flows of a beginning begins what flows of all
-flow_take : (k n : ℕ) (log : Log) (ms : List LogMessage) (shorter : List Entry) → flow k log (take n ms) ≡ Some shorter → Grows shorter (flow k log ms)
+flow_take : (k n : ℕ) (log : Log) (ms : List LogMessage) (shorter : List Entry) → flow k log (take n ms) ≡ Some shorter
+    → Grows shorter (flow k log ms)
 flow_take k n log ms shorter is =
     let e : flow k log ms ≡ flow k (Some shorter) (drop n ms) =
     ap (flow k log) (sym (take-append-drop n ms)) ∙ flow_more k log (take n ms) (drop n ms) ∙ ap (λ l. flow k l (drop n ms)) is in
@@ -35,12 +36,14 @@ first_take : (k n : ℕ) (ms : List LogMessage) (log : List Entry) → first_sna
 first_take k n ms log is =
     ap (first_snapshot k) (sym (take-append-drop n ms)) ∙ first_more k (take n ms) (drop n ms) ∙ ap (λ l. or_else l (first_snapshot k (drop n ms))) is
 
-or_else_with : (own few all : Log) (log : List Entry) → ((l : List Entry) → few ≡ Some l → all ≡ Some l) → or_else own few ≡ Some log → or_else own all ≡ Some log
+or_else_with : (own few all : Log) (log : List Entry) → ((l : List Entry) → few ≡ Some l → all ≡ Some l)
+    → or_else own few ≡ Some log → or_else own all ≡ Some log
 or_else_with None few all log f is = f log is
 or_else_with (Some own) few all log f is = is
 
 -- what is under way on a cut link was under way
-pub cut_among : (w : LogWorld) (stays : Stays) (from to : Process) (m : LogMessage) → Among m (cut_links stays w.links from to) → Among m (w.links from to)
+pub cut_among : (w : LogWorld) (stays : Stays) (from to : Process) (m : LogMessage) → Among m (cut_links stays w.links from to)
+    → Among m (w.links from to)
 cut_among w stays Master to m a = a
 cut_among w stays (Server x) to m a = among_take (stays (Server x) to) (w.links (Server x) to) m a
 cut_among w stays (Client c) to m a = among_take (stays (Client c) to) (w.links (Client c) to) m a
@@ -56,11 +59,13 @@ module _ {P : Type 0} (plain : Plain P) (t : Account) (s : IsSound plain t) (sta
   abbrev cut_world : LogWorld
   cut_world = cut stays t.world
 
-  cut_final : (y : ℕ) (log : Log) (pred : Option Neighbour) (shorter : List Entry) → final_log_by cut_world y log pred ≡ Some shorter → Grows shorter (final_log_by w y log pred)
+  cut_final : (y : ℕ) (log : Log) (pred : Option Neighbour) (shorter : List Entry) → final_log_by cut_world y log pred
+      ≡ Some shorter → Grows shorter (final_log_by w y log pred)
   cut_final y log None shorter is = (shorter, is, prefix_same shorter)
   cut_final y log (Some pred) shorter is = flow_take pred.1 (stays (Server pred.0) (Server y)) log (w.links (Server pred.0) (Server y)) shorter is
 
-  cut_first : (z : ℕ) (pred : Option Neighbour) (log : List Entry) → first_snapshot_by cut_world z pred ≡ Some log → first_snapshot_by w z pred ≡ Some log
+  cut_first : (z : ℕ) (pred : Option Neighbour) (log : List Entry) → first_snapshot_by cut_world z pred ≡ Some log
+      → first_snapshot_by w z pred ≡ Some log
   cut_first z None log is = is
   cut_first z (Some pred) log is = first_take pred.1 (stays (Server pred.0) (Server z)) (w.links (Server pred.0) (Server z)) log is
 
@@ -76,14 +81,22 @@ module _ {P : Type 0} (plain : Plain P) (t : Account) (s : IsSound plain t) (sta
     epochs = s.epochs;
     tail_orders = s.tail_orders;
     ordered = λ x y before log is. let g = cut_final y (log_at w y) (w.servers y).pred log is in let h = s.ordered x y before g.0 g.1 in
-        record { own = h.own; holds = h.holds; begins = prefix_of log g.0 h.own g.2 h.begins; has_successor = h.has_successor; no_tail_order = h.no_tail_order };
+        record {
+          own = h.own;
+          holds = h.holds;
+          begins = prefix_of log g.0 h.own g.2 h.begins;
+          has_successor = h.has_successor;
+          no_tail_order = h.no_tail_order;
+        };
     committed = λ z log member is. s.committed z log member
-        (or_else_with (log_at w z) (first_snapshot_by cut_world z (w.servers z).pred) (first_snapshot_by w z (w.servers z).pred) log (cut_first z (w.servers z).pred) is);
+        (or_else_with (log_at w z) (first_snapshot_by cut_world z (w.servers z).pred) (first_snapshot_by w z (w.servers z).pred)
+        log (cut_first z (w.servers z).pred) is);
     tail = s.tail;
     sent = s.sent;
     begun = s.begun;
     committed_begun = s.committed_begun;
-    justified = λ p q m a. justified_later w cut_world t.items t.items (record { begun = λ o h. h; given = λ i h. h; opened = λ z k h. h; failed = λ z h. h }) p q m
+    justified = λ p q m a. justified_later w cut_world t.items t.items
+        (record { begun = λ o h. h; given = λ i h. h; opened = λ z k h. h; failed = λ z h. h }) p q m
         (s.justified p q m (cut_among w stays p q m a));
     acted = s.acted;
     replays = s.replays;

@@ -89,7 +89,8 @@ module _ {P : Type 0} (plain : Plain P) (t : Account) (s : IsSound plain t) (fro
     used = s.used;
     blank = λ z unused. ((s.blank z unused).0, kept (λ l. l ≡ []) (λ m l is e. absurd (cc e)) Master z (s.blank z unused).1);
     live = s.live;
-    line = λ z place is. kept (λ q. LeadsTo (IsPast w) (is_fresh w z) (w.servers z).pred q place) (leads_drops (IsPast w) (is_fresh w z) (w.servers z).pred place) Master z (s.line z place is);
+    line = λ z place is. kept (λ q. LeadsTo (IsPast w) (is_fresh w z) (w.servers z).pred q place)
+        (leads_drops (IsPast w) (is_fresh w z) (w.servers z).pred place) Master z (s.line z place is);
     successors = λ x z k is. opened z k (s.successors x z k is);
     epochs = λ z. kept (HasDistinctEpochs w.master.epoch) (λ m l is h. h.1) Master z (s.epochs z);
     tail_orders = λ z. kept (HasNoTailOrderBehind w z) (λ m l is h. h.1) Master z (s.tail_orders z);
@@ -99,7 +100,8 @@ module _ {P : Type 0} (plain : Plain P) (t : Account) (s : IsSound plain t) (fro
     sent = s.sent;
     begun = s.begun;
     committed_begun = s.committed_begun;
-    justified = λ p q m a. justified_later w dropped t.items t.items (record { begun = λ o h. h; given = λ i h. h; opened = opened; failed = λ z h. h }) p q m
+    justified = λ p q m a. justified_later w dropped t.items t.items
+        (record { begun = λ o h. h; given = λ i h. h; opened = opened; failed = λ z h. h }) p q m
         (s.justified p q m (front_among w.links from to p q m a));
     acted = s.acted;
     replays = s.replays;
@@ -114,8 +116,10 @@ module _ {P : Type 0} (plain : Plain P) (t : Account) (s : IsSound plain t) (fro
 -- a request is the front
 kept_request : (w : LogWorld) (from to : Process) → front_is is_request (w.links from to) ≡ true → IsKept w from to
 kept_request w from to is Q drops p z h = elim (test (is_same p from && is_same (Server z) to)) [
-  | inl e ↦ rw e (gone (w.links p (Server z)) (subst (λ x. front_is is_request (w.links x (Server z)) ≡ true) (sym (same_process p from (left_of (is_same p from) (is_same (Server z) to) e)))
-      (subst (λ x. front_is is_request (w.links from x) ≡ true) (sym (same_process (Server z) to (right_of (is_same p from) (is_same (Server z) to) e))) is)) h)
+  | inl e ↦ rw e (gone (w.links p (Server z)) (subst (λ x. front_is is_request (w.links x (Server z)) ≡ true)
+      (sym (same_process p from (left_of (is_same p from) (is_same (Server z) to) e)))
+      (subst (λ x. front_is is_request (w.links from x) ≡ true)
+      (sym (same_process (Server z) to (right_of (is_same p from) (is_same (Server z) to) e))) is)) h)
   | inr f ↦ rw f h
 ]
   where
@@ -126,4 +130,5 @@ kept_request w from to is Q drops p z h = elim (test (is_same p from && is_same 
 -- the event Ignore
 pub requests_are_lost : {P : Type 0} (plain : Plain P) (from to : Process) → KeepsSoundOver plain (Ignore from to)
 requests_are_lost plain from to t lasts s = where_enabled plain t (Ignore from to) s (λ e. quiet_event plain t _
-    (dropped_sound plain t s from to (kept_request t.world from to (left_of (front_is is_request (t.world.links from to)) (not (has_failed t.world to)) e))))
+    (dropped_sound plain t s from to
+    (kept_request t.world from to (left_of (front_is is_request (t.world.links from to)) (not (has_failed t.world to)) e))))

@@ -1,7 +1,9 @@
 -- The opening is sound.
 use Rattle.std.specs.Prelude.{is_none}
 use Rattle.std.specs.List.{range_with_len}
-use Rattle.std.proofs.Common.{◌≡◌, ◌≢◌, ◌⊎◌, ℕ, zero, suc, ◌+◌, ◌-◌, ◌<◌, ◌≤◌, true, false, if◌then◌else◌, nat_lt, ◌==◌, List, [], ◌∷◌, map, Option, Some, None, refl, sym, ap, ◌∙◌, subst, inl, inr, arith, eqb-true, eq-eqb, le-ltb, ne_eqb}
+use Rattle.std.proofs.Common.{◌≡◌, ◌≢◌, ◌⊎◌, ℕ, zero, suc, ◌+◌, ◌-◌, ◌<◌, ◌≤◌, true, false, if◌then◌else◌, nat_lt, ◌==◌}
+use Rattle.std.proofs.Common.{List, [], ◌∷◌, map, Option, Some, None, refl, sym, ap, ◌∙◌, subst, inl, inr, arith}
+use Rattle.std.proofs.Common.{eqb-true, eq-eqb, le-ltb, ne_eqb}
 use Rattle.std.proofs.lemmas.Bool.Decides.{nat_tests}
 use Rattle.zcalls.specs.declared.call.Entry.{Entry}
 use Rattle.zcalls.specs.Lists.{Among, NoTwo}
@@ -22,7 +24,8 @@ use Rattle.zlinear.specs.chain.Sound.{IsSound}
 in_range : (a n s : ℕ) → Among s (range_with_len a n) → (a ≤ s) × (s < a + n)
 in_range a zero s h = absurd h
 in_range a (suc n) s (inl e) = (omega arith, omega arith)
-in_range a (suc n) s (inr h) = let more = in_range (a + 1) n s h in let low : a + 1 ≤ s = more.0 in let high : s < (a + 1) + n = more.1 in (omega arith, omega arith)
+in_range a (suc n) s (inr h) = let more = in_range (a + 1) n s h in let low : a + 1 ≤ s = more.0 in let high : s < (a + 1) + n = more.1
+    in (omega arith, omega arith)
 
 range_in : (a n s : ℕ) → a ≤ s → s < a + n → Among s (range_with_len a n)
 range_in a zero s low high = absurd (omega arith)
@@ -38,7 +41,8 @@ range_apart a (suc n) = (λ y h same. let is = in_range (a + 1) n y h in let low
 pairwise_range : (R : ℕ → ℕ → Type 0) (a n : ℕ) → ((x y : ℕ) → a ≤ x → x < y → y < a + n → R x y) → Pairwise R (range_with_len a n)
 pairwise_range R a zero h = tt
 pairwise_range R a (suc n) h = (
-  λ y m. let is = in_range (a + 1) n y m in let low : a + 1 ≤ y = is.0 in let high : y < (a + 1) + n = is.1 in h a y (omega arith) (omega arith) (omega arith),
+  λ y m. let is = in_range (a + 1) n y m in let low : a + 1 ≤ y = is.0 in let high : y < (a + 1) + n = is.1
+      in h a y (omega arith) (omega arith) (omega arith),
   pairwise_range R (a + 1) n (λ x y low less high. h x y (omega arith) less (omega arith)),
 )
 
@@ -137,7 +141,8 @@ module _ {P : Type 0} (plain : Plain P) (servers clients : ℕ) where
         own = [];
         holds = ap (λ (v : ServerView (List Entry)). v.machine) here;
         begins = ([], let e : Some [] ≡ Some log = sym (final_log_empty y (omega arith) (omega arith)) ∙ is in cc e);
-        has_successor = ap (λ (v : ServerView (List Entry)). is_none v.succ) here ∙ (let f : (x == servers) ≡ false = ne_eqb x servers (omega arith) in rw f refl);
+        has_successor = ap (λ (v : ServerView (List Entry)). is_none v.succ) here
+            ∙ (let f : (x == servers) ≡ false = ne_eqb x servers (omega arith) in rw f refl);
         no_tail_order = λ epoch a. absurd a;
       }
 
@@ -146,8 +151,10 @@ module _ {P : Type 0} (plain : Plain P) (servers clients : ℕ) where
       let found = places None 1 servers s place h in
       let high : s < 1 + servers = found.0 in
       elim (found.1) [
-        | inl p ↦ let one : 1 ≡ s = p.0 in ap (λ (v : ServerView (List Entry)). v.pred) (is_member s (omega arith) (omega arith)) ∙ (let t : (s == 1) ≡ true = eq-eqb s 1 (sym one) in rw t p.1)
-        | inr p ↦ let up : 1 < s = p.0 in ap (λ (v : ServerView (List Entry)). v.pred) (is_member s (omega arith) (omega arith)) ∙ (let f : (s == 1) ≡ false = ne_eqb s 1 (omega arith) in rw f p.1)
+        | inl p ↦ let one : 1 ≡ s = p.0 in ap (λ (v : ServerView (List Entry)). v.pred) (is_member s (omega arith) (omega arith))
+            ∙ (let t : (s == 1) ≡ true = eq-eqb s 1 (sym one) in rw t p.1)
+        | inr p ↦ let up : 1 < s = p.0 in ap (λ (v : ServerView (List Entry)). v.pred) (is_member s (omega arith) (omega arith))
+            ∙ (let f : (s == 1) ≡ false = ne_eqb s 1 (omega arith) in rw f p.1)
       ]
 
   -- all facts hold before the first event
@@ -155,13 +162,16 @@ module _ {P : Type 0} (plain : Plain P) (servers clients : ℕ) where
   opening_sound = record {
     distinct = subst (NoTwo (λ (s t : ℕ). s ≡ t)) (sym (members_are (range_with_len 1 servers))) (range_apart 1 servers);
     used = λ s h. tested_among s (range_with_len 1 servers) (subst (λ l. Among s l) (members_are (range_with_len 1 servers)) h);
-    blank = λ s not_used. (is_spare s (λ low high. not_used (tested_among s (range_with_len 1 servers) (range_in 1 servers s low (omega arith)))), refl);
-    live = λ s is_used alive. subst (λ l. Among s l) (sym (members_are (range_with_len 1 servers))) (among_tested s (range_with_len 1 servers) is_used);
+    blank = λ s not_used.
+        (is_spare s (λ low high. not_used (tested_among s (range_with_len 1 servers) (range_in 1 servers s low (omega arith)))), refl);
+    live = λ s is_used alive. subst (λ l. Among s l) (sym (members_are (range_with_len 1 servers)))
+        (among_tested s (range_with_len 1 servers) is_used);
     line = line_opens;
     successors = λ s t k h. opened s t k h;
     epochs = λ s. tt;
     tail_orders = λ s. tt;
-    ordered = of_pairwise (IsBehind w) (members w.master) (subst (Pairwise (IsBehind w)) (sym (members_are (range_with_len 1 servers))) (pairwise_range (IsBehind w) 1 servers ahead));
+    ordered = of_pairwise (IsBehind w) (members w.master) (subst (Pairwise (IsBehind w)) (sym (members_are (range_with_len 1 servers)))
+        (pairwise_range (IsBehind w) 1 servers ahead));
     committed = λ s log h is. prefix_nil log;
     tail = λ s log h is ends. sym (log_empty s log is);
     sent = λ s log n e is a. absurd (nothing_sent s n e a);

@@ -9,7 +9,8 @@ use Rattle.zprotocol.specs.declared.process.Process.TheVariants.{Server}
 use Rattle.zprotocol.specs.server.View.{MessageOf, Post, Neighbour}
 use Rattle.zworld_model.specs.Links.{Links, is_same, put}
 use Rattle.zlinear.specs.legal.Items.{Item}
-use Rattle.zlinear.specs.chain.Flow.{LogWorld, LogMessage, Log, flow, snapshot_of, first_snapshot, or_else, log_at, final_log_by, final_log, first_snapshot_by, first_log}
+use Rattle.zlinear.specs.chain.Flow.{LogWorld, LogMessage, Log, flow, snapshot_of, first_snapshot, or_else, log_at}
+use Rattle.zlinear.specs.chain.Flow.{final_log_by, final_log, first_snapshot_by, first_log}
 use Rattle.zlinear.specs.chain.Chain.{IsAhead}
 use Rattle.zlinear.specs.chain.Messages.{IsJustified}
 use Rattle.zlinear.specs.chain.Account.{Account}
@@ -43,8 +44,15 @@ or_else_none None = refl
 or_else_none (Some log) = refl
 
 -- who is ahead stays so
-pub ahead_put : (w : LogWorld) (x : ℕ) (to : Process) (m : LogMessage) (z : ℕ) (log : List Entry) → IsAhead w z log → IsAhead (with_put w x to m) z log
-ahead_put w x to m z log h = record { own = h.own; holds = h.holds; begins = h.begins; has_successor = h.has_successor; no_tail_order = h.no_tail_order }
+pub ahead_put : (w : LogWorld) (x : ℕ) (to : Process) (m : LogMessage) (z : ℕ) (log : List Entry) → IsAhead w z log
+    → IsAhead (with_put w x to m) z log
+ahead_put w x to m z log h = record {
+  own = h.own;
+  holds = h.holds;
+  begins = h.begins;
+  has_successor = h.has_successor;
+  no_tail_order = h.no_tail_order;
+}
 
 -- what was justified stays so, and so is what is put
 pub justified_put : (w : LogWorld) (items : List Item) (x : ℕ) (to : Process) (m : LogMessage) → IsJustified w items (Server x) to m
@@ -52,7 +60,8 @@ pub justified_put : (w : LogWorld) (items : List Item) (x : ℕ) (to : Process) 
 justified_put w items x to m justified old from to' m' a = elim (put_among w.links (Server x) ((to, m) ∷ []) from to' m' a) [
   | inl b ↦ old from to' m' b
   | inr new ↦ elim (new.1) [
-    | inl e ↦ subst (λ p. IsJustified w items p to' m') (sym new.0) (subst (λ (q : Post (List Entry)). IsJustified w items (Server x) q.0 q.1) e justified)
+    | inl e ↦ subst (λ p. IsJustified w items p to' m') (sym new.0)
+        (subst (λ (q : Post (List Entry)). IsJustified w items (Server x) q.0 q.1) e justified)
     | inr f ↦ absurd f
   ]
 ]
@@ -77,7 +86,8 @@ module _ (w : LogWorld) (x : ℕ) (to : Process) (m : LogMessage) (foreign : (k 
   final_log_unread_by y log None = refl
   final_log_unread_by y log (Some pred) = elim (put_one w.links (Server x) to m (Server pred.0) (Server y)) [
     | inl e ↦ ap (flow pred.1 log) e
-    | inr p ↦ ap (flow pred.1 log) p.2 ∙ flow_more pred.1 log (w.links (Server pred.0) (Server y)) (m ∷ []) ∙ (foreign pred.1).0 (flow pred.1 log (w.links (Server pred.0) (Server y)))
+    | inr p ↦ ap (flow pred.1 log) p.2 ∙ flow_more pred.1 log (w.links (Server pred.0) (Server y)) (m ∷ [])
+        ∙ (foreign pred.1).0 (flow pred.1 log (w.links (Server pred.0) (Server y)))
   ]
 
   -- each server would hold in the end what it did

@@ -34,7 +34,8 @@ below_some log None h = absurd h
 below_some log (Some more) h = (more, refl, h)
 
 -- who has a log would hold one in the end that goes on with it
-pub final_log_of_log : (w : LogWorld) (x : ℕ) (log : List Entry) → log_at w x ≡ Some log → (more : List Entry) × (final_log w x ≡ Some more) × IsPrefix log more
+pub final_log_of_log : (w : LogWorld) (x : ℕ) (log : List Entry) → log_at w x ≡ Some log
+    → (more : List Entry) × (final_log w x ≡ Some more) × IsPrefix log more
 final_log_of_log w x log is = below_some log (final_log w x) (by (w.servers x).pred)
   where
     by : (pred : Option Neighbour) → IsBelow (Some log) (final_log_by w x (log_at w x) pred)
@@ -45,7 +46,13 @@ final_log_of_log w x log is = below_some log (final_log w x) (by (w.servers x).p
 
 -- who is ahead of a log that another begins is ahead of that
 pub ahead_less : (w : LogWorld) (a : ℕ) (log more : List Entry) → IsPrefix log more → IsAhead w a more → IsAhead w a log
-ahead_less w a log more p h = record { own = h.own; holds = h.holds; begins = prefix_of log more h.own p h.begins; has_successor = h.has_successor; no_tail_order = h.no_tail_order }
+ahead_less w a log more p h = record {
+  own = h.own;
+  holds = h.holds;
+  begins = prefix_of log more h.own p h.begins;
+  has_successor = h.has_successor;
+  no_tail_order = h.no_tail_order;
+}
 
 module _ (w : LogWorld) (line : OrdersLead w) (apart : AreDistinct w) (ordered : ChainIsOrdered w)
     (x : ℕ) (x_in : IsMember w x) (own : List Entry) (holds : log_at w x ≡ Some own) (t k n : ℕ) (e : Entry) (entry : IsEntry own n e) where
@@ -90,9 +97,11 @@ module _ (w : LogWorld) (line : OrdersLead w) (apart : AreDistinct w) (ordered :
         let link = w.links (Server pred.0) (Server b) in
         let old : flow pred.1 (log_at w b) link ≡ final_log w b = sym (ap (final_log_by w b (log_at w b)) is) in
         let before' : ComesBefore a t (members w.master) = subst (λ c. ComesBefore a c (members w.master)) to before in
-        let pred' : (w.servers t).pred ≡ Some (x, pred.1) = subst (λ c. (w.servers c).pred ≡ Some (x, pred.1)) to (is ∙ (λ i. Some (from i, pred.1))) in
+        let pred' : (w.servers t).pred ≡ Some (x, pred.1) = subst (λ c. (w.servers c).pred ≡ Some (x, pred.1)) to (is
+        ∙ (λ i. Some (from i, pred.1))) in
         goes_on pred.1 (before_second a t (members w.master) before') pred' a before' (final_log w t) refl log
-        (ap (λ c. log_with_message pred.1 (final_log w c) m) (sym to) ∙ ap (λ l. log_with_message pred.1 l m) (sym old) ∙ sym (flow_more pred.1 (log_at w b) link (m ∷ []))
+        (ap (λ c. log_with_message pred.1 (final_log w c) m) (sym to) ∙ ap (λ l. log_with_message pred.1 l m) (sym old)
+        ∙ sym (flow_more pred.1 (log_at w b) link (m ∷ []))
         ∙ sym (ap (flow pred.1 (log_at w b)) p.2) ∙ h)
   ]
 

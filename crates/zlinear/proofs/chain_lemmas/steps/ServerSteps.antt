@@ -1,6 +1,7 @@
 -- A server takes a message that isn't the master's: the step of its view is sound, and so is what is put that nobody reads.
 use Rattle.std.specs.Prelude.{is_none}
-use Rattle.std.proofs.Common.{◌≡◌, ℕ, true, false, List, [], ◌∷◌, ◌++◌, length, Option, Some, None, refl, sym, ap, ◌∙◌, subst, inl, inr, append-nil, append_assoc}
+use Rattle.std.proofs.Common.{◌≡◌, ℕ, true, false, List, [], ◌∷◌, ◌++◌, length, Option, Some, None, refl, sym, ap, ◌∙◌}
+use Rattle.std.proofs.Common.{subst, inl, inr, append-nil, append_assoc}
 use Rattle.std.proofs.Math.Seq.{drop-length}
 use Rattle.zcalls.specs.declared.call.Entry.{Entry}
 use Rattle.zcalls.specs.declared.reply.Reply.{Reply}
@@ -48,7 +49,8 @@ put_none : {M : Type 0} (links : Links M) (sender p q : Process) → put links s
 put_none links sender p q = elim (test (is_same p sender)) [ inl t ↦ rw t (append-nil (links p q)) | inr f ↦ rw f refl ]
 
 -- one after the other or at once is the same
-pub puts_at_once : (t : Account) (y : ℕ) (posts : List (Post (List Entry))) → account_with_puts t y posts ≡ record t { world = record t.world { links = put t.world.links (Server y) posts } }
+pub puts_at_once : (t : Account) (y : ℕ) (posts : List (Post (List Entry))) → account_with_puts t y posts
+    ≡ record t { world = record t.world { links = put t.world.links (Server y) posts } }
 puts_at_once t y [] = λ i. record t { world = record t.world { links = λ p q. sym (put_none t.world.links (Server y) p q) i } }
 puts_at_once t y (post ∷ posts) =
     puts_at_once (account_with_put t y post.0 post.1) y posts
@@ -75,14 +77,16 @@ puts_unread plain t y (post ∷ posts) good s =
     (put_unread plain t y post.0 post.1 (unread_foreign post.1 first.0) first.1 s)
 
 -- acknowledgements
-pub acks_unread : (w : LogWorld) (items : List Item) (y : ℕ) (pred : Option Neighbour) (n : ℕ) (post : Post (List Entry)) → Among post (ack_posts pred n)
+pub acks_unread : (w : LogWorld) (items : List Item) (y : ℕ) (pred : Option Neighbour) (n : ℕ) (post : Post (List Entry))
+    → Among post (ack_posts pred n)
     → IsUnread post.1 × IsJustified w items (Server y) post.0 post.1
 acks_unread w items y None n post a = absurd a
 acks_unread w items y (Some pred) n post (inl e) = subst (λ (q : Post (List Entry)). IsUnread q.1 × IsJustified w items (Server y) q.0 q.1) e (tt, tt)
 acks_unread w items y (Some pred) n post (inr a) = absurd a
 
 -- an answer to an entry
-pub answers_unread : (w : LogWorld) (items : List Item) (y : ℕ) (e : Entry) (reply : Option Reply) → ((r : Reply) → reply ≡ Some r → IsGiven items e.client e.number r)
+pub answers_unread : (w : LogWorld) (items : List Item) (y : ℕ) (e : Entry) (reply : Option Reply)
+    → ((r : Reply) → reply ≡ Some r → IsGiven items e.client e.number r)
     → (post : Post (List Entry)) → Among post (answer_posts e reply) → IsUnread post.1 × IsJustified w items (Server y) post.0 post.1
 answers_unread w items y e None given post a = absurd a
 answers_unread w items y e (Some reply) given post (inl is) =
@@ -111,7 +115,8 @@ no_tail_log v log none has ends = let is : ◌≡◌ {A = Log} None (Some log) =
 
 module _ {P : Type 0} (plain : Plain P) (t : Account) (s : IsSound plain t) (from : Process) (not_master : is_same Master from ≡ false)
     (y : ℕ) (v : ServerView (List Entry)) (good : IsGoodView t.world from y v)
-    (shows : (log : List Entry) → first_log (with_view t.world from y v) y ≡ Some log → (shown : List Entry) × (first_log t.world y ≡ Some shown) × IsPrefix shown log)
+    (shows : (log : List Entry) → first_log (with_view t.world from y v) y ≡ Some log
+    → (shown : List Entry) × (first_log t.world y ≡ Some shown) × IsPrefix shown log)
     (alive : t.world.failed y ≡ false) where
   abbrev w : LogWorld
   w = t.world

@@ -37,7 +37,13 @@ module _ {P : Type 0} (plain : Plain P) (t : Account) (s : IsSound plain t) (x :
     begun = s.begun;
     committed_begun = s.committed_begun;
     justified = λ from to m a. justified_later t.world failed t.items t.items
-        (record { begun = λ o h. h; given = λ i h. h; opened = λ z k h. h; failed = λ z h. at_cases (λ b. b ≡ true) x true t.world.failed z (λ e. refl) (λ f. h) }) from to m (s.justified from to m a);
+        (record {
+          begun = λ o h. h;
+          given = λ i h. h;
+          opened = λ z k h. h;
+          failed = λ z h. at_cases (λ b. b ≡ true) x
+              true t.world.failed z (λ e. refl) (λ f. h);
+        }) from to m (s.justified from to m a);
     acted = s.acted;
     replays = s.replays;
     rising = s.rising;
@@ -50,4 +56,5 @@ module _ {P : Type 0} (plain : Plain P) (t : Account) (s : IsSound plain t) (x :
 
   -- and its last word is put
   pub stop_sound : IsSound plain (record t { world = did_in t.world (Server x) stop_effect })
-  stop_sound = put_unread plain (record t { world = failed }) x Master message.Gone (unread_foreign message.Gone tt) (at_same x true t.world.failed) fail_sound
+  stop_sound = put_unread plain (record t { world = failed }) x Master message.Gone (unread_foreign message.Gone tt)
+      (at_same x true t.world.failed) fail_sound

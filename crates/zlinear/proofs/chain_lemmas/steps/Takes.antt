@@ -1,7 +1,8 @@
 -- A server takes a message of another server: what it would hold after all that its predecessor put stays, and what it
 -- shows first only grows.
 use Rattle.std.specs.Prelude.{is_none}
-use Rattle.std.proofs.Common.{◌≡◌, ℕ, ◌+◌, true, false, nat_lt, ◌==◌, List, [], ◌∷◌, ◌++◌, drop, length, Option, Some, None, refl, sym, ap, ◌∙◌, subst, inl, inr, eqb-true, eq-eqb}
+use Rattle.std.proofs.Common.{◌≡◌, ℕ, ◌+◌, true, false, nat_lt, ◌==◌, List, [], ◌∷◌, ◌++◌, drop, length, Option, Some}
+use Rattle.std.proofs.Common.{None, refl, sym, ap, ◌∙◌, subst, inl, inr, eqb-true, eq-eqb}
 use Rattle.zcalls.specs.declared.call.Entry.{Entry}
 use Rattle.zcalls.specs.Lists.{ComesBefore}
 use Rattle.zcalls.specs.Kept.{Plain}
@@ -12,7 +13,8 @@ use Rattle.zprotocol.specs.declared.process.Process.{Process}
 use Rattle.zprotocol.specs.declared.process.Process.TheVariants.{Master, Server}
 use Rattle.zprotocol.specs.server.View.{ServerView, Neighbour, Transfer}
 use Rattle.zprotocol.specs.server.Table.{ServerResult, is_neighbour, accept_result, update_row, ack_row, snapshot_row, server_step}
-use Rattle.zprotocol.specs.server.support.Cases.{IsAccepted, IsRow, Processes, Forwards, Ignores, Submits, Updates, Asks, Acknowledges, Shows, Turns, Follows, Leads, Ends}
+use Rattle.zprotocol.specs.server.support.Cases.{IsAccepted, IsRow, Processes, Forwards, Ignores, Submits, Updates}
+use Rattle.zprotocol.specs.server.support.Cases.{Asks, Acknowledges, Shows, Turns, Follows, Leads, Ends}
 use Rattle.zprotocol.proofs.server_lemmas.Fields.{view_of}
 use Rattle.zprotocol.proofs.server_lemmas.Cases.{server_case}
 use Rattle.zprotocol.specs.master.View.{members}
@@ -20,7 +22,8 @@ use Rattle.zworld_model.specs.Links.{Links, is_same, without_front}
 use Rattle.zworld_model.specs.World.{at}
 use Rattle.zlinear.specs.legal.Prefix.{IsPrefix}
 use Rattle.zlinear.proofs.legal_lemmas.lists.Prefixes.{prefix_of}
-use Rattle.zlinear.specs.chain.Flow.{log_machine, LogWorld, LogMessage, Log, log_with_message, flow, first_snapshot, or_else, log_at, final_log_by, final_log, first_snapshot_by, first_log, length_of}
+use Rattle.zlinear.specs.chain.Flow.{log_machine, LogWorld, LogMessage, Log, log_with_message, flow, first_snapshot}
+use Rattle.zlinear.specs.chain.Flow.{or_else, log_at, final_log_by, final_log, first_snapshot_by, first_log, length_of}
 use Rattle.zlinear.specs.chain.Last.{HasExactLast}
 use Rattle.zlinear.specs.chain.Chain.{queue, IsAhead, IsMember, HasNoTailOrder}
 use Rattle.zlinear.specs.chain.Sound.{ChainIsOrdered, AllShowCommitted}
@@ -37,7 +40,8 @@ module _ {P : Type 0} (plain : Plain P) where
 
   -- what a message of the predecessor makes of the log is what flows
   update_flows : (machine : Log) (sent : List (ℕ × Entry)) (p k : ℕ) (succ : Option Neighbour) (epoch n : ℕ) (e : Entry)
-      → (update_row (log_machine plain) (view_of machine (length_of machine) sent (Some (p, k)) succ) p epoch n e).0.machine ≡ log_with_message k machine (message.Update epoch n e)
+      → (update_row (log_machine plain) (view_of machine (length_of machine) sent (Some (p, k)) succ) p epoch n e).0.machine
+      ≡ log_with_message k machine (message.Update epoch n e)
   unfolding update_row
   update_flows None sent p k succ epoch n e = elim (test (k == epoch)) [ inl t ↦ rw t refl | inr f ↦ rw f refl ]
   update_flows (Some log) sent p k succ epoch n e =
@@ -53,8 +57,10 @@ module _ {P : Type 0} (plain : Plain P) where
         | inr f ↦ rw f refl
       ])
 
-  snapshot_flows : (machine : Log) (last : ℕ) (sent : List (ℕ × Entry)) (p k : ℕ) (succ : Option Neighbour) (epoch : ℕ) (transfer : Transfer (List Entry))
-      → (snapshot_row (view_of machine last sent (Some (p, k)) succ) p epoch transfer).0.machine ≡ log_with_message k machine (message.Snapshot epoch transfer)
+  snapshot_flows : (machine : Log) (last : ℕ) (sent : List (ℕ × Entry)) (p k : ℕ) (succ : Option Neighbour) (epoch : ℕ)
+      (transfer : Transfer (List Entry))
+      → (snapshot_row (view_of machine last sent (Some (p, k)) succ) p epoch transfer).0.machine
+      ≡ log_with_message k machine (message.Snapshot epoch transfer)
   unfolding snapshot_row
   snapshot_flows (Some log) last sent p k succ epoch transfer = elim (test (k == epoch)) [ inl t ↦ rw t refl | inr f ↦ rw f refl ]
   snapshot_flows None last sent p k succ epoch transfer =
@@ -66,7 +72,8 @@ module _ {P : Type 0} (plain : Plain P) where
   ack_machine v t epoch n = elim (test (is_neighbour v.succ t epoch)) [ inl y ↦ rw y refl | inr f ↦ rw f refl ]
 
   flows_by : (machine : Log) (sent : List (ℕ × Entry)) (p k : ℕ) (succ : Option Neighbour) (m : LogMessage)
-      → (server_step (log_machine plain) (view_of machine (length_of machine) sent (Some (p, k)) succ) (Server p) m).0.machine ≡ log_with_message k machine m
+      → (server_step (log_machine plain) (view_of machine (length_of machine) sent (Some (p, k)) succ) (Server p) m).0.machine
+      ≡ log_with_message k machine m
   unfolding server_step
   flows_by machine sent p k succ (message.Update epoch n e) = update_flows machine sent p k succ epoch n e
   flows_by machine sent p k succ (message.Snapshot epoch transfer) = snapshot_flows machine (length_of machine) sent p k succ epoch transfer
@@ -74,16 +81,20 @@ module _ {P : Type 0} (plain : Plain P) where
   flows_by machine sent p k succ m = refl
 
   -- the predecessor's message makes of the log what flows
-  pub takes_flows : (v : ServerView (List Entry)) (p k : ℕ) (m : LogMessage) → HasExactLast v → v.pred ≡ Some (p, k) → (server_step (log_machine plain) v (Server p) m).0.machine ≡ log_with_message k v.machine m
+  pub takes_flows : (v : ServerView (List Entry)) (p k : ℕ) (m : LogMessage) → HasExactLast v → v.pred ≡ Some (p, k)
+      → (server_step (log_machine plain) v (Server p) m).0.machine ≡ log_with_message k v.machine m
   takes_flows v p k m exact pred =
-      ap (λ (u : ServerView (List Entry)). (server_step (log_machine plain) u (Server p) m).0.machine) (λ i. record v { last = exact i; pred = pred i })
+      ap (λ (u : ServerView (List Entry)). (server_step (log_machine plain) u (Server p) m).0.machine)
+      (λ i. record v { last = exact i; pred = pred i })
       ∙ flows_by v.machine v.sent p k v.succ m
 
   -- a message of another server leaves the log
-  pub takes_stays : (v : ServerView (List Entry)) (p : ℕ) (m : LogMessage) → ((k : ℕ) → v.pred ≡ Some (p, k) → ⊥) → (server_step (log_machine plain) v (Server p) m).0.machine ≡ v.machine
+  pub takes_stays : (v : ServerView (List Entry)) (p : ℕ) (m : LogMessage) → ((k : ℕ) → v.pred ≡ Some (p, k) → ⊥)
+      → (server_step (log_machine plain) v (Server p) m).0.machine ≡ v.machine
   takes_stays v p m other = by (Server p) m (server_step (log_machine plain) v (Server p) m) (server_case (log_machine plain) v (Server p) m) refl
     where
-      by : (from : Process) (m : LogMessage) (r : ServerResult (List Entry)) → IsRow (log_machine plain) v from m r → from ≡ Server p → r.0.machine ≡ v.machine
+      by : (from : Process) (m : LogMessage) (r : ServerResult (List Entry)) → IsRow (log_machine plain) v from m r
+          → from ≡ Server p → r.0.machine ≡ v.machine
       by from m r (Ignores from' m') is = refl
       by from m r (Submits c number update log r' has head room did) is = cc
       by from m r (Updates q epoch n e log r' has pred next room did) is =
@@ -97,15 +108,18 @@ module _ {P : Type 0} (plain : Plain P) where
       by from m r (Leads epoch) is = refl
       by from m r (Ends epoch) is = refl
 
-  accepted_pred : (v : ServerView (List Entry)) (log : List Entry) (n : ℕ) (e : Entry) (r : ServerResult (List Entry)) → IsAccepted (log_machine plain) v log n e r → (r.0.pred ≡ v.pred) × (r.0.succ ≡ v.succ)
+  accepted_pred : (v : ServerView (List Entry)) (log : List Entry) (n : ℕ) (e : Entry) (r : ServerResult (List Entry))
+      → IsAccepted (log_machine plain) v log n e r → (r.0.pred ≡ v.pred) × (r.0.succ ≡ v.succ)
   accepted_pred v log n e r (Processes ends) = (refl, refl)
   accepted_pred v log n e r (Forwards succ is) = (refl, refl)
 
   -- only the master changes neighbours
-  pub neighbours_stay : (v : ServerView (List Entry)) (from : Process) (m : LogMessage) (r : ServerResult (List Entry)) → IsRow (log_machine plain) v from m r
+  pub neighbours_stay : (v : ServerView (List Entry)) (from : Process) (m : LogMessage) (r : ServerResult (List Entry))
+      → IsRow (log_machine plain) v from m r
       → is_same Master from ≡ false → (r.0.pred ≡ v.pred) × (r.0.succ ≡ v.succ)
   neighbours_stay v from m r (Ignores from' m') f = (refl, refl)
-  neighbours_stay v from m r (Submits c number update log r' has head room did) f = accepted_pred v log (v.last + 1) (record { client = c; number = number; update = update }) r did
+  neighbours_stay v from m r (Submits c number update log r' has head room did) f = accepted_pred v log (v.last + 1)
+      (record { client = c; number = number; update = update }) r did
   neighbours_stay v from m r (Updates q epoch n e log r' has pred next room did) f = accepted_pred v log n e r did
   neighbours_stay v from m r (Asks c number query log has tail) f = (refl, refl)
   neighbours_stay v from m r (Acknowledges t epoch n succ) f = (refl, refl)
@@ -143,7 +157,8 @@ module _ (w : LogWorld) (from : Process) (y : ℕ) (v : ServerView (List Entry))
   -- what other servers would hold in the end
   pub final_log_elsewhere : (z : ℕ) → (z == y) ≡ false → final_log w1 z ≡ final_log w z
   final_log_elsewhere z f =
-      ap (λ (u : ServerView (List Entry)). final_log_by w1 z u.machine u.pred) (at_other y v w.servers z f) ∙ final_log_elsewhere_by z f (w.servers z).machine (w.servers z).pred
+      ap (λ (u : ServerView (List Entry)). final_log_by w1 z u.machine u.pred) (at_other y v w.servers z f)
+      ∙ final_log_elsewhere_by z f (w.servers z).machine (w.servers z).pred
 
   first_elsewhere_by : (z : ℕ) → (z == y) ≡ false → (pred : Option Neighbour) → first_snapshot_by w1 z pred ≡ first_snapshot_by w z pred
   first_elsewhere_by z f None = refl
@@ -152,7 +167,8 @@ module _ (w : LogWorld) (from : Process) (y : ℕ) (v : ServerView (List Entry))
   -- and what they show first
   pub first_log_elsewhere : (z : ℕ) → (z == y) ≡ false → first_log w1 z ≡ first_log w z
   first_log_elsewhere z f =
-      ap (λ (u : ServerView (List Entry)). or_else u.machine (first_snapshot_by w1 z u.pred)) (at_other y v w.servers z f) ∙ ap (or_else (w.servers z).machine) (first_elsewhere_by z f (w.servers z).pred)
+      ap (λ (u : ServerView (List Entry)). or_else u.machine (first_snapshot_by w1 z u.pred)) (at_other y v w.servers z f)
+      ∙ ap (or_else (w.servers z).machine) (first_elsewhere_by z f (w.servers z).pred)
 
   -- the order of the chain stays where logs and successors do, or grow
   module _ (not_master : is_same Master from ≡ false)
@@ -181,7 +197,8 @@ module _ (w : LogWorld) (from : Process) (y : ℕ) (v : ServerView (List Entry))
               own = new.0;
               holds = ap (λ (u : ServerView (List Entry)). u.machine) view ∙ new.1;
               begins = prefix_of log h.own new.0 h.begins new.2;
-              has_successor = ap (λ (u : ServerView (List Entry)). is_none u.succ) view ∙ ap is_none same_succ ∙ subst (λ z. is_none (w.servers z).succ ≡ false) e h.has_successor;
+              has_successor = ap (λ (u : ServerView (List Entry)). is_none u.succ) view ∙ ap is_none same_succ
+                  ∙ subst (λ z. is_none (w.servers z).succ ≡ false) e h.has_successor;
               no_tail_order = subst HasNoTailOrder (sym (same_queue x)) h.no_tail_order;
             }
 
@@ -195,7 +212,8 @@ module _ (w : LogWorld) (from : Process) (y : ℕ) (v : ServerView (List Entry))
     ]
 
   -- what is committed begins what each shows, where what the taker shows only grows
-  pub committed_view : (done : List Entry) → ((log : List Entry) → first_log w1 y ≡ Some log → (old : List Entry) × (first_log w y ≡ Some old) × IsPrefix old log)
+  pub committed_view : (done : List Entry) → ((log : List Entry) → first_log w1 y ≡ Some log
+      → (old : List Entry) × (first_log w y ≡ Some old) × IsPrefix old log)
       → AllShowCommitted w done → AllShowCommitted w1 done
   committed_view done own shown s log member is = elim (test (s == y)) [
     | inl t ↦ let e : s ≡ y = eqb-true _ _ t in

@@ -15,7 +15,8 @@ use Rattle.zworld_model.specs.PlainTree.{service_of}
 use Rattle.zlinear.specs.legal.Prefix.{IsPrefix, IsEntry}
 use Rattle.zlinear.specs.legal.Items.{Item, Replays, AreCommitted, TimesRise, AreBegunInTime, AreAnsweredInTime, AllBegun}
 use Rattle.zlinear.specs.chain.Flow.{LogWorld, log_at, final_log}
-use Rattle.zlinear.specs.chain.Chain.{queue, IsAhead, IsOpened, IsUsed, IsPast, Place, place_in_chain, LeadsTo, is_fresh, HasDistinctEpochs, HasNoTailOrderBehind}
+use Rattle.zlinear.specs.chain.Chain.{queue, IsAhead, IsOpened, IsUsed, IsPast, Place, place_in_chain, LeadsTo}
+use Rattle.zlinear.specs.chain.Chain.{is_fresh, HasDistinctEpochs, HasNoTailOrderBehind}
 use Rattle.zlinear.specs.chain.Account.{Account}
 use Rattle.zlinear.specs.chain.Sound.{IsSound, AllShowCommitted, TailHoldsCommitted, OrdersLead}
 use Rattle.zlinear.proofs.chain_lemmas.links.Links.{at_cases, front_among}
@@ -53,7 +54,8 @@ pub record AreGoodLists {P : Type 0} (plain : Plain P) (w : LogWorld) (committed
   pub answered : AreAnsweredInTime items 0 w.history
 
 -- each server has its old view, or the taker its new one
-pub each_at : (Q : ℕ → ServerView (List Entry) → Type 0) (y : ℕ) (v : ServerView (List Entry)) (servers : ℕ → ServerView (List Entry)) (s : ℕ) → Q y v → Q s (servers s) → Q s (at y v servers s)
+pub each_at : (Q : ℕ → ServerView (List Entry) → Type 0) (y : ℕ) (v : ServerView (List Entry)) (servers : ℕ → ServerView (List Entry)) (s : ℕ)
+    → Q y v → Q s (servers s) → Q s (at y v servers s)
 each_at Q y v servers s new old = at_cases (Q s) y v servers s (λ e. subst (λ z. Q z v) (sym e) new) (λ f. old)
 
 module _ {P : Type 0} (plain : Plain P) (t : Account) (s : IsSound plain t) (from : Process) (not_master : is_same Master from ≡ false)
@@ -72,9 +74,11 @@ module _ {P : Type 0} (plain : Plain P) (t : Account) (s : IsSound plain t) (fro
 
   line : OrdersLead w1
   line z place is = subst (λ q. LeadsTo (IsPast w) (is_fresh w1 z) (w1.servers z).pred q place) (sym (same_queue z))
-      (each_at (λ x u. (p : Place) → place_in_chain w x ≡ Some p → LeadsTo (IsPast w) (is_none u.machine && is_none u.pred) u.pred (queue w x) p) y v w.servers z
+      (each_at (λ x u. (p : Place) → place_in_chain w x ≡ Some p → LeadsTo (IsPast w) (is_none u.machine && is_none u.pred) u.pred (queue w x) p)
+      y v w.servers z
       (λ p is'. subst (λ pred. LeadsTo (IsPast w) (is_none v.machine && is_none pred) pred (queue w y) p) (sym good.pred)
-      (leads_more (IsPast w) (IsPast w) (is_fresh w y) (is_none v.machine && is_none (w.servers y).pred) (w.servers y).pred (queue w y) p (λ q past. past)
+      (leads_more (IsPast w) (IsPast w) (is_fresh w y) (is_none v.machine && is_none (w.servers y).pred) (w.servers y).pred
+      (queue w y) p (λ q past. past)
       (λ fresh. still (is_none (log_at w y)) (is_none (w.servers y).pred) fresh (good.fresh fresh)) (s.line y p is')))
       (s.line z) place is)
     where
@@ -88,16 +92,22 @@ module _ {P : Type 0} (plain : Plain P) (t : Account) (s : IsSound plain t) (fro
   view_sound committed items more lists = record {
     distinct = s.distinct;
     used = s.used;
-    blank = λ z unused. (each_at (λ x u. (IsUsed w x → ⊥) → u ≡ spare) y v w.servers z good.blank (λ h. (s.blank z h).0) unused, same_queue z ∙ (s.blank z unused).1);
+    blank = λ z unused. (
+      each_at (λ x u. (IsUsed w x → ⊥) → u ≡ spare) y v w.servers z good.blank (λ h. (s.blank z h).0) unused,
+      same_queue z
+          ∙ (s.blank z unused).1,
+    );
     live = s.live;
     line = line;
-    successors = λ x z k is. opened z k (each_at (λ a u. u.succ ≡ Some (z, k) → IsOpened w z k) y v w.servers x (λ e. s.successors y z k (sym good.succ ∙ e)) (s.successors x z k) is);
+    successors = λ x z k is. opened z k (each_at (λ a u. u.succ ≡ Some (z, k) → IsOpened w z k) y v w.servers x
+        (λ e. s.successors y z k (sym good.succ ∙ e)) (s.successors x z k) is);
     epochs = λ z. subst (HasDistinctEpochs w.master.epoch) (sym (same_queue z)) (s.epochs z);
     tail_orders = λ z. subst (HasNoTailOrderBehind w z) (sym (same_queue z)) (s.tail_orders z);
     ordered = ordered_view w from y v not_master good.grows good.succ good.ahead s.ordered;
     committed = lists.shown;
     tail = lists.tail;
-    sent = λ x log n e is a. each_at (λ z u. u.machine ≡ Some log → Among (n, e) u.sent → IsEntry log n e) y v w.servers x (good.sent log n e) (s.sent x log n e) is a;
+    sent = λ x log n e is a. each_at (λ z u. u.machine ≡ Some log → Among (n, e) u.sent → IsEntry log n e) y v w.servers
+        x (good.sent log n e) (s.sent x log n e) is a;
     begun = λ x log is. each_at (λ z u. u.machine ≡ Some log → AllBegun w.history log) y v w.servers x (good.begun log) (s.begun x log) is;
     committed_begun = lists.committed_begun;
     justified = λ p q m a. justified_later w w1 t.items items (record { begun = λ o h. h; given = more; opened = opened; failed = λ z h. h }) p q m

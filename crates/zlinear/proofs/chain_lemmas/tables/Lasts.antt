@@ -1,5 +1,6 @@
 -- The number of the last entry is the length of the log.
-use Rattle.std.proofs.Common.{◌≡◌, ℕ, ◌+◌, Bool, true, false, if◌then◌else◌, nat_lt, ◌==◌, List, [], ◌∷◌, ◌++◌, length, length-append, Option, Some, None, refl, sym, ap, subst, ◌∙◌, inl, inr, arith}
+use Rattle.std.proofs.Common.{◌≡◌, ℕ, ◌+◌, Bool, true, false, if◌then◌else◌, nat_lt, ◌==◌, List, [], ◌∷◌, ◌++◌, length}
+use Rattle.std.proofs.Common.{length-append, Option, Some, None, refl, sym, ap, subst, ◌∙◌, inl, inr, arith}
 use Rattle.zcalls.specs.declared.call.Entry.{Entry}
 use Rattle.zcalls.specs.declared.reply.Reply.{Reply}
 use Rattle.zcalls.specs.Kept.{Plain}
@@ -10,7 +11,8 @@ use Rattle.zprotocol.specs.declared.process.Process.{Process}
 use Rattle.zprotocol.specs.declared.process.Process.TheVariants.{Master, Server, Client}
 use Rattle.zprotocol.specs.server.View.{ServerView, Neighbour, Post, spare, opening_server}
 use Rattle.zprotocol.specs.server.Table.{ServerResult, ack_posts, answer_posts, forward_post, entries_above, missing_posts, server_step, last_number}
-use Rattle.zprotocol.specs.server.support.Cases.{IsAccepted, IsRow, Processes, Forwards, Ignores, Submits, Updates, Asks, Acknowledges, Shows, Turns, Follows, Leads, Ends}
+use Rattle.zprotocol.specs.server.support.Cases.{IsAccepted, IsRow, Processes, Forwards, Ignores, Submits, Updates}
+use Rattle.zprotocol.specs.server.support.Cases.{Asks, Acknowledges, Shows, Turns, Follows, Leads, Ends}
 use Rattle.zprotocol.proofs.server_lemmas.Cases.{server_case}
 use Rattle.zworld_model.specs.declared.event.Event.{Event}
 use Rattle.zworld_model.specs.World.{opening_world}
@@ -37,7 +39,8 @@ module _ {P : Type 0} (plain : Plain P) where
   longer : (log : List Entry) (e : Entry) (n last : ℕ) → n ≡ last + 1 → last ≡ length log → n ≡ length (log ++ e ∷ [])
   longer log e n last next is = let l : length (log ++ e ∷ []) ≡ length log + length (e ∷ []) = length-append log (e ∷ []) in omega arith
 
-  accepted_exact : (v : ServerView (List Entry)) (log : List Entry) (n : ℕ) (e : Entry) (r : ServerResult (List Entry)) → IsAccepted (log_machine plain) v log n e r
+  accepted_exact : (v : ServerView (List Entry)) (log : List Entry) (n : ℕ) (e : Entry) (r : ServerResult (List Entry))
+      → IsAccepted (log_machine plain) v log n e r
       → v.machine ≡ Some log → n ≡ v.last + 1 → HasExactLast v → HasExactLast r.0 × AllPosts IsExact r.1
   accepted_exact v log n e r (Processes ends) has next exact = (
     longer log e n v.last next (exact ∙ ap length_of has),
@@ -46,11 +49,14 @@ module _ {P : Type 0} (plain : Plain P) where
   accepted_exact v log n e r (Forwards succ is) has next exact =
       (longer log e n v.last next (exact ∙ ap length_of has), all_and IsExact (forward_post succ (n, e)) [] tt (all_none IsExact))
 
-  lacks_exact : (v : ServerView (List Entry)) (log : List Entry) (succ : Neighbour) (last : Option ℕ) → v.last ≡ length log → AllPosts IsExact (missing_posts v log succ last)
-  lacks_exact v log succ None is = all_and IsExact (Server succ.0, message.Snapshot succ.1 (record { last = v.last; machine = log })) [] is (all_none IsExact)
+  lacks_exact : (v : ServerView (List Entry)) (log : List Entry) (succ : Neighbour) (last : Option ℕ) → v.last ≡ length log
+      → AllPosts IsExact (missing_posts v log succ last)
+  lacks_exact v log succ None is = all_and IsExact (Server succ.0, message.Snapshot succ.1 (record { last = v.last; machine = log }))
+      [] is (all_none IsExact)
   lacks_exact v log succ (Some n) is = all_map IsExact (forward_post succ) (entries_above n v.sent) (λ x. tt)
 
-  ends_exact : (v : ServerView (List Entry)) (machine : Log) → AllPosts IsExact (elim machine as (λ x. List (Post (List Entry))) [ None ↦ [] | Some m ↦ ack_posts v.pred v.last ])
+  ends_exact : (v : ServerView (List Entry)) (machine : Log)
+      → AllPosts IsExact (elim machine as (λ x. List (Post (List Entry))) [ None ↦ [] | Some m ↦ ack_posts v.pred v.last ])
   ends_exact v None = all_none IsExact
   ends_exact v (Some m) = acks_exact v.pred v.last
 
@@ -62,8 +68,11 @@ module _ {P : Type 0} (plain : Plain P) where
   row_exact v from m r (Asks c number query log has tail) exact is =
       (exact, all_and IsExact (Client c, message.Answer number ((log_machine plain).ask log query)) [] tt (all_none IsExact))
   row_exact v from m r (Acknowledges t epoch n succ) exact is = (exact, acks_exact v.pred n)
-  row_exact v from m r (Shows p epoch transfer none pred) exact is =
-      (is, all_and IsExact (Server p, message.Ack epoch transfer.last) ((Master, message.Joined epoch) ∷ []) tt (all_and IsExact (Master, message.Joined epoch) [] tt (all_none IsExact)))
+  row_exact v from m r (Shows p epoch transfer none pred) exact is = (
+    is,
+    all_and IsExact (Server p, message.Ack epoch transfer.last) ((Master, message.Joined epoch) ∷ []) tt
+        (all_and IsExact (Master, message.Joined epoch) [] tt (all_none IsExact)),
+  )
   row_exact v from m r (Turns epoch p) exact is = (exact, all_and IsExact (Master, message.Have epoch (last_number v)) [] tt (all_none IsExact))
   row_exact v from m r (Follows epoch t last log has) exact is = (exact, lacks_exact v log (t, epoch) last (exact ∙ ap length_of has))
   row_exact v from m r (Leads epoch) exact is = (exact, all_none IsExact)
@@ -92,7 +101,8 @@ module _ {P : Type 0} (plain : Plain P) where
       record { views = all.views; under_way = all.under_way }
 
   -- so does every list of events, from the opening
-  pub lasts_kept : (servers clients : ℕ) (events : List Event) → LastsAreLengths (run_keeping (log_machine plain) (opening_world (log_machine plain) servers clients) events)
+  pub lasts_kept : (servers clients : ℕ) (events : List Event)
+      → LastsAreLengths (run_keeping (log_machine plain) (opening_world (log_machine plain) servers clients) events)
   lasts_kept servers clients events =
       let all = run_all (log_machine plain) HasExactLast IsExact
       (λ v from m exact is. row_exact v from m (server_step (log_machine plain) v from m) (server_case (log_machine plain) v from m) exact is)
@@ -109,7 +119,8 @@ module _ {P : Type 0} (plain : Plain P) where
   link_exact true m link a = absurd a
   link_exact false m link a = a
 
-  pub lasts : (servers clients : ℕ) (events : List Event) → LastsAreLengths (run (log_machine plain) (opening_world (log_machine plain) servers clients) events)
+  pub lasts : (servers clients : ℕ) (events : List Event)
+      → LastsAreLengths (run (log_machine plain) (opening_world (log_machine plain) servers clients) events)
   lasts servers clients events =
       let kept = run_keeping (log_machine plain) (opening_world (log_machine plain) servers clients) events in
       let all = lasts_kept servers clients events in

@@ -37,7 +37,8 @@ module _ {M : Type 0} where
   -- the master's
   told_orders : (v : MasterView) (first : List (Post M)) → AllPosts IsOrder first → AllPosts IsOrder (master.and_tell_clients v first).1
   told_orders v first h =
-      all_append IsOrder first (master.config_posts v) h (all_map IsOrder (λ c. (Client c, message.Config v.epoch (head_of v) (tail_of v))) (range_with_len 0 v.clients) (λ c. tt))
+      all_append IsOrder first (master.config_posts v) h (all_map IsOrder (λ c. (Client c, message.Config v.epoch (head_of v) (tail_of v)))
+      (range_with_len 0 v.clients) (λ c. tt))
 
   one_order : (post : Post M) → IsOrder post.1 → AllPosts IsOrder (post ∷ [])
   one_order post h = all_and IsOrder post [] h (all_none IsOrder)
@@ -65,7 +66,8 @@ module _ {M : Type 0} where
   ]
 
   have_orders : (v : MasterView) (s epoch : ℕ) (last found : Option ℕ)
-      → AllPosts IsOrder (elim found as (λ x. MasterView × List (Post M)) [ None ↦ (v, []) | Some p ↦ (v, (Server p, message.NewSucc epoch s last) ∷ []) ]).1
+      → AllPosts IsOrder (elim found as (λ x. MasterView × List (Post M))
+      [ None ↦ (v, []) | Some p ↦ (v, (Server p, message.NewSucc epoch s last) ∷ []) ]).1
   have_orders v s epoch last None = all_none IsOrder
   have_orders v s epoch last (Some p) = one_order (Server p, message.NewSucc epoch s last) tt
 
@@ -146,7 +148,8 @@ module _ {M : Type 0} where
 
   answer_requests : (v : ClientView) (number : ℕ) (reply : Reply) → AllPosts IsRequest (client.answer_row {T = Transfer M} v number reply).1
   unfolding client.answer_row
-  answer_requests v number reply = elim (test (client.is_waiting_for v number)) [ inl t ↦ rw t (all_none IsRequest) | inr f ↦ rw f (all_none IsRequest) ]
+  answer_requests v number reply = elim (test (client.is_waiting_for v number))
+      [ inl t ↦ rw t (all_none IsRequest) | inr f ↦ rw f (all_none IsRequest) ]
 
   config_requests : (v : ClientView) (epoch : ℕ) (head tail : Option ℕ) → AllPosts IsRequest (client.config_row {T = Transfer M} v epoch head tail).1
   unfolding client.config_row

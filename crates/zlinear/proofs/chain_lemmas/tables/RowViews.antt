@@ -1,5 +1,6 @@
 -- What a row keeps of a view alone: Sent is of the log, logs are of calls that began, and who is spare stays so.
-use Rattle.std.proofs.Common.{◌≡◌, ℕ, ◌+◌, false, nat_lt, List, [], ◌∷◌, ◌++◌, length, Option, Some, None, refl, sym, ap, ◌∙◌, subst, inl, inr, append_assoc}
+use Rattle.std.proofs.Common.{◌≡◌, ℕ, ◌+◌, false, nat_lt, List, [], ◌∷◌, ◌++◌, length, Option, Some, None, refl, sym}
+use Rattle.std.proofs.Common.{ap, ◌∙◌, subst, inl, inr, append_assoc}
 use Rattle.zcalls.specs.declared.call.Entry.{Entry}
 use Rattle.zcalls.specs.Lists.{Among}
 use Rattle.zcalls.specs.Kept.{Plain}
@@ -9,7 +10,8 @@ use Rattle.zprotocol.specs.declared.process.Process.{Process}
 use Rattle.zprotocol.specs.declared.process.Process.TheVariants.{Master, Server}
 use Rattle.zprotocol.specs.server.View.{ServerView, Neighbour, spare}
 use Rattle.zprotocol.specs.server.Table.{ServerResult, entries_above}
-use Rattle.zprotocol.specs.server.support.Cases.{IsAccepted, IsRow, Processes, Forwards, Ignores, Submits, Updates, Asks, Acknowledges, Shows, Turns, Follows, Leads, Ends}
+use Rattle.zprotocol.specs.server.support.Cases.{IsAccepted, IsRow, Processes, Forwards, Ignores, Submits, Updates}
+use Rattle.zprotocol.specs.server.support.Cases.{Asks, Acknowledges, Shows, Turns, Follows, Leads, Ends}
 use Rattle.zworld_model.specs.History.{HasBegun}
 use Rattle.zworld_model.specs.Links.{is_same}
 use Rattle.zlinear.specs.legal.Prefix.{IsEntry}
@@ -44,7 +46,8 @@ above_among n (s ∷ sent) x a = elim (test (nat_lt n s.0)) [
     first more (inr b) = inr (more b)
 
 module _ {P : Type 0} (plain : Plain P) where
-  accepted_sent : (v : ServerView (List Entry)) (mine : List Entry) (n : ℕ) (e : Entry) (r : ServerResult (List Entry)) → IsAccepted (log_machine plain) v mine n e r
+  accepted_sent : (v : ServerView (List Entry)) (mine : List Entry) (n : ℕ) (e : Entry) (r : ServerResult (List Entry))
+      → IsAccepted (log_machine plain) v mine n e r
       → v.machine ≡ Some mine → n ≡ length mine + 1 → IsLogged v → IsLogged r.0
   accepted_sent v mine n e r (Processes ends) has next h log k d is a =
       subst (λ l. IsEntry l k d) (cc is) (entry_stays mine k d e (h mine k d has a))
@@ -59,12 +62,14 @@ module _ {P : Type 0} (plain : Plain P) where
   next_of v mine has exact = ap (λ l. l + 1) (exact ∙ ap length_of has)
 
   -- each row keeps Sent of the log
-  pub row_sent : (v : ServerView (List Entry)) (from : Process) (m : LogMessage) (r : ServerResult (List Entry)) → IsRow (log_machine plain) v from m r
+  pub row_sent : (v : ServerView (List Entry)) (from : Process) (m : LogMessage) (r : ServerResult (List Entry))
+      → IsRow (log_machine plain) v from m r
       → HasExactLast v → IsLogged v → IsLogged r.0
   row_sent v from m r (Ignores from' m') exact h = h
   row_sent v from m r (Submits c number update mine r' has head room did) exact h =
       accepted_sent v mine (v.last + 1) (record { client = c; number = number; update = update }) r did has (next_of v mine has exact) h
-  row_sent v from m r (Updates p epoch n e mine r' has pred next room did) exact h = accepted_sent v mine n e r did has (next ∙ next_of v mine has exact) h
+  row_sent v from m r (Updates p epoch n e mine r' has pred next room did) exact h = accepted_sent v mine n e r did has
+      (next ∙ next_of v mine has exact) h
   row_sent v from m r (Asks c number query mine has tail) exact h = h
   row_sent v from m r (Acknowledges t epoch n succ) exact h = λ log k d is a. h log k d is (above_among n v.sent (k, d) a)
   row_sent v from m r (Shows p epoch transfer none pred) exact h = λ log k d is a. absurd a
@@ -73,21 +78,27 @@ module _ {P : Type 0} (plain : Plain P) where
   row_sent v from m r (Leads epoch) exact h = h
   row_sent v from m r (Ends epoch) exact h = λ log k d is a. absurd a
 
-  longer_begun : (w : LogWorld) (mine : List Entry) (e : Entry) → HasBegun w.history (operation_of e) → AllBegun w.history mine → AllBegun w.history (mine ++ e ∷ [])
-  longer_begun w mine e begun h d a = elim (among_last d mine e a) [ inl old ↦ h d old | inr same ↦ subst (λ x. HasBegun w.history (operation_of x)) same begun ]
+  longer_begun : (w : LogWorld) (mine : List Entry) (e : Entry) → HasBegun w.history (operation_of e) → AllBegun w.history mine
+      → AllBegun w.history (mine ++ e ∷ [])
+  longer_begun w mine e begun h d a = elim (among_last d mine e a)
+      [ inl old ↦ h d old | inr same ↦ subst (λ x. HasBegun w.history (operation_of x)) same begun ]
 
-  accepted_begun : (w : LogWorld) (v : ServerView (List Entry)) (mine : List Entry) (n : ℕ) (e : Entry) (r : ServerResult (List Entry)) → IsAccepted (log_machine plain) v mine n e r
+  accepted_begun : (w : LogWorld) (v : ServerView (List Entry)) (mine : List Entry) (n : ℕ) (e : Entry) (r : ServerResult (List Entry))
+      → IsAccepted (log_machine plain) v mine n e r
       → v.machine ≡ Some mine → HasBegun w.history (operation_of e) → HasBegunLog w v → HasBegunLog w r.0
   accepted_begun w v mine n e r (Processes ends) has begun h log is = subst (AllBegun w.history) (cc is) (longer_begun w mine e begun (h mine has))
-  accepted_begun w v mine n e r (Forwards succ has_succ) has begun h log is = subst (AllBegun w.history) (cc is) (longer_begun w mine e begun (h mine has))
+  accepted_begun w v mine n e r (Forwards succ has_succ) has begun h log is = subst (AllBegun w.history) (cc is)
+      (longer_begun w mine e begun (h mine has))
 
   -- each row keeps logs of calls that began
-  pub row_begun : (w : LogWorld) (items : List Item) (y : ℕ) (v : ServerView (List Entry)) (from : Process) (m : LogMessage) (r : ServerResult (List Entry))
+  pub row_begun : (w : LogWorld) (items : List Item) (y : ℕ) (v : ServerView (List Entry)) (from : Process) (m : LogMessage)
+      (r : ServerResult (List Entry))
       → IsRow (log_machine plain) v from m r → IsJustified w items from (Server y) m → HasBegunLog w v → HasBegunLog w r.0
   row_begun w items y v from m r (Ignores from' m') justified h = h
   row_begun w items y v from m r (Submits c number update mine r' has head room did) justified h =
       accepted_begun w v mine (v.last + 1) (record { client = c; number = number; update = update }) r did has justified h
-  row_begun w items y v from m r (Updates p epoch n e mine r' has pred next room did) justified h = accepted_begun w v mine n e r did has justified.1 h
+  row_begun w items y v from m r (Updates p epoch n e mine r' has pred next room did) justified h = accepted_begun w v
+      mine n e r did has justified.1 h
   row_begun w items y v from m r (Asks c number query mine has tail) justified h = h
   row_begun w items y v from m r (Acknowledges t epoch n succ) justified h = h
   row_begun w items y v from m r (Shows p epoch transfer none pred) justified h = λ log is. subst (AllBegun w.history) (cc is) justified.1
@@ -100,7 +111,8 @@ module _ {P : Type 0} (plain : Plain P) where
   no_log v blank log has = let is : ◌≡◌ {A = Log} None (Some log) = sym (ap (λ (u : ServerView (List Entry)). u.machine) blank) ∙ has in cc
 
   -- each row leaves a spare server as it is, but the master's
-  pub row_blank : (v : ServerView (List Entry)) (from : Process) (m : LogMessage) (r : ServerResult (List Entry)) → IsRow (log_machine plain) v from m r
+  pub row_blank : (v : ServerView (List Entry)) (from : Process) (m : LogMessage) (r : ServerResult (List Entry))
+      → IsRow (log_machine plain) v from m r
       → is_same Master from ≡ false → v ≡ spare → r.0 ≡ spare
   row_blank v from m r (Ignores from' m') f blank = blank
   row_blank v from m r (Submits c number update mine r' has head room did) f blank = absurd (no_log v blank mine has)

@@ -42,7 +42,8 @@ module _ {P : Type 0} (plain : Plain P) where
   now_replays s e now r (Stays high) time more h = h
 
   -- what acts of entries replays from the state before them
-  pub acted_replays : (time : ℕ) (s : KeptState P) (es : List Entry) → Replays (service_of plain) s.plain (all_at_time time (acts_from plain.update s es))
+  pub acted_replays : (time : ℕ) (s : KeptState P) (es : List Entry)
+      → Replays (service_of plain) s.plain (all_at_time time (acts_from plain.update s es))
   acted_replays time s [] = tt
   acted_replays time s (e ∷ es) =
       let s' = (entry_step plain.update s e).0 in
@@ -65,7 +66,8 @@ module _ {P : Type 0} (plain : Plain P) where
       → after_calls (operation_step (service_of plain) p o).0 more ≡ after_calls p (if is_update o.call then (o, reply) ∷ more else more)
   item_leads p o reply more = by o.call refl
     where
-      by : (call : Call) → o.call ≡ call → after_calls (operation_step (service_of plain) p o).0 more ≡ after_calls p (if is_update o.call then (o, reply) ∷ more else more)
+      by : (call : Call) → o.call ≡ call → after_calls (operation_step (service_of plain) p o).0 more
+          ≡ after_calls p (if is_update o.call then (o, reply) ∷ more else more)
       by (Update u) e = rw e refl
       by (Query q) e = rw e refl
 
@@ -75,6 +77,7 @@ module _ {P : Type 0} (plain : Plain P) where
   items_lead p (i ∷ is) = items_lead (operation_step (service_of plain) p i.operation).0 is ∙ item_leads p i.operation i.reply (updates_of is)
 
   -- more items
-  pub replays_more : (p : P) (xs ys : List Item) → Replays (service_of plain) p xs → Replays (service_of plain) (after_items p xs) ys → Replays (service_of plain) p (xs ++ ys)
+  pub replays_more : (p : P) (xs ys : List Item) → Replays (service_of plain) p xs → Replays (service_of plain) (after_items p xs) ys
+      → Replays (service_of plain) p (xs ++ ys)
   replays_more p [] ys h k = k
   replays_more p (i ∷ xs) ys h k = (h.0, replays_more (operation_step (service_of plain) p i.operation).0 xs ys h.1 k)

@@ -12,7 +12,8 @@ use Rattle.zcalls.proofs.Acting.Outcome.{Acts, Stays}
 use Rattle.zworld_model.specs.History.{History, HasBegun}
 use Rattle.zworld_model.specs.PlainTree.{service_of}
 use Rattle.zlinear.specs.legal.Prefix.{IsPrefix}
-use Rattle.zlinear.specs.legal.Items.{Item, at_time, all_at_time, is_update, updates_of, Replays, AreCommitted, TimesRise, AreBegunInTime, AreAnsweredInTime, AllBegun, new_items}
+use Rattle.zlinear.specs.legal.Items.{Item, at_time, all_at_time, is_update, updates_of, Replays, AreCommitted}
+use Rattle.zlinear.specs.legal.Items.{TimesRise, AreBegunInTime, AreAnsweredInTime, AllBegun, new_items}
 use Rattle.zlinear.proofs.legal_lemmas.lists.Members.{among_left, among_drop, among_whole}
 use Rattle.zlinear.proofs.legal_lemmas.lists.Distinct.{pairwise_append}
 use Rattle.zlinear.proofs.legal_lemmas.order.LegalOrders.{in_time_more}
@@ -40,7 +41,8 @@ update_among (i ∷ is) x a = elim (test (is_update i.operation.call)) [
     first more (inr b) = let m = more b in (m.0, inr m.1, m.2)
 
 -- what takes effect at one time
-timed : (time : ℕ) (xs : List (Operation × Reply)) (i : Item) → Among i (all_at_time time xs) → (x : Operation × Reply) × Among x xs × (at_time time x ≡ i)
+timed : (time : ℕ) (xs : List (Operation × Reply)) (i : Item) → Among i (all_at_time time xs)
+    → (x : Operation × Reply) × Among x xs × (at_time time x ≡ i)
 timed time [] i a = absurd a
 timed time (x ∷ xs) i (inl e) = (x, inl refl, e)
 timed time (x ∷ xs) i (inr a) = let m = timed time xs i a in (m.0, inr m.1, m.2)
@@ -53,11 +55,13 @@ timed_rises time (x ∷ xs) =
 module _ {P : Type 0} (plain : Plain P) where
   -- what acts is an update
   now_updates : (s : KeptState P) (e : Entry) (now : List (Operation × Reply)) (r : KeptState P × Option Reply) → Outcome plain.update s e now r
-      → (time : ℕ) (more : List (Operation × Reply)) → updates_of (all_at_time time more) ≡ more → updates_of (all_at_time time (now ++ more)) ≡ now ++ more
+      → (time : ℕ) (more : List (Operation × Reply)) → updates_of (all_at_time time more) ≡ more
+      → updates_of (all_at_time time (now ++ more)) ≡ now ++ more
   now_updates s e now r (Acts low) time more is = ap (λ l. (operation_of e, (plain.update s.plain e.client e.update).1) ∷ l) is
   now_updates s e now r (Stays high) time more is = is
 
-  updates_acted : (time : ℕ) (s : KeptState P) (es : List Entry) → updates_of (all_at_time time (acts_from plain.update s es)) ≡ acts_from plain.update s es
+  updates_acted : (time : ℕ) (s : KeptState P) (es : List Entry) → updates_of (all_at_time time (acts_from plain.update s es))
+      ≡ acts_from plain.update s es
   updates_acted time s [] = refl
   updates_acted time s (e ∷ es) =
       let s' = (entry_step plain.update s e).0 in
@@ -73,16 +77,20 @@ module _ {P : Type 0} (plain : Plain P) where
     -- the updates among the items are what acts of the longer log
     pub grown_committed : AreCommitted plain old items → AreCommitted plain new (items ++ more)
     grown_committed acted =
-        updates_more items more ∙ (λ i. acted i ++ updates_acted (length history) (after_log plain old) (drop (length old) new) i) ∙ sym (acted_begins plain old new longer)
+        updates_more items more ∙ (λ i. acted i ++ updates_acted (length history) (after_log plain old) (drop (length old) new) i)
+        ∙ sym (acted_begins plain old new longer)
 
     leads : AreCommitted plain old items → after_items plain plain.opening items ≡ (after_log plain old).plain
-    leads acted = items_lead plain plain.opening items ∙ ap (after_calls plain plain.opening) acted ∙ acted_leads plain (nothing_kept plain.opening) old
+    leads acted = items_lead plain plain.opening items ∙ ap (after_calls plain plain.opening) acted
+        ∙ acted_leads plain (nothing_kept plain.opening) old
 
     -- the items replay
-    pub grown_replays : AreCommitted plain old items → Replays (service_of plain) plain.opening items → Replays (service_of plain) plain.opening (items ++ more)
+    pub grown_replays : AreCommitted plain old items → Replays (service_of plain) plain.opening items
+        → Replays (service_of plain) plain.opening (items ++ more)
     grown_replays acted replays =
         replays_more plain plain.opening items more replays
-        (subst (λ p. Replays (service_of plain) p more) (sym (leads acted)) (acted_replays plain (length history) (after_log plain old) (drop (length old) new)))
+        (subst (λ p. Replays (service_of plain) p more) (sym (leads acted))
+        (acted_replays plain (length history) (after_log plain old) (drop (length old) new)))
 
     -- their times don't fall
     pub grown_rises : AreBegunInTime history items → TimesRise items → TimesRise (items ++ more)

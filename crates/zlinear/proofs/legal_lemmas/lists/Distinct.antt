@@ -14,7 +14,8 @@ only_one R (z ∷ zs) once x y (inr a) (inl f) r s = absurd (once.0 x a (subst (
 only_one R (z ∷ zs) once x y (inr a) (inr b) r s = only_one R zs once.1 x y a b r s
 
 -- a new one in the middle
-pub no_two_insert : {A : Type 0} (R : A → A → Type 0) (y : A) (xs ys : List A) → ((x : A) → Among x (xs ++ ys) → R x y → ⊥) → ((x : A) → Among x (xs ++ ys) → R y x → ⊥) → NoTwo R (xs ++ ys) → NoTwo R (xs ++ y ∷ ys)
+pub no_two_insert : {A : Type 0} (R : A → A → Type 0) (y : A) (xs ys : List A) → ((x : A) → Among x (xs ++ ys) → R x y → ⊥)
+    → ((x : A) → Among x (xs ++ ys) → R y x → ⊥) → NoTwo R (xs ++ ys) → NoTwo R (xs ++ y ∷ ys)
 no_two_insert R y [] ys f g h = (g, h)
 no_two_insert R y (z ∷ xs) ys f g h = (
   λ x a r. elim (among_inserted x y xs ys a) [ inl e ↦ f z (inl refl) (subst (R z) (sym e) r) | inr b ↦ h.0 x b r ],
@@ -55,7 +56,8 @@ no_two_of_map f R (x ∷ xs) h = (λ y a r. h.0 (f y) (mapped xs y a) r, no_two_
     mapped (z ∷ zs) y (inr a) = inr (mapped zs y a)
 
 -- each two members, in a list that goes on
-pub pairwise_append : {A : Type 0} (R : A → A → Type 0) (xs ys : List A) → Pairwise R xs → Pairwise R ys → ((x y : A) → Among x xs → Among y ys → R x y) → Pairwise R (xs ++ ys)
+pub pairwise_append : {A : Type 0} (R : A → A → Type 0) (xs ys : List A) → Pairwise R xs → Pairwise R ys
+    → ((x y : A) → Among x xs → Among y ys → R x y) → Pairwise R (xs ++ ys)
 pairwise_append R [] ys h k f = k
 pairwise_append {A} R (x ∷ xs) ys h k f = (
   λ y a. elim (among_cases y xs ys a) [ inl b ↦ h.0 y b | inr c ↦ f x y (inl refl) c ],
@@ -63,5 +65,7 @@ pairwise_append {A} R (x ∷ xs) ys h k f = (
 )
 
 -- in a list with one more at its end
-pub pairwise_last : {A : Type 0} (R : A → A → Type 0) (xs : List A) (y : A) → Pairwise R xs → ((x : A) → Among x xs → R x y) → Pairwise R (xs ++ y ∷ [])
-pairwise_last {A} R xs y h f = pairwise_append R xs (y ∷ []) h (λ z a. absurd a, tt) (λ x z a b. elim b [ inl e ↦ subst (R x) e (f x a) | inr c ↦ absurd c ])
+pub pairwise_last : {A : Type 0} (R : A → A → Type 0) (xs : List A) (y : A) → Pairwise R xs → ((x : A) → Among x xs → R x y)
+    → Pairwise R (xs ++ y ∷ [])
+pairwise_last {A} R xs y h f = pairwise_append R xs (y ∷ []) h (λ z a. absurd a, tt)
+    (λ x z a b. elim b [ inl e ↦ subst (R x) e (f x a) | inr c ↦ absurd c ])

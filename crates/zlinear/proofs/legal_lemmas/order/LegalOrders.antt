@@ -11,11 +11,14 @@ use Rattle.zworld_model.specs.declared.history.CallEvent.TheVariants.{Begin, Ans
 use Rattle.zworld_model.specs.History.{History, IsUpdate, HasBegun, IsAnswered, EndsBefore}
 use Rattle.zworld_model.specs.LegalOrder.{operation_step, IsReplayed, IsLegalOrder, replies_from}
 use Rattle.zworld_model.specs.PlainTree.{service_of}
-use Rattle.zlinear.specs.legal.Items.{Item, is_update, updates_of, Replays, IsItemOf, IsGiven, IsGivenBy, IsAnsweredBy, AreAnsweredInTime, IsSameEvent, TimesRise, AreBegunInTime, EventsDiffer}
+use Rattle.zlinear.specs.legal.Items.{Item, is_update, updates_of, Replays, IsItemOf, IsGiven, IsGivenBy, IsAnsweredBy}
+use Rattle.zlinear.specs.legal.Items.{AreAnsweredInTime, IsSameEvent, TimesRise, AreBegunInTime, EventsDiffer}
 use Rattle.zlinear.proofs.legal_lemmas.lists.Members.{among_mid, among_insert, among_inserted, among_take}
 use Rattle.zlinear.proofs.legal_lemmas.lists.Places.{before_second}
 use Rattle.zlinear.proofs.legal_lemmas.lists.Distinct.{no_two_insert, only_one, no_two_map, no_two_of_map}
-use Rattle.zlinear.proofs.legal_lemmas.order.KeptItems.{Keeps, keep_one, keep_updates, kept_among, kept_replays, kept_rises, earlier_is_first, replayed, states_lawful, operation_among, operations_before}
+use Rattle.zlinear.proofs.legal_lemmas.order.KeptItems.{Keeps, keep_one, keep_updates, kept_among, kept_replays}
+use Rattle.zlinear.proofs.legal_lemmas.order.KeptItems.{kept_rises, earlier_is_first, replayed, states_lawful}
+use Rattle.zlinear.proofs.legal_lemmas.order.KeptItems.{operation_among, operations_before}
 use Rattle.zlinear.proofs.legal_lemmas.order.KeptItems.KeepsOne.{Already, Put}
 
 -- two items are of one call
@@ -33,7 +36,8 @@ answered_by_more is js more k (Begin c n call) h = tt
 answered_by_more is js more k (Answer c n r) h = (h.0, more h.0 h.1, h.2, h.3)
 
 -- answers that were in time are so with more items
-pub in_time_more : (is js : List Item) → ((i : Item) → Among i is → Among i js) → (k : ℕ) (h : History) → AreAnsweredInTime is k h → AreAnsweredInTime js k h
+pub in_time_more : (is js : List Item) → ((i : Item) → Among i is → Among i js) → (k : ℕ) (h : History) → AreAnsweredInTime is k h
+    → AreAnsweredInTime js k h
 in_time_more is js more k [] t = tt
 in_time_more is js more k (e ∷ h) t = (answered_by_more is js more k e t.0, in_time_more is js more (k + 1) h t.1)
 
@@ -54,7 +58,8 @@ earlier is k (e ∷ h) in_time once c n r o (suc t) (inl p) begun =
     let le : m.0.time ≤ k = m.3 in
     (m.0, m.1, m.2, omega arith)
 earlier is k (e ∷ h) in_time once c n r o (suc t) (inr p) (inl f) =
-    absurd (once.0 (Begin o.client o.number o.call) (before_second _ _ h p) (subst (λ x. IsSameEvent x (Begin o.client o.number o.call)) (sym f) (refl, refl)))
+    absurd (once.0 (Begin o.client o.number o.call) (before_second _ _ h p)
+    (subst (λ x. IsSameEvent x (Begin o.client o.number o.call)) (sym f) (refl, refl)))
 earlier is k (e ∷ h) in_time once c n r o (suc t) (inr p) (inr b) =
     let m = earlier is (k + 1) h in_time.1 once.1 c n r o t p b in
     let lt : m.0.time < (k + 1) + t = m.3 in
@@ -66,7 +71,8 @@ record Chosen (items : List Item) (k : ℕ) (answers : History) : Type 0 where
   pub keeps : Keeps items kept
   pub once : NoTwo AreOneCall kept
   pub in_time : AreAnsweredInTime kept k answers
-  pub either : (i : Item) → Among i kept → (is_update i.operation.call ≡ true) ⊎ ((r : Reply) × Among (Answer i.operation.client i.operation.number r) answers)
+  pub either : (i : Item) → Among i kept → (is_update i.operation.call ≡ true)
+      ⊎ ((r : Reply) × Among (Answer i.operation.client i.operation.number r) answers)
 
 module _ (items : List Item) (one : (i j : Item) → Among i items → Among j items → AreOneCall i j → i.operation.call ≡ j.operation.call) where
   choose_one : (k : ℕ) (c n : ℕ) (r : Reply) (h : History) → ((e : CallEvent) → Among e h → IsSameEvent (Answer c n r) e → ⊥)
@@ -90,7 +96,8 @@ module _ (items : List Item) (one : (i j : Item) → Among i items → Among j i
         record {
           kept = before ++ i ∷ after;
           keeps = keeps;
-          once = no_two_insert AreOneCall i before after not_there (λ j b same. not_there j b (sym same.0, sym same.1)) (subst (NoTwo AreOneCall) e chosen.once);
+          once = no_two_insert AreOneCall i before after not_there (λ j b same. not_there j b (sym same.0, sym same.1))
+              (subst (NoTwo AreOneCall) e chosen.once);
           in_time = (
             (i, among_mid i before after, is, le),
             in_time_more chosen.kept (before ++ i ∷ after) (λ j b. among_insert j i before after (subst (Among j) e b)) (k + 1) h chosen.in_time,
@@ -110,7 +117,14 @@ module _ (items : List Item) (one : (i j : Item) → Among i items → Among j i
   choose k [] in_time once updates = let all = keep_updates items in
       record { kept = all.kept; keeps = all.keeps; once = updates; in_time = tt; either = λ i a. inl (all.only i a) }
   choose k (Begin c n call ∷ h) in_time once updates = let chosen = choose (k + 1) h in_time.1 once.1 updates in
-      record { kept = chosen.kept; keeps = chosen.keeps; once = chosen.once; in_time = (tt, chosen.in_time); either = λ i a. elim (chosen.either i a) [ inl u ↦ inl u | inr s ↦ inr (s.0, inr s.1) ] }
+      record {
+        kept = chosen.kept;
+        keeps = chosen.keeps;
+        once = chosen.once;
+        in_time = (tt, chosen.in_time);
+        either = λ i a.
+            elim (chosen.either i a) [ inl u ↦ inl u | inr s ↦ inr (s.0, inr s.1) ];
+      }
   choose k (Answer c n r ∷ h) in_time once updates = choose_one k c n r h once.0 in_time.0 (choose (k + 1) h in_time.1 once.1 updates)
 
 update_of : (call : Call) → is_update call ≡ true → IsUpdate call
@@ -133,7 +147,8 @@ module _ {P : Type 0} (Lawful : P → Type 0) (plain : Plain P) (history : Histo
         m.0.operation,
         m.2.0,
         m.2.1,
-        subst (λ s. Among (m.0.operation, s) (replies_from (service_of plain) plain.opening (order_of kept))) m.2.2 (replayed (service_of plain) plain.opening kept replays m.0 m.1),
+        subst (λ s. Among (m.0.operation, s) (replies_from (service_of plain) plain.opening (order_of kept))) m.2.2
+            (replayed (service_of plain) plain.opening kept replays m.0 m.1),
       )
 
   -- an item of a call that ended before another began stands first
@@ -162,7 +177,8 @@ module _ {P : Type 0} (Lawful : P → Type 0) (plain : Plain P) (history : Histo
     once = no_two_map (λ (i : Item). i.operation) IsSameCall kept apart;
     answered = is_replayed;
     unanswered = λ o a. let m = operation_among kept o a in
-        subst (λ p. IsUpdate p.call ⊎ IsAnswered history p) m.2 (elim (either m.0 m.1) [ inl u ↦ inl (update_of m.0.operation.call u) | inr s ↦ inr s ]);
+        subst (λ p. IsUpdate p.call ⊎ IsAnswered history p) m.2
+        (elim (either m.0 m.1) [ inl u ↦ inl (update_of m.0.operation.call u) | inr s ↦ inr s ]);
     in_time = comes_first;
     lawful = states_lawful Lawful (service_of plain) keeps plain.opening (order_of kept) opened;
   }
@@ -185,7 +201,8 @@ module _ {P : Type 0} (Lawful : P → Type 0) (plain : Plain P) where
   pub legal_order : (history : History) (items : List Item)
       → Lawful plain.opening → ((p : P) (o : Operation) → Lawful p → Lawful (operation_step (service_of plain) p o).0)
       → NoTwo AreOneUpdate (updates_of items)
-      → Replays (service_of plain) plain.opening items → TimesRise items → AreBegunInTime history items → AreAnsweredInTime items 0 history → EventsDiffer history
+      → Replays (service_of plain) plain.opening items → TimesRise items → AreBegunInTime history items
+      → AreAnsweredInTime items 0 history → EventsDiffer history
       → (order : List Operation) × IsLegalOrder Lawful (service_of plain) history order
   legal_order history items opened keeps updates replays rise begun in_time once =
       let has_begun : (i : Item) → Among i items → HasBegun history i.operation = λ i a. among_take i.time history _ (begun i a).1 in

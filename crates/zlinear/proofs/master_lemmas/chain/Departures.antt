@@ -1,6 +1,7 @@
 -- The master hears Gone: from outside the chain, or from a member, which is taken out.
 use Rattle.std.specs.List.{last_or}
-use Rattle.std.proofs.Common.{◌≡◌, ◌⊎◌, ℕ, ◌+◌, ◌≤◌, true, false, ◌==◌, List, [], ◌∷◌, ◌++◌, Option, Some, None, refl, sym, ap, ◌∙◌, subst, inl, inr, append-nil, arith, eqb-true}
+use Rattle.std.proofs.Common.{◌≡◌, ◌⊎◌, ℕ, ◌+◌, ◌≤◌, true, false, ◌==◌, List, [], ◌∷◌, ◌++◌, Option, Some, None, refl}
+use Rattle.std.proofs.Common.{sym, ap, ◌∙◌, subst, inl, inr, append-nil, arith, eqb-true}
 use Rattle.zcalls.specs.declared.call.Entry.{Entry}
 use Rattle.zcalls.specs.Lists.{Among, ComesBefore, NoTwo}
 use Rattle.zcalls.specs.Kept.{Plain}
@@ -23,8 +24,11 @@ use Rattle.zlinear.proofs.chain_lemmas.places.Orders.{leads_more, one_more_order
 use Rattle.zlinear.proofs.chain_lemmas.steps.Opening.{among_tested}
 use Rattle.zlinear.proofs.master_lemmas.chain.Moves.{world_with_move, IsGoodPost, IsGoodMove, move_sound}
 use Rattle.zlinear.proofs.master_lemmas.chain.StandingChains.{addressed_told, told_among}
-use Rattle.zlinear.proofs.master_lemmas.chain.MendedChains.{ids, ids_append, Stands, stands, repair, mended_is, mended_ids, place_cases, place_in, apart_of, gone_of, last_in, nobody_behind}
-use Rattle.zlinear.proofs.master_lemmas.chain.RepairOrders.{IsTold, Heads, Ends, Turns, told_one, told_turned, repair_justified, IsTurned, IsElsewhere, repair_place}
+use Rattle.zlinear.proofs.master_lemmas.chain.MendedChains.{ids, ids_append, Stands, stands, repair, mended_is}
+use Rattle.zlinear.proofs.master_lemmas.chain.MendedChains.{mended_ids, place_cases, place_in, apart_of, gone_of}
+use Rattle.zlinear.proofs.master_lemmas.chain.MendedChains.{last_in, nobody_behind}
+use Rattle.zlinear.proofs.master_lemmas.chain.RepairOrders.{IsTold, Heads, Ends, Turns, told_one, told_turned}
+use Rattle.zlinear.proofs.master_lemmas.chain.RepairOrders.{repair_justified, IsTurned, IsElsewhere, repair_place}
 use Rattle.zlinear.proofs.master_lemmas.chain.UsedNumbers.{used_is, used_stays}
 
 -- from outside the chain
@@ -46,8 +50,10 @@ module _ {P : Type 0} (plain : Plain P) (t : Account) (s : IsSound plain t) (x :
       | inr e ↦ absurd (let failed = subst (λ y. t.world.failed y ≡ true) e gone in cc (failed, alive))
     ];
     epoch = omega arith;
-    line = λ z place is. subst (λ l. LeadsTo (IsPast (world_with_move t.world used_view [])) (is_fresh t.world z) (t.world.servers z).pred l place) (sym (append-nil (queue t.world z)))
-        (leads_more (IsPast t.world) (IsPast (world_with_move t.world used_view [])) (is_fresh t.world z) (is_fresh t.world z) (t.world.servers z).pred (queue t.world z) place past_stays (λ h. h) (s.line z place is));
+    line = λ z place is. subst (λ l. LeadsTo (IsPast (world_with_move t.world used_view [])) (is_fresh t.world z)
+        (t.world.servers z).pred l place) (sym (append-nil (queue t.world z)))
+        (leads_more (IsPast t.world) (IsPast (world_with_move t.world used_view [])) (is_fresh t.world z) (is_fresh t.world z)
+        (t.world.servers z).pred (queue t.world z) place past_stays (λ h. h) (s.line z place is));
     pairs = λ p y k given is. is;
     ordered = λ a b before. inl before;
     members_were = λ z a. inl a;
@@ -60,7 +66,8 @@ module _ {P : Type 0} (plain : Plain P) (t : Account) (s : IsSound plain t) (x :
   outside_sound = move_sound plain t s used_view [] good_outside
 
 -- from a member
-module _ {P : Type 0} (plain : Plain P) (t : Account) (s : IsSound plain t) (x : ℕ) (gone : t.world.failed x ≡ true) (x_in : Among x (members t.world.master)) where
+module _ {P : Type 0} (plain : Plain P) (t : Account) (s : IsSound plain t) (x : ℕ) (gone : t.world.failed x ≡ true)
+    (x_in : Among x (members t.world.master)) where
   abbrev w : LogWorld
   w = t.world
 
@@ -120,16 +127,25 @@ module _ {P : Type 0} (plain : Plain P) (t : Account) (s : IsSound plain t) (x :
       λ r more next here. apart_of (ids front) (ids rest) z are_apart h.1 (subst (λ l. Among z (ids l)) (sym next) (inl (sym here))),
     )
     | inr h ↦
-        let old : place_from None w.master.chain z ≡ place_from before ((x, split.epoch) ∷ rest) z = ap (λ c. place_from None c z) split.is ∙ h ((x, split.epoch) ∷ rest) in
+        let old : place_from None w.master.chain z ≡ place_from before ((x, split.epoch) ∷ rest) z = ap (λ c. place_from None c z) split.is
+        ∙ h ((x, split.epoch) ∷ rest) in
         elim (repair_place before e rest x split.epoch z place other (sym (h (repair before e rest).0) ∙ is)) [
           | inl same ↦ inl (old ∙ same.0, same.1)
-          | inr turned ↦ inr (record { next = turned.next; more = turned.more; is = turned.is; here = turned.here; place_is = turned.place_is; was = old ∙ turned.was })
+          | inr turned ↦ inr (record {
+            next = turned.next;
+            more = turned.more;
+            is = turned.is;
+            here = turned.here;
+            place_is = turned.place_is;
+            was = old ∙ turned.was;
+          })
         ]
   ]
     where
       other : (x == z) ≡ false
       other = elim (test (x == z)) [
-        | inl same ↦ absurd (gone_of (ids front) (ids rest) x were_apart (subst (Among x) are (subst (λ y. Among y (members v)) (sym (eqb-true _ _ same)) (place_in None v.chain z place is))))
+        | inl same ↦ absurd (gone_of (ids front) (ids rest) x were_apart
+            (subst (Among x) are (subst (λ y. Among y (members v)) (sym (eqb-true _ _ same)) (place_in None v.chain z place is))))
         | inr f ↦ f
       ]
 
@@ -171,10 +187,13 @@ module _ {P : Type 0} (plain : Plain P) (t : Account) (s : IsSound plain t) (x :
   unread_told z m apart (Ends p is none here order) = ap turn_of order
   unread_told z m apart (Turns p r more is next here order) = absurd (apart r more next here)
 
-  leads : (z : ℕ) (place : Place) → place_from None w.master.chain z ≡ Some place → LeadsTo (IsPast w1) (is_fresh w z) (w.servers z).pred (queue w z) place
-  leads z place is = leads_more (IsPast w) (IsPast w1) (is_fresh w z) (is_fresh w z) (w.servers z).pred (queue w z) place past_later (λ h. h) (s.line z place is)
+  leads : (z : ℕ) (place : Place) → place_from None w.master.chain z ≡ Some place
+      → LeadsTo (IsPast w1) (is_fresh w z) (w.servers z).pred (queue w z) place
+  leads z place is = leads_more (IsPast w) (IsPast w1) (is_fresh w z) (is_fresh w z) (w.servers z).pred (queue w z)
+      place past_later (λ h. h) (s.line z place is)
 
-  line : (z : ℕ) (place : Place) → place_from None v.chain z ≡ Some place → LeadsTo (IsPast w1) (is_fresh w z) (w.servers z).pred (queue w z ++ messages_to (Server z) posts) place
+  line : (z : ℕ) (place : Place) → place_from None v.chain z ≡ Some place
+      → LeadsTo (IsPast w1) (is_fresh w z) (w.servers z).pred (queue w z ++ messages_to (Server z) posts) place
   line z place is = elim (places z place is) [
     | inl old ↦ elim (told_is z) [
       | inl none ↦ subst (λ l. LeadsTo (IsPast w1) (is_fresh w z) (w.servers z).pred (queue w z ++ l) place) (sym none)
@@ -187,7 +206,8 @@ module _ {P : Type 0} (plain : Plain P) (t : Account) (s : IsSound plain t) (x :
         let there : messages_to (Server z) posts ≡ one.0 ∷ [] =
         addressed_told z v (repair before e rest).1 ∙ ap (λ l. messages_to (Server z) (repair before e l).1) turned.is ∙ one.1 in
         subst (λ l. LeadsTo (IsPast w1) (is_fresh w z) (w.servers z).pred (queue w z ++ l) place) (sym there)
-        (one_more_order (IsPast w1) (is_fresh w z) (w.servers z).pred (queue w z) (Some (x, turned.next.1)) place one.0 (one.2 ∙ ap (λ p. Some p) turned.place_is)
+        (one_more_order (IsPast w1) (is_fresh w z) (w.servers z).pred (queue w z) (Some (x, turned.next.1)) place one.0
+        (one.2 ∙ ap (λ p. Some p) turned.place_is)
         (past_now turned.next.1) (leads z (Some (x, turned.next.1)) turned.was))
   ]
 
@@ -199,7 +219,8 @@ module _ {P : Type 0} (plain : Plain P) (t : Account) (s : IsSound plain t) (x :
     where
       new_pair : (b : Option ℕ) → place_behind b e ≡ Some (p, k) → ⊥
       new_pair None same = cc same
-      new_pair (Some q) same = let pair : ◌≡◌ {A = Neighbour} (q, e) (p, k) = cc same in let later : e ≡ k = ap (λ (n : Neighbour). n.1) pair in omega arith
+      new_pair (Some q) same = let pair : ◌≡◌ {A = Neighbour} (q, e) (p, k) = cc same in let later : e
+          ≡ k = ap (λ (n : Neighbour). n.1) pair in omega arith
 
   good_inside : IsGoodMove w t.items v posts
   good_inside = record {
@@ -230,7 +251,8 @@ module _ {P : Type 0} (plain : Plain P) (t : Account) (s : IsSound plain t) (x :
     world = world_with_move t.world
         (master.without_member t.world.master x (master.mended_chain {T = Transfer (List Entry)} (t.world.master.epoch + 1) x t.world.master.chain).0)
         ((master.mended_chain {T = Transfer (List Entry)} (t.world.master.epoch + 1) x t.world.master.chain).1
-        ++ master.config_posts (master.without_member t.world.master x (master.mended_chain {T = Transfer (List Entry)} (t.world.master.epoch + 1) x t.world.master.chain).0));
+        ++ master.config_posts (master.without_member t.world.master x (master.mended_chain {T = Transfer (List Entry)}
+        (t.world.master.epoch + 1) x t.world.master.chain).0));
   })
   inside_sound = subst (λ (c : List Neighbour × List (Post (List Entry))). IsSound plain (record t {
     world = world_with_move t.world
@@ -242,7 +264,10 @@ module _ {P : Type 0} (plain : Plain P) (t : Account) (s : IsSound plain t) (x :
 module _ {P : Type 0} (plain : Plain P) (t : Account) (s : IsSound plain t) where
   -- Gone from anyone
   pub gone_heard : (x : ℕ) → t.world.failed x ≡ true
-      → IsSound plain (record t { world = world_with_move t.world (master.gone_row {T = Transfer (List Entry)} t.world.master x).0 (master.gone_row t.world.master x).1 })
+      → IsSound plain (record t {
+        world = world_with_move t.world (master.gone_row {T = Transfer (List Entry)} t.world.master x).0
+            (master.gone_row t.world.master x).1;
+      })
   unfolding master.gone_row
   gone_heard x gone = elim (test (is_among x (members t.world.master))) [
     | inl member ↦ rw member (inside_sound plain t s x gone (among_tested x (members t.world.master) member))

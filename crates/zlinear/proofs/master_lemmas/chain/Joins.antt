@@ -1,7 +1,8 @@
 -- A server joins: it stands behind the last of the chain, and is told so.
 use Rattle.std.specs.Prelude.{◌&&◌, is_none}
 use Rattle.std.specs.List.{last_or}
-use Rattle.std.proofs.Common.{◌≡◌, ◌⊎◌, ℕ, ◌+◌, true, ◌==◌, List, [], ◌∷◌, ◌++◌, Option, Some, None, refl, sym, ap, ◌∙◌, subst, inl, inr, append-nil, arith, eqb-true, eq-eqb}
+use Rattle.std.proofs.Common.{◌≡◌, ◌⊎◌, ℕ, ◌+◌, true, ◌==◌, List, [], ◌∷◌, ◌++◌, Option, Some, None, refl, sym, ap, ◌∙◌}
+use Rattle.std.proofs.Common.{subst, inl, inr, append-nil, arith, eqb-true, eq-eqb}
 use Rattle.zcalls.specs.declared.call.Entry.{Entry}
 use Rattle.zcalls.specs.Lists.{Among, ComesBefore, NoTwo}
 use Rattle.zcalls.specs.Kept.{Plain}
@@ -29,7 +30,8 @@ use Rattle.zlinear.proofs.master_lemmas.chain.RepairOrders.{one_told}
 use Rattle.zlinear.proofs.master_lemmas.chain.UsedNumbers.{used_is, used_stays, used_now}
 
 -- the place of the last
-last_place : (before : Option ℕ) (x e z : ℕ) (place : Place) → place_from before ((x, e) ∷ []) z ≡ Some place → (x ≡ z) × (place_behind before e ≡ place)
+last_place : (before : Option ℕ) (x e z : ℕ) (place : Place) → place_from before ((x, e) ∷ []) z ≡ Some place
+    → (x ≡ z) × (place_behind before e ≡ place)
 last_place before x e z place h = elim (test (x == z)) [
   | inl t ↦ let is : ◌≡◌ {A = Option Place} (Some (place_behind before e)) (Some place) = rw t at h in (eqb-true _ _ t, cc is)
   | inr f ↦ let is : ◌≡◌ {A = Option Place} None (Some place) = rw f at h in absurd (cc is)
@@ -83,7 +85,8 @@ module _ {P : Type 0} (plain : Plain P) (t : Account) (s : IsSound plain t) (x :
   )
 
   -- places
-  places : (z : ℕ) (place : Place) → place_from None v.chain z ≡ Some place → (place_from None w.master.chain z ≡ Some place) ⊎ ((x ≡ z) × (Some (last, e) ≡ place))
+  places : (z : ℕ) (place : Place) → place_from None v.chain z ≡ Some place → (place_from None w.master.chain z ≡ Some place)
+      ⊎ ((x ≡ z) × (Some (last, e) ≡ place))
   places z place is = elim (place_cases None w.master.chain z) [
     | inl h ↦ inl (ap (λ c. place_from None c z) (sym (append-nil w.master.chain)) ∙ h.2 [] ∙ sym (h.2 ((x, e) ∷ [])) ∙ is)
     | inr h ↦
@@ -94,12 +97,14 @@ module _ {P : Type 0} (plain : Plain P) (t : Account) (s : IsSound plain t) (x :
   told_is : (z : ℕ) → (messages_to (Server z) posts ≡ []) ⊎ ((z ≡ x) × (messages_to (Server z) posts ≡ order ∷ []))
   told_is z = one_told x order z
 
-  line : (z : ℕ) (place : Place) → place_from None v.chain z ≡ Some place → LeadsTo (IsPast w1) (is_fresh w z) (w.servers z).pred (queue w z ++ messages_to (Server z) posts) place
+  line : (z : ℕ) (place : Place) → place_from None v.chain z ≡ Some place
+      → LeadsTo (IsPast w1) (is_fresh w z) (w.servers z).pred (queue w z ++ messages_to (Server z) posts) place
   line z place is = elim (places z place is) [
     | inl old ↦ elim (told_is z) [
       | inl none ↦ subst (λ l. LeadsTo (IsPast w1) (is_fresh w z) (w.servers z).pred (queue w z ++ l) place) (sym none)
           (subst (λ l. LeadsTo (IsPast w1) (is_fresh w z) (w.servers z).pred l place) (sym (append-nil (queue w z)))
-          (leads_more (IsPast w) (IsPast w1) (is_fresh w z) (is_fresh w z) (w.servers z).pred (queue w z) place past_later (λ h. h) (s.line z place old)))
+          (leads_more (IsPast w) (IsPast w1) (is_fresh w z) (is_fresh w z) (w.servers z).pred (queue w z) place past_later
+          (λ h. h) (s.line z place old)))
       | inr one ↦ absurd (new_member z (place_in None w.master.chain z place old) (sym one.0))
     ]
     | inr new ↦
@@ -121,7 +126,8 @@ module _ {P : Type 0} (plain : Plain P) (t : Account) (s : IsSound plain t) (x :
 
   good_join : IsGoodMove w t.items v posts
   good_join = record {
-    distinct = subst (NoTwo (λ (a b : ℕ). a ≡ b)) (sym are) (no_two_last (λ (a b : ℕ). a ≡ b) (members w.master) x (λ z a same. new_member z a (sym same)) s.distinct);
+    distinct = subst (NoTwo (λ (a b : ℕ). a ≡ b)) (sym are) (no_two_last (λ (a b : ℕ). a ≡ b) (members w.master) x
+        (λ z a same. new_member z a (sym same)) s.distinct);
     used = λ z a. elim (member_cases z a) [
       | inl b ↦ used_stays x z w.master.used (s.used z b)
       | inr same ↦ subst (λ y. is_among y v.used ≡ true) same (used_now x w.master.used)
@@ -138,7 +144,8 @@ module _ {P : Type 0} (plain : Plain P) (t : Account) (s : IsSound plain t) (x :
       | inr new ↦ absurd (let same : ◌≡◌ {A = Place} (Some (last, e)) (Some (p, k)) = new.1 in
           let pair : ◌≡◌ {A = Neighbour} (last, e) (p, k) = cc same in let later : e ≡ k = ap (λ (n : Neighbour). n.1) pair in omega arith)
     ];
-    ordered = λ a b h. elim (before_last a b (members w.master) x (subst (ComesBefore a b) are h)) [ inl old ↦ inl old | inr same ↦ inr (no_final_log b same) ];
+    ordered = λ a b h. elim (before_last a b (members w.master) x (subst (ComesBefore a b) are h))
+        [ inl old ↦ inl old | inr same ↦ inr (no_final_log b same) ];
     members_were = λ z a. elim (member_cases z a) [ inl b ↦ inl b | inr same ↦ inr (no_first_log z same) ];
     orders = λ z. elim (told_is z) [ inl none ↦ inl none | inr one ↦ inr (order, one.1, good_post z one.0) ];
     justified = one_justified;
@@ -158,15 +165,26 @@ module _ {P : Type 0} (plain : Plain P) (t : Account) (s : IsSound plain t) (x :
       → did ≡ elim last as (λ y. MasterView × List (Post (List Entry))) [
         | None ↦ (t.world.master, [])
         | Some p ↦ (
-          record t.world.master { chain = t.world.master.chain ++ (x, t.world.master.epoch + 1) ∷ []; joining = Some x; used = with_number x t.world.master.used; epoch = t.world.master.epoch + 1 },
+          record t.world.master {
+            chain = t.world.master.chain ++ (x, t.world.master.epoch + 1) ∷ [];
+            joining = Some x;
+            used = with_number x t.world.master.used;
+            epoch = t.world.master.epoch + 1;
+          },
           (Server x, message.NewPred (t.world.master.epoch + 1) p) ∷ [],
         )
       ]
       → IsSound plain (record t { world = world_with_move t.world did.0 did.1 })
-  join_by None is did same = subst (λ (d : MasterView × List (Post (List Entry))). IsSound plain (record t { world = world_with_move t.world d.0 d.1 })) (sym same) (unheard plain t s)
-  join_by (Some p) is did same = subst (λ (d : MasterView × List (Post (List Entry))). IsSound plain (record t { world = world_with_move t.world d.0 d.1 })) (sym same) (join_sound plain t s x unused p is)
+  join_by None is did same = subst (λ (d : MasterView × List (Post (List Entry))). IsSound plain
+      (record t { world = world_with_move t.world d.0 d.1 })) (sym same) (unheard plain t s)
+  join_by (Some p) is did same = subst (λ (d : MasterView × List (Post (List Entry))). IsSound plain
+      (record t { world = world_with_move t.world d.0 d.1 })) (sym same) (join_sound plain t s x unused p is)
 
   -- where there is a chain, and where there is none
-  pub joins_sound : IsSound plain (record t { world = world_with_move t.world (master.order_step {T = Transfer (List Entry)} t.world.master (Join x)).0 (master.order_step t.world.master (Join x)).1 })
+  pub joins_sound : IsSound plain
+      (record t {
+        world = world_with_move t.world (master.order_step {T = Transfer (List Entry)} t.world.master (Join x)).0
+            (master.order_step t.world.master (Join x)).1;
+      })
   unfolding master.order_step
   joins_sound = join_by (last_or None (members t.world.master)) refl (master.order_step t.world.master (Join x)) refl

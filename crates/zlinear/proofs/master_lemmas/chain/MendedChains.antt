@@ -32,7 +32,14 @@ stands [] x h = absurd h
 stands (a ∷ chain) x h = elim (test (a.0 == x)) [
   | inl t ↦ let same : a.0 ≡ x = eqb-true _ _ t in record { front = []; epoch = a.1; rest = chain; is = λ i. (same i, a.1) ∷ chain; first = λ b. b }
   | inr f ↦ let more = stands chain x (there f h) in
-      record { front = a ∷ more.front; epoch = more.epoch; rest = more.rest; is = ap (λ l. a ∷ l) more.is; first = λ b. apart f more.front more.first b }
+      record {
+        front = a ∷ more.front;
+        epoch = more.epoch;
+        rest = more.rest;
+        is = ap (λ l. a ∷ l) more.is;
+        first = λ b.
+            apart f more.front more.first b;
+      }
 ]
   where
     there : (a.0 == x) ≡ false → Among x (ids (a ∷ chain)) → Among x (ids chain)
@@ -55,7 +62,8 @@ mended_behind_is : (epoch x p k : ℕ) (front rest : List Neighbour) → (Among 
 mended_behind_is epoch x p k [] rest apart = let own : (x == x) ≡ true = eq-eqb x x refl in rw own refl
 mended_behind_is epoch x p k (a ∷ front) rest apart = elim (test (a.0 == x)) [
   | inl t ↦ absurd (apart (inl (eqb-true _ _ t)))
-  | inr f ↦ rw f (ap (λ (l : List Neighbour × List (Post (List Entry))). (a ∷ l.0, l.1)) (mended_behind_is epoch x a.0 k front rest (λ b. apart (inr b))))
+  | inr f ↦ rw f (ap (λ (l : List Neighbour × List (Post (List Entry))). (a ∷ l.0, l.1))
+      (mended_behind_is epoch x a.0 k front rest (λ b. apart (inr b))))
 ]
 
 -- the chain without a member is its front, and the repair behind it
@@ -65,7 +73,8 @@ pub mended_is : (epoch x k : ℕ) (front rest : List Neighbour) → (Among x (id
 mended_is epoch x k [] rest apart = let own : (x == x) ≡ true = eq-eqb x x refl in rw own refl
 mended_is epoch x k (a ∷ front) rest apart = elim (test (a.0 == x)) [
   | inl t ↦ absurd (apart (inl (eqb-true _ _ t)))
-  | inr f ↦ rw f (ap (λ (l : List Neighbour × List (Post (List Entry))). (a ∷ l.0, l.1)) (mended_behind_is epoch x a.0 k front rest (λ b. apart (inr b))))
+  | inr f ↦ rw f (ap (λ (l : List Neighbour × List (Post (List Entry))). (a ∷ l.0, l.1))
+      (mended_behind_is epoch x a.0 k front rest (λ b. apart (inr b))))
 ]
 
 -- the members that are left

@@ -12,7 +12,8 @@ use Rattle.zprotocol.specs.master.View.{MasterView, members, is_among}
 use Rattle.zworld_model.specs.Links.{messages_to, put}
 use Rattle.zlinear.specs.legal.Items.{Item}
 use Rattle.zlinear.specs.chain.Flow.{LogWorld, LogMessage, Log, or_else, log_at, final_log_by, final_log, first_snapshot_by, first_log}
-use Rattle.zlinear.specs.chain.Chain.{queue, IsAhead, IsOpened, IsMember, IsUsed, IsPair, place_from, HasNoTailOrder, HoldsBehind, HasNoTailOrderBehind, IsNewEpoch, HasDistinctEpochs}
+use Rattle.zlinear.specs.chain.Chain.{queue, IsAhead, IsOpened, IsMember, IsUsed, IsPair, place_from, HasNoTailOrder}
+use Rattle.zlinear.specs.chain.Chain.{HoldsBehind, HasNoTailOrderBehind, IsNewEpoch, HasDistinctEpochs}
 use Rattle.zlinear.specs.chain.Messages.{IsJustified}
 use Rattle.zlinear.specs.chain.Account.{Account}
 use Rattle.zlinear.specs.chain.Sound.{IsSound, OrdersLead}
@@ -97,7 +98,8 @@ no_first_log : (log first : Log) → or_else log first ≡ None → log ≡ None
 no_first_log None first h = refl
 no_first_log (Some log) first h = absurd (cc h)
 
-module _ {P : Type 0} (plain : Plain P) (t : Account) (s : IsSound plain t) (v : MasterView) (posts : List (Post (List Entry))) (good : IsGoodMove t.world t.items v posts) where
+module _ {P : Type 0} (plain : Plain P) (t : Account) (s : IsSound plain t) (v : MasterView) (posts : List (Post (List Entry)))
+    (good : IsGoodMove t.world t.items v posts) where
   abbrev w : LogWorld
   w = t.world
 
@@ -119,7 +121,8 @@ module _ {P : Type 0} (plain : Plain P) (t : Account) (s : IsSound plain t) (v :
     (let low : k ≤ w.master.epoch = h.0 in let up = good.epoch in omega arith),
     λ p a. elim (among_cases (message.NewPred k p) (queue w z) (new z) a) [
       | inl b ↦ h.1 p b
-      | inr c ↦ let low : k ≤ w.master.epoch = h.0 in let less : w.master.epoch < k = ((new_is z (message.NewPred k p) c).new_epoch k p refl).0 in omega arith
+      | inr c ↦ let low : k ≤ w.master.epoch = h.0 in let less : w.master.epoch < k = ((new_is z (message.NewPred k p) c).new_epoch k p refl).0
+          in omega arith
     ],
   )
 
@@ -188,7 +191,8 @@ module _ {P : Type 0} (plain : Plain P) (t : Account) (s : IsSound plain t) (v :
     live = good.live;
     line = good.line;
     successors = λ x z k is. opened z k (s.successors x z k is);
-    epochs = λ z. epochs_later w.master.epoch v.epoch (queue w z) (new z) good.epoch (λ k p a. ((new_is z (message.NewPred k p) a).new_epoch k p refl).0) (s.epochs z) (new_epochs z);
+    epochs = λ z. epochs_later w.master.epoch v.epoch (queue w z) (new z) good.epoch
+        (λ k p a. ((new_is z (message.NewPred k p) a).new_epoch k p refl).0) (s.epochs z) (new_epochs z);
     tail_orders = λ z. tails_later w w1 z w.master.epoch (new z)
         (λ x k low pair. (good.pairs z x k low pair, no_tail z x (pair_next w1 good.distinct z x k pair).before))
         (queue w z) (given z) (s.tail_orders z) (new_tails z);
@@ -202,7 +206,8 @@ module _ {P : Type 0} (plain : Plain P) (t : Account) (s : IsSound plain t) (v :
     begun = s.begun;
     committed_begun = s.committed_begun;
     justified = λ from to m a. elim (put_among w.links Master posts from to m a) [
-      | inl old ↦ justified_later w w1 t.items t.items (record { begun = λ o h. h; given = λ i h. h; opened = opened; failed = λ z h. h }) from to m (s.justified from to m old)
+      | inl old ↦ justified_later w w1 t.items t.items (record { begun = λ o h. h; given = λ i h. h; opened = opened; failed = λ z h. h })
+          from to m (s.justified from to m old)
       | inr fresh ↦ subst (λ p. IsJustified w1 t.items p to m) (sym fresh.0) (good.justified to m fresh.1)
     ];
     acted = s.acted;

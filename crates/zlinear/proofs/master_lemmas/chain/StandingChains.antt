@@ -1,7 +1,8 @@
 -- The master hears Have or Joined, or a message that doesn't count, or orders a member to leave: the chain stays.
 use Rattle.std.specs.Prelude.{◌&&◌}
 use Rattle.std.specs.List.{range_with_len}
-use Rattle.std.proofs.Common.{◌≡◌, ◌⊎◌, ℕ, ◌+◌, ◌≤◌, true, ◌==◌, List, [], ◌∷◌, ◌++◌, map, Option, Some, None, refl, sym, ap, subst, inl, inr, append-nil, arith, eqb-true}
+use Rattle.std.proofs.Common.{◌≡◌, ◌⊎◌, ℕ, ◌+◌, ◌≤◌, true, ◌==◌, List, [], ◌∷◌, ◌++◌, map, Option, Some, None, refl}
+use Rattle.std.proofs.Common.{sym, ap, subst, inl, inr, append-nil, arith, eqb-true}
 use Rattle.zcalls.specs.declared.call.Entry.{Entry}
 use Rattle.zcalls.specs.Lists.{Among}
 use Rattle.zcalls.specs.Kept.{Plain}
@@ -47,7 +48,8 @@ addressed_clients z m [] = refl
 addressed_clients z m (c ∷ cs) = addressed_clients z m cs
 
 -- with the clients told, servers are put what they were
-pub addressed_told : (z : ℕ) (v : MasterView) (first : List (Post (List Entry))) → messages_to (Server z) (first ++ master.config_posts v) ≡ messages_to (Server z) first
+pub addressed_told : (z : ℕ) (v : MasterView) (first : List (Post (List Entry))) → messages_to (Server z) (first ++ master.config_posts v)
+    ≡ messages_to (Server z) first
 addressed_told z v [] = addressed_clients z (message.Config v.epoch (head_of v) (tail_of v)) (range_with_len 0 v.clients)
 addressed_told z v (post ∷ first) = elim (test (is_same (Server z) post.0)) [
   | inl t ↦ rw t (ap (λ l. post.1 ∷ l) (addressed_told z v first))
@@ -62,14 +64,17 @@ told_among v first post a = elim (among_cases post first (master.config_posts v)
   | inr c ↦ inr (each (range_with_len 0 v.clients) c)
 ]
   where
-    each : (cs : List ℕ) → Among post (map (λ c. (Client c, message.Config v.epoch (head_of v) (tail_of v))) cs) → post.1 ≡ message.Config v.epoch (head_of v) (tail_of v)
+    each : (cs : List ℕ) → Among post (map (λ c. (Client c, message.Config v.epoch (head_of v) (tail_of v))) cs)
+        → post.1 ≡ message.Config v.epoch (head_of v) (tail_of v)
     each [] a = absurd a
     each (c ∷ cs) (inl e) = sym (ap (λ (p : Post (List Entry)). p.1) e)
     each (c ∷ cs) (inr b) = each cs b
 
-module _ {P : Type 0} (plain : Plain P) (t : Account) (s : IsSound plain t) (joining retiring : Option ℕ) (e : ℕ) (low : t.world.master.epoch ≤ e) (posts : List (Post (List Entry)))
+module _ {P : Type 0} (plain : Plain P) (t : Account) (s : IsSound plain t) (joining retiring : Option ℕ) (e : ℕ)
+    (low : t.world.master.epoch ≤ e) (posts : List (Post (List Entry)))
     (standing : (post : Post (List Entry)) → Among post posts → IsStanding t.world post.1)
-    (each : (z : ℕ) → (messages_to (Server z) posts ≡ []) ⊎ ((m : LogMessage) × (messages_to (Server z) posts ≡ m ∷ []) × (is_among z t.world.master.used ≡ true) × IsStanding t.world m)) where
+    (each : (z : ℕ) → (messages_to (Server z) posts ≡ []) ⊎ ((m : LogMessage) × (messages_to (Server z) posts ≡ m ∷ [])
+    × (is_among z t.world.master.used ≡ true) × IsStanding t.world m)) where
   abbrev w : LogWorld
   w = t.world
 
@@ -77,7 +82,12 @@ module _ {P : Type 0} (plain : Plain P) (t : Account) (s : IsSound plain t) (joi
   v = record t.world.master { joining = joining; retiring = retiring; epoch = e }
 
   good_post : (z : ℕ) (m : LogMessage) → is_among z w.master.used ≡ true → IsStanding w m → IsGoodPost w v z m
-  good_post z m used h = record { is_used = used; new_epoch = λ k p e'. absurd (not_pred w k p m e' h); is_last = λ k e'. absurd (not_tail w k m e' h) }
+  good_post z m used h = record {
+    is_used = used;
+    new_epoch = λ k p e'. absurd (not_pred w k p m e' h);
+    is_last = λ k e'.
+        absurd (not_tail w k m e' h);
+  }
 
   opened : (z k : ℕ) → IsOpened w z k → IsOpened (world_with_move w v posts) z k
   opened z k h = (
@@ -136,7 +146,8 @@ module _ {P : Type 0} (plain : Plain P) (t : Account) (s : IsSound plain t) wher
 
   -- a message that doesn't count
   pub unheard : IsSound plain (after (t.world.master, []))
-  unheard = standing_sound plain t s t.world.master.joining t.world.master.retiring t.world.master.epoch (omega arith) [] (λ post a. absurd a) (λ z. inl refl)
+  unheard = standing_sound plain t s t.world.master.joining t.world.master.retiring t.world.master.epoch (omega arith)
+      [] (λ post a. absurd a) (λ z. inl refl)
 
   have_by : (x epoch : ℕ) (last : Option ℕ) → IsOpened t.world x epoch → (found : Option ℕ) → master.before x epoch t.world.master.chain ≡ found
       → IsSound plain (after (elim found as (λ y. MasterView × List (Post (List Entry))) [
@@ -145,9 +156,16 @@ module _ {P : Type 0} (plain : Plain P) (t : Account) (s : IsSound plain t) wher
       ]))
   have_by x epoch last opened None is = unheard
   have_by x epoch last opened (Some p) is =
-      standing_sound plain t s t.world.master.joining t.world.master.retiring t.world.master.epoch (omega arith) ((Server p, message.NewSucc epoch x last) ∷ []) one
+      standing_sound plain t s t.world.master.joining t.world.master.retiring t.world.master.epoch (omega arith)
+      ((Server p, message.NewSucc epoch x last) ∷ []) one
       (λ z. elim (test (z == p)) [
-        | inl same ↦ inr (message.NewSucc epoch x last, rw same refl, subst (λ y. is_among y t.world.master.used ≡ true) (sym (eqb-true _ _ same)) (s.used p (before_in x epoch t.world.master.chain p is)), opened)
+        | inl same ↦ inr (
+          message.NewSucc epoch x last,
+          rw same refl,
+          subst (λ y. is_among y t.world.master.used ≡ true)
+              (sym (eqb-true _ _ same)) (s.used p (before_in x epoch t.world.master.chain p is)),
+          opened,
+        )
         | inr f ↦ inl (rw f refl)
       ])
     where
@@ -167,7 +185,8 @@ module _ {P : Type 0} (plain : Plain P) (t : Account) (s : IsSound plain t) wher
   pub joined_heard : (x : ℕ) → IsSound plain (after (master.joined_row t.world.master x))
   unfolding master.joined_row
   joined_heard x = elim (test (is_joining t.world.master x)) [
-    | inl joins ↦ rw joins (standing_sound plain t s None t.world.master.retiring (t.world.master.epoch + 1) (omega arith) (master.config_posts settled)
+    | inl joins ↦ rw joins (standing_sound plain t s None t.world.master.retiring (t.world.master.epoch + 1) (omega arith)
+        (master.config_posts settled)
         (λ post a. elim (told_among settled [] post a) [ inl b ↦ absurd b | inr c ↦ subst (IsStanding t.world) (sym c) tt ])
         (λ z. inl (addressed_told z settled [])))
     | inr f ↦ rw f unheard
@@ -179,7 +198,13 @@ module _ {P : Type 0} (plain : Plain P) (t : Account) (s : IsSound plain t) wher
   retire_ordered x member =
       standing_sound plain t s t.world.master.joining (Some x) t.world.master.epoch (omega arith) ((Server x, message.Retire) ∷ []) one
       (λ z. elim (test (z == x)) [
-        | inl same ↦ inr (message.Retire, rw same refl, subst (λ y. is_among y t.world.master.used ≡ true) (sym (eqb-true _ _ same)) (s.used x member), tt)
+        | inl same ↦ inr (
+          message.Retire,
+          rw same refl,
+          subst (λ y. is_among y t.world.master.used ≡ true)
+              (sym (eqb-true _ _ same)) (s.used x member),
+          tt,
+        )
         | inr f ↦ inl (rw f refl)
       ])
     where

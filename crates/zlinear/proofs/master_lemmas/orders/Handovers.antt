@@ -19,7 +19,8 @@ use Rattle.zworld_model.specs.Events.{does_in}
 use Rattle.zlinear.specs.legal.Prefix.{IsPrefix}
 use Rattle.zlinear.proofs.legal_lemmas.lists.Places.{before_second}
 use Rattle.zlinear.proofs.legal_lemmas.lists.Prefixes.{prefix_same}
-use Rattle.zlinear.specs.chain.Flow.{log_machine, LogWorld, LogMessage, Log, log_with_message, flow, snapshot_of, first_snapshot, or_else, log_at, final_log_by, final_log, first_snapshot_by}
+use Rattle.zlinear.specs.chain.Flow.{log_machine, LogWorld, LogMessage, Log, log_with_message, flow, snapshot_of}
+use Rattle.zlinear.specs.chain.Flow.{first_snapshot, or_else, log_at, final_log_by, final_log, first_snapshot_by}
 use Rattle.zlinear.specs.chain.Chain.{queue, IsAhead, IsOpened, IsMember, IsPair, HasNoTailOrder, HasNoTailOrderBehind}
 use Rattle.zlinear.specs.chain.Account.{Account, account_by}
 use Rattle.zlinear.specs.chain.Sound.{IsSound, IsSoundAfter, ChainIsOrdered, AllShowCommitted}
@@ -35,7 +36,8 @@ use Rattle.zlinear.proofs.master_lemmas.orders.Neighbours.{after_turn}
 use Rattle.zlinear.proofs.master_lemmas.orders.NewViews.{successor_opened, good_successor}
 
 -- where there was no log, a whole one is there in its epoch only
-shown_first : (epoch k : ℕ) (transfer : Transfer (List Entry)) (log : List Entry) → log_with_message epoch None (message.Snapshot k transfer) ≡ Some log
+shown_first : (epoch k : ℕ) (transfer : Transfer (List Entry)) (log : List Entry)
+    → log_with_message epoch None (message.Snapshot k transfer) ≡ Some log
     → (epoch ≡ k) × (transfer.machine ≡ log)
 shown_first epoch k transfer log h = elim (test (epoch == k)) [
   | inl t ↦ let is : ◌≡◌ {A = Log} (Some transfer.machine) (Some log) = rw t at h in (eqb-true _ _ t, cc is)
@@ -43,20 +45,23 @@ shown_first epoch k transfer log h = elim (test (epoch == k)) [
 ]
 
 -- where there was one, it stays
-shown_later : (epoch k : ℕ) (transfer : Transfer (List Entry)) (old log : List Entry) → log_with_message epoch (Some old) (message.Snapshot k transfer) ≡ Some log → old ≡ log
+shown_later : (epoch k : ℕ) (transfer : Transfer (List Entry)) (old log : List Entry)
+    → log_with_message epoch (Some old) (message.Snapshot k transfer) ≡ Some log → old ≡ log
 shown_later epoch k transfer old log h = elim (test (epoch == k)) [
   | inl t ↦ let is : ◌≡◌ {A = Log} (Some old) (Some log) = rw t at h in cc is
   | inr f ↦ let is : ◌≡◌ {A = Log} (Some old) (Some log) = rw f at h in cc is
 ]
 
 -- a first log that is shown with one message more: it was shown, or the message shows it
-or_later : (now first last : Log) (log : List Entry) → or_else now (or_else first (or_else last None)) ≡ Some log → (or_else now first ≡ Some log) ⊎ (last ≡ Some log)
+or_later : (now first last : Log) (log : List Entry) → or_else now (or_else first (or_else last None)) ≡ Some log
+    → (or_else now first ≡ Some log) ⊎ (last ≡ Some log)
 or_later (Some own) first last log h = inl h
 or_later None (Some own) last log h = inl h
 or_later None None (Some own) log h = inr h
 or_later None None None log h = cc h
 
-whole_of : (epoch k : ℕ) (transfer : Transfer (List Entry)) (log : List Entry) → snapshot_of epoch (message.Snapshot k transfer) ≡ Some log → transfer.machine ≡ log
+whole_of : (epoch k : ℕ) (transfer : Transfer (List Entry)) (log : List Entry) → snapshot_of epoch (message.Snapshot k transfer) ≡ Some log
+    → transfer.machine ≡ log
 whole_of epoch k transfer log h = elim (test (epoch == k)) [
   | inl t ↦ let is : ◌≡◌ {A = Log} (Some transfer.machine) (Some log) = rw t at h in cc is
   | inr f ↦ let is : ◌≡◌ {A = Log} None (Some log) = rw f at h in cc is
@@ -108,24 +113,29 @@ module _ {P : Type 0} (plain : Plain P) (told : Account) (s : IsSound plain told
         let link = w.links (Server pred.0) (Server b) in
         let old : flow pred.1 (log_at w b) link ≡ final_log w b = sym (ap (final_log_by w b (log_at w b)) is) in
         let before' : ComesBefore a t (members w.master) = subst (λ c. ComesBefore a c (members w.master)) to before in
-        let pred' : (w.servers t).pred ≡ Some (x, pred.1) = subst (λ c. (w.servers c).pred ≡ Some (x, pred.1)) to (is ∙ (λ i. Some (from i, pred.1))) in
+        let pred' : (w.servers t).pred ≡ Some (x, pred.1) = subst (λ c. (w.servers c).pred ≡ Some (x, pred.1)) to (is
+        ∙ (λ i. Some (from i, pred.1))) in
         goes_on pred.1 a before' pred' (final_log w t) refl log
-        (ap (λ c. log_with_message pred.1 (final_log w c) m) (sym to) ∙ ap (λ l. log_with_message pred.1 l m) (sym old) ∙ sym (flow_more pred.1 (log_at w b) link (m ∷ []))
+        (ap (λ c. log_with_message pred.1 (final_log w c) m) (sym to) ∙ ap (λ l. log_with_message pred.1 l m) (sym old)
+        ∙ sym (flow_more pred.1 (log_at w b) link (m ∷ []))
         ∙ sym (ap (flow pred.1 (log_at w b)) p.2) ∙ h)
   ]
 
   ordered : ChainIsOrdered w1
   ordered a b before log h = ahead_put w x (Server t) m a log (put_by a b before (w.servers b).pred refl log h)
 
-  shows_by : (y : ℕ) → IsMember w y → (pred : Option Neighbour) → (w.servers y).pred ≡ pred → (log : List Entry) → or_else (log_at w y) (first_snapshot_by w1 y pred) ≡ Some log
+  shows_by : (y : ℕ) → IsMember w y → (pred : Option Neighbour) → (w.servers y).pred ≡ pred → (log : List Entry)
+      → or_else (log_at w y) (first_snapshot_by w1 y pred) ≡ Some log
       → IsPrefix told.committed log
   shows_by y y_in None is log h = s.committed y log y_in (ap (λ p. or_else (log_at w y) (first_snapshot_by w y p)) is ∙ h)
   shows_by y y_in (Some pred) is log h = elim (put_one w.links (Server x) (Server t) m (Server pred.0) (Server y)) [
-    | inl e ↦ s.committed y log y_in (ap (λ p. or_else (log_at w y) (first_snapshot_by w y p)) is ∙ sym (ap (λ l. or_else (log_at w y) (first_snapshot pred.1 l)) e) ∙ h)
+    | inl e ↦ s.committed y log y_in (ap (λ p. or_else (log_at w y) (first_snapshot_by w y p)) is
+        ∙ sym (ap (λ l. or_else (log_at w y) (first_snapshot pred.1 l)) e) ∙ h)
     | inr p ↦
         let link = w.links (Server pred.0) (Server y) in
         elim (or_later (log_at w y) (first_snapshot pred.1 link) (snapshot_of pred.1 m) log
-        (ap (or_else (log_at w y)) (sym (first_more pred.1 link (m ∷ []))) ∙ sym (ap (λ l. or_else (log_at w y) (first_snapshot pred.1 l)) p.2) ∙ h)) [
+        (ap (or_else (log_at w y)) (sym (first_more pred.1 link (m ∷ [])))
+        ∙ sym (ap (λ l. or_else (log_at w y) (first_snapshot pred.1 l)) p.2) ∙ h)) [
           | inl e ↦ s.committed y log y_in (ap (λ q. or_else (log_at w y) (first_snapshot_by w y q)) is ∙ e)
           | inr e ↦ subst (IsPrefix told.committed) (whole_of pred.1 k transfer log e)
               (s.committed x own x_in (ap (λ l. or_else l (first_snapshot_by w x (w.servers x).pred)) holds))
@@ -191,7 +201,8 @@ module _ {P : Type 0} (plain : Plain P) (t : Account) (s : IsSound plain t) (y e
   handed : server.server_step (log_machine plain) (t.world.servers y) Master order
       ≡ (led, (Server z, message.Snapshot epoch (record { last = (t.world.servers y).last; machine = own })) ∷ [])
   unfolding server.server_step
-  handed = hand_by (t.world.servers y).machine (t.world.servers y).last (t.world.servers y).sent (t.world.servers y).pred (t.world.servers y).succ epoch z own has
+  handed = hand_by (t.world.servers y).machine (t.world.servers y).last (t.world.servers y).sent (t.world.servers y).pred
+      (t.world.servers y).succ epoch z own has
 
   abbrev led_account : Account
   led_account = account_with_view plain t Master y led
@@ -204,7 +215,8 @@ module _ {P : Type 0} (plain : Plain P) (t : Account) (s : IsSound plain t) (y e
       (does_in (log_machine plain) (record t.world { links = without_front t.world.links Master (Server y) }) (Server y) (Hear Master order)))
   take_whole_order = after_turn plain t s y order rest link alive
       (led, (Server z, message.Snapshot epoch (record { last = (t.world.servers y).last; machine = own })) ∷ []) handed good_hand
-      (put_whole plain led_account (turn_sound plain t s y order rest link alive led good_hand) y (member plain t s y order rest link alive led good_hand) own
+      (put_whole plain led_account (turn_sound plain t s y order rest link alive led good_hand) y
+      (member plain t s y order rest link alive led good_hand) own
       (ap (λ (u : ServerView (List Entry)). u.machine) (at_same y led t.world.servers) ∙ has)
       (ap (λ (u : ServerView (List Entry)). is_none u.succ) (at_same y led t.world.servers)) z epoch (t.world.servers y).last
       (λ pair. subst HasNoTailOrder (sym queue_left) ((subst (HasNoTailOrderBehind t.world y) link (s.tail_orders y)).0 pair))

@@ -1,6 +1,7 @@
 -- The event Take at a server, of the master's BecomeTail, BecomeHead and NewPred.
 use Rattle.std.specs.Prelude.{◌&&◌, is_none}
-use Rattle.std.proofs.Common.{◌≡◌, ℕ, true, false, ◌==◌, List, [], ◌∷◌, ◌++◌, length, drop, Option, Some, None, refl, sym, ap, ◌∙◌, subst, inl, inr, eqb-true}
+use Rattle.std.proofs.Common.{◌≡◌, ℕ, true, false, ◌==◌, List, [], ◌∷◌, ◌++◌, length, drop, Option, Some, None, refl}
+use Rattle.std.proofs.Common.{sym, ap, ◌∙◌, subst, inl, inr, eqb-true}
 use Rattle.zcalls.specs.declared.call.Entry.{Entry}
 use Rattle.zcalls.specs.Lists.{Among}
 use Rattle.zcalls.specs.Kept.{Plain}
@@ -27,11 +28,13 @@ use Rattle.zlinear.proofs.chain_lemmas.places.Orders.{leads_more}
 use Rattle.zlinear.proofs.chain_lemmas.links.Links.{at_same}
 use Rattle.zlinear.proofs.chain_lemmas.steps.Sends.{final_log_of_log}
 use Rattle.zlinear.proofs.chain_lemmas.steps.Takes.{with_view, front_here}
-use Rattle.zlinear.proofs.chain_lemmas.steps.ServerSteps.{account_with_puts, puts_at_once, puts_unread, acks_unread, account_with_view, IsUnreadAndJustified, after_puts}
+use Rattle.zlinear.proofs.chain_lemmas.steps.ServerSteps.{account_with_puts, puts_at_once, puts_unread, acks_unread}
+use Rattle.zlinear.proofs.chain_lemmas.steps.ServerSteps.{account_with_view, IsUnreadAndJustified, after_puts}
 use Rattle.zlinear.proofs.master_lemmas.orders.OrderSteps.{IsGoodTurn, turn_sound, turn_begins}
 
 -- a message of an epoch that the receiver hasn't taken doesn't count
-justified_foreign : (w : LogWorld) (items : List Item) (q y k : ℕ) → (IsOpened w y k → ⊥) → (m : LogMessage) → IsJustified w items (Server q) (Server y) m → IsForeign k m
+justified_foreign : (w : LogWorld) (items : List Item) (q y k : ℕ) → (IsOpened w y k → ⊥) → (m : LogMessage)
+    → IsJustified w items (Server q) (Server y) m → IsForeign k m
 justified_foreign w items q y k closed (message.Update epoch n e) justified = elim (test (k == epoch)) [
   | inl t ↦ absurd (closed (subst (IsOpened w y) (sym (eqb-true _ _ t)) justified.0))
   | inr f ↦ (λ log. rw f refl, refl)
@@ -45,7 +48,10 @@ justified_foreign w items q y k closed m justified = (λ log. refl, refl)
 all_foreign : (w : LogWorld) (items : List Item) (q y k : ℕ) → (IsOpened w y k → ⊥) → (link : List LogMessage)
     → ((m : LogMessage) → Among m link → IsJustified w items (Server q) (Server y) m) → AreForeign k link
 all_foreign w items q y k closed [] justified = tt
-all_foreign w items q y k closed (m ∷ link) justified = (justified_foreign w items q y k closed m (justified m (inl refl)), all_foreign w items q y k closed link (λ n a. justified n (inr a)))
+all_foreign w items q y k closed (m ∷ link) justified = (
+  justified_foreign w items q y k closed m (justified m (inl refl)),
+  all_foreign w items q y k closed link (λ n a. justified n (inr a)),
+)
 
 or_none : (log : Log) → or_else log None ≡ log
 or_none None = refl
@@ -64,16 +70,20 @@ module _ {P : Type 0} (plain : Plain P) (t : Account) (s : IsSound plain t) (y :
   final_log_of v = ap (λ (u : ServerView (List Entry)). final_log_by (with_view w Master y v) y u.machine u.pred) (at_same y v w.servers)
 
   -- and what it shows first
-  pub first_log_of : (v : ServerView (List Entry)) → first_log (with_view w Master y v) y ≡ or_else v.machine (first_snapshot_by (with_view w Master y v) y v.pred)
-  first_log_of v = ap (λ (u : ServerView (List Entry)). or_else u.machine (first_snapshot_by (with_view w Master y v) y u.pred)) (at_same y v w.servers)
+  pub first_log_of : (v : ServerView (List Entry)) → first_log (with_view w Master y v) y
+      ≡ or_else v.machine (first_snapshot_by (with_view w Master y v) y v.pred)
+  first_log_of v = ap (λ (u : ServerView (List Entry)). or_else u.machine (first_snapshot_by (with_view w Master y v) y u.pred))
+      (at_same y v w.servers)
 
   -- other links stay
-  pub same_final_log : (v : ServerView (List Entry)) (log : Log) (pred : Option Neighbour) → final_log_by (with_view w Master y v) y log pred ≡ final_log_by w y log pred
+  pub same_final_log : (v : ServerView (List Entry)) (log : Log) (pred : Option Neighbour)
+      → final_log_by (with_view w Master y v) y log pred ≡ final_log_by w y log pred
   same_final_log v log None = refl
   same_final_log v log (Some pred) = refl
 
   -- other links stay
-  pub same_first : (v : ServerView (List Entry)) (pred : Option Neighbour) → first_snapshot_by (with_view w Master y v) y pred ≡ first_snapshot_by w y pred
+  pub same_first : (v : ServerView (List Entry)) (pred : Option Neighbour) → first_snapshot_by (with_view w Master y v) y pred
+      ≡ first_snapshot_by w y pred
   same_first v None = refl
   same_first v (Some pred) = refl
 
@@ -85,7 +95,8 @@ module _ {P : Type 0} (plain : Plain P) (t : Account) (s : IsSound plain t) (y :
   taken = server.server_step (log_machine plain) (t.world.servers y) Master m
 
   account_of : (r : ServerResult (List Entry)) → server.server_step (log_machine plain) (t.world.servers y) Master m ≡ r
-      → account_with_puts (account_with_view plain t Master y r.0) y r.1 ≡ account_by plain t (Take Master (Server y)) (did_in popped (Server y) (server_effect taken))
+      → account_with_puts (account_with_view plain t Master y r.0) y r.1 ≡ account_by plain t (Take Master (Server y))
+      (did_in popped (Server y) (server_effect taken))
   account_of r is =
       ap (λ (x : ServerResult (List Entry)). account_with_puts (account_with_view plain t Master y x.0) y x.1) (sym is)
       ∙ puts_at_once (account_with_view plain t Master y taken.0) y taken.1
@@ -98,8 +109,10 @@ module _ {P : Type 0} (plain : Plain P) (t : Account) (s : IsSound plain t) (y :
       })
 
   -- the whole event, from the view and what is put
-  pub after_turn : (r : ServerResult (List Entry)) → server.server_step (log_machine plain) (t.world.servers y) Master m ≡ r → IsGoodTurn t.world y r.0 rest
-      → IsSound plain (account_with_puts (account_with_view plain t Master y r.0) y r.1) → IsSoundAfter plain t (account_by plain t (Take Master (Server y)) (did_in popped (Server y) (server_effect taken)))
+  pub after_turn : (r : ServerResult (List Entry)) → server.server_step (log_machine plain) (t.world.servers y) Master m ≡ r
+      → IsGoodTurn t.world y r.0 rest
+      → IsSound plain (account_with_puts (account_with_view plain t Master y r.0) y r.1)
+      → IsSoundAfter plain t (account_by plain t (Take Master (Server y)) (did_in popped (Server y) (server_effect taken)))
   after_turn r is good sound =
       after_puts plain t (account_with_view plain t Master y r.0) _ y r.1 (account_of r is) sound (turn_begins plain t s y m rest link alive r.0 good)
 
@@ -134,14 +147,21 @@ module _ {P : Type 0} (plain : Plain P) (t : Account) (s : IsSound plain t) (y e
   unfolding server.server_step become_tail_row
   end_taken = refl
 
-  acks_by : (machine : Log) (post : Post (List Entry)) → Among post (elim machine as (λ x. List (Post (List Entry))) [ None ↦ [] | Some log ↦ ack_posts (t.world.servers y).pred (t.world.servers y).last ])
+  acks_by : (machine : Log) (post : Post (List Entry))
+      → Among post (elim machine as (λ x. List (Post (List Entry))) [
+        | None ↦ []
+        | Some log ↦ ack_posts (t.world.servers y).pred
+            (t.world.servers y).last
+      ])
       → IsUnreadAndJustified (account_with_view plain t Master y ended).world (account_with_view plain t Master y ended).items y post
   acks_by None post a = absurd a
-  acks_by (Some log) post a = acks_unread (account_with_view plain t Master y ended).world (account_with_view plain t Master y ended).items y (t.world.servers y).pred (t.world.servers y).last post a
+  acks_by (Some log) post a = acks_unread (account_with_view plain t Master y ended).world (account_with_view plain t Master y ended).items
+      y (t.world.servers y).pred (t.world.servers y).last post a
 
   -- the event
   pub take_tail_order : IsSoundAfter plain t (account_by plain t (Take Master (Server y))
-      (does_in (log_machine plain) (record t.world { links = without_front t.world.links Master (Server y) }) (Server y) (Hear Master (message.BecomeTail epoch))))
+      (does_in (log_machine plain) (record t.world { links = without_front t.world.links Master (Server y) }) (Server y)
+      (Hear Master (message.BecomeTail epoch))))
   take_tail_order = after_turn plain t s y (message.BecomeTail epoch) rest link alive (ended, acks_all (t.world.servers y)) end_taken good_end
       (puts_unread plain (account_with_view plain t Master y ended) y (acks_all (t.world.servers y)) (acks_by (t.world.servers y).machine)
       (turn_sound plain t s y (message.BecomeTail epoch) rest link alive ended good_end))
@@ -158,11 +178,13 @@ module _ {P : Type 0} (plain : Plain P) (t : Account) (s : IsSound plain t) (y e
     succ = λ some no_order. some;
     final_log = λ log is. final_log_of_log t.world y log (sym (final_log_of plain t s y (message.BecomeHead epoch) rest link alive led) ∙ is);
     shows = λ log is.
-        let mine : log_at t.world y ≡ Some log = sym (first_log_of plain t s y (message.BecomeHead epoch) rest link alive led ∙ or_none (log_at t.world y)) ∙ is in
+        let mine : log_at t.world y ≡ Some log = sym (first_log_of plain t s y (message.BecomeHead epoch) rest link alive led
+        ∙ or_none (log_at t.world y)) ∙ is in
         (log, ap (λ l. or_else l (first_snapshot_by t.world y (t.world.servers y).pred)) mine, prefix_same log);
     line = λ place is.
         let leads = subst (λ q. LeadsTo (IsPast t.world) (is_fresh t.world y) (t.world.servers y).pred q place) link (s.line y place is) in
-        leads_more (IsPast t.world) (IsPast t.world) false (is_none (t.world.servers y).machine && true) None rest place (λ p past. past) (λ e. cc e) leads.1;
+        leads_more (IsPast t.world) (IsPast t.world) false (is_none (t.world.servers y).machine && true) None rest place
+        (λ p past. past) (λ e. cc e) leads.1;
     successor = λ z k is. s.successors y z k is;
     sent = s.sent y;
   }
@@ -173,7 +195,8 @@ module _ {P : Type 0} (plain : Plain P) (t : Account) (s : IsSound plain t) (y e
 
   -- the event
   pub take_head_order : IsSoundAfter plain t (account_by plain t (Take Master (Server y))
-      (does_in (log_machine plain) (record t.world { links = without_front t.world.links Master (Server y) }) (Server y) (Hear Master (message.BecomeHead epoch))))
+      (does_in (log_machine plain) (record t.world { links = without_front t.world.links Master (Server y) }) (Server y)
+      (Hear Master (message.BecomeHead epoch))))
   take_head_order = after_turn plain t s y (message.BecomeHead epoch) rest link alive (led, []) head_taken good_head
       (turn_sound plain t s y (message.BecomeHead epoch) rest link alive led good_head)
 
@@ -194,7 +217,8 @@ module _ {P : Type 0} (plain : Plain P) (t : Account) (s : IsSound plain t) (y e
     machine = refl;
     succ = λ some no_order. some;
     final_log = λ log is. final_log_of_log t.world y log
-        (sym (final_log_of plain t s y (message.NewPred epoch p) rest link alive turned ∙ flow_foreign epoch (log_at t.world y) (t.world.links (Server p) (Server y)) foreign) ∙ is);
+        (sym (final_log_of plain t s y (message.NewPred epoch p) rest link alive turned
+        ∙ flow_foreign epoch (log_at t.world y) (t.world.links (Server p) (Server y)) foreign) ∙ is);
     shows = λ log is.
         let mine : log_at t.world y ≡ Some log =
         sym (first_log_of plain t s y (message.NewPred epoch p) rest link alive turned
@@ -202,12 +226,14 @@ module _ {P : Type 0} (plain : Plain P) (t : Account) (s : IsSound plain t) (y e
         (log, ap (λ l. or_else l (first_snapshot_by t.world y (t.world.servers y).pred)) mine, prefix_same log);
     line = λ place is.
         let leads = subst (λ q. LeadsTo (IsPast t.world) (is_fresh t.world y) (t.world.servers y).pred q place) link (s.line y place is) in
-        leads_more (IsPast t.world) (IsPast t.world) false (is_none (t.world.servers y).machine && false) (Some (p, epoch)) rest place (λ q past. past) (λ e. cc e) leads.1;
+        leads_more (IsPast t.world) (IsPast t.world) false (is_none (t.world.servers y).machine && false) (Some (p, epoch))
+        rest place (λ q past. past) (λ e. cc e) leads.1;
     successor = λ z k is. s.successors y z k is;
     sent = s.sent y;
   }
 
-  pred_taken : server.server_step (log_machine plain) (t.world.servers y) Master (message.NewPred epoch p) ≡ (turned, (Master, message.Have epoch (last_number (t.world.servers y))) ∷ [])
+  pred_taken : server.server_step (log_machine plain) (t.world.servers y) Master (message.NewPred epoch p)
+      ≡ (turned, (Master, message.Have epoch (last_number (t.world.servers y))) ∷ [])
   unfolding server.server_step new_pred_row
   pred_taken = refl
 
@@ -219,13 +245,16 @@ module _ {P : Type 0} (plain : Plain P) (t : Account) (s : IsSound plain t) (y e
 
   have_justified : (post : Post (List Entry)) → Among post ((Master, message.Have epoch (last_number (t.world.servers y))) ∷ [])
       → IsUnreadAndJustified (account_with_view plain t Master y turned).world (account_with_view plain t Master y turned).items y post
-  have_justified post (inl e) = subst (IsUnreadAndJustified (account_with_view plain t Master y turned).world (account_with_view plain t Master y turned).items y) e (tt, opens)
+  have_justified post (inl e) = subst (IsUnreadAndJustified (account_with_view plain t Master y turned).world
+      (account_with_view plain t Master y turned).items y) e (tt, opens)
   have_justified post (inr a) = absurd a
 
   -- the event
   pub take_pred_order : IsSoundAfter plain t (account_by plain t (Take Master (Server y))
-      (does_in (log_machine plain) (record t.world { links = without_front t.world.links Master (Server y) }) (Server y) (Hear Master (message.NewPred epoch p))))
+      (does_in (log_machine plain) (record t.world { links = without_front t.world.links Master (Server y) }) (Server y)
+      (Hear Master (message.NewPred epoch p))))
   take_pred_order = after_turn plain t s y (message.NewPred epoch p) rest link alive
       (turned, (Master, message.Have epoch (last_number (t.world.servers y))) ∷ []) pred_taken good_turn
-      (puts_unread plain (account_with_view plain t Master y turned) y ((Master, message.Have epoch (last_number (t.world.servers y))) ∷ []) have_justified
+      (puts_unread plain (account_with_view plain t Master y turned) y ((Master, message.Have epoch (last_number (t.world.servers y))) ∷ [])
+      have_justified
       (turn_sound plain t s y (message.NewPred epoch p) rest link alive turned good_turn))

@@ -1,6 +1,7 @@
 -- A server took a message of the master: the step of its view is sound. The log stays, whatever the message.
 use Rattle.std.specs.Prelude.{◌&&◌, is_none}
-use Rattle.std.proofs.Common.{◌≡◌, ℕ, true, false, ◌==◌, List, [], ◌∷◌, ◌++◌, length, Some, None, refl, sym, ap, ◌∙◌, subst, inl, inr, eqb-true, append-nil}
+use Rattle.std.proofs.Common.{◌≡◌, ℕ, true, false, ◌==◌, List, [], ◌∷◌, ◌++◌, length, Some, None, refl, sym, ap, ◌∙◌}
+use Rattle.std.proofs.Common.{subst, inl, inr, eqb-true, append-nil}
 use Rattle.std.proofs.Math.Seq.{drop-length}
 use Rattle.zcalls.specs.declared.call.Entry.{Entry}
 use Rattle.zcalls.specs.Lists.{Among, ComesBefore}
@@ -33,9 +34,11 @@ pub record IsGoodTurn (w : LogWorld) (y : ℕ) (v : ServerView (List Entry)) (re
   -- a successor that nobody orders away stays, or another comes
   pub succ : is_none (w.servers y).succ ≡ false → HasNoTailOrder (queue w y) → is_none v.succ ≡ false
   -- what it would hold in the end is no more than before
-  pub final_log : (log : List Entry) → final_log (with_view w Master y v) y ≡ Some log → (more : List Entry) × (final_log w y ≡ Some more) × IsPrefix log more
+  pub final_log : (log : List Entry) → final_log (with_view w Master y v) y ≡ Some log
+      → (more : List Entry) × (final_log w y ≡ Some more) × IsPrefix log more
   -- what it shows first is what it showed
-  pub shows : (log : List Entry) → first_log (with_view w Master y v) y ≡ Some log → (shown : List Entry) × (first_log w y ≡ Some shown) × IsPrefix shown log
+  pub shows : (log : List Entry) → first_log (with_view w Master y v) y ≡ Some log
+      → (shown : List Entry) × (first_log w y ≡ Some shown) × IsPrefix shown log
   -- its predecessor leads on
   pub line : (place : Place) → place_in_chain w y ≡ Some place → LeadsTo (IsPast w) (is_none v.machine && is_none v.pred) v.pred rest place
   -- its successor has taken the epoch
@@ -44,7 +47,8 @@ pub record IsGoodTurn (w : LogWorld) (y : ℕ) (v : ServerView (List Entry)) (re
   pub sent : (log : List Entry) (n : ℕ) (e : Entry) → v.machine ≡ Some log → Among (n, e) v.sent → IsEntry log n e
 
 module _ {P : Type 0} (plain : Plain P) (t : Account) (s : IsSound plain t) (y : ℕ) (m : LogMessage) (rest : List LogMessage)
-    (link : t.world.links Master (Server y) ≡ m ∷ rest) (alive : t.world.failed y ≡ false) (v : ServerView (List Entry)) (good : IsGoodTurn t.world y v rest) where
+    (link : t.world.links Master (Server y) ≡ m ∷ rest) (alive : t.world.failed y ≡ false)
+    (v : ServerView (List Entry)) (good : IsGoodTurn t.world y v rest) where
   abbrev w : LogWorld
   w = t.world
 
@@ -81,7 +85,8 @@ module _ {P : Type 0} (plain : Plain P) (t : Account) (s : IsSound plain t) (y :
             holds = ap (λ (u : ServerView (List Entry)). u.machine) view ∙ good.machine ∙ subst (λ z. log_at w z ≡ Some h.own) e h.holds;
             begins = h.begins;
             has_successor = ap (λ (u : ServerView (List Entry)). is_none u.succ) view
-                ∙ good.succ (subst (λ z. is_none (w.servers z).succ ≡ false) e h.has_successor) (subst (λ z. HasNoTailOrder (queue w z)) e h.no_tail_order);
+                ∙ good.succ (subst (λ z. is_none (w.servers z).succ ≡ false) e h.has_successor)
+                (subst (λ z. HasNoTailOrder (queue w z)) e h.no_tail_order);
             no_tail_order = no_tail x h.no_tail_order;
           }
 
@@ -92,7 +97,8 @@ module _ {P : Type 0} (plain : Plain P) (t : Account) (s : IsSound plain t) (y :
   ordered : ChainIsOrdered w1
   ordered a b before log is = elim (test (b == y)) [
     | inl e ↦ let same : b ≡ y = eqb-true _ _ e in
-        ahead_turn a log (ahead_of a (subst (λ c. ComesBefore a c (members w.master)) same before) log (subst (λ c. final_log w1 c ≡ Some log) same is))
+        ahead_turn a log (ahead_of a (subst (λ c. ComesBefore a c (members w.master)) same before) log
+        (subst (λ c. final_log w1 c ≡ Some log) same is))
     | inr f ↦ ahead_turn a log (s.ordered a b before log (sym (final_log_elsewhere w Master y v b f) ∙ is))
   ]
 
@@ -101,7 +107,8 @@ module _ {P : Type 0} (plain : Plain P) (t : Account) (s : IsSound plain t) (y :
 
   sound : (committed : List Entry) (items : List Item) → ((i : Item) → Among i t.items → Among i items)
       → AreGoodLists plain w1 committed items → IsSound plain (record { world = w1; committed = committed; items = items })
-  sound = order_sound plain t s y m rest link v (record { line = good.line; successor = good.successor; ordered = ordered; sent = good.sent; begun = begun })
+  sound = order_sound plain t s y m rest link v
+      (record { line = good.line; successor = good.successor; ordered = ordered; sent = good.sent; begun = begun })
 
   quiet_tail : tail_log v ≡ None → TailHoldsCommitted w1 t.committed
   quiet_tail none z log in_chain is ends =

@@ -47,7 +47,8 @@ module _ {P : Type 0} (plain : Plain P) (t : Account) (s : IsSound plain t) (y :
   queue_there z f = front_not_to w.links Master (Server y) Master (Server z) f
 
   -- what holds of each queue, and of the shorter one
-  each_queue : (Q : ℕ → ServerView (List Entry) → List LogMessage → Type 0) → Q y v rest → ((z : ℕ) → Q z (w.servers z) (queue w z)) → (z : ℕ) → Q z (w1.servers z) (queue w1 z)
+  each_queue : (Q : ℕ → ServerView (List Entry) → List LogMessage → Type 0) → Q y v rest → ((z : ℕ) → Q z (w.servers z) (queue w z))
+      → (z : ℕ) → Q z (w1.servers z) (queue w1 z)
   each_queue Q here there z = elim (test (z == y)) [
     | inl e ↦ let same : z ≡ y = eqb-true _ _ e in
         subst (λ x. Q x (w1.servers x) (queue w1 x)) (sym same)
@@ -67,14 +68,17 @@ module _ {P : Type 0} (plain : Plain P) (t : Account) (s : IsSound plain t) (y :
     blank = each_queue (λ z u q. (IsUsed w z → ⊥) → (u ≡ spare) × (q ≡ []))
         (λ unused. let none : ◌≡◌ {A = List LogMessage} (m ∷ rest) [] = sym link ∙ (s.blank y unused).1 in absurd (cc none)) s.blank;
     live = s.live;
-    line = each_queue (λ z u q. (place : Place) → place_in_chain w z ≡ Some place → LeadsTo (IsPast w) (is_none u.machine && is_none u.pred) u.pred q place) good.line s.line;
-    successors = λ x z k is. opened z k (each_at (λ a u. u.succ ≡ Some (z, k) → IsOpened w z k) y v w.servers x (good.successor z k) (s.successors x z k) is);
+    line = each_queue (λ z u q. (place : Place) → place_in_chain w z ≡ Some place
+        → LeadsTo (IsPast w) (is_none u.machine && is_none u.pred) u.pred q place) good.line s.line;
+    successors = λ x z k is. opened z k (each_at (λ a u. u.succ ≡ Some (z, k) → IsOpened w z k) y v w.servers x
+        (good.successor z k) (s.successors x z k) is);
     epochs = each_queue (λ z u q. HasDistinctEpochs w.master.epoch q) (subst (HasDistinctEpochs w.master.epoch) link (s.epochs y)).1 s.epochs;
     tail_orders = each_queue (λ z u q. HasNoTailOrderBehind w z q) (subst (HasNoTailOrderBehind w y) link (s.tail_orders y)).1 s.tail_orders;
     ordered = good.ordered;
     committed = lists.shown;
     tail = lists.tail;
-    sent = λ x log n e is a. each_at (λ z u. u.machine ≡ Some log → Among (n, e) u.sent → IsEntry log n e) y v w.servers x (good.sent log n e) (s.sent x log n e) is a;
+    sent = λ x log n e is a. each_at (λ z u. u.machine ≡ Some log → Among (n, e) u.sent → IsEntry log n e) y v w.servers
+        x (good.sent log n e) (s.sent x log n e) is a;
     begun = λ x log is. each_at (λ z u. u.machine ≡ Some log → AllBegun w.history log) y v w.servers x (good.begun log) (s.begun x log) is;
     committed_begun = lists.committed_begun;
     justified = λ p q m' a. justified_later w w1 t.items items (record { begun = λ o h. h; given = more; opened = opened; failed = λ z h. h }) p q m'

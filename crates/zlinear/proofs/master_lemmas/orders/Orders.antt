@@ -23,7 +23,9 @@ use Rattle.zlinear.proofs.chain_lemmas.steps.Stops.{stop_sound}
 use Rattle.zlinear.proofs.chain_lemmas.Events.{where_enabled, front_there}
 use Rattle.zlinear.specs.chain.Events.{KeepsSoundOver}
 use Rattle.zlinear.proofs.master_lemmas.orders.OrderSteps.{IsGoodTurn, turn_sound, turn_begins}
-use Rattle.zlinear.proofs.master_lemmas.orders.Neighbours.{final_log_of, first_log_of, same_final_log, same_first, after_turn, take_tail_order, take_head_order, take_pred_order}
+use Rattle.zlinear.proofs.master_lemmas.orders.Neighbours.{final_log_of, first_log_of, same_final_log, same_first}
+use Rattle.zlinear.proofs.master_lemmas.orders.Neighbours.{after_turn, take_tail_order, take_head_order}
+use Rattle.zlinear.proofs.master_lemmas.orders.Neighbours.{take_pred_order}
 use Rattle.zlinear.proofs.master_lemmas.orders.Successors.{take_succ_order}
 use Rattle.zlinear.proofs.master_lemmas.orders.Handovers.{take_whole_order}
 
@@ -33,11 +35,16 @@ module _ {P : Type 0} (plain : Plain P) (t : Account) (s : IsSound plain t) (y :
   abbrev old : ServerView (List Entry)
   old = t.world.servers y
 
-  leads_on : (fresh : Bool) (pred place : Place) → turn_of m ≡ None → LeadsTo (IsPast t.world) fresh pred (m ∷ rest) place → LeadsTo (IsPast t.world) fresh pred rest place
+  leads_on : (fresh : Bool) (pred place : Place) → turn_of m ≡ None → LeadsTo (IsPast t.world) fresh pred (m ∷ rest) place
+      → LeadsTo (IsPast t.world) fresh pred rest place
   leads_on fresh pred place turn = by (turn_of m) turn
     where
       by : (o : Option Place) → o ≡ None
-          → (elim o as (λ x. Type 0) [ None ↦ LeadsTo (IsPast t.world) fresh pred rest place | Some new ↦ ((fresh ≡ true) ⊎ IsPast t.world pred) × LeadsTo (IsPast t.world) false new rest place ])
+          → (elim o as (λ x. Type 0) [
+            | None ↦ LeadsTo (IsPast t.world) fresh pred rest place
+            | Some new ↦ ((fresh ≡ true) ⊎ IsPast t.world pred)
+                × LeadsTo (IsPast t.world) false new rest place
+          ])
           → LeadsTo (IsPast t.world) fresh pred rest place
       by None e h = h
       by (Some new) e h = absurd (cc e)
@@ -46,8 +53,18 @@ module _ {P : Type 0} (plain : Plain P) (t : Account) (s : IsSound plain t) (y :
   good_same turn = record {
     machine = refl;
     succ = λ some no_order. some;
-    final_log = λ log is. (log, sym (final_log_of plain t s y m rest link alive old ∙ same_final_log plain t s y m rest link alive old old.machine old.pred) ∙ is, prefix_same log);
-    shows = λ log is. (log, sym (first_log_of plain t s y m rest link alive old ∙ ap (or_else old.machine) (same_first plain t s y m rest link alive old old.pred)) ∙ is, prefix_same log);
+    final_log = λ log is. (
+      log,
+      sym (final_log_of plain t s y m rest link alive old
+          ∙ same_final_log plain t s y m rest link alive old old.machine old.pred) ∙ is,
+      prefix_same log,
+    );
+    shows = λ log is. (
+      log,
+      sym (first_log_of plain t s y m rest link alive old
+          ∙ ap (or_else old.machine) (same_first plain t s y m rest link alive old old.pred)) ∙ is,
+      prefix_same log,
+    );
     line = λ place is. leads_on (is_fresh t.world y) old.pred place turn
         (subst (λ q. LeadsTo (IsPast t.world) (is_fresh t.world y) (t.world.servers y).pred q place) link (s.line y place is));
     successor = λ x k is. s.successors y x k is;
@@ -57,13 +74,15 @@ module _ {P : Type 0} (plain : Plain P) (t : Account) (s : IsSound plain t) (y :
   -- the event
   pub take_ignored : turn_of m ≡ None → server.server_step (log_machine plain) (t.world.servers y) Master m ≡ (t.world.servers y, [])
       → IsSoundAfter plain t (account_by plain t (Take Master (Server y))
-      (did_in (record t.world { links = without_front t.world.links Master (Server y) }) (Server y) (server_effect (server.server_step (log_machine plain) (t.world.servers y) Master m))))
+      (did_in (record t.world { links = without_front t.world.links Master (Server y) }) (Server y)
+      (server_effect (server.server_step (log_machine plain) (t.world.servers y) Master m))))
   take_ignored turn is = after_turn plain t s y m rest link alive (old, []) is (good_same turn)
       (turn_sound plain t s y m rest link alive old (good_same turn))
 
   -- an order to retire: the server ignores it, and stops
   pub take_retirement : turn_of m ≡ None
-      → IsSoundAfter plain t (account_by plain t (Take Master (Server y)) (did_in (record t.world { links = without_front t.world.links Master (Server y) }) (Server y) stop_effect))
+      → IsSoundAfter plain t (account_by plain t (Take Master (Server y))
+      (did_in (record t.world { links = without_front t.world.links Master (Server y) }) (Server y) stop_effect))
   take_retirement turn = (
     subst (λ (servers : ℕ → ServerView (List Entry)). IsSound plain (record (account_with_view plain t Master y old) {
       world = record (did_in (record t.world { links = without_front t.world.links Master (Server y) }) (Server y) stop_effect) { servers = servers };
@@ -74,8 +93,10 @@ module _ {P : Type 0} (plain : Plain P) (t : Account) (s : IsSound plain t) (y :
   )
 
 -- a server without a log ignores a successor
-without_log : {P : Type 0} (plain : Plain P) (machine : Log) (last : ℕ) (sent : List (ℕ × Entry)) (pred succ : Option Neighbour) (epoch z : ℕ) (n : Option ℕ) → machine ≡ None
-    → server.server_step (log_machine plain) (view_of machine last sent pred succ) Master (message.NewSucc epoch z n) ≡ (view_of machine last sent pred succ, [])
+without_log : {P : Type 0} (plain : Plain P) (machine : Log) (last : ℕ) (sent : List (ℕ × Entry)) (pred succ : Option Neighbour)
+    (epoch z : ℕ) (n : Option ℕ) → machine ≡ None
+    → server.server_step (log_machine plain) (view_of machine last sent pred succ) Master (message.NewSucc epoch z n)
+    ≡ (view_of machine last sent pred succ, [])
 unfolding server.server_step new_succ_row
 without_log plain None last sent pred succ epoch z n none = refl
 without_log plain (Some log) last sent pred succ epoch z n none = absurd (cc none)
@@ -89,7 +110,8 @@ module _ {P : Type 0} (plain : Plain P) where
 
     succ_by : (epoch z : ℕ) (n : Option ℕ) (log : Log) → log_at t.world y ≡ log → IsHeard (message.NewSucc epoch z n)
     succ_by epoch z n None is rest link alive = take_ignored plain t s y (message.NewSucc epoch z n) rest link alive refl
-        (without_log plain (t.world.servers y).machine (t.world.servers y).last (t.world.servers y).sent (t.world.servers y).pred (t.world.servers y).succ epoch z n is)
+        (without_log plain (t.world.servers y).machine (t.world.servers y).last (t.world.servers y).sent (t.world.servers y).pred
+        (t.world.servers y).succ epoch z n is)
     succ_by epoch z None (Some log) is rest link alive = take_whole_order plain t s y epoch z rest link alive log is
     succ_by epoch z (Some n) (Some log) is rest link alive = take_succ_order plain t s y epoch z n rest link alive log is
 

@@ -30,18 +30,21 @@ use Rattle.zlinear.proofs.master_lemmas.orders.Neighbours.{after_turn}
 use Rattle.zlinear.proofs.master_lemmas.orders.NewViews.{successor_opened, good_successor}
 
 -- entries of the sender's log, one after the other
-sends : {P : Type 0} (plain : Plain P) (t : Account) (y : ℕ) → IsMember t.world y → (own : List Entry) → log_at t.world y ≡ Some own → AllBegun t.world.history own
+sends : {P : Type 0} (plain : Plain P) (t : Account) (y : ℕ) → IsMember t.world y → (own : List Entry) → log_at t.world y ≡ Some own
+    → AllBegun t.world.history own
     → (succ : Neighbour) → IsOpened t.world succ.0 succ.1 → (es : List (ℕ × Entry)) → ((x : ℕ × Entry) → Among x es → IsEntry own x.0 x.1)
     → IsSound plain t → IsSound plain (account_with_puts t y (map (forward_post succ) es))
 sends plain t y y_in own holds begun succ opened [] entries s = s
 sends plain t y y_in own holds begun succ opened (x ∷ es) entries s =
     let entry = entries x (inl refl) in
     let has : Among x.1 own = subst (Among x.1) (sym entry.2) (among_mid x.1 entry.0 entry.1) in
-    sends plain (account_with_put t y (Server succ.0) (message.Update succ.1 x.0 x.1)) y y_in own holds begun succ opened es (λ z a. entries z (inr a))
+    sends plain (account_with_put t y (Server succ.0) (message.Update succ.1 x.0 x.1)) y y_in own holds begun succ opened
+    es (λ z a. entries z (inr a))
     (put_sent plain t y y_in own holds succ.0 succ.1 x.0 x.1 entry opened (begun x.1 has) s)
 
 -- what an initialised server does
-follow_by : (machine : Log) (last : ℕ) (sent : List (ℕ × Entry)) (pred succ : Option Neighbour) (epoch z n : ℕ) (own : List Entry) → machine ≡ Some own
+follow_by : (machine : Log) (last : ℕ) (sent : List (ℕ × Entry)) (pred succ : Option Neighbour) (epoch z n : ℕ) (own : List Entry)
+    → machine ≡ Some own
     → new_succ_row (view_of machine last sent pred succ) epoch z (Some n)
     ≡ (view_of machine last sent pred (Some (z, epoch)), map (forward_post (z, epoch)) (entries_above n sent))
 unfolding new_succ_row
@@ -63,14 +66,17 @@ module _ {P : Type 0} (plain : Plain P) (t : Account) (s : IsSound plain t) (y e
   good_follow : IsGoodTurn t.world y led rest
   good_follow = good_successor plain t s y epoch z (Some n) rest link alive
 
-  followed : server.server_step (log_machine plain) (t.world.servers y) Master m ≡ (led, map (forward_post (z, epoch)) (entries_above n (t.world.servers y).sent))
+  followed : server.server_step (log_machine plain) (t.world.servers y) Master m
+      ≡ (led, map (forward_post (z, epoch)) (entries_above n (t.world.servers y).sent))
   unfolding server.server_step
-  followed = follow_by (t.world.servers y).machine (t.world.servers y).last (t.world.servers y).sent (t.world.servers y).pred (t.world.servers y).succ epoch z n own has
+  followed = follow_by (t.world.servers y).machine (t.world.servers y).last (t.world.servers y).sent (t.world.servers y).pred
+      (t.world.servers y).succ epoch z n own has
 
   -- the event
   pub take_succ_order : IsSoundAfter plain t (account_by plain t (Take Master (Server y))
       (does_in (log_machine plain) (record t.world { links = without_front t.world.links Master (Server y) }) (Server y) (Hear Master m)))
-  take_succ_order = after_turn plain t s y m rest link alive (led, map (forward_post (z, epoch)) (entries_above n (t.world.servers y).sent)) followed good_follow
+  take_succ_order = after_turn plain t s y m rest link alive (led, map (forward_post (z, epoch)) (entries_above n (t.world.servers y).sent))
+      followed good_follow
       (sends plain (account_with_view plain t Master y led) y (member plain t s y m rest link alive led good_follow) own
       (ap (λ (u : ServerView (List Entry)). u.machine) (at_same y led t.world.servers) ∙ has) (s.begun y own has) (z, epoch)
       (opened.0, λ p a. opened.1 p (front_among t.world.links Master (Server y) Master (Server z) (message.NewPred epoch p) a))

@@ -5,7 +5,8 @@ use Rattle.zpipe.proofs.serving.take_whole.Given as goal
 
 abbrev pub invariant-loop-input : goal.invariant-loop-input
 invariant-loop-input g l =
-    ServesFront g.V.Service.took g.V.Service.kept g.V.Service.told g.V.Service.has_told (Between g.K.Sink.took l.initial.sink l.sink) l.initial.rest l.rest l.initial.service l.service
+    ServesFront g.V.Service.took g.V.Service.kept g.V.Service.told g.V.Service.has_told (Between g.K.Sink.took l.initial.sink l.sink)
+    l.initial.rest l.rest l.initial.service l.service
     × g.V.Service.is_sound l.service
 
 abbrev pub decreases-loop-input : goal.decreases-loop-input

@@ -32,5 +32,6 @@ pub returns-in-Err-race-clause-not_good : goal.returns-in-Err-race-clause-not_go
 returns-in-Err-race-clause-not_good g c = λ one.
     inl (
       g.met.K.Sink.took_nothing c.args.sink.now,
-      told_either (sink_run g.F.Sink.took g.F.Sink.failed c.args.faults.now c.refuse_start.new.faults) c.in-Err-race.fault c.refuse_start.ensures.told,
+      told_either (sink_run g.F.Sink.took g.F.Sink.failed c.args.faults.now c.refuse_start.new.faults) c.in-Err-race.fault
+          c.refuse_start.ensures.told,
     )

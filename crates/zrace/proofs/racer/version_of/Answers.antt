@@ -10,6 +10,7 @@ returns-in-Exists-clause-told c = λ node is. (
   c.exists.result,
   c.in-Exists.stat,
   (c.args.path, is, c.exists.ensures),
-  subst (λ (reply : Reply). CalledPatientlyUntil PATIENCE c.exists.result c.args.client.now c.ask.new.self reply) c.in-Exists.is c.in-Ok.ensures.reply,
+  subst (λ (reply : Reply). CalledPatientlyUntil PATIENCE c.exists.result c.args.client.now c.ask.new.self reply)
+      c.in-Exists.is c.in-Ok.ensures.reply,
   refl,
 )

@@ -14,12 +14,15 @@ are_told-is_told-requires c =
     let m = c.args.master in
     let ss = c.args.servers.items in
     let cs = c.args.clients.items in
-    let outs = kept_all (λ (e : Ending). e.outs) m ss cs c.new-outs.result.items c.keep.new.mesh.outs.items c.keep_servers.new.mesh.outs.items c.keep_clients.new.mesh.outs.items
+    let outs = kept_all (λ (e : Ending). e.outs) m ss cs c.new-outs.result.items c.keep.new.mesh.outs.items
+    c.keep_servers.new.mesh.outs.items c.keep_clients.new.mesh.outs.items
     c.new-outs.ensures.items c.in-Ok.ensures.outs c.in-Ok-keep_servers.ensures.outs c.in-Ok-keep_clients.ensures.outs in
-    let ins = kept_all (λ (e : Ending). e.ins) m ss cs c.new-ins.result.items c.keep.new.mesh.ins.items c.keep_servers.new.mesh.ins.items c.keep_clients.new.mesh.ins.items
+    let ins = kept_all (λ (e : Ending). e.ins) m ss cs c.new-ins.result.items c.keep.new.mesh.ins.items
+    c.keep_servers.new.mesh.ins.items c.keep_clients.new.mesh.ins.items
     c.new-ins.ensures.items c.in-Ok.ensures.ins c.in-Ok-keep_servers.ensures.ins c.in-Ok-keep_clients.ensures.ins in
     let uncut : is_left_cut m ss cs ≡ false =
-    subst (λ (b : Bool × Bool). (m.trace.is_cut || (b.0 || b.1)) ≡ false) (λ k. (c.is_any_cut.ensures k, c.is_any_cut-2.ensures k)) c.if-is_cut.false in
+    subst (λ (b : Bool × Bool). (m.trace.is_cut || (b.0 || b.1)) ≡ false) (λ k. (c.is_any_cut.ensures k, c.is_any_cut-2.ensures k))
+    c.if-is_cut.false in
     wired_lists (by_place m ss cs) c.keep_clients.new.mesh.outs.items c.keep_clients.new.mesh.ins.items outs ins (c.requires.wired uncut)
 
 pub returns-clause-lawful : goal.returns-clause-lawful
@@ -27,18 +30,24 @@ returns-clause-lawful c whole =
     let m = c.args.master in
     let ss = c.args.servers.items in
     let cs = c.args.clients.items in
-    let outs = kept_all (λ (e : Ending). e.outs) m ss cs c.new-outs.result.items c.keep.new.mesh.outs.items c.keep_servers.new.mesh.outs.items c.keep_clients.new.mesh.outs.items
+    let outs = kept_all (λ (e : Ending). e.outs) m ss cs c.new-outs.result.items c.keep.new.mesh.outs.items
+    c.keep_servers.new.mesh.outs.items c.keep_clients.new.mesh.outs.items
     c.new-outs.ensures.items c.in-Ok.ensures.outs c.in-Ok-keep_servers.ensures.outs c.in-Ok-keep_clients.ensures.outs in
-    let ins = kept_all (λ (e : Ending). e.ins) m ss cs c.new-ins.result.items c.keep.new.mesh.ins.items c.keep_servers.new.mesh.ins.items c.keep_clients.new.mesh.ins.items
+    let ins = kept_all (λ (e : Ending). e.ins) m ss cs c.new-ins.result.items c.keep.new.mesh.ins.items
+    c.keep_servers.new.mesh.ins.items c.keep_clients.new.mesh.ins.items
     c.new-ins.ensures.items c.in-Ok.ensures.ins c.in-Ok-keep_servers.ensures.ins c.in-Ok-keep_clients.ensures.ins in
     let test : Ending → Bool = λ e. e.trace.is_cut in
     let first = neither c.if-not-is_told.trace.is_cut
-    (list_any (λ (trace : Trace). trace.is_cut) c.in-Ok-keep_servers.servers.items || list_any (λ (client : ClientTrace). client.trace.is_cut) c.in-Ok-keep_clients.clients.items) whole in
-    let rest = neither (list_any (λ (trace : Trace). trace.is_cut) c.in-Ok-keep_servers.servers.items) (list_any (λ (client : ClientTrace). client.trace.is_cut) c.in-Ok-keep_clients.clients.items) first.1 in
+    (list_any (λ (trace : Trace). trace.is_cut) c.in-Ok-keep_servers.servers.items
+    || list_any (λ (client : ClientTrace). client.trace.is_cut) c.in-Ok-keep_clients.clients.items) whole in
+    let rest = neither (list_any (λ (trace : Trace). trace.is_cut) c.in-Ok-keep_servers.servers.items)
+    (list_any (λ (client : ClientTrace). client.trace.is_cut) c.in-Ok-keep_clients.clients.items) first.1 in
     let in_servers : list_any test ss ≡ false =
-    sym (any_map (λ (trace : Trace). trace.is_cut) (λ (e : Ending). e.trace) ss) ∙ ap (λ l. list_any (λ (trace : Trace). trace.is_cut) l) (sym c.in-Ok-keep_servers.ensures.traces) ∙ rest.0 in
+    sym (any_map (λ (trace : Trace). trace.is_cut) (λ (e : Ending). e.trace) ss)
+    ∙ ap (λ l. list_any (λ (trace : Trace). trace.is_cut) l) (sym c.in-Ok-keep_servers.ensures.traces) ∙ rest.0 in
     let in_clients : list_any test cs ≡ false =
-    sym (any_map (λ (client : ClientTrace). client.trace.is_cut) client_trace_of cs) ∙ ap (λ l. list_any (λ (client : ClientTrace). client.trace.is_cut) l) (sym c.in-Ok-keep_clients.ensures.traces) ∙ rest.1 in
+    sym (any_map (λ (client : ClientTrace). client.trace.is_cut) client_trace_of cs)
+    ∙ ap (λ l. list_any (λ (client : ClientTrace). client.trace.is_cut) l) (sym c.in-Ok-keep_clients.ensures.traces) ∙ rest.1 in
     elim c.if-not-is_told.branch [
       | then-not-is_told w ↦ absurd (true≢false (ap (λ (t : Trace). t.is_cut) (sym w.trace-is) ∙ first.0))
       | else-not-is_told w ↦
@@ -47,7 +56,8 @@ returns-clause-lawful c whole =
           let uncut : is_left_cut m ss cs ≡ false =
           subst (λ (b : Bool × Bool × Bool). (b.0 || (b.1 || b.2)) ≡ false) (λ k. (sym in_master k, sym in_servers k, sym in_clients k)) refl in
           let flags : (m.trace.is_cut || (c.is_any_cut.result || c.is_any_cut-2.result)) ≡ false =
-          subst (λ (b : Bool × Bool). (m.trace.is_cut || (b.0 || b.1)) ≡ false) (λ k. (sym c.is_any_cut.ensures k, sym c.is_any_cut-2.ensures k)) uncut in
+          subst (λ (b : Bool × Bool). (m.trace.is_cut || (b.0 || b.1)) ≡ false) (λ k. (sym c.is_any_cut.ensures k, sym c.is_any_cut-2.ensures k))
+          uncut in
           elim c.if-is_cut.branch [
             | then-is_cut v ↦ absurd (true≢false (sym v.if-is_cut.true ∙ flags))
             | else-is_cut v ↦
@@ -62,7 +72,8 @@ returns-clause-lawful c whole =
                   few_clients = c.result-1.given.1.0;
                 }
                 c.requires.servers refl (ap (λ (t : Trace). t.events) kept) c.in-Ok-keep_servers.ensures.traces c.in-Ok-keep_clients.ensures.traces
-                (are_linked (by_place m ss cs) (c.requires.wired uncut) c.keep_clients.new.mesh.outs.items c.keep_clients.new.mesh.ins.items outs ins (v.are_told-is_told.ensures told))
+                (are_linked (by_place m ss cs) (c.requires.wired uncut) c.keep_clients.new.mesh.outs.items
+                c.keep_clients.new.mesh.ins.items outs ins (v.are_told-is_told.ensures told))
                 c.requires.left uncut
           ]
     ]

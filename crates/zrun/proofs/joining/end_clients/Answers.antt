@@ -20,7 +20,8 @@ loop-place-preserved c =
     let rest = c.next.new.self.rest.items in
     let e = c.end_client.result in (
       i.0 ∙ ap (λ l. yielded ++ l) c.in-Some.ensures.steps.0 ∙ sym (append_assoc yielded (place ∷ []) rest),
-      subst (λ l. Pairs IsLeftIn (yielded ++ place ∷ []) l) (sym c.in_ok-push.ensures.items) (pairs_push IsLeftIn yielded c.loop-place.endings.items place e i.1 c.end_client.ensures),
+      subst (λ l. Pairs IsLeftIn (yielded ++ place ∷ []) l) (sym c.in_ok-push.ensures.items)
+          (pairs_push IsLeftIn yielded c.loop-place.endings.items place e i.1 c.end_client.ensures),
     )
 
 pub returns-clause-kept : goal.returns-clause-kept
@@ -28,7 +29,8 @@ returns-clause-kept c =
     let i = c.loop-place.invariant in
     let rest = c.loop-place.place-iterator.rest in
     let ended : rest.items ≡ [] = nil_from_length rest.items (sym rest.ok.0 ∙ c.in-None.ensures.steps.0) in
-    let all : c.args.clients.places.items ≡ c.loop-place.yielded = i.0 ∙ ap (λ l. c.loop-place.yielded ++ l) ended ∙ append-nil c.loop-place.yielded in
+    let all : c.args.clients.places.items ≡ c.loop-place.yielded = i.0 ∙ ap (λ l. c.loop-place.yielded ++ l) ended
+    ∙ append-nil c.loop-place.yielded in
     subst (λ l. Pairs IsLeftIn l c.loop-place.endings.items) (sym all) i.1
 
 pub returns-clause-left : goal.returns-clause-left
@@ -36,6 +38,7 @@ returns-clause-left c =
     let i = c.loop-place.invariant in
     let rest = c.loop-place.place-iterator.rest in
     let ended : rest.items ≡ [] = nil_from_length rest.items (sym rest.ok.0 ∙ c.in-None.ensures.steps.0) in
-    let all : c.args.clients.places.items ≡ c.loop-place.yielded = i.0 ∙ ap (λ l. c.loop-place.yielded ++ l) ended ∙ append-nil c.loop-place.yielded in
+    let all : c.args.clients.places.items ≡ c.loop-place.yielded = i.0 ∙ ap (λ l. c.loop-place.yielded ++ l) ended
+    ∙ append-nil c.loop-place.yielded in
     clients_left c.args.clients.run.value.items c.args.clients.places.items c.loop-place.endings.items c.args.clients.many c.args.clients.own
     (subst (λ l. Pairs IsLeftIn l c.loop-place.endings.items) (sym all) i.1)

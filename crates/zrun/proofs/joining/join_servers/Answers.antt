@@ -24,7 +24,8 @@ loop-server-preserved g c =
     let room = i.1 in
     let same = c.push_reserved.ensures.capacity in
     let wide = i.2 in
-    let left = left_by (given_server server) (server_desk c.join.result) e c.join.ensures c.into_ending.ensures.ended c.into_ending.ensures.wires c.into_ending.ensures.untraced in
+    let left = left_by (given_server server) (server_desk c.join.result) e c.join.ensures c.into_ending.ensures.ended
+    c.into_ending.ensures.wires c.into_ending.ensures.untraced in
     let all = pairs_push IsLeftBy (map given_server yielded) endings (given_server server) e i.3 left in (
       i.0 ∙ ap (λ l. yielded ++ l) step ∙ sym (append_assoc yielded (server ∷ []) rest),
       omega (arith, longer, shorter, room),

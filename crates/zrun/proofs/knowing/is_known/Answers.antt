@@ -9,12 +9,15 @@ are_told-requires c =
     let m = c.args.master in
     let ss = c.args.servers.items in
     let cs = c.args.clients.items in
-    let outs = kept_all (λ (e : Ending). e.outs) m ss cs c.new-outs.result.items c.keep.new.mesh.outs.items c.keep_servers.new.mesh.outs.items c.keep_clients.new.mesh.outs.items
+    let outs = kept_all (λ (e : Ending). e.outs) m ss cs c.new-outs.result.items c.keep.new.mesh.outs.items
+    c.keep_servers.new.mesh.outs.items c.keep_clients.new.mesh.outs.items
     c.new-outs.ensures.items c.in-Ok.ensures.outs c.in-Ok-keep_servers.ensures.outs c.in-Ok-keep_clients.ensures.outs in
-    let ins = kept_all (λ (e : Ending). e.ins) m ss cs c.new-ins.result.items c.keep.new.mesh.ins.items c.keep_servers.new.mesh.ins.items c.keep_clients.new.mesh.ins.items
+    let ins = kept_all (λ (e : Ending). e.ins) m ss cs c.new-ins.result.items c.keep.new.mesh.ins.items
+    c.keep_servers.new.mesh.ins.items c.keep_clients.new.mesh.ins.items
     c.new-ins.ensures.items c.in-Ok.ensures.ins c.in-Ok-keep_servers.ensures.ins c.in-Ok-keep_clients.ensures.ins in
     let kept : is_left_lost m ss cs ≡ false =
-    subst (λ (b : Bool × Bool). (m.is_lost || (b.0 || b.1)) ≡ false) (λ k. (c.is_any_lost.ensures k, c.is_any_lost-2.ensures k)) c.if-master-is_any_lost.false in
+    subst (λ (b : Bool × Bool). (m.is_lost || (b.0 || b.1)) ≡ false) (λ k. (c.is_any_lost.ensures k, c.is_any_lost-2.ensures k))
+    c.if-master-is_any_lost.false in
     wired_lists (by_place m ss cs) c.keep_clients.new.mesh.outs.items c.keep_clients.new.mesh.ins.items outs ins (c.requires kept)
 
 pub returns-clause-lawful : goal.returns-clause-lawful
@@ -22,13 +25,17 @@ returns-clause-lawful c is last left =
     let m = c.args.master in
     let ss = c.args.servers.items in
     let cs = c.args.clients.items in
-    let outs = kept_all (λ (e : Ending). e.outs) m ss cs c.new-outs.result.items c.keep.new.mesh.outs.items c.keep_servers.new.mesh.outs.items c.keep_clients.new.mesh.outs.items
+    let outs = kept_all (λ (e : Ending). e.outs) m ss cs c.new-outs.result.items c.keep.new.mesh.outs.items
+    c.keep_servers.new.mesh.outs.items c.keep_clients.new.mesh.outs.items
     c.new-outs.ensures.items c.in-Ok.ensures.outs c.in-Ok-keep_servers.ensures.outs c.in-Ok-keep_clients.ensures.outs in
-    let ins = kept_all (λ (e : Ending). e.ins) m ss cs c.new-ins.result.items c.keep.new.mesh.ins.items c.keep_servers.new.mesh.ins.items c.keep_clients.new.mesh.ins.items
+    let ins = kept_all (λ (e : Ending). e.ins) m ss cs c.new-ins.result.items c.keep.new.mesh.ins.items
+    c.keep_servers.new.mesh.ins.items c.keep_clients.new.mesh.ins.items
     c.new-ins.ensures.items c.in-Ok.ensures.ins c.in-Ok-keep_servers.ensures.ins c.in-Ok-keep_clients.ensures.ins in
     let kept : is_left_lost m ss cs ≡ false =
-    subst (λ (b : Bool × Bool). (m.is_lost || (b.0 || b.1)) ≡ false) (λ k. (c.is_any_lost.ensures k, c.is_any_lost-2.ensures k)) c.if-master-is_any_lost.false in
-    let linked = are_linked (by_place m ss cs) (c.requires kept) c.keep_clients.new.mesh.outs.items c.keep_clients.new.mesh.ins.items outs ins (c.are_told.ensures is) in
+    subst (λ (b : Bool × Bool). (m.is_lost || (b.0 || b.1)) ≡ false) (λ k. (c.is_any_lost.ensures k, c.is_any_lost-2.ensures k))
+    c.if-master-is_any_lost.false in
+    let linked = are_linked (by_place m ss cs) (c.requires kept) c.keep_clients.new.mesh.outs.items c.keep_clients.new.mesh.ins.items
+    outs ins (c.are_told.ensures is) in
     gone last m ss cs linked kept left
 
 pub returns-clause-lost : goal.returns-clause-lost

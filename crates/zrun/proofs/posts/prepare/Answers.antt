@@ -28,13 +28,15 @@ returns-clause-run c =
     let after_servers = c.in-Ok-prepare_servers.ensures.left in
     let after_master = c.in-Ok-next.ensures.left in
     let none : left s3 ≡ 0 = omega (arith, all, after_clients, after_servers, after_master) in
-    let handed = hands_more s0 s2 s3 c.in-Ok-next.ends m (ss ++ cs) (hands_both s0 s1 s2 cs ss c.in-Ok.ensures.rings c.in-Ok-prepare_servers.ensures.rings)
+    let handed = hands_more s0 s2 s3 c.in-Ok-next.ends m (ss ++ cs) (hands_both s0 s1 s2 cs ss c.in-Ok.ensures.rings
+    c.in-Ok-prepare_servers.ensures.rings)
     c.in-Ok-next.ensures.rings c.master-chief.ensures.ends in
     let count = posts_count c.in-Ok-prepare_servers.servers.items in
     let servers = c.in-Ok-prepare_servers.ensures.servers in
     let next : MAX_SERVERS + 1 ≡ 1 + length ss = omega (arith, count, servers) in
     let desks = more_desks o.last o.clients 0 m (ss ++ cs) c.master-chief.ensures.desk
-    (both_desks o.last o.clients 1 ss cs c.in-Ok-prepare_servers.ensures.desks (subst (λ k. AreDesks o.last o.clients k cs) next c.in-Ok.ensures.desks)) in
+    (both_desks o.last o.clients 1 ss cs c.in-Ok-prepare_servers.ensures.desks
+    (subst (λ k. AreDesks o.last o.clients k cs) next c.in-Ok.ensures.desks)) in
     let traced = more_traced o.is_traced m (ss ++ cs) c.master-chief.ensures.traced
     (both_traced o.is_traced ss cs c.in-Ok-prepare_servers.ensures.traced c.in-Ok.ensures.traced) in
     subst (λ (v : Vec ClientPost Global). IsRunFrom o (m ∷ (ss ++ client_desks v.items))) (sym c.of-run.ensures)

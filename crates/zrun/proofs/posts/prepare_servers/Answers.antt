@@ -27,7 +27,8 @@ loop-done-preserved c =
     let all : AreDesks o.last o.clients k (d ∷ before) =
     more_desks o.last o.clients k d before (is.0 ∙ server_process k c.in-Some.id here first few, is.1, is.2)
     (let next : 1 + (MAX_SERVERS - done) ≡ suc k = omega (arith, lt) in subst (λ m. AreDesks o.last o.clients m before) next i.4) in
-    let handed = hands_more c.args.supply.now c.loop-done.supply c.next.new.self c.in_ok-ends.ends d before i.3 c.in_ok-ends.ensures.rings c.in_ok-member.ensures.ends in
+    let handed = hands_more c.args.supply.now c.loop-done.supply c.next.new.self c.in_ok-ends.ends d before i.3
+    c.in_ok-ends.ensures.rings c.in_ok-member.ensures.ends in
     let less = c.in_ok-ends.ensures.left in
     let was = i.1 in (
       ap length grown ∙ length-append old _ ∙ ap (λ n. n + 1) i.0,

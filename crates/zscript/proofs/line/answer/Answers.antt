@@ -12,7 +12,8 @@ unfolding encode
 returns c =
     let new = c.play_line.new.world in
     record {
-      done = subst (λ (w : WorldView). (done : IsLineDone (world_between w.held) c.args.line.now (world_between new.held) (Writes c.args.out.now c.push.new.self)) × MayTell c.args.strict done.told) c.forget.ensures
+      done = subst (λ (w : WorldView). (done : IsLineDone (world_between w.held) c.args.line.now (world_between new.held)
+          (Writes c.args.out.now c.push.new.self)) × MayTell c.args.strict done.told) c.forget.ensures
           (line_done c.args.strict c.forget.new.self new c.args.line.now _ _
           (λ text wrote. writes_more c.args.out.now c.play_line.new.out c.push.new.self text (10 ∷ []) wrote c.in_ok-push.ensures.bytes)
           (ap (λ (w : WorldView). w.history) c.forget.ensures) c.in_ok-play_line.ensures);

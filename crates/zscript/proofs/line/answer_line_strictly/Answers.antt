@@ -8,6 +8,7 @@ use Rattle.zscript.proofs.line.answer_line_strictly.Goals as goal
 pub returns : goal.returns
 returns c = record {
   done = on_ok_weaker c.answer.result
-      (λ done. acted_line (world_between c.args.world.now.held) (world_between c.answer.new.world.held) c.args.line.now (Writes c.args.out.now c.answer.new.out) done.0 (done.1 refl))
+      (λ done. acted_line (world_between c.args.world.now.held) (world_between c.answer.new.world.held) c.args.line.now
+      (Writes c.args.out.now c.answer.new.out) done.0 (done.1 refl))
       c.answer.ensures.done;
 }

@@ -15,6 +15,7 @@ returns c =
       happened = c.in_ok-did.ensures.happened;
       caused = c.in_ok-did.ensures.cause;
       acted = λ strictly. whole_where c.args.strict c.in_ok-did.did strictly (sym c.must_stop.ensures ∙ c.if-must_stop.false);
-      written = subst (λ h. Writes c.args.out.now c.write_did.new.out (flat_map (taken_text None) h ++ did_text c.in_ok-did.did)) c.history.ensures.history written;
+      written = subst (λ h. Writes c.args.out.now c.write_did.new.out (flat_map (taken_text None) h ++ did_text c.in_ok-did.did))
+          c.history.ensures.history written;
     })
     c.write_did.ensures

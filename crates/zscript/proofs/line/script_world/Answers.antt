@@ -11,5 +11,6 @@ use Rattle.zscript.proofs.line.script_world.Goals as goal
 
 pub returns : goal.returns
 returns c =
-    IfOk-weaker c.new.result (λ (w : WorldView). world_in w ≡ opening_world kept_tree c.args.last MAX_CLIENTS) (λ (w : WorldView). world_between w.held ≡ opening_of c.args.last)
+    IfOk-weaker c.new.result (λ (w : WorldView). world_in w ≡ opening_world kept_tree c.args.last MAX_CLIENTS)
+    (λ (w : WorldView). world_between w.held ≡ opening_of c.args.last)
     (λ w is. ap forgotten is) c.new.ensures.world

@@ -10,5 +10,6 @@ pub returns : goal.returns
 returns c =
     on_ok_weaker c.write_settled.result
     (λ written. settle_done c.args.strict _ _ c.in_ok-settled.settled _ c.in_ok-settled.ensures
-    (subst (λ h. Writes c.args.out.now c.write_settled.new.out (flat_map (taken_text None) h ++ settled_text c.in_ok-settled.settled)) c.history.ensures.history written))
+    (subst (λ h. Writes c.args.out.now c.write_settled.new.out (flat_map (taken_text None) h ++ settled_text c.in_ok-settled.settled))
+    c.history.ensures.history written))
     c.write_settled.ensures

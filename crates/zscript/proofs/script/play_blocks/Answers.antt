@@ -10,7 +10,12 @@ use Rattle.zscript.proofs.script.play_blocks.Goals as goal
 
 pub loop-count-init : goal.loop-count-init
 loop-count-init g c = record {
-  so_far = ([], g.met.S.Source.gave_nothing _, heard-nil (Between g.K.Sink.took c.args.sink.now c.args.sink.now) c.args.player.now (g.met.K.Sink.took_nothing _) c.requires.fresh);
+  so_far = (
+    [],
+    g.met.S.Source.gave_nothing _,
+    heard-nil (Between g.K.Sink.took c.args.sink.now c.args.sink.now)
+        c.args.player.now (g.met.K.Sink.took_nothing _) c.requires.fresh,
+  );
   source_sound = g.met.S.Source.failed_never _;
   sink_sound = g.met.K.Sink.failed_never _;
 }

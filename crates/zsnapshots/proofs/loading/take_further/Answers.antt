@@ -8,8 +8,10 @@ returns-in-Ok-clause-taken c =
 
 pub returns-in-Ok-clause-only : goal.returns-in-Ok-clause-only
 returns-in-Ok-clause-only c =
-    never_taken_wrong c.take-taken.result (rows_so_far c.args.reading.now) (λ rest. (rows_so_far c.take-taken.new.self, rest.now)) c.args.row.now c.take-taken.ensures.only c.in-Ok.field-0 c.in-Ok.is
+    never_taken_wrong c.take-taken.result (rows_so_far c.args.reading.now) (λ rest. (rows_so_far c.take-taken.new.self, rest.now))
+    c.args.row.now c.take-taken.ensures.only c.in-Ok.field-0 c.in-Ok.is
 
 pub returns-in-Err-clause-only : goal.returns-in-Err-clause-only
 returns-in-Err-clause-only c =
-    never_refused c.take-taken.result (rows_so_far c.args.reading.now) (λ rest. (rows_so_far c.take-taken.new.self, rest.now)) c.args.row.now c.take-taken.ensures.only (rows_so_far c.take-taken.new.self) c.in-Err.fault c.in-Err.is
+    never_refused c.take-taken.result (rows_so_far c.args.reading.now) (λ rest. (rows_so_far c.take-taken.new.self, rest.now))
+    c.args.row.now c.take-taken.ensures.only (rows_so_far c.take-taken.new.self) c.in-Err.fault c.in-Err.is

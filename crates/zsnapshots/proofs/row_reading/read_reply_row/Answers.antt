@@ -4,4 +4,5 @@ use Rattle.zsnapshots.proofs.RowForms.{is_reply_text, read_as_row}
 use Rattle.zsnapshots.proofs.row_reading.read_reply_row.Goals as goal
 
 pub returns : goal.returns
-returns c = read_as_row reply_text is_reply_text (λ v. ((v.0, kept_of v.1 v.2), v.3.now)) c.args.bytes.now c.reply_row_in.result (λ i. omega (arith, c.type_inv.bytes i)) c.reply_row_in.ensures.read c.reply_row_in.ensures.fault
+returns c = read_as_row reply_text is_reply_text (λ v. ((v.0, kept_of v.1 v.2), v.3.now)) c.args.bytes.now c.reply_row_in.result
+    (λ i. omega (arith, c.type_inv.bytes i)) c.reply_row_in.ensures.read c.reply_row_in.ensures.fault

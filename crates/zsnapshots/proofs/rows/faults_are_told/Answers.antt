@@ -7,4 +7,11 @@ use Rattle.zsnapshots.proofs.rows.faults_are_told.Goals as goal
 
 pub returns : goal.returns
 unfolding reply_text session_text kept reply reply_at client call_number number_at
-returns c = record { none = refl; part = refl; too_long = refl; client_32 = (32 ∷ 0 ∷ 0 ∷ 0 ∷ 0 ∷ 0 ∷ 0 ∷ 0 ∷ 7 ∷ 1 ∷ [], [], refl, refl); more = (2 ∷ 0 ∷ 0 ∷ 0 ∷ 0 ∷ 0 ∷ 0 ∷ 0 ∷ 7 ∷ 1 ∷ 0 ∷ [], [], refl, refl); short = (0 ∷ 0 ∷ 0 ∷ [], [], refl, refl) }
+returns c = record {
+  none = refl;
+  part = refl;
+  too_long = refl;
+  client_32 = (32 ∷ 0 ∷ 0 ∷ 0 ∷ 0 ∷ 0 ∷ 0 ∷ 0 ∷ 7 ∷ 1 ∷ [], [], refl, refl);
+  more = (2 ∷ 0 ∷ 0 ∷ 0 ∷ 0 ∷ 0 ∷ 0 ∷ 0 ∷ 7 ∷ 1 ∷ 0 ∷ [], [], refl, refl);
+  short = (0 ∷ 0 ∷ 0 ∷ [], [], refl, refl);
+}

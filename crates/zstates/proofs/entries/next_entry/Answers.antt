@@ -19,4 +19,5 @@ returns-then-is_open-clause-none c =
 pub returns-clause-none : goal.returns-clause-none
 returns-clause-none c =
     let read = rw c.in-Some.is at c.in_ok-record.ensures.some in
-    other_alone c.args.text.now c.in-Some.rest.now c.in-Some.record read.0 read.1 (other_no_password c.in-Some.record c.in-Fail.is) (other_no_update c.in-Some.record c.in-Fail.is)
+    other_alone c.args.text.now c.in-Some.rest.now c.in-Some.record read.0 read.1 (other_no_password c.in-Some.record c.in-Fail.is)
+    (other_no_update c.in-Some.record c.in-Fail.is)

@@ -18,7 +18,8 @@ pub put_sessions-requires-clause-can : goal.put_sessions-requires-clause-can
 put_sessions-requires-clause-can c =
     let t = tree_in c.args.machine.now in
     let rooted = c.in_ok-restoring.ensures in
-    subst (λ (m : MachineState). CanPutAllGranted m.service.plain (entries t.sessions)) (sym rooted.2) (sessions_can t c.paths.ensures.settled rooted.0 rooted.1)
+    subst (λ (m : MachineState). CanPutAllGranted m.service.plain (entries t.sessions)) (sym rooted.2)
+    (sessions_can t c.paths.ensures.settled rooted.0 rooted.1)
 
 pub put_nodes-requires-clause-left : goal.put_nodes-requires-clause-left
 put_nodes-requires-clause-left c =
@@ -31,4 +32,5 @@ put_nodes-requires-clause-left c =
 pub returns : goal.returns
 returns c =
     c.finish.ensures.state
-    ∙ ap (λ (m : MachineState). record { state = m; is_broken = false }) (nodes_none (tree_in c.args.machine.now) c.put_nodes.new.restoring c.in_ok-put_nodes.ensures)
+    ∙ ap (λ (m : MachineState). record { state = m; is_broken = false }) (nodes_none (tree_in c.args.machine.now)
+    c.put_nodes.new.restoring c.in_ok-put_nodes.ensures)

@@ -26,12 +26,14 @@ memory-requires c =
     let target = with_plain c.args.restoring.now (with_session_rows c.args.restoring.now.service.plain (entries t.sessions)) in
     let left = subst (SessionsAreLeft t target c.loop-id.restoring) c.in-Some.ensures.steps.0 c.loop-id.invariant in
     c.in-Err.ensures.fault
-    (session_can t target c.loop-id.restoring c.in-Some.id c.next.new.self.rest.items c.in-Some-session.session (sym c.session.ensures ∙ c.in-Some-session.is) left)
+    (session_can t target c.loop-id.restoring c.in-Some.id c.next.new.self.rest.items c.in-Some-session.session
+    (sym c.session.ensures ∙ c.in-Some-session.is) left)
 
 pub loop-id-preserved : goal.loop-id-preserved
 loop-id-preserved c =
     let t = tree_in c.args.machine.now in
     let target = with_plain c.args.restoring.now (with_session_rows c.args.restoring.now.service.plain (entries t.sessions)) in
     let left = subst (SessionsAreLeft t target c.loop-id.restoring) c.in-Some.ensures.steps.0 c.loop-id.invariant in
-    session_next t target c.loop-id.restoring c.in-Some.id c.next.new.self.rest.items c.in-Some-session.session (sym c.session.ensures ∙ c.in-Some-session.is) c.put_session.new.self left
+    session_next t target c.loop-id.restoring c.in-Some.id c.next.new.self.rest.items c.in-Some-session.session
+    (sym c.session.ensures ∙ c.in-Some-session.is) c.put_session.new.self left
     c.in_default-put_session.ensures.state

@@ -13,7 +13,8 @@ pub returns-in_default-clause-fault : goal.returns-in_default-clause-fault
 returns-in_default-clause-fault c =
     let so_far = c.loop-rest.invariant in
     let some : 0 < length c.loop-rest.rest.now = grind (arith, nat_tests) in
-    no_text so_far.0 c.args.text.now c.loop-rest.rest.now so_far.1 so_far.2 (something_left c.loop-rest.rest.now some) (rw c.in_default.is at c.in_ok-update.ensures.none)
+    no_text so_far.0 c.args.text.now c.loop-rest.rest.now so_far.1 so_far.2 (something_left c.loop-rest.rest.now some)
+    (rw c.in_default.is at c.in_ok-update.ensures.none)
 
 pub loop-rest-smaller : goal.loop-rest-smaller
 loop-rest-smaller c =

@@ -12,4 +12,5 @@ pub loop-id-preserved-then-is_none : goal.loop-id-preserved-then-is_none
 loop-id-preserved-then-is_none c =
     let sessions = (tree_in c.args.machine.now).sessions in
     let gone = ap is_some (sym c.session.ensures) ∙ c.if-is_none.ensures in
-    subst (KeepsSeats sessions c.args.sittings.now) (sym c.remove.ensures) (keeps_without sessions c.args.sittings.now c.loop-id.sittings c.in-Some.id gone c.loop-id.invariant)
+    subst (KeepsSeats sessions c.args.sittings.now) (sym c.remove.ensures) (keeps_without sessions c.args.sittings.now
+    c.loop-id.sittings c.in-Some.id gone c.loop-id.invariant)

@@ -13,8 +13,11 @@ loop-seated-preserved c =
     let done = c.loop-seated.seated in
     let within : done < length ids = grind (arith, nat_tests, c.loop-seated-test.true) in
     let read = rw c.in-Ok-Some.field-0-is at c.in-Ok-Some.ensures.some in (
-      subst (λ (m : SittingsView). AreSeated ids (take (done + 1) ids) (drop (done + 1) ids) m c.args.text.now c.in-Ok-Some.more.now) (sym c.in_ok-restore-in-Ok-Some.ensures.ok)
-          (seat_read c.requires.0 ids c.requires.1 done c.loop-seated.sittings c.args.text.now c.loop-seated.rest.now c.index-ids-seated.result within c.index-ids-seated.is c.loop-seated.invariant.0 c.in-Ok-Some.password c.in-Ok-Some.more.now read.0 read.1),
+      subst (λ (m : SittingsView). AreSeated ids (take (done + 1) ids) (drop (done + 1) ids) m c.args.text.now c.in-Ok-Some.more.now)
+          (sym c.in_ok-restore-in-Ok-Some.ensures.ok)
+          (seat_read c.requires.0 ids c.requires.1 done c.loop-seated.sittings c.args.text.now c.loop-seated.rest.now
+          c.index-ids-seated.result within c.index-ids-seated.is c.loop-seated.invariant.0 c.in-Ok-Some.password
+          c.in-Ok-Some.more.now read.0 read.1),
       omega (arith, within),
     )
 

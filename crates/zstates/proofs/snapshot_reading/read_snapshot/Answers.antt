@@ -14,13 +14,15 @@ read_seats-requires c = ((tree_in c.in-Some.machine).sessions, c.deref.ensures.v
 pub returns-in_default-2-clause-none : goal.returns-in_default-2-clause-none
 returns-in_default-2-clause-none c =
     let tree = rw c.in-Some.is at c.in_ok-machine.ensures.some in
-    no_snapshot_seats c.args.text.now c.in-Some.rest.now c.in-Some.machine tree c.deref.result.now (c.deref.ensures.value ∙ c.in_ok-ids.ensures) (rw c.in_default-2.is at c.in_ok-rest.ensures.none)
+    no_snapshot_seats c.args.text.now c.in-Some.rest.now c.in-Some.machine tree c.deref.result.now (c.deref.ensures.value
+    ∙ c.in_ok-ids.ensures) (rw c.in_default-2.is at c.in_ok-rest.ensures.none)
 
 pub returns : goal.returns
 returns c =
     let tree = rw c.in-Some.is at c.in_ok-machine.ensures.some in
     let read = rw c.in-Some-2.is at c.in_ok-rest.ensures.some in
-    let done = snapshot_read c.args.text.now c.in-Some.rest.now c.in-Some.machine tree c.read_seats.new.sittings c.in-Some-2.rest.now c.deref.result.now (c.deref.ensures.value ∙ c.in_ok-ids.ensures) read in
+    let done = snapshot_read c.args.text.now c.in-Some.rest.now c.in-Some.machine tree c.read_seats.new.sittings
+    c.in-Some-2.rest.now c.deref.result.now (c.deref.ensures.value ∙ c.in_ok-ids.ensures) read in
     record {
       some = subst (λ (v : StateView). IsSnapshotRead c.args.text.now v.state c.in-Some-2.rest.now) (sym c.of.ensures) done;
       whole = ap (λ (v : StateView). v.is_broken) c.of.ensures;

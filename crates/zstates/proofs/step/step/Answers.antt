@@ -9,5 +9,6 @@ use Rattle.zstates.proofs.step.step.Goals as goal
 
 pub returns-clause-ok : goal.returns-clause-ok
 returns-clause-ok c =
-    subst (λ (t : Tree). IfOk c.enter.result (λ (did : Reply × Update). ◌≡◌ {A = Tree × Reply} (tree_in c.enter.new.machine, did.0) (step t 0 c.args.update)))
+    subst (λ (t : Tree). IfOk c.enter.result (λ (did : Reply × Update). ◌≡◌ {A = Tree × Reply} (tree_in c.enter.new.machine, did.0)
+    (step t 0 c.args.update)))
     c.in_ok-make_room.ensures.tree c.enter.ensures.ok

@@ -8,4 +8,21 @@ use Rattle.zwire.proofs.rows.faults_are_told.Goals as goal
 
 pub returns : goal.returns
 unfolding contents any_message message_at order_at process process_at server client number_at
-returns c = record { none = refl; part_of_a_length = refl; part_of_a_frame = refl; longest = refl; too_long = refl; far_too_long = refl; empty = ([], [], refl, refl); no_message = (0 ∷ 1 ∷ 2 ∷ [], [], refl, refl); other_process = (3 ∷ 0 ∷ 11 ∷ [], [], refl, refl); server_17 = (0 ∷ 1 ∷ 17 ∷ 11 ∷ [], [], refl, refl); client_32 = (0 ∷ 2 ∷ 32 ∷ 11 ∷ [], [], refl, refl); other_message = (0 ∷ 1 ∷ 2 ∷ 15 ∷ [], [], refl, refl); more = (0 ∷ 1 ∷ 2 ∷ 11 ∷ 0 ∷ [], [], refl, refl) }
+returns c = record {
+  none = refl;
+  part_of_a_length = refl;
+  part_of_a_frame = refl;
+  longest = refl;
+  too_long = refl;
+  far_too_long = refl;
+  empty = ([], [], refl, refl);
+  no_message = (0 ∷ 1 ∷ 2 ∷ [], [], refl, refl);
+  other_process =
+      (3 ∷ 0 ∷ 11 ∷ [], [], refl, refl);
+  server_17 = (0 ∷ 1 ∷ 17 ∷ 11 ∷ [], [], refl, refl);
+  client_32 =
+      (0 ∷ 2 ∷ 32 ∷ 11 ∷ [], [], refl, refl);
+  other_message = (0 ∷ 1 ∷ 2 ∷ 15 ∷ [], [], refl, refl);
+  more =
+      (0 ∷ 1 ∷ 2 ∷ 11 ∷ 0 ∷ [], [], refl, refl);
+}

@@ -6,4 +6,20 @@ use Rattle.zwire.proofs.rows.replies_have_bytes.Goals as goal
 
 pub returns : goal.returns
 unfolding reply replies names part_reply stat refusal name path content
-returns c = record { created = refl; deleted = refl; set = refl; multi = refl; created_part = refl; opened = refl; pinged = refl; closed = refl; ticked = refl; content = refl; exists = refl; children = refl; refused = refl; multi_refused = refl }
+returns c = record {
+  created = refl;
+  deleted = refl;
+  set = refl;
+  multi = refl;
+  created_part = refl;
+  opened = refl;
+  pinged =
+      refl;
+  closed = refl;
+  ticked = refl;
+  content = refl;
+  exists = refl;
+  children = refl;
+  refused = refl;
+  multi_refused = refl;
+}

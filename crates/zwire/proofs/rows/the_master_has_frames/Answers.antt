@@ -7,4 +7,17 @@ use Rattle.zwire.proofs.rows.the_master_has_frames.Goals as goal
 
 pub returns : goal.returns
 unfolding frame contents any_message last end process client server log_number epoch
-returns c = record { new_pred = refl; have_none = refl; have_5 = refl; new_succ = refl; become_head = refl; become_tail = refl; retire = refl; joined = refl; gone = refl; config = refl; no_chain = refl }
+returns c = record {
+  new_pred = refl;
+  have_none = refl;
+  have_5 = refl;
+  new_succ = refl;
+  become_head = refl;
+  become_tail =
+      refl;
+  retire = refl;
+  joined = refl;
+  gone = refl;
+  config = refl;
+  no_chain = refl;
+}

@@ -13,7 +13,8 @@ loop-call-preserved c =
     record {
       sound = c.in_ok-reply.ensures.sound.1;
       asked =
-          asked_more c.args.self.now c.loop-call.self c.ask.new.self calls i call c.loop-call.told.items c.push.new.self.items c.in_ok-reply.field-0 c.in-Some.reply
+          asked_more c.args.self.now c.loop-call.self c.ask.new.self calls i call c.loop-call.told.items c.push.new.self.items
+          c.in_ok-reply.field-0 c.in-Some.reply
           c.loop-call.invariant.asked c.loop-call-test.true is c.in_ok-reply.ensures.asked c.in-Some.is c.in_ok-push.ensures.items;
     }
 

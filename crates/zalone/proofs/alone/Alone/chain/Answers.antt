@@ -11,7 +11,14 @@ use Rattle.zalone.proofs.alone.Alone.chain.Goals as goal
 pub returns-clause-told_from : goal.returns-clause-told_from
 returns-clause-told_from c =
     let old = c.self.inside in
-    let new : AloneView = record { world = c.step-did.new.self; known = old.known; changes = old.changes; is_waiting = old.is_waiting; is_broken = c.is_err-self-inside.result } in
+    let new : AloneView = record {
+      world = c.step-did.new.self;
+      known = old.known;
+      changes = old.changes;
+      is_waiting =
+          old.is_waiting;
+      is_broken = c.is_err-self-inside.result;
+    } in
     IfOk-weaker c.step-did.result _ (λ did. TellsOrderedFrom c.args.self.now new)
     (λ did has.
     subst (λ v. TellsOrderedFrom v new) c.self.view_is
@@ -22,7 +29,14 @@ returns-clause-told_from c =
 pub returns-clause-told : goal.returns-clause-told
 returns-clause-told c =
     let old = c.self.inside in
-    let new : AloneView = record { world = c.step-did.new.self; known = old.known; changes = old.changes; is_waiting = old.is_waiting; is_broken = c.is_err-self-inside.result } in
+    let new : AloneView = record {
+      world = c.step-did.new.self;
+      known = old.known;
+      changes = old.changes;
+      is_waiting =
+          old.is_waiting;
+      is_broken = c.is_err-self-inside.result;
+    } in
     IfOk-weaker c.step-did.result _ (λ did. TellsOrdered c.args.self.now new)
     (λ did has.
     subst (λ v. TellsOrdered v new) c.self.view_is

@@ -21,7 +21,8 @@ returns-clause-told_from c =
     let b = c.is_err-self-inside.result in
     IfOk-weaker c.settle_and_hear-came.result _ (TellsSettledFrom c.args.self.now (marked after b))
     (λ told settles t.
-    settles_tell t c.args.self.now (marked after b) told (settled_view c.args.self.now c.settle_and_hear-came.new.self after b told c.self-2.view_is settles))
+    settles_tell t c.args.self.now (marked after b) told (settled_view c.args.self.now c.settle_and_hear-came.new.self
+    after b told c.self-2.view_is settles))
     c.settle_and_hear-came.ensures.settled
 
 pub returns-clause-told : goal.returns-clause-told
@@ -31,5 +32,6 @@ returns-clause-told c =
     IfOk-weaker c.settle_and_hear-came.result _ (TellsSettled c.args.self.now (marked after b))
     (λ told settles.
     settled_tells c.args.self.now (marked after b) told
-    (λ t. settles_tell t c.args.self.now (marked after b) told (settled_view c.args.self.now c.settle_and_hear-came.new.self after b told c.self-2.view_is settles)))
+    (λ t. settles_tell t c.args.self.now (marked after b) told (settled_view c.args.self.now c.settle_and_hear-came.new.self
+    after b told c.self-2.view_is settles)))
     c.settle_and_hear-came.ensures.settled

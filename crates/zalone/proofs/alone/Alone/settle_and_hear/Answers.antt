@@ -7,7 +7,14 @@ use Rattle.zalone.proofs.alone.Alone.settle_and_hear.Goals as goal
 pub returns : goal.returns
 returns c =
     let old = c.self.inside in
-    let new : AloneView = record { world = c.settle.new.self; known = old.known; changes = old.changes; is_waiting = old.is_waiting; is_broken = old.is_broken } in
+    let new : AloneView = record {
+      world = c.settle.new.self;
+      known = old.known;
+      changes = old.changes;
+      is_waiting =
+          old.is_waiting;
+      is_broken = old.is_broken;
+    } in
     let rests : Rests (the_view old) new None = record {
       settled = c.in_ok-settle.field-0;
       settles = c.in_ok-settle.ensures.settled;

@@ -8,7 +8,13 @@ pub returns : goal.returns
 returns c =
     let old = c.self.inside in
     let told = c.in_ok-told.told in
-    let new : AloneView = record { world = c.settle.new.self; known = c.hear.new.known; changes = c.hear.new.changes; is_waiting = c.is_none-self-inside.result; is_broken = old.is_broken } in
+    let new : AloneView = record {
+      world = c.settle.new.self;
+      known = c.hear.new.known;
+      changes = c.hear.new.changes;
+      is_waiting = c.is_none-self-inside.result;
+      is_broken = old.is_broken;
+    } in
     let shows = c.history.ensures.history in
     let waits : Waits (the_view old) new told = record {
       settled = c.in_ok-settle.field-0;

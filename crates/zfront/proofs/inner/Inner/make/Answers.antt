@@ -12,6 +12,7 @@ returns c =
       middle,
       c.in_ok-replies.replies.items,
       c.in_ok-replies.ensures,
-      subst (λ r. EndsIf (is_some middle.late) c.args.connection c.args.request.now c.args.calls.now r middle c.finish-done.new.self) c.deref.ensures.value ends,
+      subst (λ r. EndsIf (is_some middle.late) c.args.connection c.args.request.now c.args.calls.now r middle c.finish-done.new.self)
+          c.deref.ensures.value ends,
     ))
     c.finish-done.ensures

@@ -14,6 +14,8 @@ returns c =
       middle = middle;
       replies = c.in_ok-replies.replies.items;
       asks = c.in_ok-replies.ensures;
-      told = subst (λ r. c.tell_seen-done.new.self ≡ record middle { tables = told_all (seen middle.asker.known.zxid places r) middle.tables; must_look = is_some middle.late }) c.deref.ensures.value told;
+      told = subst (λ r. c.tell_seen-done.new.self
+          ≡ record middle { tables = told_all (seen middle.asker.known.zxid places r) middle.tables; must_look = is_some middle.late })
+          c.deref.ensures.value told;
     })
     c.tell_seen-done.ensures

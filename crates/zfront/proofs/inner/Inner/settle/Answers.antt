@@ -18,10 +18,12 @@ returns c =
           (elim c.match-take.branch [
             | in-Some+in_ok-hear_of-in-Some w ↦
                 subst (SettlesIf old.late old) (sym w.self-is)
-                (taken_to_settle w.in-Some.call old w.hear_of.new.self (sym c.take.ensures.value ∙ w.in-Some.is) (w.in_ok-hear_of-in-Some.ensures c.take.ensures.after))
+                (taken_to_settle w.in-Some.call old w.hear_of.new.self (sym c.take.ensures.value ∙ w.in-Some.is)
+                (w.in_ok-hear_of-in-Some.ensures c.take.ensures.after))
             | in-None+in_ok-settle_alone-in-None w ↦
                 subst (SettlesIf old.late old) (sym w.self-is)
-                (untaken old w.settle_alone.new.self c.take.new.self (sym c.take.ensures.value ∙ w.in-None.is) c.take.ensures.after w.in_ok-settle_alone-in-None.ensures)
+                (untaken old w.settle_alone.new.self c.take.new.self (sym c.take.ensures.value ∙ w.in-None.is)
+                c.take.ensures.after w.in_ok-settle_alone-in-None.ensures)
           ]),
       told,
     ))

@@ -32,6 +32,7 @@ returns-in_ok-done-in-Some c = λ none.
       c.in_ok-reply.ensures.settled,
       c.in_ok-reply.ensures.told,
       ap (λ (o : Option Reply). is_some o) (sym c.in-Some.is),
-      c.in_ok-done-in-Some.ensures ∙ ap (λ l. tidied (takes_nodes reply) (record after { tables = absorbed call reply after.tables; late = l })) nothing
+      c.in_ok-done-in-Some.ensures
+          ∙ ap (λ l. tidied (takes_nodes reply) (record after { tables = absorbed call reply after.tables; late = l })) nothing
           ∙ ap (λ o. heard call o after) (sym c.in-Some.is),
     )

@@ -1,29 +1,24 @@
-use Rattle.std.proofs.Common.{[], List, sym, ◌∙◌, subst}
-use Rattle.zworld_model.specs.Does.{AtClient}
-use Rattle.zhost.specs.Desks.{Stands, IsSettled, pending, TreePost}
-use Rattle.zhost.proofs.Pending.{nothing_waits, pending_same}
+use Rattle.std.proofs.Common.{subst}
+use Rattle.zactor.specs.declared.done.Done.{Done}
+use Rattle.zactor.specs.declared.input.Input.TheVariants.{Begin}
+use Rattle.zhost.specs.Hosts.{Gave, host_stamp}
+use Rattle.zhost.proofs.Books.{behind}
+use Rattle.zhost.proofs.Hosted.{gave_before}
+use Rattle.zhost.proofs.Roles.{client_begins_call}
 use Rattle.zhost.proofs.caller.Caller.begin.Goals as goal
 
-pub invariant_of-self-then-not-reserve-clause-is_client : goal.invariant_of-self-then-not-reserve-clause-is_client
-invariant_of-self-then-not-reserve-clause-is_client c = c.reserve.ensures.same.desk.me ∙ c.settle.ensures.same.me ∙ c.args.self.now.is_client
-
-pub invariant_of-self-then-not-reserve-clause-at : goal.invariant_of-self-then-not-reserve-clause-at
-invariant_of-self-then-not-reserve-clause-at c =
-    let t = c.args.self.now in
-    let s = AtClient t.core in
-    let a = c.settle.new.self in
-    let b = c.reserve.new.self in
-    let same = c.reserve.ensures.same in
-    subst (λ (w : List TreePost). Stands b s t.front w) (sym (pending_same a b same.held same.out)) (c.reserve.ensures.keeps s t.front (pending a) (c.settle.ensures.stands s t.front t.at))
-
-pub invariant_of-self-2-clause-is_client : goal.invariant_of-self-2-clause-is_client
-invariant_of-self-2-clause-is_client c = c.begin_at.ensures.same.me ∙ c.reserve.ensures.same.desk.me ∙ c.settle.ensures.same.me ∙ c.args.self.now.is_client
-
-pub invariant_of-self-2-clause-at : goal.invariant_of-self-2-clause-at
-invariant_of-self-2-clause-at c =
-    let t = c.args.self.now in
-    let s = AtClient t.core in
-    let a = c.settle.new.self in
-    let all : IsSettled a = c.settle.ensures.all c.if-not-settle.false in
-    let settled : Stands a s t.front [] = subst (λ (w : List TreePost). Stands a s t.front w) (nothing_waits a all) (c.settle.ensures.stands s t.front t.at) in
-    c.begin_at.ensures.at t.front (c.reserve.ensures.keeps s t.front [] settled)
+pub returns-in-Ok-clause-began : goal.returns-in-Ok-clause-began
+returns-in-Ok-clause-began c =
+    let me = c.args.self.now in
+    let a = me.host in
+    let r = c.reserve.new.self in
+    let b = c.give.new.self in
+    let call = c.args.call in
+    let number = c.number_of.result in
+    let gave = subst (λ (done : Done). Gave a b (Begin call) done) c.number_of.ensures
+    (gave_before a r b c.reserve.ensures.idle c.reserve.ensures.same c.in-Ok.done (Begin call) c.in-Ok.ensures.gave) in
+    let did = gave.did in (
+      client_begins_call me.id a.desk b.desk a.actor b.actor me.is_client a.hosted.fits call number did.acted did.entered,
+      did.stamp,
+      λ whole. behind b.desk.stamp (host_stamp a) did.stamp (did.entered whole).early,
+    )

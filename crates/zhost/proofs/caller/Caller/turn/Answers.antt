@@ -1,52 +1,34 @@
-use Rattle.std.proofs.Common.{[], List, None, sym, ◌∙◌, subst}
-use Rattle.zworld_model.specs.Does.{AtClient}
-use Rattle.zhost.specs.Desks.{Stands, IsSettled, pending, TreePost, TreeTaken}
-use Rattle.zhost.proofs.Pending.{nothing_waits, pending_same}
+use Rattle.std.proofs.Common.{◌≡◌, Option, sym, ap, subst, inr, ◌∙◌}
+use Rattle.zcalls.specs.declared.reply.Reply.{Reply}
+use Rattle.zactor.specs.declared.handed.Handed.TheVariants.{Nothing}
+use Rattle.zactor.specs.Acting.{reply_handed}
+use Rattle.zhost.specs.Standings.{client_known, reply_heard}
+use Rattle.zhost.specs.Steps.{Heard}
+use Rattle.zhost.proofs.Hosted.{idle_both, received_before}
+use Rattle.zhost.proofs.Roles.{client_hears, reply_in_place}
+use Rattle.zhost.proofs.Wires.{same_desk}
 use Rattle.zhost.proofs.caller.Caller.turn.Goals as goal
 
-pub invariant_of-self-then-not-reserve-clause-is_client : goal.invariant_of-self-then-not-reserve-clause-is_client
-invariant_of-self-then-not-reserve-clause-is_client c = c.reserve.ensures.same.desk.me ∙ c.flush.ensures.same.desk.me ∙ c.settle.ensures.same.me ∙ c.args.self.now.is_client
-
-pub invariant_of-self-then-not-reserve-clause-at : goal.invariant_of-self-then-not-reserve-clause-at
-invariant_of-self-then-not-reserve-clause-at c =
-    let t = c.args.self.now in
-    let s = AtClient t.core in
-    let a = c.settle.new.self in
+pub returns-clause-turned : goal.returns-clause-turned
+returns-clause-turned c =
+    let me = c.args.self.now in
+    let a = me.host in
     let f = c.flush.new.self in
-    let b = c.reserve.new.self in
-    let same = c.reserve.ensures.same in
-    let fsame = c.flush.ensures.same in
-    subst (λ (w : List TreePost). Stands b s t.front w) (sym (pending_same f b same.held same.out ∙ pending_same a f fsame.held fsame.out))
-    (c.reserve.ensures.keeps s t.front (pending a) (c.flush.ensures.keeps s t.front (pending a) (c.settle.ensures.stands s t.front t.at)))
-
-pub invariant_of-self-in_default-clause-is_client : goal.invariant_of-self-in_default-clause-is_client
-invariant_of-self-in_default-clause-is_client c = c.front_of.ensures.same.desk.me ∙ c.reserve.ensures.same.desk.me ∙ c.flush.ensures.same.desk.me ∙ c.settle.ensures.same.me ∙ c.args.self.now.is_client
-
-pub invariant_of-self-in_default-clause-at : goal.invariant_of-self-in_default-clause-at
-invariant_of-self-in_default-clause-at c =
-    let t = c.args.self.now in
-    let s = AtClient t.core in
-    let a = c.settle.new.self in
-    let f = c.flush.new.self in
-    let b = c.reserve.new.self in
-    let e = c.front_of.new.desk in
-    let same = c.reserve.ensures.same in
-    let fsame = c.flush.ensures.same in
-    let esame = c.front_of.ensures.same in
-    subst (λ (x : TreeTaken). Stands e s x (pending e)) (sym c.front_of.ensures.front) (subst (λ (w : List TreePost). Stands e s None w) (sym (pending_same b e esame.held esame.out ∙ pending_same f b same.held same.out ∙ pending_same a f fsame.held fsame.out))
-    (c.in_default.ensures.taken s (pending a)
-    (c.reserve.ensures.keeps s t.front (pending a) (c.flush.ensures.keeps s t.front (pending a) (c.settle.ensures.stands s t.front t.at)))))
-
-pub invariant_of-self-2-clause-is_client : goal.invariant_of-self-2-clause-is_client
-invariant_of-self-2-clause-is_client c = c.hear_or_keep.ensures.same.me ∙ c.front_of.ensures.same.desk.me ∙ c.reserve.ensures.same.desk.me ∙ c.flush.ensures.same.desk.me ∙ c.settle.ensures.same.me ∙ c.args.self.now.is_client
-
-pub invariant_of-self-2-clause-at : goal.invariant_of-self-2-clause-at
-invariant_of-self-2-clause-at c =
-    let t = c.args.self.now in
-    let s = AtClient t.core in
-    let a = c.settle.new.self in
-    let b = c.reserve.new.self in
-    let all : IsSettled a = c.settle.ensures.all c.if-not-settle.false in
-    let settled : Stands a s t.front [] = subst (λ (w : List TreePost). Stands a s t.front w) (nothing_waits a all) (c.settle.ensures.stands s t.front t.at) in
-    let ready : Stands b s t.front [] = c.reserve.ensures.keeps s t.front [] (c.flush.ensures.keeps s t.front [] settled) in
-    c.hear_or_keep.ensures.at (c.in-Some.ensures.taken s [] ready)
+    let r = c.reserve.new.self in
+    let z = c.next_link-self.new.host in
+    let b = c.turn.new.self in
+    let idle = idle_both a r z (idle_both a f r c.flush.ensures.idle c.reserve.ensures.idle) c.next_link-self.ensures.idle in
+    let same = same_desk a.desk r.desk z.desk
+    (same_desk a.desk f.desk r.desk c.flush.ensures.same c.reserve.ensures.same) c.next_link-self.ensures.same in
+    let done = c.in-Some.done in
+    let heard = received_before a z b idle same done Nothing c.turn.new.handed c.in-Some.ensures.received in
+    let did = heard.2.did in
+    let reply : c.take_reply-reply.result ≡ reply_heard heard.1.1 done =
+    c.take_reply-reply.ensures.reply ∙ ap reply_handed heard.3 ∙ reply_in_place heard.0 heard.1.1 done in
+    inr (
+      heard.0,
+      heard.1,
+      subst (λ (r : Option Reply). Heard me.id a.desk (client_known a.actor) b.desk (client_known b.actor) heard.0 heard.1 r) (sym reply)
+          (client_hears me.id a.desk b.desk a.actor b.actor me.is_client a.hosted.fits heard.0 heard.1 done did.acted did.entered),
+      did.stamp,
+    )

@@ -11,11 +11,13 @@ returns-then-number-lt-MAX_STAMP-clause-stands c act told s s' t posts h event l
     let d = c.args.self.now in
     let e : TraceEvent = record { stamp = c.args.stamp; act = act } in
     let early : c.args.stamp < MAX_STAMP = let n = c.number.ensures.same in let f = c.if-number-lt-MAX_STAMP.true in omega (arith, n, f) in
-    ∥∥₁_map (h lost) (λ a. more_cut (self_of d) (books_of d) s s' t posts a.0 e told d.trace.items d.seen.items d.is_cut (d.untraced c.requires).0 a.1 (event early))
+    ∥∥₁_map (h lost) (λ a. more_cut (self_of d) (books_of d) s s' t posts a.0 e told d.trace.items d.seen.items d.is_cut
+    (d.untraced c.requires).0 a.1 (event early))
 
 pub returns-then-number-lt-MAX_STAMP-clause-beside : goal.returns-then-number-lt-MAX_STAMP-clause-beside
 returns-then-number-lt-MAX_STAMP-clause-beside c act told s s' t posts h event lost =
     let d = c.args.self.now in
     let e : TraceEvent = record { stamp = c.args.stamp; act = act } in
     let early : c.args.stamp < MAX_STAMP = let n = c.number.ensures.same in let f = c.if-number-lt-MAX_STAMP.true in omega (arith, n, f) in
-    ∥∥₁_map (h lost) (λ a. beside_cut (self_of d) (books_of d) s s' t posts a.0 e told d.trace.items d.seen.items d.is_cut (d.untraced c.requires).0 a.1 (event early))
+    ∥∥₁_map (h lost) (λ a. beside_cut (self_of d) (books_of d) s s' t posts a.0 e told d.trace.items d.seen.items d.is_cut
+    (d.untraced c.requires).0 a.1 (event early))

@@ -18,7 +18,8 @@ loop-link-preserved c =
     let lt : k < length d.outs.items = let a = i.2 in let b = c.loop-link-test.true in omega arith in
     let at = at_index d.outs.items k old lt c.index_mut-out.ensures.value in
     let r = i.1 in (
-      (λ s t waits h cut. ∥∥₁_map (i.0 s t waits h cut) (λ a. (a.0, out_same (self_of d) (books_of d) s a.0 t waits k old c.flush-is_moved.new.self a.1 at c.flush-is_moved.ensures.put))),
+      (λ s t waits h cut. ∥∥₁_map (i.0 s t waits h cut)
+          (λ a. (a.0, out_same (self_of d) (books_of d) s a.0 t waits k old c.flush-is_moved.new.self a.1 at c.flush-is_moved.ensures.put))),
       record {
         desk = record {
           me = r.desk.me;
@@ -27,9 +28,17 @@ loop-link-preserved c =
           traced = r.desk.traced;
           links = r.desk.links;
           ins = r.desk.ins;
-          outs = map_same ring_of_tx d.outs.items k old c.flush-is_moved.new.self lt c.index_mut-out.ensures.value c.flush-is_moved.ensures.ends ∙ r.desk.outs;
+          outs = map_same ring_of_tx d.outs.items k old c.flush-is_moved.new.self lt c.index_mut-out.ensures.value c.flush-is_moved.ensures.ends
+              ∙ r.desk.outs;
         };
-        books = record { trace = r.books.trace; told = r.books.told; stamp = r.books.stamp; is_cut = r.books.is_cut; lost = r.books.lost; room = r.books.room };
+        books = record {
+          trace = r.books.trace;
+          told = r.books.told;
+          stamp = r.books.stamp;
+          is_cut = r.books.is_cut;
+          lost = r.books.lost;
+          room = r.books.room;
+        };
         held = r.held;
         out = r.out;
       },

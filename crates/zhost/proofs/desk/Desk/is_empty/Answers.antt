@@ -17,7 +17,17 @@ pub returns-clause-same : goal.returns-clause-same
 returns-clause-same c =
     let d = c.args.self.now in
     record {
-      desk = record { me = refl; last = refl; clients = refl; traced = refl; links = length-set d.ins.items c.args.link c.is_empty.new.self; ins = map_same ring_of_rx d.ins.items c.args.link c.index_mut.result.now c.is_empty.new.self c.requires c.index_mut.ensures.value c.is_empty.ensures.ends; outs = refl };
+      desk = record {
+        me = refl;
+        last = refl;
+        clients = refl;
+        traced = refl;
+        links = length-set d.ins.items c.args.link
+            c.is_empty.new.self;
+        ins = map_same ring_of_rx d.ins.items c.args.link c.index_mut.result.now c.is_empty.new.self
+            c.requires c.index_mut.ensures.value c.is_empty.ensures.ends;
+        outs = refl;
+      };
       books = record { trace = refl; told = refl; stamp = refl; is_cut = refl; lost = refl; room = λ r. r };
       held = refl;
       out = refl;

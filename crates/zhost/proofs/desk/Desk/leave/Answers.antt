@@ -25,5 +25,8 @@ returns-clause-ended c s t h lost =
     } in
     let none = if_none c.next_post-post.result post.none (sym c.is_some-waits.ensures ∙ unlost.1) in
     let who = same_self_of old d post.same in
-    ∥∥₁_map (post.keeps s t (pending old) h unlost.0) (λ a.
-    (a.0, ended (self_of old) d e s t (pending old) a.0 (refl, refl, refl, refl) (λ whole. (neither d.is_cut waits whole).0) none.0 (subst (λ (w : Self). Accounts w (books_of d) s t (pending old) a.0) who a.1)))
+    ∥∥₁_map (post.keeps s t (pending old) h unlost.0) (λ a. (
+      a.0,
+      ended (self_of old) d e s t (pending old) a.0 (refl, refl, refl, refl) (λ whole. (neither d.is_cut waits whole).0)
+          none.0 (subst (λ (w : Self). Accounts w (books_of d) s t (pending old) a.0) who a.1),
+    ))

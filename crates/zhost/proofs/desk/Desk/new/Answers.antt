@@ -22,7 +22,8 @@ returns-clause-at c cut =
         told = λ whole. sym c.new-3.ensures.items;
         taken = λ i r at. c.requires.ins i r at;
         others = λ p out. (refl, refl);
-        put = subst (λ (w : List TreePost). Each (λ i t. put_of t ++ stamped c.zero.result (messages_to (process_at i) w) ≡ []) c.args.outs.items) (sym c.new.ensures)
+        put = subst (λ (w : List TreePost). Each (λ i t. put_of t ++ stamped c.zero.result (messages_to (process_at i) w) ≡ [])
+            c.args.outs.items) (sym c.new.ensures)
             (λ i t at. append-nil (put_of t) ∙ c.requires.outs i t at);
       },
     ) ∣₁

@@ -13,4 +13,8 @@ returns-in_default-clause-stands c s t h cut =
     let old = c.index_mut.result.now in
     let lt : 0 < length d.outs.items = let n = c.len.ensures in let o = d.outs.ok in let f = c.if-len-eq0.false in omega arith in
     let at = at_index d.outs.items 0 old lt c.index_mut.ensures.value in
-    ∥∥₁_map (h cut) (λ a. (a.0, out_more (self_of d) (books_of d) s a.0 t Master message.Gone [] 0 old c.put_last.new.self a.1 at refl c.in_default.ensures.ok))
+    ∥∥₁_map (h cut) (λ a. (
+      a.0,
+      out_more (self_of d) (books_of d) s a.0 t Master message.Gone [] 0 old c.put_last.new.self
+          a.1 at refl c.in_default.ensures.ok,
+    ))

@@ -25,9 +25,12 @@ loop-to-preserved c =
     let i = c.loop-to.invariant in
     let n = c.next_post.ensures in
     let p = c.put_on_link.ensures in (
-      (λ s t h. p.stands s t (subst (λ w. Stands c.next_post.new.self s t w) c.in-Some.ensures.some (n.keeps s t (pending c.loop-to.self) (i.0 s t h)))),
-      same_desk c.args.self.now c.next_post.new.self c.put_on_link.new.self (same_desk c.args.self.now c.loop-to.self c.next_post.new.self i.1 n.same) p.same,
-      same_books c.args.self.now c.next_post.new.self c.put_on_link.new.self (same_books c.args.self.now c.loop-to.self c.next_post.new.self i.2 n.books) p.books,
+      (λ s t h. p.stands s t (subst (λ w. Stands c.next_post.new.self s t w) c.in-Some.ensures.some
+          (n.keeps s t (pending c.loop-to.self) (i.0 s t h)))),
+      same_desk c.args.self.now c.next_post.new.self c.put_on_link.new.self (same_desk c.args.self.now c.loop-to.self
+          c.next_post.new.self i.1 n.same) p.same,
+      same_books c.args.self.now c.next_post.new.self c.put_on_link.new.self (same_books c.args.self.now c.loop-to.self
+          c.next_post.new.self i.2 n.books) p.books,
       λ was. absurd (waits_not c.loop-to.self c.in-Some.ensures.some (i.3 was)),
     )
 
@@ -35,5 +38,6 @@ pub returns-clause-stands : goal.returns-clause-stands
 returns-clause-stands c s t h =
     let n = c.next_post.ensures in
     let none = c.in_default.ensures.none in
-    let e : pending c.next_post.new.self ≡ pending c.loop-to.self = ap (λ x. option_to_list x ++ c.next_post.new.self.out.posts) n.held ∙ none.1 ∙ sym none.0 in
+    let e : pending c.next_post.new.self ≡ pending c.loop-to.self = ap (λ x. option_to_list x ++ c.next_post.new.self.out.posts) n.held
+    ∙ none.1 ∙ sym none.0 in
     subst (λ w. Stands c.next_post.new.self s t w) (sym e) (n.keeps s t (pending c.loop-to.self) (c.loop-to.invariant.0 s t h))

@@ -11,7 +11,8 @@ returns-in_default-clause-stands c s t posts h cut =
     let items = d.seen.items in
     ∥∥₁_map (h cut) (λ a. (
       a.0,
-      subst (λ (l : History). Accounts (self_of d) (record (books_of d) { told = l }) s t posts a.0) (ap (λ o. items ++ option_to_list o) c.in_default.is ∙ append-nil items) a.1,
+      subst (λ (l : History). Accounts (self_of d) (record (books_of d) { told = l }) s t posts a.0)
+          (ap (λ o. items ++ option_to_list o) c.in_default.is ∙ append-nil items) a.1,
     ))
 
 pub returns-in-Ok-clause-stands : goal.returns-in-Ok-clause-stands
@@ -20,7 +21,8 @@ returns-in-Ok-clause-stands c s t posts h cut =
     let items = d.seen.items in
     ∥∥₁_map (h cut) (λ a. (
       a.0,
-      subst (λ (l : History). Accounts (self_of d) (record (books_of d) { told = l }) s t posts a.0) (ap (λ o. items ++ option_to_list o) c.in-Some.is ∙ sym c.in-Ok.ensures.items) a.1,
+      subst (λ (l : History). Accounts (self_of d) (record (books_of d) { told = l }) s t posts a.0)
+          (ap (λ o. items ++ option_to_list o) c.in-Some.is ∙ sym c.in-Ok.ensures.items) a.1,
     ))
 
 pub returns-in-Err-clause-stands : goal.returns-in-Err-clause-stands

@@ -4,15 +4,18 @@ use Rattle.zjournal.proofs.journal.Journal.begin_renewal.Goals as goal
 
 pub returns-then-not-self-clause-any_moment : goal.returns-then-not-self-clause-any_moment
 returns-then-not-self-clause-any_moment g c servers batches rest =
-    not_asked g.D.Device.seen g.D.Device.may_leave g.D.Device.moment g.D.Device.left_since c.args.self.now servers batches rest (g.met.D.Device.only_now c.args.self.now.device)
+    not_asked g.D.Device.seen g.D.Device.may_leave g.D.Device.moment g.D.Device.left_since c.args.self.now servers
+    batches rest (g.met.D.Device.only_now c.args.self.now.device)
 
 pub returns-in_err-begin_file-clause-rest : goal.returns-in_err-begin_file-clause-rest
 returns-in_err-begin_file-clause-rest g c servers batches rest =
-    still_rests g.D.Device.seen g.D.Device.may_leave g.D.Device.moment g.D.Device.left_since c.args.self.now servers batches rest _ refl refl c.begin_file.ensures.untouched
+    still_rests g.D.Device.seen g.D.Device.may_leave g.D.Device.moment g.D.Device.left_since c.args.self.now servers
+    batches rest _ refl refl c.begin_file.ensures.untouched
 
 pub returns-in_err-begin_file-clause-any_moment : goal.returns-in_err-begin_file-clause-any_moment
 returns-in_err-begin_file-clause-any_moment g c servers batches rest =
-    untouched_keeps g.D.Device.seen g.D.Device.may_leave g.D.Device.moment g.D.Device.left_since c.args.self.now servers batches rest c.begin_file.new.device c.begin_file.ensures.untouched
+    untouched_keeps g.D.Device.seen g.D.Device.may_leave g.D.Device.moment g.D.Device.left_since c.args.self.now servers
+    batches rest c.begin_file.new.device c.begin_file.ensures.untouched
 
 pub returns-in_err-begin_file-clause-sound : goal.returns-in_err-begin_file-clause-sound
 returns-in_err-begin_file-clause-sound g c =
@@ -20,22 +23,34 @@ returns-in_err-begin_file-clause-sound g c =
 
 pub returns-clause-begun : goal.returns-clause-begun
 returns-clause-begun g c servers batches is_open rest =
-    renewal_begun g.D.Device.seen g.D.Device.may_leave g.D.Device.moment g.D.Device.left_since c.args.self.now servers batches rest g.D.Device.beside _ refl refl c.begin_file.ensures.untouched (search rules) (search rules)
+    renewal_begun g.D.Device.seen g.D.Device.may_leave g.D.Device.moment g.D.Device.left_since c.args.self.now servers
+    batches rest g.D.Device.beside _ refl refl c.begin_file.ensures.untouched (search rules) (search rules)
 
 pub returns-clause-rest : goal.returns-clause-rest
 returns-clause-rest g c servers batches rest =
-    still_rests g.D.Device.seen g.D.Device.may_leave g.D.Device.moment g.D.Device.left_since c.args.self.now servers batches rest _ refl refl c.begin_file.ensures.untouched
+    still_rests g.D.Device.seen g.D.Device.may_leave g.D.Device.moment g.D.Device.left_since c.args.self.now servers
+    batches rest _ refl refl c.begin_file.ensures.untouched
 
 pub returns-clause-any_moment : goal.returns-clause-any_moment
 returns-clause-any_moment g c servers batches rest =
-    untouched_keeps g.D.Device.seen g.D.Device.may_leave g.D.Device.moment g.D.Device.left_since c.args.self.now servers batches rest c.begin_file.new.device c.begin_file.ensures.untouched
+    untouched_keeps g.D.Device.seen g.D.Device.may_leave g.D.Device.moment g.D.Device.left_since c.args.self.now servers
+    batches rest c.begin_file.new.device c.begin_file.ensures.untouched
 
 pub returns-clause-renewing : goal.returns-clause-renewing
 returns-clause-renewing g c is_open =
-    let was = c.requires c.if-not-self.false in
-    (was.0, was.1, [], renewal_begun g.D.Device.seen g.D.Device.may_leave g.D.Device.moment g.D.Device.left_since c.args.self.now was.0 was.1 was.2 g.D.Device.beside _ refl refl c.begin_file.ensures.untouched c.in_ok-begin_file.ensures.begun refl)
+    let was = c.requires c.if-not-self.false in (
+      was.0,
+      was.1,
+      [],
+      renewal_begun g.D.Device.seen g.D.Device.may_leave g.D.Device.moment g.D.Device.left_since
+          c.args.self.now was.0 was.1 was.2 g.D.Device.beside _ refl refl c.begin_file.ensures.untouched c.in_ok-begin_file.ensures.begun refl,
+    )
 
 pub returns-clause-sound : goal.returns-clause-sound
 returns-clause-sound g c is_open =
-    let was = c.requires c.if-not-self.false in
-    (was.0, was.1, still_rests g.D.Device.seen g.D.Device.may_leave g.D.Device.moment g.D.Device.left_since c.args.self.now was.0 was.1 was.2 _ refl refl c.begin_file.ensures.untouched)
+    let was = c.requires c.if-not-self.false in (
+      was.0,
+      was.1,
+      still_rests g.D.Device.seen g.D.Device.may_leave g.D.Device.moment g.D.Device.left_since c.args.self.now
+          was.0 was.1 was.2 _ refl refl c.begin_file.ensures.untouched,
+    )

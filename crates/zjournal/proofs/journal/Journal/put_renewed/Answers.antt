@@ -7,19 +7,23 @@ use Rattle.zjournal.proofs.journal.Journal.put_renewed.Goals as goal
 
 pub returns-then-not-self-clause-any_moment : goal.returns-then-not-self-clause-any_moment
 returns-then-not-self-clause-any_moment g c servers batches rest =
-    not_asked g.D.Device.seen g.D.Device.may_leave g.D.Device.moment g.D.Device.left_since c.args.self.now servers batches rest (g.met.D.Device.only_now c.args.self.now.device)
+    not_asked g.D.Device.seen g.D.Device.may_leave g.D.Device.moment g.D.Device.left_since c.args.self.now servers
+    batches rest (g.met.D.Device.only_now c.args.self.now.device)
 
 pub returns-then-contains-clause-any_moment : goal.returns-then-contains-clause-any_moment
 returns-then-contains-clause-any_moment g c servers batches rest =
-    not_asked g.D.Device.seen g.D.Device.may_leave g.D.Device.moment g.D.Device.left_since c.args.self.now servers batches rest (g.met.D.Device.only_now c.args.self.now.device)
+    not_asked g.D.Device.seen g.D.Device.may_leave g.D.Device.moment g.D.Device.left_since c.args.self.now servers
+    batches rest (g.met.D.Device.only_now c.args.self.now.device)
 
 pub returns-then-self-ge-MAX_BYTES-clause-any_moment : goal.returns-then-self-ge-MAX_BYTES-clause-any_moment
 returns-then-self-ge-MAX_BYTES-clause-any_moment g c servers batches rest =
-    not_asked g.D.Device.seen g.D.Device.may_leave g.D.Device.moment g.D.Device.left_since c.args.self.now servers batches rest (g.met.D.Device.only_now c.args.self.now.device)
+    not_asked g.D.Device.seen g.D.Device.may_leave g.D.Device.moment g.D.Device.left_since c.args.self.now servers
+    batches rest (g.met.D.Device.only_now c.args.self.now.device)
 
 pub returns-in_err-block-clause-any_moment : goal.returns-in_err-block-clause-any_moment
 returns-in_err-block-clause-any_moment g c servers batches rest =
-    not_asked g.D.Device.seen g.D.Device.may_leave g.D.Device.moment g.D.Device.left_since c.args.self.now servers batches rest (g.met.D.Device.only_now c.args.self.now.device)
+    not_asked g.D.Device.seen g.D.Device.may_leave g.D.Device.moment g.D.Device.left_since c.args.self.now servers
+    batches rest (g.met.D.Device.only_now c.args.self.now.device)
 
 pub returns-then-contains-clause-not_text : goal.returns-then-contains-clause-not_text
 returns-then-contains-clause-not_text g c is text =
@@ -27,11 +31,13 @@ returns-then-contains-clause-not_text g c is text =
 
 pub returns-in_err-add_open_block-clause-rest : goal.returns-in_err-add_open_block-clause-rest
 returns-in_err-add_open_block-clause-rest g c servers batches rest =
-    still_rests g.D.Device.seen g.D.Device.may_leave g.D.Device.moment g.D.Device.left_since c.args.self.now servers batches rest _ refl refl c.add_open_block.ensures.untouched
+    still_rests g.D.Device.seen g.D.Device.may_leave g.D.Device.moment g.D.Device.left_since c.args.self.now servers
+    batches rest _ refl refl c.add_open_block.ensures.untouched
 
 pub returns-in_err-add_open_block-clause-any_moment : goal.returns-in_err-add_open_block-clause-any_moment
 returns-in_err-add_open_block-clause-any_moment g c servers batches rest =
-    untouched_keeps g.D.Device.seen g.D.Device.may_leave g.D.Device.moment g.D.Device.left_since c.args.self.now servers batches rest c.add_open_block.new.device c.add_open_block.ensures.untouched
+    untouched_keeps g.D.Device.seen g.D.Device.may_leave g.D.Device.moment g.D.Device.left_since c.args.self.now servers
+    batches rest c.add_open_block.new.device c.add_open_block.ensures.untouched
 
 pub returns-in_err-add_open_block-clause-sound : goal.returns-in_err-add_open_block-clause-sound
 returns-in_err-add_open_block-clause-sound g c =
@@ -39,24 +45,40 @@ returns-in_err-add_open_block-clause-sound g c =
 
 pub returns-clause-added : goal.returns-clause-added
 returns-clause-added g c servers batches next is_open renewing =
-    renewal_added g.D.Device.seen g.D.Device.may_leave g.D.Device.moment g.D.Device.left_since g.D.Device.beside c.args.self.now servers batches next renewing c.args.batch.now _
+    renewal_added g.D.Device.seen g.D.Device.may_leave g.D.Device.moment g.D.Device.left_since g.D.Device.beside
+    c.args.self.now servers batches next renewing c.args.batch.now _
     (stamped_text c.args.batch.now (tested_text c.args.batch.now (search rules))) refl (search rules) c.add_open_block.ensures.untouched
     (c.in_ok-add_open_block.ensures.added (stamped c.args.batch.now) (search rules)) c.as_slice-block.result.now (search rules) (search rules)
 
 pub returns-clause-rest : goal.returns-clause-rest
 returns-clause-rest g c servers batches rest =
-    still_rests g.D.Device.seen g.D.Device.may_leave g.D.Device.moment g.D.Device.left_since c.args.self.now servers batches rest _ refl refl c.add_open_block.ensures.untouched
+    still_rests g.D.Device.seen g.D.Device.may_leave g.D.Device.moment g.D.Device.left_since c.args.self.now servers
+    batches rest _ refl refl c.add_open_block.ensures.untouched
 
 pub returns-clause-any_moment : goal.returns-clause-any_moment
 returns-clause-any_moment g c servers batches rest =
-    untouched_keeps g.D.Device.seen g.D.Device.may_leave g.D.Device.moment g.D.Device.left_since c.args.self.now servers batches rest c.add_open_block.new.device c.add_open_block.ensures.untouched
+    untouched_keeps g.D.Device.seen g.D.Device.may_leave g.D.Device.moment g.D.Device.left_since c.args.self.now servers
+    batches rest c.add_open_block.new.device c.add_open_block.ensures.untouched
 
 pub returns-clause-renewing : goal.returns-clause-renewing
 returns-clause-renewing g c is_open =
-    let was = c.requires c.if-not-self.false in
-    (was.0, was.1, was.2 ++ c.args.batch.now ∷ [], renewal_added g.D.Device.seen g.D.Device.may_leave g.D.Device.moment g.D.Device.left_since g.D.Device.beside c.args.self.now was.0 was.1 was.2 was.3 c.args.batch.now _ (stamped_text c.args.batch.now (tested_text c.args.batch.now (sym c.contains.ensures.value ∙ c.if-contains.false))) refl refl c.add_open_block.ensures.untouched (c.in_ok-add_open_block.ensures.added (stamped c.args.batch.now) (c.as_slice-block.ensures.value ∙ c.in_ok-block.ensures)) c.as_slice-block.result.now (c.as_slice-block.ensures.value ∙ c.in_ok-block.ensures) (search rules))
+    let was = c.requires c.if-not-self.false in (
+      was.0,
+      was.1,
+      was.2 ++ c.args.batch.now ∷ [],
+      renewal_added g.D.Device.seen g.D.Device.may_leave g.D.Device.moment
+          g.D.Device.left_since g.D.Device.beside c.args.self.now was.0 was.1 was.2 was.3 c.args.batch.now _
+          (stamped_text c.args.batch.now (tested_text c.args.batch.now (sym c.contains.ensures.value ∙ c.if-contains.false)))
+          refl refl c.add_open_block.ensures.untouched (c.in_ok-add_open_block.ensures.added (stamped c.args.batch.now)
+          (c.as_slice-block.ensures.value ∙ c.in_ok-block.ensures)) c.as_slice-block.result.now (c.as_slice-block.ensures.value
+          ∙ c.in_ok-block.ensures) (search rules),
+    )
 
 pub returns-clause-sound : goal.returns-clause-sound
 returns-clause-sound g c is_open =
-    let was = c.requires c.if-not-self.false in
-    (was.0, was.1, still_rests g.D.Device.seen g.D.Device.may_leave g.D.Device.moment g.D.Device.left_since c.args.self.now was.0 was.1 was.3.rest _ refl refl c.add_open_block.ensures.untouched)
+    let was = c.requires c.if-not-self.false in (
+      was.0,
+      was.1,
+      still_rests g.D.Device.seen g.D.Device.may_leave g.D.Device.moment g.D.Device.left_since c.args.self.now
+          was.0 was.1 was.3.rest _ refl refl c.add_open_block.ensures.untouched,
+    )

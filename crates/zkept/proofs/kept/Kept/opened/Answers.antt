@@ -5,12 +5,14 @@ use Rattle.zkept.proofs.kept.Kept.opened.Goals as goal
 
 pub returns-clause-kept : goal.returns-clause-kept
 returns-clause-kept g c servers batches serving =
-    input_serves g.D.Device.seen g.D.Device.may_leave servers batches c.args.self.now _ serving (Opened c.args.connection c.args.password) refl refl refl c.in_ok-opened.ensures.sound.1 c.in_ok-opened.ensures.opened
+    input_serves g.D.Device.seen g.D.Device.may_leave servers batches c.args.self.now _ serving (Opened c.args.connection c.args.password)
+    refl refl refl c.in_ok-opened.ensures.sound.1 c.in_ok-opened.ensures.opened
 
 pub returns-clause-sound : goal.returns-clause-sound
 returns-clause-sound g c is_open =
     let was = c.requires c.if-not-self.false in (
       was.0,
       was.1,
-      input_serves g.D.Device.seen g.D.Device.may_leave was.0 was.1 c.args.self.now _ was.2 (Opened c.args.connection c.args.password) refl refl refl c.in_ok-opened.ensures.sound.1 c.in_ok-opened.ensures.opened,
+      input_serves g.D.Device.seen g.D.Device.may_leave was.0 was.1 c.args.self.now _ was.2 (Opened c.args.connection c.args.password)
+          refl refl refl c.in_ok-opened.ensures.sound.1 c.in_ok-opened.ensures.opened,
     )

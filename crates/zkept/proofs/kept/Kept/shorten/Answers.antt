@@ -14,20 +14,24 @@ use Rattle.zkept.proofs.kept.Kept.shorten.Goals as goal
 pub returns-then-not-self-clause-any_moment : goal.returns-then-not-self-clause-any_moment
 returns-then-not-self-clause-any_moment g c servers batches serving =
     let old = c.args.self.now in
-    weaker g.D.Device.moment g.D.Device.left_since (disk_of old) (disk_of old) (IsOldOrState servers batches (state_in old)) (KeepsState servers (state_in old))
-    (stays_old g.D.Device.seen g.D.Device.may_leave g.D.Device.moment g.D.Device.left_since (state_in old) old.journal servers batches serving.rest (g.met.D.Device.only_now (disk_of old)))
+    weaker g.D.Device.moment g.D.Device.left_since (disk_of old) (disk_of old) (IsOldOrState servers batches (state_in old))
+    (KeepsState servers (state_in old))
+    (stays_old g.D.Device.seen g.D.Device.may_leave g.D.Device.moment g.D.Device.left_since (state_in old) old.journal
+    servers batches serving.rest (g.met.D.Device.only_now (disk_of old)))
     (keeps_state servers batches (state_in old) serving.text)
 
 pub returns-in_err-shorten-clause-any_moment : goal.returns-in_err-shorten-clause-any_moment
 returns-in_err-shorten-clause-any_moment g c servers batches serving =
     let old = c.args.self.now in
-    weaker g.D.Device.moment g.D.Device.left_since (disk_of old) (device_of c.shorten.new.journal) (IsOldOrState servers batches (state_in old)) (KeepsState servers (state_in old))
+    weaker g.D.Device.moment g.D.Device.left_since (disk_of old) (device_of c.shorten.new.journal)
+    (IsOldOrState servers batches (state_in old)) (KeepsState servers (state_in old))
     (c.shorten.ensures.any_moment servers batches serving.rest) (keeps_state servers batches (state_in old) serving.text)
 
 pub returns-clause-any_moment : goal.returns-clause-any_moment
 returns-clause-any_moment g c servers batches serving =
     let old = c.args.self.now in
-    weaker g.D.Device.moment g.D.Device.left_since (disk_of old) (device_of c.shorten.new.journal) (IsOldOrState servers batches (state_in old)) (KeepsState servers (state_in old))
+    weaker g.D.Device.moment g.D.Device.left_since (disk_of old) (device_of c.shorten.new.journal)
+    (IsOldOrState servers batches (state_in old)) (KeepsState servers (state_in old))
     (c.shorten.ensures.any_moment servers batches serving.rest) (keeps_state servers batches (state_in old) serving.text)
 
 pub returns-clause-kept : goal.returns-clause-kept
@@ -43,7 +47,8 @@ returns-clause-kept g c servers batches is_open serving =
     } in
     let next = c.in_ok-shorten.ensures.kept servers batches serving.takes serving.rest in (
       next.0,
-      shortened_serves g.D.Device.seen g.D.Device.may_leave servers batches old new serving next.0 refl refl next.1 c.in_ok-shorten.ensures.open.1 next.3,
+      shortened_serves g.D.Device.seen g.D.Device.may_leave servers batches old new serving next.0 refl refl next.1
+          c.in_ok-shorten.ensures.open.1 next.3,
       search (rules, next.2),
     )
 

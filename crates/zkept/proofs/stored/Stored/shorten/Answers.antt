@@ -10,13 +10,15 @@ use Rattle.zkept.proofs.stored.Stored.shorten.Goals as goal
 pub returns-in_err-shorten-clause-any_moment : goal.returns-in_err-shorten-clause-any_moment
 returns-in_err-shorten-clause-any_moment g c servers batches stored =
     let old = c.args.self.now in
-    weaker g.D.Device.moment g.D.Device.left_since (device_of old.journal) (device_of c.shorten.new.journal) (IsOldOrState servers batches (state_of old)) (KeepsState servers (state_of old))
+    weaker g.D.Device.moment g.D.Device.left_since (device_of old.journal) (device_of c.shorten.new.journal)
+    (IsOldOrState servers batches (state_of old)) (KeepsState servers (state_of old))
     (c.shorten.ensures.any_moment servers batches stored.rest) (keeps_state servers batches (state_of old) stored.text)
 
 pub returns-clause-any_moment : goal.returns-clause-any_moment
 returns-clause-any_moment g c servers batches stored =
     let old = c.args.self.now in
-    weaker g.D.Device.moment g.D.Device.left_since (device_of old.journal) (device_of c.shorten.new.journal) (IsOldOrState servers batches (state_of old)) (KeepsState servers (state_of old))
+    weaker g.D.Device.moment g.D.Device.left_since (device_of old.journal) (device_of c.shorten.new.journal)
+    (IsOldOrState servers batches (state_of old)) (KeepsState servers (state_of old))
     (c.shorten.ensures.any_moment servers batches stored.rest) (keeps_state servers batches (state_of old) stored.text)
 
 pub returns-clause-kept : goal.returns-clause-kept

@@ -1,18 +1,28 @@
 use Rattle.std.proofs.Common.{sym, subst}
-use Rattle.zlinks.specs.Places.{links_of, without_receiver, Keeps}
-use Rattle.zlinks.specs.support.Order.{AreSorted, is_for_others}
+use Rattle.zlinks.specs.Places.{sent_of, without_receiver}
+use Rattle.zlinks.specs.support.Order.{Holds, AreSorted, is_for_others}
 use Rattle.zlinks.proofs.Calls.{cleared}
+use Rattle.zlinks.proofs.Noted.{cleared_seen, cleared_left}
 use Rattle.zlinks.proofs.Sorted.{sorted_left}
 use Rattle.zlinks.proofs.links.Links.clear.Goals as goal
 
-pub returns : goal.returns
-returns g c =
-    let new = c.keep_others.new.queues.items in let to = c.args.to.now in
-    subst (λ channels. Keeps new (without_receiver (links_of channels) to)) c.self.view_is
-    (subst (λ channels. Keeps channels (without_receiver (links_of c.self.inside.queues.items) to)) (sym c.keep_others.ensures)
-    (cleared c.self.inside.queues.items to c.place-receiver.result c.place-receiver.ensures.place c.place-receiver.ensures.small))
+pub returns-clause-cleared : goal.returns-clause-cleared
+returns-clause-cleared g c =
+    cleared_seen c.self.view_is c.keep_others.new.queues.items c.clear.new.self c.args.to.now
+    (subst (λ channels. Holds channels (without_receiver (sent_of c.self.inside.queues.items) c.args.to.now)) (sym c.keep_others.ensures)
+    (cleared c.self.inside.queues.items c.args.to.now c.place-receiver.result c.place-receiver.ensures.place c.place-receiver.ensures.small))
+    (λ p. search (c.clear.ensures p))
+
+pub returns-clause-notices : goal.returns-clause-notices
+returns-clause-notices g c =
+    cleared_left c.self.view_is c.keep_others.new.queues.items c.clear.new.self c.args.to.now
+    (subst (λ channels. Holds channels (without_receiver (sent_of c.self.inside.queues.items) c.args.to.now)) (sym c.keep_others.ensures)
+    (cleared c.self.inside.queues.items c.args.to.now c.place-receiver.result c.place-receiver.ensures.place c.place-receiver.ensures.small))
+    (λ p. search (c.clear.ensures p))
 
 pub invariant_of-self : goal.invariant_of-self
-invariant_of-self g c =
-    subst (λ channels. AreSorted channels) (sym c.keep_others.ensures)
-    (sorted_left (is_for_others c.place-receiver.result) c.self.inside.queues.items c.self.invariant)
+invariant_of-self g c = (
+  subst (λ channels. AreSorted channels) (sym c.keep_others.ensures)
+      (sorted_left (is_for_others c.place-receiver.result) c.self.inside.queues.items c.self.invariant.0),
+  c.self.invariant.1,
+)

@@ -1,48 +1,43 @@
-use Rattle.std.proofs.Common.{◌≡◌, ◌<◌, ◌≤◌, [], length, get_or, sym, subst, ◌∙◌, arith}
-use Rattle.zprotocol.specs.declared.limits.TheConstants.{PROCESSES}
-use Rattle.zlinks.specs.Places.{links_of, Between}
-use Rattle.zlinks.specs.support.Order.{AreSorted, IsFirstFrom}
-use Rattle.zlinks.proofs.Searches.{found_from, rest_from, none_from, receivers_until, receiver_there}
+use Rattle.std.proofs.Common.{◌≡◌, true, false, refl, sym, ap, subst, ◌∙◌, arith}
+use Rattle.std.specs.Prelude.{◌&&◌}
+use Rattle.zprotocol.specs.declared.process.Process.TheVariants.{Master}
+use Rattle.zworld_model.specs.Links.{is_same}
+use Rattle.zworld_model.proofs.Tests.{both}
+use Rattle.zlinks.specs.Places.{sent_of, links_of, has_notice, is_noted, holds}
+use Rattle.zlinks.proofs.Noted.{empty_seen, held_seen, notice_holds, fails_second, passes_second}
+use Rattle.zlinks.proofs.Places.{at_first, behind_first}
 use Rattle.zlinks.proofs.links.Links.next_receiver.Goals as goal
 
-pub returns-in-Some : goal.returns-in-Some
-returns-in-Some g c =
-    let channels = c.args.self.now in let queue = c.in-Some.queue.now in let at = c.args.at in let count = c.first_from-first.result in
-    let from = c.place-sender.result in
-    let sorted = subst (λ cs. AreSorted cs) c.self.view_is c.self.invariant in
-    let first = subst (λ cs. IsFirstFrom cs from at count) (c.deref.ensures.value ∙ c.self.view_is) c.first_from-first.ensures in
-    let within = subst (λ cs. count < length cs) (c.deref-2.ensures.value ∙ c.self.view_is) c.in-Some.ensures.lookup.3.0 in
-    let read = subst (λ cs. queue ≡ get_or cs count queue) (c.deref-2.ensures.value ∙ c.self.view_is) c.in-Some.ensures.lookup.1 in
-    let here : queue.from ≡ from = sym c.from.ensures.place ∙ c.if-from-sender.true in
-    let reached = found_from channels from at count first queue within read in
-    record {
-      few = omega (arith, c.to.ensures.small);
-      ahead = λ _. subst (λ n. at ≤ n) (sym c.to.ensures.place) (reached.1 (omega (arith, here)));
-      empty = subst (λ n. Between at n (λ to. links_of channels c.args.from.now to ≡ [])) (sym c.to.ensures.place)
-          (receivers_until channels c.args.from.now from at count queue.to c.place-sender.ensures.place first
-          (rest_from channels from at count first queue within read sorted from queue.to (omega (arith, here), λ _. omega arith)));
-      held = λ to is small. receiver_there channels c.args.from.now to count queue within read (here ∙ c.place-sender.ensures.place) (sym (is ∙ c.to.ensures.place));
-    }
+-- behind the master there are no notices
+pub returns-then-at-gt0-clause-empty : goal.returns-then-at-gt0-clause-empty
+returns-then-at-gt0-clause-empty g c to behind before =
+    empty_seen c.self.view_is c.args.from.now to
+    (ap (λ sent. sent_of sent c.args.from.now to) (sym c.deref.ensures.value) ∙ c.next_to-next.ensures.empty to behind before)
+    (fails_second (is_noted c.self.inside.notices c.args.from.now) (behind_first to (omega (arith, behind, c.if-at-gt0.true))))
 
--- the sender that was found comes later
-pub returns-in_default-clause-empty : goal.returns-in_default-clause-empty
-returns-in_default-clause-empty g c =
-    let channels = c.args.self.now in let queue = c.in-Some.queue.now in let at = c.args.at in let count = c.first_from-first.result in
-    let from = c.place-sender.result in
-    let sorted = subst (λ cs. AreSorted cs) c.self.view_is c.self.invariant in
-    let first = subst (λ cs. IsFirstFrom cs from at count) (c.deref.ensures.value ∙ c.self.view_is) c.first_from-first.ensures in
-    let within = subst (λ cs. count < length cs) (c.deref-2.ensures.value ∙ c.self.view_is) c.in-Some.ensures.lookup.3.0 in
-    let read = subst (λ cs. queue ≡ get_or cs count queue) (c.deref-2.ensures.value ∙ c.self.view_is) c.in-Some.ensures.lookup.1 in
-    let reached = found_from channels from at count first queue within read in
-    receivers_until channels c.args.from.now from at count PROCESSES c.place-sender.ensures.place first
-    (rest_from channels from at count first queue within read sorted from PROCESSES
-    (reached.0, λ back. absurd (c.if-from-sender.false (c.from.ensures.place ∙ (let same : queue.from ≡ from = omega (arith, reached.0, back) in same)))))
+pub returns-then-at-gt0-clause-held : goal.returns-then-at-gt0-clause-held
+returns-then-at-gt0-clause-held g c to is small =
+    held_seen c.self.view_is c.args.from.now to
+    (ap (λ sent. holds (sent_of sent c.args.from.now to)) (sym c.deref.ensures.value) ∙ c.next_to-next.ensures.held to is small)
 
--- and here there is none
-pub returns-in_default-2-clause-empty : goal.returns-in_default-2-clause-empty
-returns-in_default-2-clause-empty g c =
-    let channels = c.args.self.now in let at = c.args.at in let count = c.first_from-first.result in let from = c.place-sender.result in
-    let first = subst (λ cs. IsFirstFrom cs from at count) (c.deref.ensures.value ∙ c.self.view_is) c.first_from-first.ensures in
-    let none : length c.deref-2.result.now ≤ count = c.in_default.in-None-own.ensures.3 in
-    let all = subst (λ cs. length cs ≤ count) (c.deref-2.ensures.value ∙ c.self.view_is) none in
-    receivers_until channels c.args.from.now from at count PROCESSES c.place-sender.ensures.place first (none_from channels from at count first all from PROCESSES)
+-- the master receives one
+pub returns-then-is_between-clause-held : goal.returns-then-is_between-clause-held
+returns-then-is_between-clause-held g c to is small =
+    let some : has_notice c.args.self.now c.args.from.now ≡ true =
+    ap (λ v. has_notice v c.args.from.now) (sym c.self.view_is)
+    ∙ (both (is_noted c.self.inside.notices c.args.from.now) true (sym c.is_between.ensures ∙ c.if-is_between.true)).0 in
+    subst (λ p. holds (links_of c.args.self.now c.args.from.now p) ≡ true) (sym (at_first to is)) (notice_holds c.args.self.now c.args.from.now some)
+
+-- or the sender has none
+pub returns-clause-empty : goal.returns-clause-empty
+returns-clause-empty g c to behind before =
+    let none : is_noted c.self.inside.notices c.args.from.now ≡ false =
+    sym (passes_second (is_noted c.self.inside.notices c.args.from.now) {b = true} refl) ∙ sym c.is_between.ensures ∙ c.if-is_between.false in
+    empty_seen c.self.view_is c.args.from.now to
+    (ap (λ sent. sent_of sent c.args.from.now to) (sym c.deref.ensures.value) ∙ c.next_to-next.ensures.empty to behind before)
+    (ap (λ b. b && is_same to Master) none)
+
+pub returns-clause-held : goal.returns-clause-held
+returns-clause-held g c to is small =
+    held_seen c.self.view_is c.args.from.now to
+    (ap (λ sent. holds (sent_of sent c.args.from.now to)) (sym c.deref.ensures.value) ∙ c.next_to-next.ensures.held to is small)

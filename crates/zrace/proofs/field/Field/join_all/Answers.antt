@@ -16,7 +16,8 @@ put-requires g c =
     let run = clients_run field.clients in
     let handle = c.in-Some.handle in
     still_belongs run (given_client handle) c.join-client.result.client
-    (All-pop (λ (h : Handle). BelongsTo run (given_client h)) field.handles.items c.pop.new.self.items (Some handle) c.in-Some.ensures.items field.own).1
+    (All-pop (λ (h : Handle). BelongsTo run (given_client h)) field.handles.items c.pop.new.self.items (Some handle)
+    c.in-Some.ensures.items field.own).1
     c.join-client.ensures
 
 pub invariant_of-self : goal.invariant_of-self

@@ -13,4 +13,5 @@ loop-node-preserved c = (
 
 pub returns : goal.returns
 returns c = none_left c.args.self.now.versions.items c.loop-node.node (string_bytes c.loop-node.text) (string_bytes c.write_verdict.new.text)
-    (node_lines 0 c.args.self.now.versions.items) (audit_line c.args.self.now.audit) (omega arith) c.loop-node.invariant.0 c.in_ok-write_verdict.ensures
+    (node_lines 0 c.args.self.now.versions.items) (audit_line c.args.self.now.audit) (omega arith) c.loop-node.invariant.0
+    c.in_ok-write_verdict.ensures

@@ -34,19 +34,23 @@ pub returns-clause-clients : goal.returns-clause-clients
 returns-clause-clients g c =
     let l = c.in_ok-master in
     let cs = l.clients.items in
-    IfOk-weaker c.gather.result (λ (t : Traces). t.clients.items ≡ map client_trace_of cs) (λ (t : Traces). length t.clients.items ≡ client_count c.args.self)
-    (λ t is. ap length is ∙ length-map cs client_trace_of ∙ count_left c.args.self l.master l.servers.items cs l.ensures.servers l.ensures.left) c.gather.ensures.clients
+    IfOk-weaker c.gather.result (λ (t : Traces). t.clients.items ≡ map client_trace_of cs) (λ (t : Traces). length t.clients.items
+    ≡ client_count c.args.self)
+    (λ t is. ap length is ∙ length-map cs client_trace_of ∙ count_left c.args.self l.master l.servers.items cs l.ensures.servers l.ensures.left)
+    c.gather.ensures.clients
 
 pub returns-clause-servers : goal.returns-clause-servers
 returns-clause-servers g c =
     let ss = c.in_ok-master.servers.items in
-    IfOk-weaker c.gather.result (λ (t : Traces). t.servers.items ≡ map (λ (e : Ending). e.trace) ss) (λ (t : Traces). length t.servers.items ≡ MAX_SERVERS)
+    IfOk-weaker c.gather.result (λ (t : Traces). t.servers.items ≡ map (λ (e : Ending). e.trace) ss)
+    (λ (t : Traces). length t.servers.items ≡ MAX_SERVERS)
     (λ t is. ap length is ∙ length-map ss (λ (e : Ending). e.trace) ∙ c.in_ok-master.ensures.servers) c.gather.ensures.servers
 
 pub returns-clause-told : goal.returns-clause-told
 returns-clause-told g c =
     let cs = c.in_ok-master.clients.items in
     let given = c.args.clients in
-    IfOk-weaker c.gather.result (λ (t : Traces). t.clients.items ≡ map client_trace_of cs) (λ (t : Traces). AreTold (client_count c.args.self) t given)
+    IfOk-weaker c.gather.result (λ (t : Traces). t.clients.items ≡ map client_trace_of cs)
+    (λ (t : Traces). AreTold (client_count c.args.self) t given)
     (λ t is i lt. clients_told given.run.value.items given.places.items cs given.many given.own c.in_ok-master.ensures.kept t i is
     (subst (λ n. i < n) (sym c.args.self.count ∙ ap length (sym c.requires.own)) lt)) c.gather.ensures.clients

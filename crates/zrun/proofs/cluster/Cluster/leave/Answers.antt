@@ -14,6 +14,7 @@ returns-clause-left g c =
     let ss = c.join_servers-servers.result.items in
     let cs = c.in-Ok-end_clients.clients.items in
     let of_run = subst (λ r. AreLeftBy (client_desks r) cs) c.requires.own c.in-Ok-end_clients.ensures.left in (
-      left_by (given_master s.master) (master_desk c.join-chief.result.0) m c.join-chief.ensures c.into_ending.ensures.ended c.into_ending.ensures.wires c.into_ending.ensures.untraced,
+      left_by (given_master s.master) (master_desk c.join-chief.result.0) m c.join-chief.ensures c.into_ending.ensures.ended
+          c.into_ending.ensures.wires c.into_ending.ensures.untraced,
       pairs_both IsLeftBy (map given_server s.servers.items) ss (client_desks s.run.value.items) cs c.join_servers-servers.ensures.left of_run,
     )

@@ -10,5 +10,6 @@ invariant_of-result g c =
     record {
       all = c.in-Ok-start_servers.ensures.count;
       count = c.requires.count;
-      wired = subst (λ (w : Desk × List Desk). IsRunFrom c.args.opening (w.0 ∷ (w.1 ++ run))) (λ k. (sym c.in-Ok.ensures.given k, sym c.in-Ok-start_servers.ensures.given k)) c.requires.run;
+      wired = subst (λ (w : Desk × List Desk). IsRunFrom c.args.opening (w.0 ∷ (w.1 ++ run)))
+          (λ k. (sym c.in-Ok.ensures.given k, sym c.in-Ok-start_servers.ensures.given k)) c.requires.run;
     }

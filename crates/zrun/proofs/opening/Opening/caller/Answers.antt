@@ -8,4 +8,5 @@ pub new-requires-2-clause-at : goal.new-requires-2-clause-at
 new-requires-2-clause-at c =
     let o = c.args.self.now in
     let is = c.new.ensures o.clients c.args.id c.requires.known in
-    subst (λ (s : TreeStanding). IsAt c.new-desk.result s) (client_opening o.last o.clients c.args.id c.requires.known ∙ ap (λ v. AtClient v) (sym is)) c.new-desk.ensures.at
+    subst (λ (s : TreeStanding). IsAt c.new-desk.result s) (client_opening o.last o.clients c.args.id c.requires.known
+    ∙ ap (λ v. AtClient v) (sym is)) c.new-desk.ensures.at

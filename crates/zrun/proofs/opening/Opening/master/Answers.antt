@@ -7,4 +7,5 @@ use Rattle.zrun.proofs.opening.Opening.master.Goals as goal
 pub new-requires-2-clause-at : goal.new-requires-2-clause-at
 new-requires-2-clause-at c =
     let o = c.args.self.now in
-    subst (λ (s : TreeStanding). IsAt c.new-desk.result s) (master_opening o.last o.clients ∙ ap (λ v. AtMaster v) (sym c.new.ensures)) c.new-desk.ensures.at
+    subst (λ (s : TreeStanding). IsAt c.new-desk.result s) (master_opening o.last o.clients ∙ ap (λ v. AtMaster v) (sym c.new.ensures))
+    c.new-desk.ensures.at

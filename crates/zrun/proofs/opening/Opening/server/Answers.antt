@@ -10,4 +10,5 @@ new-requires-clause-at c =
     let o = c.args.self.now in
     let s = c.args.id in
     let is = server_is s c.keeps_in_range.ensures.some c.keeps_in_range.ensures.few in
-    subst (λ (s : TreeStanding). IsAt c.new-desk.result s) (server_opening o.last o.clients s is ∙ ap (λ v. AtServer v) (sym (ap (λ (s : ServerState). s.view) c.in_ok-server.ensures))) c.new-desk.ensures.at
+    subst (λ (s : TreeStanding). IsAt c.new-desk.result s) (server_opening o.last o.clients s is
+    ∙ ap (λ v. AtServer v) (sym (ap (λ (s : ServerState). s.view) c.in_ok-server.ensures))) c.new-desk.ensures.at

@@ -26,7 +26,8 @@ returns-clause-lawful g c =
     let m = l.master in
     let ss = l.servers.items in
     let cs = l.clients.items in
-    both_ok c.is_known.result (λ known. is_left_lost m ss cs ≡ true → known ≡ false) (λ known. known ≡ true → GoesIfLeft (by_place m ss cs) (length cs))
+    both_ok c.is_known.result (λ known. is_left_lost m ss cs ≡ true → known ≡ false) (λ known. known ≡ true
+    → GoesIfLeft (by_place m ss cs) (length cs))
     (λ known. known ≡ true → ∥ RanLawfully c.args.self ∥₁) c.is_known.ensures.lost c.is_known.ensures.lawful
     (λ known never goes is. ran m ss cs known never is c.args.self l.ensures.servers l.ensures.left (goes is))
 

@@ -13,7 +13,8 @@ use Rattle.zscript.proofs.player.Player.end_line.Goals.{After-len, then-is_empty
 
 -- the line is done, and its answer is held behind what was held
 answered : (g : Over) (c : After-len g)
-    → IsLineDone (world_now c.args.self.now) (c.args.self.now.line ++ c.args.end.now) (world_now c.if-is_empty.self) (λ text. c.if-is_empty.self.held ≡ c.args.self.now.held ++ text)
+    → IsLineDone (world_now c.args.self.now) (c.args.self.now.line ++ c.args.end.now) (world_now c.if-is_empty.self)
+    (λ text. c.if-is_empty.self.held ≡ c.args.self.now.held ++ text)
 answered g c =
     let self = c.args.self.now in
     elim c.if-is_empty.branch [
@@ -24,11 +25,13 @@ answered g c =
           let none : length c.self.inside.line.items ≡ 0 = grind (arith, nat_tests) in
           let empty : length self.line ≡ 0 = omega (arith, none, ap length line) in
           rw w.self-is (line_done-whole (λ text. told ≡ self.held ++ text) (world_now self) new self.line c.args.end.now empty
-          (subst (λ (p : PlayerView). IsLineDone (world_now p) c.args.end.now new (λ text. told ≡ p.held ++ text)) c.self.view_is w.in_ok-answer_line.ensures.done))
+          (subst (λ (p : PlayerView). IsLineDone (world_now p) c.args.end.now new (λ text. told ≡ p.held ++ text))
+          c.self.view_is w.in_ok-answer_line.ensures.done))
       | else-is_empty+in_ok-keep+in_ok-answer_line-2 w ↦
           let new = world_between w.answer_line-else-is_empty.new.world.held in
           let told = w.answer_line-else-is_empty.new.out.bytes.items in
-          rw w.self-is (line_done-player self w.keep.new.self new c.args.end.now told w.in_ok-keep.ensures.line w.in_ok-keep.ensures.world w.in_ok-keep.ensures.held
+          rw w.self-is (line_done-player self w.keep.new.self new c.args.end.now told w.in_ok-keep.ensures.line
+          w.in_ok-keep.ensures.world w.in_ok-keep.ensures.held
           (subst (λ (p : PlayerView). IsLineDone (world_now p) p.line new (λ text. told ≡ p.held ++ text)) w.self-else-is_empty.view_is
           (rw w.deref.ensures.value at w.in_ok-answer_line-2.ensures.done)))
     ]
@@ -37,7 +40,8 @@ pub returns-then-len-lt-BLOCK-clause-done : goal.returns-then-len-lt-BLOCK-claus
 returns-then-len-lt-BLOCK-clause-done g c =
     let self = c.args.self.now in
     let held = c.if-is_empty.self.held in
-    line_done-written (λ text. held ≡ self.held ++ text) (λ text. Tells (Between g.K.Sink.took c.args.sink.now c.args.sink.now) (self.held ++ text) held)
+    line_done-written (λ text. held ≡ self.held ++ text) (λ text. Tells (Between g.K.Sink.took c.args.sink.now c.args.sink.now)
+    (self.held ++ text) held)
     (world_now self) (world_now c.if-is_empty.self) (self.line ++ c.args.end.now)
     (λ text e. record { front = []; taken = g.met.K.Sink.took_nothing _; split = sym e })
     (answered g (goal.at.returns-then-len-lt-BLOCK-clause-done g c).After-len)
@@ -60,7 +64,8 @@ pub returns-clause-done : goal.returns-clause-done
 returns-clause-done g c =
     let self = c.args.self.now in
     let took = Between g.K.Sink.took c.args.sink.now c.write_replies.new.sink in
-    rw c.in_ok-write_replies.ensures.written (line_done-written (λ text. c.if-is_empty.self.held ≡ self.held ++ text) (λ text. Tells took (self.held ++ text) [])
+    rw c.in_ok-write_replies.ensures.written (line_done-written (λ text. c.if-is_empty.self.held ≡ self.held ++ text)
+    (λ text. Tells took (self.held ++ text) [])
     (world_now self) (world_now c.if-is_empty.self) (self.line ++ c.args.end.now)
     (λ text e. record { front = self.held ++ text; taken = subst took e c.in_ok-write_replies.ensures.took; split = sym (append-nil _) })
     (answered g (goal.at.returns-clause-done g c).After-len))

@@ -20,7 +20,8 @@ returns-in_err-end_line-clause-stopped g c =
     let line : c.self.inside.line.items ≡ c.args.self.now.line = ap (λ (p : PlayerView). p.line) c.self.view_is in
     let some : 0 < length c.self.inside.line.items = grind (arith, nat_tests) in
     let last = last_line-some c.args.self.now.line (omega (arith, ap length line)) in
-    rw (p.1, p.2, last) (line-stopped _ _ c.args.self.now c.args.self.now.line c.requires c.in_err-end_line.field-0.0 (rw append-nil at c.in_err-end_line.ensures.stopped))
+    rw (p.1, p.2, last) (line-stopped _ _ c.args.self.now c.args.self.now.line c.requires c.in_err-end_line.field-0.0
+    (rw append-nil at c.in_err-end_line.ensures.stopped))
 
 pub returns-in_err-write_replies-clause-stopped : goal.returns-in_err-write_replies-clause-stopped
 returns-in_err-write_replies-clause-stopped g c =
@@ -37,7 +38,8 @@ returns-in_err-write_replies-clause-stopped g c =
           (λ a b. g.met.K.Sink.took_both _ _ _ a b)
           (world_now c.args.self.now) (world_now c.end_line.new.self) c.args.self.now.held c.args.self.now.line c.end_line.new.self.held
           c.requires done c.in_err-write_replies.ensures.beginning),
-      failed_after _ (Between g.K.Sink.failed c.args.sink.now c.write_replies.new.sink) (λ n. g.met.K.Sink.failed_both _ _ _ 0 n c.in_ok-end_line.ensures.sound) c.in_err-write_replies.ensures.failed,
+      failed_after _ (Between g.K.Sink.failed c.args.sink.now c.write_replies.new.sink)
+          (λ n. g.met.K.Sink.failed_both _ _ _ 0 n c.in_ok-end_line.ensures.sound) c.in_err-write_replies.ensures.failed,
     )
 
 pub returns-clause-done : goal.returns-clause-done

@@ -11,15 +11,18 @@ pub returns-in_err-rest-clause-stopped : goal.returns-in_err-rest-clause-stopped
 returns-in_err-rest-clause-stopped g c =
     let p = err_from_is_err_and c.from_residual.result c.from_residual.ensures.1 in
     let self = c.args.self.now in
-    rw (p.1, p.2) (stopped-longer _ _ (world_now self) (whole_lines_after self.line c.args.bytes.now) (last_line (line_left self.line c.args.bytes.now)) c.in_err-rest.field-0.0 c.in_err-rest.ensures.stopped)
+    rw (p.1, p.2) (stopped-longer _ _ (world_now self) (whole_lines_after self.line c.args.bytes.now)
+    (last_line (line_left self.line c.args.bytes.now)) c.in_err-rest.field-0.0 c.in_err-rest.ensures.stopped)
 
 pub returns-in_err-keep-clause-stopped : goal.returns-in_err-keep-clause-stopped
 returns-in_err-keep-clause-stopped g c =
     let p = err_from_is_err_and c.from_residual-in_err-keep.result c.from_residual-in_err-keep.ensures.1 in
     let self = c.args.self.now in
     let line = c.in_ok-rest.ensures.line in
-    let some : 0 < length (line_left self.line c.args.bytes.now) = omega (arith, ap length line, length-append c.play_lines.new.self.line c.in_ok-rest.rest.now, c.in_err-keep.ensures.some) in
-    let stopped = left-stopped _ (world_now self) (world_now c.play_lines.new.self) self.line c.args.bytes.now c.play_lines.new.self.held some c.in_ok-rest.ensures.done in
+    let some : 0 < length (line_left self.line c.args.bytes.now) = omega
+    (arith, ap length line, length-append c.play_lines.new.self.line c.in_ok-rest.rest.now, c.in_err-keep.ensures.some) in
+    let stopped = left-stopped _ (world_now self) (world_now c.play_lines.new.self) self.line c.args.bytes.now
+    c.play_lines.new.self.held some c.in_ok-rest.ensures.done in
     rw (p.1, p.2) (stopped.0, stopped.1, c.in_ok-rest.ensures.sound)
 
 pub returns-in_err-write_replies-clause-stopped : goal.returns-in_err-write_replies-clause-stopped
@@ -35,7 +38,8 @@ returns-in_err-write_replies-clause-stopped g c =
           (λ a b. g.met.K.Sink.took_both _ _ _ a b)
           (world_now self) (world_now c.play_lines.new.self) self.line c.args.bytes.now c.play_lines.new.self.held
           c.in_ok-rest.ensures.done (rw held at c.in_err-write_replies.ensures.beginning),
-      failed_after _ (Between g.K.Sink.failed c.args.sink.now c.write_replies.new.sink) (λ n. g.met.K.Sink.failed_both _ _ _ 0 n c.in_ok-rest.ensures.sound) c.in_err-write_replies.ensures.failed,
+      failed_after _ (Between g.K.Sink.failed c.args.sink.now c.write_replies.new.sink)
+          (λ n. g.met.K.Sink.failed_both _ _ _ 0 n c.in_ok-rest.ensures.sound) c.in_err-write_replies.ensures.failed,
     )
 
 pub returns-clause-done : goal.returns-clause-done

@@ -18,7 +18,8 @@ pub returns-in_err-end_line-clause-stopped : goal.returns-in_err-end_line-clause
 returns-in_err-end_line-clause-stopped g c =
     let p = err_from_is_err_and c.from_residual.result c.from_residual.ensures.1 in
     let rest = c.loop-place.rest.now in
-    let next = cut_at_first rest c.in-Some.place (λ j below. c.in-Some.ensures.0.before j (omega arith) below) c.in-Some.ensures.0.high c.in-Some.ensures.1 in
+    let next = cut_at_first rest c.in-Some.place (λ j below. c.in-Some.ensures.0.before j (omega arith) below)
+    c.in-Some.ensures.0.high c.in-Some.ensures.1 in
     rw (p.1, p.2) (progress-stopped
     (Between g.K.Sink.took c.args.sink.now c.loop-place.sink)
     (Between g.K.Sink.took c.loop-place.sink c.end_line.new.sink)
@@ -35,7 +36,8 @@ returns-in_err-end_line-clause-stopped g c =
 pub loop-place-preserved : goal.loop-place-preserved
 loop-place-preserved g c =
     let rest = c.loop-place.rest.now in
-    let next = cut_at_first rest c.in-Some.place (λ j below. c.in-Some.ensures.0.before j (omega arith) below) c.in-Some.ensures.0.high c.in-Some.ensures.1 in
+    let next = cut_at_first rest c.in-Some.place (λ j below. c.in-Some.ensures.0.before j (omega arith) below)
+    c.in-Some.ensures.0.high c.in-Some.ensures.1 in
     record {
       progress = progress-line
           (Between g.K.Sink.took c.args.sink.now c.loop-place.sink)
@@ -45,15 +47,22 @@ loop-place-preserved g c =
           (λ a b. g.met.K.Sink.took_both _ _ _ a b)
           c.loop-place.invariant.progress next.part next.whole
           c.in_ok-end_line.ensures.line c.in_ok-end_line.ensures.done;
-      short = omega (arith, length-take (length rest - (c.in-Some.place + 1)) (drop (c.in-Some.place + 1) rest), length-drop (c.in-Some.place + 1) rest, c.loop-place.invariant.short);
+      short = omega (
+        arith,
+        length-take (length rest - (c.in-Some.place + 1)) (drop (c.in-Some.place + 1) rest),
+        length-drop (c.in-Some.place + 1) rest,
+        c.loop-place.invariant.short,
+      );
       sound = g.met.K.Sink.failed_both _ _ _ 0 0 c.loop-place.invariant.sound c.in_ok-end_line.ensures.sound;
     }
 
 pub returns-clause-done : goal.returns-clause-done
-returns-clause-done g c = progress-whole _ c.args.self.now c.loop-place.self c.args.bytes.now c.loop-place.rest.now c.loop-place.invariant.progress (IsPart-from_none c.loop-place.rest.now (λ j below. c.in_default.ensures j (omega arith) below))
+returns-clause-done g c = progress-whole _ c.args.self.now c.loop-place.self c.args.bytes.now c.loop-place.rest.now
+    c.loop-place.invariant.progress (IsPart-from_none c.loop-place.rest.now (λ j below. c.in_default.ensures j (omega arith) below))
 
 pub returns-clause-line : goal.returns-clause-line
-returns-clause-line g c = progress-left _ c.args.self.now c.loop-place.self c.args.bytes.now c.loop-place.rest.now c.loop-place.invariant.progress (IsPart-from_none c.loop-place.rest.now (λ j below. c.in_default.ensures j (omega arith) below))
+returns-clause-line g c = progress-left _ c.args.self.now c.loop-place.self c.args.bytes.now c.loop-place.rest.now
+    c.loop-place.invariant.progress (IsPart-from_none c.loop-place.rest.now (λ j below. c.in_default.ensures j (omega arith) below))
 
 pub overflow_add-rest : goal.overflow_add-rest
 overflow_add-rest g c = omega (arith, c.in-Some.ensures.0.high, c.loop-place.invariant.short)

@@ -14,7 +14,8 @@ returns-in-Some-clause-none c =
     subst (λ (l : LoadingView). IfNone c.finished.result (AreOfNone (bytes_loaded l))) c.self.view_is
     (subst (λ (r : Option ReadingView). IfNone c.finished.result (AreOfNone (map spelled (rows_from i.header r)))) (sym c.in-Some.is)
     (on_none c.finished.result _ _ (of_none (rows_so_far c.in-Some.reading) are)
-    (subst (λ (r : ReadingView). IfNone c.finished.result ((s : MachineState) → rows_of s ≡ rows_so_far r → ⊥)) c.in-Some.reading-is c.finished.ensures.none)))
+    (subst (λ (r : ReadingView). IfNone c.finished.result ((s : MachineState) → rows_of s ≡ rows_so_far r → ⊥))
+    c.in-Some.reading-is c.finished.ensures.none)))
 
 pub returns-in-None-clause-none : goal.returns-in-None-clause-none
 returns-in-None-clause-none c =

@@ -13,7 +13,8 @@ pub returns-in-Err-clause-only : goal.returns-in-Err-clause-only
 returns-in-Err-clause-only c =
     let old = c.args.self.now in
     subst (λ (fault : RowFault). NeverRefusesNext (rows_loaded old) (rows_loaded old) (Err fault) c.args.row.now) (sym c.from.ensures)
-    (subst (λ (l : LoadingView). NeverRefusesNext (rows_loaded l) (rows_loaded l) (Err (of_frame c.in-Err.fault)) c.args.row.now) (sym c.requires.nothing)
+    (subst (λ (l : LoadingView). NeverRefusesNext (rows_loaded l) (rows_loaded l) (Err (of_frame c.in-Err.fault)) c.args.row.now)
+    (sym c.requires.nothing)
     (header_never_refused c.args.row.now [] c.in-Err.fault c.in-Err.ensures.fault))
 
 pub returns-clause-taken : goal.returns-clause-taken
@@ -33,7 +34,8 @@ returns-clause-only c =
     let h = c.in-Ok.read.0 in
     let found = c.in-Ok.ensures.found in
     let none : i.reading ≡ None = ap (λ (l : LoadingView). l.reading) (c.self.view_is ∙ c.requires.nothing) in
-    subst (λ (l : LoadingView). NeverRefusesNext (rows_loaded l) (rows_from (Some c.of.result) i.reading) (Ok tt) c.args.row.now) (sym c.requires.nothing)
+    subst (λ (l : LoadingView). NeverRefusesNext (rows_loaded l) (rows_from (Some c.of.result) i.reading) (Ok tt) c.args.row.now)
+    (sym c.requires.nothing)
     (subst (λ (r : Option ReadingView). NeverRefusesNext [] (rows_from (Some c.of.result) r) (Ok tt) c.args.row.now) (sym none)
     (subst (λ (h : Header). NeverRefusesNext [] (rows_from (Some h) None) (Ok tt) c.args.row.now) (sym c.of.ensures)
     (header_never_taken_wrong h c.args.row.now c.in-Ok.read.1.now found.0 found.1)))
@@ -46,5 +48,6 @@ invariant_of-self c =
     let none : i.reading ≡ None = ap (λ (l : LoadingView). l.reading) (c.self.view_is ∙ c.requires.nothing) in
     subst (λ (r : Option ReadingView). AreLoaded (rows_from (Some c.of.result) r)) (sym none)
     (subst (λ (h : Header). AreLoaded (rows_from (Some h) None)) (sym c.of.ensures)
-    (loaded_next [] (OfHeader h ∷ []) c.args.row.now (tt, tell_at_first) (header_loaded c.args.row.now c.in-Ok.read.1.now c.requires.alone h found.0 found.1)
+    (loaded_next [] (OfHeader h ∷ []) c.args.row.now (tt, tell_at_first) (header_loaded c.args.row.now c.in-Ok.read.1.now
+    c.requires.alone h found.0 found.1)
     (header_never_taken_wrong h c.args.row.now c.in-Ok.read.1.now found.0 found.1)))

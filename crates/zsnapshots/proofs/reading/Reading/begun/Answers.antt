@@ -30,4 +30,5 @@ returns-in-Err-rooted-clause-fault c =
     let e : Path × Node = (c.in-Ok.read.0, c.in-Ok.read.1) in
     let found = c.in-Ok.ensures.found in
     subst (IsRootFault c.args.header c.args.bytes.now) (sym c.from-in-Err-rooted.ensures)
-    (refused_told node_text is_node_text _ _ c.args.bytes.now e c.in-Ok.read.2.now found.0 found.1 (c.if-not-is_root.ensures.yes refl) c.in-Err-rooted.fault c.in-Err-rooted.ensures.fault)
+    (refused_told node_text is_node_text _ _ c.args.bytes.now e c.in-Ok.read.2.now found.0 found.1 (c.if-not-is_root.ensures.yes refl)
+    c.in-Err-rooted.fault c.in-Err-rooted.ensures.fault)

@@ -22,7 +22,8 @@ returns-then-not-is_path_above-clause-fault c =
       c.in-Ok.read.2.now,
       read_is node_text is_node_text e c.in-Ok.read.2.now c.args.bytes.now found.0 found.1,
       subst (λ (r : ReadingView). IsAbove path_cmp (nodes_of r.state) e.0 → ⊥) c.self.view_is
-          (not_above path_cmp (Some i.path) e.0 (nodes_of i.restoring) c.self.invariant.last_path (sym c.is_path_above.ensures ∙ c.if-not-is_path_above.true)),
+          (not_above path_cmp (Some i.path) e.0 (nodes_of i.restoring) c.self.invariant.last_path (sym c.is_path_above.ensures
+          ∙ c.if-not-is_path_above.true)),
     )
 
 pub returns-in-Err-put_node-clause-fault : goal.returns-in-Err-put_node-clause-fault
@@ -30,20 +31,26 @@ returns-in-Err-put_node-clause-fault c =
     let i = c.self.inside in
     let e : Path × Node = (c.in-Ok.read.0, c.in-Ok.read.1) in
     let found = c.in-Ok.ensures.found in
-    let above = map_above paths_total i.restoring.service.plain.nodes (Some i.path) e.0 c.self.invariant.last_path (sym c.is_path_above.ensures ∙ c.if-not-is_path_above.false) in
+    let above = map_above paths_total i.restoring.service.plain.nodes (Some i.path) e.0 c.self.invariant.last_path
+    (sym c.is_path_above.ensures ∙ c.if-not-is_path_above.false) in
     subst (λ (r : ReadingView). IsNodeFault r.state c.args.bytes.now c.from-in-Err-put_node.result) c.self.view_is
     (subst (IsNodeFault i.restoring c.args.bytes.now) (sym c.from-in-Err-put_node.ensures)
-    (refused_told node_text is_node_text _ _ c.args.bytes.now e c.in-Ok.read.2.now found.0 found.1 above c.in-Err-put_node.fault c.in-Err-put_node.ensures.fault))
+    (refused_told node_text is_node_text _ _ c.args.bytes.now e c.in-Ok.read.2.now found.0 found.1 above c.in-Err-put_node.fault
+    c.in-Err-put_node.ensures.fault))
 
 pub invariant_of-self-2 : goal.invariant_of-self-2
 invariant_of-self-2 c =
     let i = c.self.inside in
     let none = subst (λ (r : ReadingView). wants_session r ≡ false) (sym c.self.view_is) c.requires.sessions in
     let wanted = subst (λ (r : ReadingView). wants_node r ≡ true) (sym c.self.view_is) c.requires.wanted in
-    let above = map_above paths_total i.restoring.service.plain.nodes (Some i.path) c.in-Ok.read.0 c.self.invariant.last_path (sym c.is_path_above.ensures ∙ c.if-not-is_path_above.false) in
-    subst (λ (p : Path). IsReading i.header c.put_node.new.self i.sessions (i.nodes - 1) i.replies i.session p i.client) (sym c.in-Ok-clone.ensures.cases)
-    (subst (λ (u : MachineState). IsReading i.header u i.sessions (i.nodes - 1) i.replies i.session c.in-Ok.read.0 i.client) (sym c.in_default-put_node.ensures.state)
-    (node_kept i.header i.restoring i.sessions i.nodes i.replies i.session i.path i.client c.self.invariant c.in-Ok.read.0 c.in-Ok.read.1 above none wanted c.in_default-put_node.ensures.can.dated))
+    let above = map_above paths_total i.restoring.service.plain.nodes (Some i.path) c.in-Ok.read.0 c.self.invariant.last_path
+    (sym c.is_path_above.ensures ∙ c.if-not-is_path_above.false) in
+    subst (λ (p : Path). IsReading i.header c.put_node.new.self i.sessions (i.nodes - 1) i.replies i.session p i.client)
+    (sym c.in-Ok-clone.ensures.cases)
+    (subst (λ (u : MachineState). IsReading i.header u i.sessions (i.nodes - 1) i.replies i.session c.in-Ok.read.0 i.client)
+    (sym c.in_default-put_node.ensures.state)
+    (node_kept i.header i.restoring i.sessions i.nodes i.replies i.session i.path i.client c.self.invariant c.in-Ok.read.0
+    c.in-Ok.read.1 above none wanted c.in_default-put_node.ensures.can.dated))
 
 pub returns-clause-taken : goal.returns-clause-taken
 returns-clause-taken c =
@@ -52,7 +59,10 @@ returns-clause-taken c =
     let rest = c.in-Ok.read.2.now in
     let none = subst (λ (r : ReadingView). wants_session r ≡ false) (sym c.self.view_is) c.requires.sessions in
     let wanted = subst (λ (r : ReadingView). wants_node r ≡ true) (sym c.self.view_is) c.requires.wanted in
-    let above = map_above paths_total i.restoring.service.plain.nodes (Some i.path) c.in-Ok.read.0 c.self.invariant.last_path (sym c.is_path_above.ensures ∙ c.if-not-is_path_above.false) in
+    let above = map_above paths_total i.restoring.service.plain.nodes (Some i.path) c.in-Ok.read.0 c.self.invariant.last_path
+    (sym c.is_path_above.ensures ∙ c.if-not-is_path_above.false) in
     subst (λ (r : ReadingView). IsTaken r (view i.header c.put_node.new.self) c.args.bytes.now rest) c.self.view_is
-    (subst (λ (u : MachineState). IsTaken (view i.header i.restoring) (view i.header u) c.args.bytes.now rest) (sym c.in_default-put_node.ensures.state)
-    (node_taken i.header i.restoring i.sessions i.nodes i.replies i.session i.path i.client c.self.invariant c.in-Ok.read.0 c.in-Ok.read.1 above none wanted c.args.bytes.now rest found.0 found.1))
+    (subst (λ (u : MachineState). IsTaken (view i.header i.restoring) (view i.header u) c.args.bytes.now rest)
+    (sym c.in_default-put_node.ensures.state)
+    (node_taken i.header i.restoring i.sessions i.nodes i.replies i.session i.path i.client c.self.invariant c.in-Ok.read.0
+    c.in-Ok.read.1 above none wanted c.args.bytes.now rest found.0 found.1))

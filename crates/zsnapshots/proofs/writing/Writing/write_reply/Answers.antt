@@ -19,7 +19,8 @@ unreachable-requires c =
     let within = subst (λ (v : WritingView). c.args.place < length (replies_of v.state)) (sym c.self.view_is) c.requires in
     let kept = kept_is i.is_alone i.machine.now.state c.args.place within in
     let none = ap (λ (m : finite.FinMap nat_cmp Kept). finite.get m c.index-client.result.now) kept ∙ c.in-None.ensures.none in
-    entry_there_at nat_cmp_total s.service.kept i.clients.items c.args.place c.index-client.result.now c.self.invariant.clients within c.index-client.ensures none
+    entry_there_at nat_cmp_total s.service.kept i.clients.items c.args.place c.index-client.result.now c.self.invariant.clients
+    within c.index-client.ensures none
 
 pub returns-clause-ok : goal.returns-clause-ok
 returns-clause-ok c =
@@ -28,6 +29,10 @@ returns-clause-ok c =
     let within = subst (λ (v : WritingView). c.args.place < length (replies_of v.state)) (sym c.self.view_is) c.requires in
     let kept = kept_is i.is_alone i.machine.now.state c.args.place within in
     let there = ap (λ (m : finite.FinMap nat_cmp Kept). finite.get m c.index-client.result.now) kept ∙ c.in-Some.ensures.kept in
-    let at = entry_at nat_cmp_total s.service.kept i.clients.items c.args.place c.index-client.result.now c.self.invariant.clients within c.index-client.ensures (kept_of c.in-Some.kept.0 c.in-Some.kept.1.now) there in
-    subst (λ (v : WritingView). OnOk c.write_reply_row.result (IsItem OfReply (replies_of v.state) c.args.place c.args.out.now.items c.write_reply_row.new.out.items)) c.self.view_is
-    (item_ok OfReply (replies_of s) c.args.place c.args.out.now.items c.write_reply_row.new.out.items c.write_reply_row.result (c.index-client.result.now, (kept_of c.in-Some.kept.0 c.in-Some.kept.1.now)) at c.write_reply_row.ensures.ok (both_ok _ _ c.write_reply_row.result c.write_reply_row.ensures.fits c.in-Some.ensures.of_update))
+    let at = entry_at nat_cmp_total s.service.kept i.clients.items c.args.place c.index-client.result.now c.self.invariant.clients
+    within c.index-client.ensures (kept_of c.in-Some.kept.0 c.in-Some.kept.1.now) there in
+    subst (λ (v : WritingView). OnOk c.write_reply_row.result (IsItem OfReply (replies_of v.state) c.args.place
+    c.args.out.now.items c.write_reply_row.new.out.items)) c.self.view_is
+    (item_ok OfReply (replies_of s) c.args.place c.args.out.now.items c.write_reply_row.new.out.items c.write_reply_row.result
+    (c.index-client.result.now, (kept_of c.in-Some.kept.0 c.in-Some.kept.1.now)) at c.write_reply_row.ensures.ok
+    (both_ok _ _ c.write_reply_row.result c.write_reply_row.ensures.fits c.in-Some.ensures.of_update))

@@ -39,7 +39,8 @@ returns-then-behind-sessions-clause-row c = λ yes_more.
     let is : n ≡ i + 2 = omega (arith, c.if-number-eq0.false, c.if-number-eq1.false) in
     subst (λ (v : WritingView). IsRow v.state n c.args.out.now.items c.write_session.new.out.items) c.self.view_is
     (row_of s OfSession (sessions_of s) i n c.args.out.now.items c.write_session.new.out.items (λ x at. session_place s i n x some within is at)
-    (subst (λ (v : WritingView). IsItem OfSession (sessions_of v.state) i c.args.out.now.items c.write_session.new.out.items) (sym c.self.view_is) c.in_ok-write_session.ensures.ok))
+    (subst (λ (v : WritingView). IsItem OfSession (sessions_of v.state) i c.args.out.now.items c.write_session.new.out.items)
+    (sym c.self.view_is) c.in_ok-write_session.ensures.ok))
 
 pub returns-then-behind-below-clause-row : goal.returns-then-behind-below-clause-row
 returns-then-behind-below-clause-row c = λ yes_more.
@@ -56,7 +57,8 @@ returns-then-behind-below-clause-row c = λ yes_more.
     omega (arith, c.if-number-eq0.false, c.if-number-eq1.false, c.if-behind-sessions.false, c.len-sessions.ensures, long_sessions) in
     subst (λ (v : WritingView). IsRow v.state n c.args.out.now.items after) c.self.view_is
     (row_of s OfNode (nodes_of s) (i + 1) n c.args.out.now.items after (λ x at. node_place s i n x some within is at)
-    (subst (λ (v : WritingView). IsItem OfNode (nodes_of v.state) (i + 1) c.args.out.now.items after) (sym c.self.view_is) c.in_ok-write_node-2.ensures.ok))
+    (subst (λ (v : WritingView). IsItem OfNode (nodes_of v.state) (i + 1) c.args.out.now.items after) (sym c.self.view_is)
+    c.in_ok-write_node-2.ensures.ok))
 
 pub returns-then-behind-replies-clause-row : goal.returns-then-behind-replies-clause-row
 returns-then-behind-replies-clause-row c = λ yes_more.
@@ -69,7 +71,20 @@ returns-then-behind-replies-clause-row c = λ yes_more.
     let below = c.len-below.result - 1 in
     let i = n - 2 - c.len-sessions.result - below in
     let is : n ≡ length (sessions_of s) + (length (below_of s) + i) + 2 =
-    omega (arith, c.if-number-eq0.false, c.if-number-eq1.false, c.if-behind-sessions.false, c.if-behind-below.false, c.len-sessions.ensures, c.len-below.ensures, long_sessions, long_paths, long_below, some) in
+    omega (
+      arith,
+      c.if-number-eq0.false,
+      c.if-number-eq1.false,
+      c.if-behind-sessions.false,
+      c.if-behind-below.false,
+      c.len-sessions.ensures,
+      c.len-below.ensures,
+      long_sessions,
+      long_paths,
+      long_below,
+      some,
+    ) in
     subst (λ (v : WritingView). IsRow v.state n c.args.out.now.items c.write_reply.new.out.items) c.self.view_is
     (row_of s OfReply (replies_of s) i n c.args.out.now.items c.write_reply.new.out.items (λ x at. reply_place s i n x some is at)
-    (subst (λ (v : WritingView). IsItem OfReply (replies_of v.state) i c.args.out.now.items c.write_reply.new.out.items) (sym c.self.view_is) c.in_ok-write_reply.ensures.ok))
+    (subst (λ (v : WritingView). IsItem OfReply (replies_of v.state) i c.args.out.now.items c.write_reply.new.out.items)
+    (sym c.self.view_is) c.in_ok-write_reply.ensures.ok))

@@ -9,13 +9,15 @@ use Rattle.zstates.proofs.shortening.Shortening.next_piece.Goals as goal
 pub loop-self-init : goal.loop-self-init
 loop-self-init c =
     so_far_first c.args.self.now c.write_next.new.self c.write_next.new.text.items
-    (subst (λ (before : List ℕ). IsRecordWritten c.args.self.now c.write_next.new.self before c.write_next.new.text.items) c.new-text.ensures.items (c.in_ok-write_next.ensures.next c.if-not-branch.false))
+    (subst (λ (before : List ℕ). IsRecordWritten c.args.self.now c.write_next.new.self before c.write_next.new.text.items)
+    c.new-text.ensures.items (c.in_ok-write_next.ensures.next c.if-not-branch.false))
 
 pub returns-then-not-branch-2-clause-piece : goal.returns-then-not-branch-2-clause-piece
 returns-then-not-branch-2-clause-piece c =
     let same = c.in_ok-write_next-2.ensures.ended c.if-not-branch-2.true in
     subst (λ (text : List ℕ). IsPiece c.args.self.now c.write_next-in-loop-self.new.self text) (sym same.1)
-    (subst (λ (v : ShorteningView). IsPiece c.args.self.now v c.loop-self.text.items) (sym same.0) (piece_is c.args.self.now c.loop-self.self c.loop-self.text.items c.loop-self.invariant))
+    (subst (λ (v : ShorteningView). IsPiece c.args.self.now v c.loop-self.text.items) (sym same.0)
+    (piece_is c.args.self.now c.loop-self.self c.loop-self.text.items c.loop-self.invariant))
 
 pub returns-then-not-branch-2-clause-text : goal.returns-then-not-branch-2-clause-text
 returns-then-not-branch-2-clause-text c =
@@ -25,11 +27,13 @@ returns-then-not-branch-2-clause-text c =
 pub loop-self-smaller : goal.loop-self-smaller
 loop-self-smaller c =
     let room : length c.loop-self.text.items < 65536 = grind (arith, nat_tests, c.loop-self-test.true) in
-    less_left c.loop-self.self c.write_next-in-loop-self.new.self c.loop-self.text.items c.write_next-in-loop-self.new.text.items (c.in_ok-write_next-2.ensures.next c.if-not-branch-2.false) room
+    less_left c.loop-self.self c.write_next-in-loop-self.new.self c.loop-self.text.items c.write_next-in-loop-self.new.text.items
+    (c.in_ok-write_next-2.ensures.next c.if-not-branch-2.false) room
 
 pub loop-self-preserved : goal.loop-self-preserved
 loop-self-preserved c =
-    so_far_more c.args.self.now c.loop-self.self c.write_next-in-loop-self.new.self c.loop-self.text.items c.write_next-in-loop-self.new.text.items c.loop-self.invariant
+    so_far_more c.args.self.now c.loop-self.self c.write_next-in-loop-self.new.self c.loop-self.text.items
+    c.write_next-in-loop-self.new.text.items c.loop-self.invariant
     (c.in_ok-write_next-2.ensures.next c.if-not-branch-2.false)
 
 pub returns-clause-piece : goal.returns-clause-piece

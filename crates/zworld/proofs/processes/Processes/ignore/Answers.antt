@@ -1,9 +1,16 @@
-use Rattle.std.proofs.Common.{false}
-use Rattle.zworld.proofs.FrontSteps.{request_ignored}
-use Rattle.zworld.proofs.TakeSteps.{lost_by}
+use Rattle.std.proofs.Common.{false, sym, ◌∙◌}
+use Rattle.zworld.specs.Held.{Held}
+use Rattle.zworld.proofs.Delivered.{request_lost}
+use Rattle.zworld.proofs.Posting.{lost_read, popped_world}
 use Rattle.zworld.proofs.processes.Processes.ignore.Goals as goal
 
+-- a request is lost
 pub returns : goal.returns
 returns c =
-    let alive = lost_by _ _ _ c.args.to c.is_lost.result false c.self.view_is c.deref.ensures.value c.is_lost.ensures c.if-is_lost.false in
-    request_ignored _ _ c.next.new.self c.args.from c.args.to c.has_request.result c.self.view_is c.has_request.ensures c.if-not-has_request.false alive c.next.ensures.rest
+    let old = c.args.self.now in
+    let held : Held = record { actors = c.self.inside.actors.items; links = c.self.inside.links } in
+    let alive =
+    lost_read held old c.deref.result.now c.args.to false c.is_lost.result c.self.view_is c.deref.ensures.value c.is_lost.ensures c.if-is_lost.false
+    in
+    request_lost old (record held { links = c.next.new.self }) c.args.from c.args.to (sym c.has_request.ensures ∙ c.if-not-has_request.false) alive
+    (popped_world old held c.next.new.self c.args.from c.args.to c.self.view_is c.next.ensures.rest)

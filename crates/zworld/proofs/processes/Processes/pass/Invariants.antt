@@ -24,6 +24,7 @@ abbrev pub invariant-loop-receiver : goal.invariant-loop-receiver
 invariant-loop-receiver l =
     (l.receiver ≤ PROCESSES)
     × (p : Point)
-    × Tries l.strict (takes (processes l.clients) (take l.sender (processes l.clients))) (record { held = l.fn.self; left = l.fn.left; seen = l.fn.seen.items }) p
+    × Tries l.strict (takes (processes l.clients) (take l.sender (processes l.clients)))
+    (record { held = l.fn.self; left = l.fn.left; seen = l.fn.seen.items }) p
     × Tries l.strict (takes_from (take l.receiver (processes l.clients)) l.from) p (record { held = l.self; left = l.left; seen = l.seen.items })
     × StillOrCould l.fn.self l.self l.fn.left l.left

@@ -8,7 +8,8 @@ use Rattle.zworld.proofs.processes.Processes.passes.Goals as goal
 
 pub loop-pass-init : goal.loop-pass-init
 loop-pass-init c = (
-  first_pass c.args.strict (deliveries c.args.clients) c.args.limit (record { held = c.args.self.now; left = c.args.left; seen = c.args.seen.now.items }),
+  first_pass c.args.strict (deliveries c.args.clients) c.args.limit
+      (record { held = c.args.self.now; left = c.args.left; seen = c.args.seen.now.items }),
   inl (refl, refl),
 )
 
@@ -33,7 +34,8 @@ loop-pass-preserved c = (
       (record { held = c.loop-pass.self; left = c.loop-pass.left; seen = c.loop-pass.seen.items })
       (record { held = c.pass.new.self; left = c.in_ok-left.left; seen = c.pass.new.seen.items })
       c.loop-pass-test.true c.loop-pass.invariant.0 c.if-left-before.false c.in_ok-left.ensures.done,
-  still_or_could c.args.self.now c.loop-pass.self c.pass.new.self c.args.left c.loop-pass.left c.in_ok-left.left c.loop-pass.invariant.1 c.in_ok-left.ensures.moved,
+  still_or_could c.args.self.now c.loop-pass.self c.pass.new.self c.args.left c.loop-pass.left c.in_ok-left.left
+      c.loop-pass.invariant.1 c.in_ok-left.ensures.moved,
 )
 
 pub returns-clause-done : goal.returns-clause-done
@@ -45,7 +47,8 @@ returns-clause-done c =
 
 pub returns-then-left-before-clause-moved : goal.returns-then-left-before-clause-moved
 returns-then-left-before-clause-moved c =
-    still_or_could c.args.self.now c.loop-pass.self c.pass.new.self c.args.left c.loop-pass.left c.in_ok-left.left c.loop-pass.invariant.1 c.in_ok-left.ensures.moved
+    still_or_could c.args.self.now c.loop-pass.self c.pass.new.self c.args.left c.loop-pass.left c.in_ok-left.left
+    c.loop-pass.invariant.1 c.in_ok-left.ensures.moved
 
 pub returns-clause-moved : goal.returns-clause-moved
 returns-clause-moved c = c.loop-pass.invariant.1

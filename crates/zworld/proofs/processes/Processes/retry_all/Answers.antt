@@ -31,7 +31,8 @@ loop-number-preserved c =
           (stepped_tries true before.held here.held (Retry c.in-Some.client) c.in_ok-did.did [] c.in_ok-did.ensures.stepped
           before.left here.left seen seen some c.left_after-left.ensures (sym (append-nil seen))
           (λ strictly. retried_acted before.held c.in-Some.client c.in_ok-did.did c.in_ok-did.ensures.stepped.fits)),
-      still_or_could c.args.self.now c.loop-number.self c.retry.new.self c.args.left c.loop-number.left c.left_after-left.result c.loop-number.invariant.1
+      still_or_could c.args.self.now c.loop-number.self c.retry.new.self c.args.left c.loop-number.left c.left_after-left.result
+          c.loop-number.invariant.1
           (tried_or_could c.loop-number.self c.retry.new.self (Retry c.in-Some.client) c.in_ok-did.did [] c.loop-number.left c.left_after-left.result
           c.in_ok-did.ensures.stepped some refl c.left_after-left.ensures),
     )
@@ -39,7 +40,8 @@ loop-number-preserved c =
 pub returns-clause-done : goal.returns-clause-done
 returns-clause-done c seen =
     let last : c.loop-number.number ≡ c.args.clients = omega arith in
-    subst (λ n. Tries true (retry_events n) (record { held = c.args.self.now; left = c.args.left; seen = seen }) (record { held = c.loop-number.self; left = c.loop-number.left; seen = seen }))
+    subst (λ n. Tries true (retry_events n) (record { held = c.args.self.now; left = c.args.left; seen = seen })
+    (record { held = c.loop-number.self; left = c.loop-number.left; seen = seen }))
     last (c.loop-number.invariant.0 seen)
 
 pub returns-then-left-eq0-clause-moved : goal.returns-then-left-eq0-clause-moved

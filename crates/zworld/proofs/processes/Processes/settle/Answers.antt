@@ -1,11 +1,11 @@
 use Rattle.std.proofs.Common.{◌≡◌, ◌<◌, inl, sym, ap, subst, ◌∙◌, arith}
-use Rattle.zworld.specs.support.Counts.{passing}
+use Rattle.zlinks.specs.support.Counts.{passing}
 use Rattle.zworld_model.specs.declared.settled.Settled.TheVariants.{Limit, Quiet}
 use Rattle.zworld_model.specs.Settle.{retry_events}
 use Rattle.zworld.specs.Held.{Held}
-use Rattle.zworld.specs.support.Members.{waits}
+use Rattle.zworld.specs.support.Standing.{waits}
 use Rattle.zworld.specs.support.Settling.{Point, StillOrCould, Tries}
-use Rattle.zworld.proofs.Counting.{no_retries}
+use Rattle.zworld.proofs.Skips.{no_retries}
 use Rattle.zworld.proofs.Needs.{could_at_first, still_or_could}
 use Rattle.zworld.proofs.Passes.{settles, ended_at_limit, ended_quiet}
 use Rattle.zworld.proofs.Tries.{strict_tries}
@@ -23,12 +23,15 @@ asked c =
     elim c.if-self-gt0.branch [
       | then-self-gt0+in_ok-left-2 w ↦
           subst (λ (h : Held). Tries c.args.strict events passed (record { held = h; left = c.if-self-gt0.left; seen = passed.seen })) (sym w.self-is)
-          (subst (λ n. Tries c.args.strict events passed (record { held = w.retry_all.new.self; left = n; seen = passed.seen })) (sym w.left-is) (strict_tries c.args.strict events passed (record { held = w.retry_all.new.self; left = w.in_ok-left-2.left; seen = passed.seen }) (w.in_ok-left-2.ensures.done passed.seen)))
+          (subst (λ n. Tries c.args.strict events passed (record { held = w.retry_all.new.self; left = n; seen = passed.seen })) (sym w.left-is)
+          (strict_tries c.args.strict events passed (record { held = w.retry_all.new.self; left = w.in_ok-left-2.left; seen = passed.seen })
+          (w.in_ok-left-2.ensures.done passed.seen)))
       | else-self-gt0 w ↦
-          let none : c.self-2.inside.waiting ≡ 0 = omega (arith, w.if-self-gt0.false) in
+          let none : c.self.inside.waiting ≡ 0 = omega (arith, w.if-self-gt0.false) in
           subst (λ (h : Held). Tries c.args.strict events passed (record { held = h; left = c.if-self-gt0.left; seen = passed.seen })) (sym w.self-is)
           (subst (λ n. Tries c.args.strict events passed (record { held = passed.held; left = n; seen = passed.seen })) (sym w.left-is)
-          (no_retries c.args.strict c.clients-clients.result passed (ap (λ (h : Held). passing waits h.clients) (sym c.self-2.view_is) ∙ sym c.self-2.invariant.4 ∙ none)))
+          (no_retries c.args.strict c.clients-clients.result passed
+          (ap (λ (h : Held). passing waits h.actors) (sym c.self.view_is) ∙ sym c.self.invariant.counted ∙ none)))
     ]
 
 -- nor is anything changed
@@ -48,18 +51,20 @@ moved c =
 
 pub returns-then-left-eq0-clause-settled : goal.returns-then-left-eq0-clause-settled
 returns-then-left-eq0-clause-settled c =
-    settles c.args.strict c.args.self.now c.passes-2.new.self c.args.limit c.in_ok-left-3.left c.args.seen.now.items c.passes-2.new.seen.items c.clients-clients.result
+    settles c.args.strict c.args.self.now c.passes-2.new.self c.args.limit c.in_ok-left-3.left c.args.seen.now.items c.passes-2.new.seen.items
+    c.clients-clients.result
     c.in_ok-left.left c.if-self-gt0.left c.passes.new.self c.if-self-gt0.self c.passes.new.seen.items Limit
-    (c.clients-clients.ensures.same ∙ ap (λ (h : Held). h.master.clients) c.self.view_is)
+    c.clients-clients.ensures.same
     (ended_at_limit c.in_ok-left-3.left c.if-left-eq0.true)
     c.in_ok-left.ensures.done (asked (goal.at.returns-then-left-eq0-clause-settled c).Joined-self-gt0) c.in_ok-left-3.ensures.done
 
 pub returns-clause-settled : goal.returns-clause-settled
 returns-clause-settled c =
     let more : 0 < c.in_ok-left-3.left = omega (arith, c.if-left-eq0.false) in
-    settles c.args.strict c.args.self.now c.passes-2.new.self c.args.limit c.in_ok-left-3.left c.args.seen.now.items c.passes-2.new.seen.items c.clients-clients.result
+    settles c.args.strict c.args.self.now c.passes-2.new.self c.args.limit c.in_ok-left-3.left c.args.seen.now.items c.passes-2.new.seen.items
+    c.clients-clients.result
     c.in_ok-left.left c.if-self-gt0.left c.passes.new.self c.if-self-gt0.self c.passes.new.seen.items Quiet
-    (c.clients-clients.ensures.same ∙ ap (λ (h : Held). h.master.clients) c.self.view_is)
+    c.clients-clients.ensures.same
     (ended_quiet c.in_ok-left-3.left more)
     c.in_ok-left.ensures.done (asked (goal.at.returns-clause-settled c).Joined-self-gt0) c.in_ok-left-3.ensures.done
 

@@ -16,4 +16,5 @@ returns-clause-whole c whole =
       is_restored = c.self.inside.is_restored;
       is_broken = c.self.inside.is_broken;
     } in
-    subst IsExplained (sym c.deref.ensures.value) (whole_is_explained w c.self.invariant (ap (λ (v : WorldView). v.has_forgotten) c.self.view_is ∙ whole))
+    subst IsExplained (sym c.deref.ensures.value) (whole_is_explained w c.self.invariant (ap (λ (v : WorldView). v.has_forgotten) c.self.view_is
+    ∙ whole))

@@ -28,7 +28,8 @@ loop-event-preserved c =
     let rest = c.next.new.self.rest.items in (
       here.0 ++ event ∷ [],
       here.1 ∙ ap (λ xs. here.0 ++ xs) c.in-Some.ensures.steps.0 ∙ sym (append_assoc here.0 (event ∷ []) rest),
-      lead_more (world_in c.args.self.now) (world_in c.loop-event.self) (world_in c.step.new.self) here.0 event c.in_ok-step.field-0 here.2 c.in_ok-step.ensures.happened,
+      lead_more (world_in c.args.self.now) (world_in c.loop-event.self) (world_in c.step.new.self) here.0 event
+          c.in_ok-step.field-0 here.2 c.in_ok-step.ensures.happened,
       c.in_ok-step.ensures.sound.1,
       c.step.ensures.explained,
       c.step.ensures.past ∙ here.5,
@@ -42,7 +43,8 @@ pub returns-in_err-step-clause-kept : goal.returns-in_err-step-clause-kept
 returns-in_err-step-clause-kept c =
     let here = c.loop-event.invariant in
     on_err c.from_residual.result
-    (has_begun_to_run (world_in c.args.self.now) (world_in c.loop-event.self) c.args.events.items here.0 c.loop-event.event-iterator.rest.items c.step.new.self.history
+    (has_begun_to_run (world_in c.args.self.now) (world_in c.loop-event.self) c.args.events.items here.0
+    c.loop-event.event-iterator.rest.items c.step.new.self.history
     here.2 here.1 c.in_err-step.ensures.history)
 
 pub returns-in_err-step-clause-needed : goal.returns-in_err-step-clause-needed
@@ -50,7 +52,8 @@ returns-in_err-step-clause-needed c = λ whole.
     let here = c.loop-event.invariant in
     let cut = here.1 ∙ ap (λ xs. here.0 ++ xs) c.in-Some.ensures.steps.0 in
     on_err c.from_residual.result
-    (has_run_out (world_in c.args.self.now) (world_in c.loop-event.self) c.args.events.items here.0 c.next.new.self.rest.items c.in-Some.event c.step.new.self.history
+    (has_run_out (world_in c.args.self.now) (world_in c.loop-event.self) c.args.events.items here.0 c.next.new.self.rest.items
+    c.in-Some.event c.step.new.self.history
     here.2 cut c.in_err-step.ensures.history (c.in_err-step.ensures.needed here.3))
 
 pub returns-clause-explained : goal.returns-clause-explained

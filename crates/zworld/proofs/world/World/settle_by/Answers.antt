@@ -13,15 +13,19 @@ use Rattle.zworld.proofs.world.World.settle_by.Goals as goal
 pub returns-in-Ok-clause-settled : goal.returns-in-Ok-clause-settled
 returns-in-Ok-clause-settled c =
     let old = c.self.inside in
-    subst (λ (v : WorldView). HasSettledBy c.args.strict (world_in v) c.args.limit c.in-Ok.settled (world_of c.settle.new.self c.settle.new.seen.items)) c.self.view_is
-    (settled_as_defined c.args.strict old.processes c.settle.new.self c.args.limit old.history.items c.settle.new.seen.items c.in-Ok.settled c.in-Ok.ensures.settled)
+    subst (λ (v : WorldView). HasSettledBy c.args.strict (world_in v) c.args.limit c.in-Ok.settled
+    (world_of c.settle.new.self c.settle.new.seen.items)) c.self.view_is
+    (settled_as_defined c.args.strict old.processes c.settle.new.self c.args.limit old.history.items c.settle.new.seen.items
+    c.in-Ok.settled c.in-Ok.ensures.settled)
 
 pub returns-in-Ok-clause-quiet : goal.returns-in-Ok-clause-quiet
 returns-in-Ok-clause-quiet c quiet =
     let old = c.self.inside in
     let had = subst (λ b. HasPast old.is_restored old.has_forgotten b old.processes old.history.items) c.if-self.false c.self.invariant in
-    quiet_is_rest c.args.strict old.is_restored old.has_forgotten old.processes c.settle.new.self c.args.limit old.history.items c.settle.new.seen.items had
-    (subst (Settles c.args.strict old.processes c.settle.new.self c.args.limit old.history.items c.settle.new.seen.items) quiet c.in-Ok.ensures.settled)
+    quiet_is_rest c.args.strict old.is_restored old.has_forgotten old.processes c.settle.new.self c.args.limit
+    old.history.items c.settle.new.seen.items had
+    (subst (Settles c.args.strict old.processes c.settle.new.self c.args.limit old.history.items c.settle.new.seen.items)
+    quiet c.in-Ok.ensures.settled)
 
 pub returns-then-self-clause-explained : goal.returns-then-self-clause-explained
 returns-then-self-clause-explained c = subst IsExplainedFromStart c.self.view_is (past_is_explained _ c.self.invariant)
@@ -31,25 +35,42 @@ invariant_of-self c =
     let old = c.self.inside in
     let had = subst (λ b. HasPast old.is_restored old.has_forgotten b old.processes old.history.items) c.if-self.false c.self.invariant in
     subst (λ b. HasPast old.is_restored old.has_forgotten b c.settle.new.self c.settle.new.seen.items) (sym c.if-self.false)
-    (past_settles c.args.strict old.is_restored old.has_forgotten old.processes c.settle.new.self c.args.limit old.history.items c.settle.new.seen.items c.in-Ok.settled had c.in-Ok.ensures.settled)
+    (past_settles c.args.strict old.is_restored old.has_forgotten old.processes c.settle.new.self c.args.limit
+    old.history.items c.settle.new.seen.items c.in-Ok.settled had c.in-Ok.ensures.settled)
 
 pub returns-in-Ok-clause-explained : goal.returns-in-Ok-clause-explained
 returns-in-Ok-clause-explained c =
     let old = c.self.inside in
-    let new : WorldView = record { held = c.settle.new.self; history = c.settle.new.seen.items; has_forgotten = old.has_forgotten; is_restored = old.is_restored; is_broken = old.is_broken } in
+    let new : WorldView = record {
+      held = c.settle.new.self;
+      history = c.settle.new.seen.items;
+      has_forgotten =
+          old.has_forgotten;
+      is_restored = old.is_restored;
+      is_broken = old.is_broken;
+    } in
     let had = subst (λ b. HasPast old.is_restored old.has_forgotten b old.processes old.history.items) c.if-self.false c.self.invariant in
     past_is_explained new
     (subst (λ b. HasPast old.is_restored old.has_forgotten b c.settle.new.self c.settle.new.seen.items) (sym c.if-self.false)
-    (past_settles c.args.strict old.is_restored old.has_forgotten old.processes c.settle.new.self c.args.limit old.history.items c.settle.new.seen.items c.in-Ok.settled had c.in-Ok.ensures.settled))
+    (past_settles c.args.strict old.is_restored old.has_forgotten old.processes c.settle.new.self c.args.limit
+    old.history.items c.settle.new.seen.items c.in-Ok.settled had c.in-Ok.ensures.settled))
 
 pub returns-in-Err-clause-explained : goal.returns-in-Err-clause-explained
 returns-in-Err-clause-explained c =
     let old = c.self.inside in
-    let new : WorldView = record { held = c.settle.new.self; history = c.truncate.new.self.items; has_forgotten = old.has_forgotten; is_restored = old.is_restored; is_broken = true } in
+    let new : WorldView = record {
+      held = c.settle.new.self;
+      history = c.truncate.new.self.items;
+      has_forgotten =
+          old.has_forgotten;
+      is_restored = old.is_restored;
+      is_broken = true;
+    } in
     let told : c.len-told.result ≡ length old.history.items = omega (arith, c.len-told.ensures, old.history.ok) in
     let stays : c.truncate.new.self.items ≡ old.history.items =
     c.truncate.ensures.items ∙ (λ i. take (told i) (c.in-Err.ensures.partly.1 i)) ∙ take-append_seam old.history.items c.in-Err.ensures.partly.0 in
-    past_is_explained new (past_stays old.is_restored old.has_forgotten old.is_broken old.processes c.settle.new.self old.history.items c.truncate.new.self.items c.self.invariant stays)
+    past_is_explained new (past_stays old.is_restored old.has_forgotten old.is_broken old.processes c.settle.new.self
+    old.history.items c.truncate.new.self.items c.self.invariant stays)
 
 pub returns-in-Err-clause-needed : goal.returns-in-Err-clause-needed
 returns-in-Err-clause-needed c = λ whole.
@@ -63,4 +84,5 @@ invariant_of-self-in-Err c =
     let told : c.len-told.result ≡ length old.history.items = omega (arith, c.len-told.ensures, old.history.ok) in
     let stays : c.truncate.new.self.items ≡ old.history.items =
     c.truncate.ensures.items ∙ (λ i. take (told i) (c.in-Err.ensures.partly.1 i)) ∙ take-append_seam old.history.items c.in-Err.ensures.partly.0 in
-    past_stays old.is_restored old.has_forgotten old.is_broken old.processes c.settle.new.self old.history.items c.truncate.new.self.items c.self.invariant stays
+    past_stays old.is_restored old.has_forgotten old.is_broken old.processes c.settle.new.self old.history.items
+    c.truncate.new.self.items c.self.invariant stays

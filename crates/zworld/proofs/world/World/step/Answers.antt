@@ -16,7 +16,8 @@ invariant_of-self c =
     let old = c.self.inside in
     let had = subst (λ b. HasPast old.is_restored old.has_forgotten b old.processes old.history.items) c.if-self.false c.self.invariant in
     subst (λ b. HasPast old.is_restored old.has_forgotten b c.step-did.new.self c.step-did.new.seen.items) (sym c.is_err-self-inside.ensures.value)
-    (past_after_step c.step-did.result old.is_restored old.has_forgotten old.processes c.step-did.new.self old.history.items c.step-did.new.seen.items c.args.event had
+    (past_after_step c.step-did.result old.is_restored old.has_forgotten old.processes c.step-did.new.self old.history.items
+    c.step-did.new.seen.items c.args.event had
     c.step-did.ensures.goes c.step-did.ensures.stays)
 
 pub returns-clause-happened : goal.returns-clause-happened
@@ -43,11 +44,25 @@ pub returns-clause-same : goal.returns-clause-same
 returns-clause-same c =
     let old = c.self.inside in
     let broken = c.is_err-self-inside.result in
-    let new : WorldView = record { held = c.step-did.new.self; history = c.step-did.new.seen.items; has_forgotten = old.has_forgotten; is_restored = old.is_restored; is_broken = broken } in
+    let new : WorldView = record {
+      held = c.step-did.new.self;
+      history = c.step-did.new.seen.items;
+      has_forgotten =
+          old.has_forgotten;
+      is_restored = old.is_restored;
+      is_broken = broken;
+    } in
     let from : (v : WorldView) → Type 0 = λ v. IfOk c.step-did.result (λ did. is_idle did ≡ true → new ≡ v) in
     subst from c.self.view_is
-    (subst (λ b. from (record { held = old.processes; history = old.history.items; has_forgotten = old.has_forgotten; is_restored = old.is_restored; is_broken = b })) (sym c.if-self.false)
-    (same_world c.step-did.result old.processes c.step-did.new.self old.history.items c.step-did.new.seen.items c.args.event old.is_restored old.has_forgotten broken
+    (subst (λ b. from (record {
+      held = old.processes;
+      history = old.history.items;
+      has_forgotten = old.has_forgotten;
+      is_restored = old.is_restored;
+      is_broken = b;
+    })) (sym c.if-self.false)
+    (same_world c.step-did.result old.processes c.step-did.new.self old.history.items c.step-did.new.seen.items c.args.event
+    old.is_restored old.has_forgotten broken
     c.is_err-self-inside.ensures.value c.step-did.ensures.goes))
 
 pub returns-then-self-clause-explained : goal.returns-then-self-clause-explained
@@ -58,9 +73,16 @@ returns-clause-explained c =
     let old = c.self.inside in
     let had = subst (λ b. HasPast old.is_restored old.has_forgotten b old.processes old.history.items) c.if-self.false c.self.invariant in
     past_is_explained
-    (record { held = c.step-did.new.self; history = c.step-did.new.seen.items; has_forgotten = old.has_forgotten; is_restored = old.is_restored; is_broken = c.is_err-self-inside.result })
+    (record {
+      held = c.step-did.new.self;
+      history = c.step-did.new.seen.items;
+      has_forgotten = old.has_forgotten;
+      is_restored = old.is_restored;
+      is_broken = c.is_err-self-inside.result;
+    })
     (subst (λ b. HasPast old.is_restored old.has_forgotten b c.step-did.new.self c.step-did.new.seen.items) (sym c.is_err-self-inside.ensures.value)
-    (past_after_step c.step-did.result old.is_restored old.has_forgotten old.processes c.step-did.new.self old.history.items c.step-did.new.seen.items c.args.event had
+    (past_after_step c.step-did.result old.is_restored old.has_forgotten old.processes c.step-did.new.self old.history.items
+    c.step-did.new.seen.items c.args.event had
     c.step-did.ensures.goes c.step-did.ensures.stays))
 
 pub returns-clause-needed : goal.returns-clause-needed

@@ -1,0 +1,4 @@
+pub mod Codes
+pub mod Inputs
+pub mod Kinds
+pub mod Rows
