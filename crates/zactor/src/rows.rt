@@ -1,7 +1,7 @@
 //! Worked rows. Each clause is one; the bodies do nothing. The master and the clients are those of
 //! the rows of `zprotocol`.
 
-ghost use Rattle.std.specs.Prelude.{◌≡◌, None, Some, [], ◌∷◌, true, false};
+ghost use Rattle.std.specs.Prelude.{◌≡◌, None, Some, Ok, Err, [], ◌∷◌, true, false};
 ghost use Rattle.zcalls.specs.declared.limits.TheConstants.{MAX_CALL_NUMBER};
 ghost use Rattle.zcalls.specs.declared.reply.Reply.TheVariants.{Deleted};
 ghost use Rattle.zprotocol.specs.declared.client.begin_fault.BeginFault.TheVariants.{Busy};
@@ -9,6 +9,7 @@ ghost use Rattle.zprotocol.specs.declared.client.begin_fault.BeginFault.TheVaria
 ghost use Rattle.zprotocol.specs.declared.master.order.Order.TheVariants.{Join, Retire};
 ghost use Rattle.zprotocol.specs.declared.master.order_fault.OrderFault.TheVariants.{NotMember};
 ghost use Rattle.zprotocol.specs.declared.master.order_fault.OrderFault.TheVariants.{Used};
+ghost use Rattle.zprotocol.specs.declared.message.Message.TheVariants.{Config};
 ghost use Rattle.zprotocol.specs.declared.process.Process.TheVariants.{Master, Server, Client};
 ghost use Rattle.zprotocol.specs.master.support.Rows.{three};
 ghost use Rattle.zprotocol.specs.client.support.Rows.{asking, idle, update_call, updating};
@@ -16,11 +17,13 @@ ghost use Rattle.zprotocol.specs.client.support.Rows.{with_calls};
 ghost use Rattle.zworld_model.specs.Does.{AtMaster, AtClient, Out};
 ghost use Rattle.zworld_model.specs.Does.{idle_effect, stop_effect};
 ghost use Rattle.zworld_model.specs.declared.history.CallEvent.TheVariants as call_event;
+ghost use Rattle.zactor.specs.declared.act_fault.ActFault.TheVariants.{Memory, Refused};
+ghost use Rattle.zactor.specs.declared.handed.Handed.TheVariants as handed;
 ghost use Rattle.zactor.specs.declared.input.Input.TheVariants as input;
 ghost use Rattle.zactor.specs.declared.done.Done.TheVariants as done;
 ghost use Rattle.zactor.specs.declared.refusal.Refusal.TheVariants as refusal;
 ghost use Rattle.zactor.specs.Acting.{can_come, can_stand, effect_of, put_by, refusal_of, told_by};
-ghost use Rattle.zactor.specs.Acting.{MayWantMemory};
+ghost use Rattle.zactor.specs.Acting.{MayWantMemory, handed_by};
 ghost use Rattle.zactor.specs.support.Rows.{alone, answer, ask, config, gone, have, new_pred};
 ghost use Rattle.zactor.specs.support.Rows.{outside, retire, strange_retire, submit};
 
@@ -111,4 +114,18 @@ pub fn memory_is_wanted()
     ensures stopping { MayWantMemory alone input.Stop 0 → ⊥ }
     ensures answer { MayWantMemory (AtClient updating) (answer 7) 0 → ⊥ }
     ensures resends { MayWantMemory (AtClient asking) (config 5) 0 }
+{}
+
+/// What a process hands over in the place that is lent. Where it hands over nothing, what was there
+/// stays.
+pub fn replies_and_messages_are_handed_over()
+    ensures reply { handed_by (answer 7) (Ok (done.Answered 7)) handed.Nothing
+        ≡ handed.Reply Deleted }
+    ensures stale { handed_by (answer 6) (Ok done.Acted) handed.Nothing ≡ handed.Nothing }
+    ensures message { handed_by (config 5) (Err Memory) handed.Nothing
+        ≡ handed.Message (Config 5 (Some 1) (Some 3)) }
+    ensures refused { handed_by submit (Err (Refused refusal.NotAccepted)) (handed.Reply Deleted)
+        ≡ handed.Reply Deleted }
+    ensures call { handed_by (input.Begin update_call) (Err Memory) handed.Nothing
+        ≡ handed.Nothing }
 {}

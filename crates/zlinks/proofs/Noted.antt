@@ -79,9 +79,10 @@ module _ {T : Type 0} where
     | inr none ↦ rw none refl
   ]
 
-  pub notice_holds : (channels : Channels T) (p : Process) → has_notice channels p ≡ true → holds (links_of channels p Master) ≡ true
+  notice_holds : (channels : Channels T) (from to : Process) → (has_notice channels from && is_same to Master) ≡ true
+      → holds (links_of channels from to) ≡ true
   unfolding links_of
-  notice_holds channels p is = rw is (holds_last (sent_of channels.sent p Master) Gone)
+  notice_holds channels from to is = rw is (holds_last (sent_of channels.sent from to) Gone)
 
   -- and so is what was sent
   sent_holds : (channels : Channels T) (from to : Process) → holds (sent_of channels.sent from to) ≡ true → holds (links_of channels from to) ≡ true
@@ -248,6 +249,9 @@ module _ {T : Type 0} where
 
     pub held_seen : (from to : Process) → holds (sent_of sent from to) ≡ true → holds (links_of view from to) ≡ true
     held_seen from to some = ap (λ v. holds (links_of v from to)) (sym shown) ∙ sent_holds (kept sent noted) from to some
+
+    pub noticed_seen : (from to : Process) → (is_noted noted from && is_same to Master) ≡ true → holds (links_of view from to) ≡ true
+    noticed_seen from to some = ap (λ v. holds (links_of v from to)) (sym shown) ∙ notice_holds (kept sent noted) from to some
 
     -- what is taken, where something was sent
     module _ (from to : Process) (front : Message T) (rest : List (Message T)) (was : sent_of sent from to ≡ front ∷ rest) where

@@ -1,8 +1,7 @@
 -- The channels as they are kept: a list of those on which something was sent, and the failure notices
 -- of servers.
 use Rattle.std.specs.Borrow.{Bor}
-use Rattle.std.specs.Prelude.{◌≡◌, ℕ, ◌<◌, ◌≤◌, ◌==◌, Bool, true, false, not, ◌&&◌, ◌||◌, if◌then◌else◌, Option, MatchOption, List, [], ◌∷◌, ◌++◌, drop, get_or}
-use Rattle.std.specs.List.{list_any}
+use Rattle.std.specs.Prelude.{◌≡◌, ℕ, ◌<◌, ◌≤◌, ◌==◌, Bool, true, false, ◌&&◌, ◌||◌, if◌then◌else◌, Option, MatchOption, List, [], ◌∷◌, ◌++◌, drop, get_or}
 use Rattle.zprotocol.specs.declared.limits.TheConstants.{PROCESSES}
 use Rattle.zprotocol.specs.declared.message.Message.{Message}
 use Rattle.zprotocol.specs.declared.message.Message.TheVariants.{Gone}
@@ -10,6 +9,7 @@ use Rattle.zprotocol.specs.declared.process.Process.{Process}
 use Rattle.zprotocol.specs.declared.process.Process.TheVariants.{Master, Server}
 use Rattle.zprotocol.specs.Places.{place_of}
 use Rattle.zworld_model.specs.Links.{is_same}
+use Rattle.zlinks.specs.declared.turn.Turn.{Turn}
 
 -- the messages on each channel
 abbrev pub Queues : Type 0 → Type 0
@@ -108,22 +108,24 @@ with_notice channels from p = is_same p from || has_notice channels p
 abbrev pub notices_left : {T : Type 0} → Channels T → Queues T → Process → Bool
 notices_left channels links p = has_notice channels p && holds (links p Master)
 
--- a message that the process sent is still on a channel
-unfoldable pub has_sent : {T : Type 0} → Sent T → Process → Bool
-has_sent sent from = list_any (λ channel. channel.from == place_of from) sent
-
--- no message that the process sent is still on a channel
-unfoldable pub is_silent : {T : Type 0} → Channels T → Process → Bool
-is_silent channels from = not (has_sent channels.sent from || has_notice channels from)
-
 -- channels of which those to a process are empty
 abbrev pub without_receiver : {T : Type 0} → Queues T → Process → Queues T
 without_receiver links to p q = if is_same q to then [] else links p q
 
--- a fact of each process from one place on, and before another
-abbrev pub Between : ℕ → ℕ → (Process → Type 0) → Type 0
-Between start end Fact = (p : Process) → start ≤ place_of p → place_of p < end → Fact p
+-- two places come before two others: by the senders', and for one sender by the receivers'
+abbrev pub Precedes : (from to next_from next_to : ℕ) → Type 0
+Precedes from to next_from next_to = (from ≤ next_from) × (next_from ≤ from → to < next_to)
 
--- a fact of the process at a place, if there is one
-abbrev pub At : ℕ → (Process → Type 0) → Type 0
-At place Fact = (p : Process) → place_of p ≡ place → place < PROCESSES → Fact p
+-- or they are those
+abbrev pub Reaches : (from to next_from next_to : ℕ) → Type 0
+Reaches from to next_from next_to = (from ≤ next_from) × (next_from ≤ from → to ≤ next_to)
+
+-- a fact of each channel from two places on, and before a turn
+abbrev pub Between : (from to : ℕ) → Turn → (Process → Process → Type 0) → Type 0
+Between from to end Fact =
+    (p q : Process) → place_of p < PROCESSES → Reaches from to (place_of p) (place_of q)
+    → Precedes (place_of p) (place_of q) end.sender end.receiver → Fact p q
+
+-- a fact of the channel whose turn it is, if there is one
+abbrev pub At : Turn → (Process → Process → Type 0) → Type 0
+At turn Fact = (p q : Process) → place_of p ≡ turn.sender → place_of q ≡ turn.receiver → turn.sender < PROCESSES → Fact p q

@@ -12,5 +12,7 @@ mod notices;
 mod queue;
 mod rows;
 mod search;
+mod turn;
 
 pub use links::Links;
+pub use turn::Turn;

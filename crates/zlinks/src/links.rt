@@ -8,13 +8,14 @@ ghost use Rattle.zprotocol.specs.declared.process.Process.{Process};
 ghost use Rattle.zprotocol.specs.declared.process.Process.TheVariants.{Master, Server};
 ghost use Rattle.zprotocol.specs.declared.limits.TheConstants.{PROCESSES};
 ghost use Rattle.zlinks.specs.Places.{links_of, with_last, without_first, without_receiver, Keeps};
-ghost use Rattle.zlinks.specs.Places.{is_silent, holds, IsFrontOf, ShowsFront, Between, At};
+ghost use Rattle.zlinks.specs.Places.{holds, IsFrontOf, ShowsFront, Between, At, Reaches};
 ghost use Rattle.zlinks.specs.Places.{has_notice, with_notice, notices_left, Notes};
 ghost use Rattle.zlinks.specs.support.Order.{is_for_others};
 
 use crate::notices::Notices;
 use crate::queue::Queue;
-use crate::search::{find, next_from, next_to};
+use crate::search::{find, next_turn};
+use crate::turn::Turn;
 use std::alloc::Global;
 use std::marker::Model;
 use zalloc::Memory;
@@ -63,39 +64,20 @@ impl<T: Drop> Links<T> {
         })
     }
 
-    /// Returns the first place, from `at` on, of a process with messages in flight, or `PROCESSES`.
-    /// The master has place 0; then come the servers and the clients, each by number.
+    /// Returns the first channel, from these places on, with messages in flight: by senders, and for
+    /// one sender by receivers. Where there is none, the sender is `PROCESSES`.
     #[inline(always)]
-    pub fn next_sender(&self, at: usize) -> usize
-        ensures few { result ≤ PROCESSES }
-        ensures ahead { at ≤ PROCESSES → at ≤ result }
-        ensures silent { Between at result (λ from. is_silent self.now from ≡ true) }
-        ensures sends { At result (λ from. is_silent self.now from ≡ false) }
+    pub fn next_turn(&self, from: usize, to: usize) -> Turn
+        ensures few { (result.sender ≤ PROCESSES) × (result.receiver < PROCESSES) }
+        ensures ahead { from < PROCESSES → Reaches from to result.sender result.receiver }
+        ensures empty { Between from to result (λ p q. links_of self.now p q ≡ []) }
+        ensures held { At result (λ p q. holds (links_of self.now p q) ≡ true) }
     {
-        let next = next_from(&self.queues, at);
+        let next = next_turn(&self.queues, from, to);
         if self.notices.are_none() {
             return next;
         }
-        self.notices.next_sender(at, next)
-    }
-
-    /// Returns the first place, from `at` on, of a process to which `from` has messages in flight,
-    /// or `PROCESSES`.
-    #[inline(always)]
-    pub fn next_receiver(&self, from: &Process, at: usize) -> usize
-        ensures few { result ≤ PROCESSES }
-        ensures ahead { at ≤ PROCESSES → at ≤ result }
-        ensures empty { Between at result (λ to. links_of self.now from.now to ≡ []) }
-        ensures held { At result (λ to. holds (links_of self.now from.now to) ≡ true) }
-    {
-        let next = next_to(&self.queues, from, at);
-        if at > 0 {
-            return next;
-        }
-        if self.notices.is_between(from, &Process::Master) {
-            return 0;
-        }
-        next
+        self.notices.sooner(from, to, next)
     }
 
     /// Appends a message to a channel. A server that has sent its failure notice sends no more.

@@ -1,11 +1,12 @@
 //! The failure notices that are kept.
 
-ghost use Rattle.std.specs.Prelude.{◌≡◌, ◌<◌, ◌≤◌, true, false, ◌&&◌, ◌||◌, not};
+ghost use Rattle.std.specs.Prelude.{◌≡◌, ◌<◌, ◌≤◌, true, false, ◌&&◌, ◌||◌, ◌⊎◌, not};
 ghost use Rattle.zprotocol.specs.declared.limits.TheConstants.{PROCESSES};
 ghost use Rattle.zprotocol.specs.declared.process.Process.TheVariants.{Master, Server};
 ghost use Rattle.zworld_model.specs.Links.{is_same};
-ghost use Rattle.zlinks.specs.Places.{is_noted, At, Between};
+ghost use Rattle.zlinks.specs.Places.{is_noted, At, Between, Reaches};
 
+use crate::turn::Turn;
 use std::marker::Model;
 use zprotocol::{MAX_SERVERS, Process, ServerId};
 
@@ -99,20 +100,30 @@ impl Notices {
         }
     }
 
-    /// Returns the first place, from `at` on and before `end`, of a server whose notice is kept, or
-    /// `end`.
-    pub(crate) fn next_sender(&self, at: usize, end: usize) -> usize
-        requires { end ≤ PROCESSES }
-        ensures few { result ≤ end }
-        ensures ahead { at ≤ end → at ≤ result }
-        ensures silent { Between at result (λ from. is_noted self.now from ≡ false) }
-        ensures sends { result < end → At result (λ from. is_noted self.now from ≡ true) }
+    /// Returns the channel of the first notice from these places on, where it comes before `next`;
+    /// else `next`.
+    #[cold]
+    #[inline(never)]
+    pub(crate) fn sooner(&self, from: usize, to: usize, next: Turn) -> Turn
+        requires { (next.sender ≤ PROCESSES) × (next.receiver < PROCESSES) }
+        ensures few { (result.sender ≤ PROCESSES) × (result.receiver < PROCESSES) }
+        ensures ahead { Reaches from to next.sender next.receiver
+            → Reaches from to result.sender result.receiver }
+        ensures sooner { Reaches result.sender result.receiver next.sender next.receiver }
+        ensures silent { Between from to result
+            (λ p q. (is_noted self.now p && is_same q Master) ≡ false) }
+        ensures noted { (result ≡ next)
+            ⊎ At result (λ p q. (is_noted self.now p && is_same q Master) ≡ true) }
     {
         for server in 1..NUMBERS {
-            if at <= server && server < end && self.noted[server] {
-                return server;
+            let is_ahead = server > from || (server == from && to == 0);
+            if is_ahead && server <= next.sender && self.noted[server] {
+                return Turn {
+                    sender: server,
+                    receiver: 0,
+                };
             }
         }
-        end
+        next
     }
 }

@@ -5,6 +5,7 @@ ghost use Rattle.zprotocol.specs.declared.limits.TheConstants.{PROCESSES};
 ghost use Rattle.zlinks.specs.Places.{is_between};
 ghost use Rattle.zlinks.specs.support.Order.{is_before, longer};
 
+use crate::turn::Turn;
 use std::alloc::Global;
 use std::collections::VecDeque;
 use std::marker::Model;
@@ -54,18 +55,20 @@ impl<T: Drop> Queue<T> {
         }
     }
 
-    /// Returns the place of the sender.
-    pub(crate) fn from(&self) -> usize
-        ensures place { result ≡ self.now.from }
-        ensures small { result < PROCESSES }
+    /// Returns its places.
+    pub(crate) fn turn(&self) -> Turn
+        ensures places { (result.sender ≡ self.now.from) × (result.receiver ≡ self.now.to) }
+        ensures small { (result.sender < PROCESSES) × (result.receiver < PROCESSES) }
     {
-        self.from
+        Turn {
+            sender: self.from,
+            receiver: self.to,
+        }
     }
 
     /// Returns the place of the receiver.
     pub(crate) fn to(&self) -> usize
-        ensures place { result ≡ self.now.to }
-        ensures small { result < PROCESSES }
+        ensures { result ≡ self.now.to }
     {
         self.to
     }

@@ -4,8 +4,8 @@
 ghost use Rattle.std.specs.Prelude.{◌≡◌, None, Some, [], ◌∷◌, true, false};
 ghost use Rattle.zprotocol.specs.declared.message.Message.TheVariants.{Gone};
 ghost use Rattle.zprotocol.specs.declared.process.Process.TheVariants.{Master, Server};
-ghost use Rattle.zlinks.specs.Places.{is_silent, links_of, with_last, without_first};
-ghost use Rattle.zlinks.specs.Places.{notices_left, without_receiver, IsFrontOf};
+ghost use Rattle.zlinks.specs.Places.{holds, links_of, with_last, without_first};
+ghost use Rattle.zlinks.specs.Places.{notices_left, without_receiver, IsFrontOf, Precedes};
 ghost use Rattle.zlinks.specs.support.Rows.{failed, have, idle, left, reported};
 
 /// A failure notice comes behind all that its server had sent to the master. It is on no other
@@ -32,11 +32,19 @@ pub fn fronts_are_taken()
 
 /// A notice is sought with the messages, and is dropped with those to the master.
 pub fn notices_are_seen_and_dropped()
-    ensures silent { is_silent idle (Server 2) ≡ true }
-    ensures sends { is_silent left (Server 2) ≡ false }
+    ensures silent { holds (links_of idle (Server 2) Master) ≡ false }
+    ensures sends { holds (links_of left (Server 2) Master) ≡ true }
     ensures dropped { without_receiver (links_of failed) Master (Server 2) Master ≡ [] }
     ensures is_left { notices_left left (without_receiver (links_of left) (Server 2)) (Server 2)
         ≡ true }
     ensures is_gone { notices_left left (without_receiver (links_of left) Master) (Server 2)
         ≡ false }
+{}
+
+/// Channels have their turn by senders, and those of one sender by receivers.
+pub fn channels_are_in_order()
+    ensures by_sender { Precedes 1 5 2 0 }
+    ensures by_receiver { Precedes 2 0 2 1 }
+    ensures not_itself { Precedes 2 1 2 1 → ⊥ }
+    ensures not_back { Precedes 2 0 1 5 → ⊥ }
 {}

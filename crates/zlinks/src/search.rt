@@ -1,14 +1,14 @@
 //! Queues in order, the one that comes first last, searched by the places of their senders and
 //! receivers.
 
-ghost use Rattle.std.specs.Prelude.{◌≡◌, ◌≤◌, true, false, [], IfErr, IfOk};
+ghost use Rattle.std.specs.Prelude.{◌≡◌, ◌≤◌, ◌<◌, true, [], IfErr, IfOk};
 ghost use Rattle.zprotocol.specs.declared.limits.TheConstants.{PROCESSES};
-ghost use Rattle.zprotocol.specs.declared.process.Process.{Process};
-ghost use Rattle.zlinks.specs.Places.{sent_of, has_sent, holds, At, Between};
+ghost use Rattle.zlinks.specs.Places.{sent_of, holds, At, Between, Reaches};
 ghost use Rattle.zlinks.specs.support.Order.{AreSorted, IsCountFrom, IsFound, IsGap};
 
 use crate::queue::Queue;
-use zprotocol::{PROCESSES, Process};
+use crate::turn::Turn;
+use zprotocol::PROCESSES;
 
 /// Returns how many queues are between these places or come behind a queue between them.
 pub(crate) fn count_from<T: Drop>(queues: &[Queue<T>], from: usize, to: usize) -> usize
@@ -25,41 +25,22 @@ pub(crate) fn count_from<T: Drop>(queues: &[Queue<T>], from: usize, to: usize) -
     0
 }
 
-/// Returns the first place, from `at` on, of a process that sent what is in these queues, or
-/// `PROCESSES`.
-pub(crate) fn next_from<T: Drop>(queues: &[Queue<T>], at: usize) -> usize
+/// Returns the first channel, from these places on, on which this was sent.
+pub(crate) fn next_turn<T: Drop>(queues: &[Queue<T>], from: usize, to: usize) -> Turn
     requires { AreSorted queues.now }
-    ensures few { result ≤ PROCESSES }
-    ensures ahead { at ≤ PROCESSES → at ≤ result }
-    ensures silent { Between at result (λ from. has_sent queues.now from ≡ false) }
-    ensures sends { At result (λ from. has_sent queues.now from ≡ true) }
+    ensures few { (result.sender ≤ PROCESSES) × (result.receiver < PROCESSES) }
+    ensures ahead { from < PROCESSES → Reaches from to result.sender result.receiver }
+    ensures empty { Between from to result (λ p q. sent_of queues.now p q ≡ []) }
+    ensures held { At result (λ p q. holds (sent_of queues.now p q) ≡ true) }
 {
-    let count = count_from(queues, at, 0);
-    if count == 0 {
-        return PROCESSES;
+    let more = count_from(queues, from, to);
+    if more == 0 {
+        return Turn {
+            sender: PROCESSES,
+            receiver: 0,
+        };
     }
-    queues[count - 1].from()
-}
-
-/// Returns the first place, from `at` on, of a process to which `from` sent what is in these
-/// queues, or `PROCESSES`.
-pub(crate) fn next_to<T: Drop>(queues: &[Queue<T>], from: &Process, at: usize) -> usize
-    requires { AreSorted queues.now }
-    ensures few { result ≤ PROCESSES }
-    ensures ahead { at ≤ PROCESSES → at ≤ result }
-    ensures empty { Between at result (λ to. sent_of queues.now from.now to ≡ []) }
-    ensures held { At result (λ to. holds (sent_of queues.now from.now to) ≡ true) }
-{
-    let sender = from.place();
-    let count = count_from(queues, sender, at);
-    if count == 0 {
-        return PROCESSES;
-    }
-    let queue = &queues[count - 1];
-    if queue.from() != sender {
-        return PROCESSES;
-    }
-    queue.to()
+    queues[more - 1].turn()
 }
 
 /// Returns where the queue between these places stands, or where it is to be inserted.

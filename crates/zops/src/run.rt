@@ -16,7 +16,7 @@ use zstore::Store;
 use ztree::ClientId;
 
 /// Does a client's parts in sequence, up to the first refusal. On an error the store keeps what the
-/// earlier parts did.
+/// earlier parts did. The replies have room from the start.
 pub(crate) fn run(
     alloc: Global,
     store: &mut Store,
@@ -32,7 +32,7 @@ pub(crate) fn run(
     ensures given { store.new.given ≤ store.old.given + MAX_PARTS }
     ensures mark { (m : Mark) → HasMark (length parts.now) m store.old → HasMark 0 m store.new }
 {
-    let mut replies = Vec::new(alloc);
+    let mut replies = Vec::with_capacity(alloc, parts.len())?;
     for wanted in parts {
         match part(alloc, store, client, wanted) {
             Ok(reply) => replies.push(reply)?,

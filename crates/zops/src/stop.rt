@@ -49,3 +49,11 @@ impl<T: Drop> From<AllocFailed<T>> for Halt {
         Halt::Memory
     }
 }
+
+impl From<AllocError> for Halt {
+    ghost from_gives = { λ _ halt. halt ≡ no_memory_left };
+
+    fn from(_refused: AllocError) -> Halt {
+        Halt::Memory
+    }
+}

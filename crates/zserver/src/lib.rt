@@ -13,6 +13,7 @@ mod neighbour;
 mod repair;
 mod replica;
 mod requests;
+mod senders;
 mod sent;
 mod server;
 mod snapshot;

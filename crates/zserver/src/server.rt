@@ -6,6 +6,7 @@ ghost use Rattle.zprotocol.specs.server.Machine.{kept_tree, kept_tree_from};
 ghost use Rattle.zprotocol.specs.server.Table.{is_retirement};
 ghost use Rattle.zprotocol.specs.server.View.{opening_server, spare};
 ghost use Rattle.zserver.specs.declared.stopped.Stopped.{Stopped};
+ghost use Rattle.zserver.specs.declared.stopped.Stopped.TheVariants.{Retired};
 ghost use Rattle.zserver.specs.Server.{first_neighbour, first_view, running, IsFresh};
 ghost use Rattle.zserver.specs.Server.{BecomesAt, PutsAt};
 ghost use Rattle.zserver.specs.Server.{IsHeardOr, MayBeUnheard, IsStoppedAt};
@@ -121,20 +122,31 @@ impl Server {
     {
         let replica = match &mut self.replica {
             Ok(replica) => replica,
-            Err(why) => {
-                let why = *why;
-                drop(message);
-                return Err(why);
-            }
+            Err(_) => return Err(self.refuse(message)),
         };
         if let (Process::Master, Message::Retire) = (&from, &message) {
-            drop(message);
-            return Err(self.stop(Stopped::Retired));
+            return Err(self.refuse(message));
         }
         let sender = from;
         match replica.take(sender, message, out) {
             Ok(taken) => Ok(taken),
             Err(Memory) => Err(self.stop(Stopped::Memory)),
+        }
+    }
+
+    // Drops a message that isn't taken, and returns why. A server that has not stopped is ordered to
+    // leave. Cold path: kept out of line.
+    #[cold]
+    #[inline(never)]
+    fn refuse(&mut self, message: Message<Snapshot>) -> Stopped
+        ensures stopped { self.new.stopped ≡ Some result }
+        ensures stays { (why : Stopped) → self.old.stopped ≡ Some why → result ≡ why }
+        ensures ordered { self.old.stopped ≡ None → result ≡ Retired }
+    {
+        drop(message);
+        match &self.replica {
+            Ok(_) => self.stop(Stopped::Retired),
+            Err(why) => *why,
         }
     }
 

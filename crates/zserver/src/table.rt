@@ -9,7 +9,6 @@ use crate::replica::Replica;
 use crate::snapshot::Snapshot;
 use crate::taken::Taken;
 use zalloc::Memory;
-use zcalls::Entry;
 use zprotocol::{Message, Out, Process};
 
 impl Replica {
@@ -29,36 +28,29 @@ impl Replica {
         ensures silent { OnErr result (out.new.posts ≡ out.old.posts) }
         ensures grows { OnErr result (may_stop kept_tree self.old from message ≡ true) }
     {
-        match from {
-            Process::Client(client) => match message {
-                Message::Submit(number, update) => {
-                    let entry = Entry {
-                        client,
-                        number,
-                        update,
-                    };
-                    self.submit(entry, out)?;
-                }
-                Message::Query(number, query) => {
-                    let taken = self.query(client, number, &query, out);
-                    drop(query);
-                    return Ok(taken);
-                }
-                other => drop(other),
-            },
-            Process::Server(server) => match message {
-                Message::Update(epoch, n, entry) => self.update(server, epoch, n, entry, out)?,
-                Message::Ack(epoch, n) => self.pass_ack_up(server, epoch, n, out)?,
-                Message::Snapshot(epoch, snapshot) => self.snapshot(server, epoch, snapshot, out)?,
-                other => drop(other),
-            },
-            Process::Master => match message {
-                Message::NewPred(epoch, pred) => self.new_pred(epoch, pred, out)?,
-                Message::NewSucc(epoch, succ, last) => self.new_succ(epoch, succ, last, out)?,
-                Message::BecomeHead(_) => self.become_head(),
-                Message::BecomeTail(_) => self.become_tail(out)?,
-                other => drop(other),
-            },
+        let is_order = from == Process::Master;
+        match message {
+            Message::Submit(number, update) => self.submit_from(from, number, update, out)?,
+            Message::Query(number, query) => return Ok(self.query_from(from, number, query, out)),
+            Message::Update(epoch, n, entry) => self.update_from(from, epoch, n, entry, out)?,
+            Message::Ack(epoch, n) => self.ack_from(from, epoch, n, out)?,
+            Message::Snapshot(epoch, snapshot) => self.snapshot_from(from, epoch, snapshot, out)?,
+            Message::NewPred(epoch, pred) if is_order => self.new_pred(epoch, pred, out)?,
+            Message::NewSucc(epoch, succ, last) if is_order => {
+                self.new_succ(epoch, succ, last, out)?;
+            }
+            Message::BecomeHead(_) if is_order => self.become_head(),
+            Message::BecomeTail(_) if is_order => self.become_tail(out)?,
+            Message::Answer(_, reply) => drop(reply),
+            Message::NewPred(..)
+            | Message::Have(..)
+            | Message::NewSucc(..)
+            | Message::BecomeHead(_)
+            | Message::BecomeTail(_)
+            | Message::Retire
+            | Message::Joined(_)
+            | Message::Gone
+            | Message::Config(..) => {}
         }
         Ok(Taken::Acted)
     }

@@ -17,14 +17,14 @@ fn takes_what_was_put(rt: HostRuntime) -> Result<(), Fail> {
             Message::Submit(number, Update::Tick),
         )?;
     }
-    assert!(rt; links.next_sender(0) == 0);
+    assert!(rt; links.next_turn(0, 0).sender == 0);
     for wanted in [1, 2] {
         let front = links.next(&Process::Master, &server);
         assert!(rt;
             matches!(&front, Some(Message::Submit(number, _)) if number.number() == wanted)
         );
     }
-    assert!(rt; links.next_sender(0) == PROCESSES);
+    assert!(rt; links.next_turn(0, 0).sender == PROCESSES);
     Ok(())
 }
 
@@ -42,13 +42,12 @@ fn takes_a_notice_last(rt: HostRuntime) -> Result<(), Fail> {
     let front = links.next(&server, &Process::Master);
     assert!(rt; matches!(&front, Some(Message::Joined(_))));
     // The notice alone is left, and whoever delivers finds it.
-    assert!(rt; links.next_sender(0) == 2);
-    assert!(rt; links.next_receiver(&server, 0) == 0);
+    let turn = links.next_turn(0, 0);
+    assert!(rt; turn.sender == 2 && turn.receiver == 0);
     let shown = links.front(&server, &Process::Master);
     assert!(rt; matches!(shown, Some(Message::Gone)));
     let front = links.next(&server, &Process::Master);
     assert!(rt; matches!(&front, Some(Message::Gone)));
-    assert!(rt; links.next_sender(0) == PROCESSES);
-    assert!(rt; links.next_receiver(&server, 0) == PROCESSES);
+    assert!(rt; links.next_turn(0, 0).sender == PROCESSES);
     Ok(())
 }

@@ -14,6 +14,7 @@ pub mod WhoLasts
 pub mod Results
 pub mod Tries
 pub mod Skips
+pub mod Turns
 pub mod Passes
 pub mod Going
 pub mod Settled

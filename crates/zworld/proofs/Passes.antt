@@ -15,18 +15,11 @@ use Rattle.zworld_model.specs.Events.{is_enabled}
 use Rattle.zworld_model.specs.Settle.{deliveries, retry_events, with_tries, is_over, passes, opening_settling, settling_end}
 use Rattle.zworld_model.specs.support.Alike.{IsAlike}
 use Rattle.zworld_model.proofs.Alike.{alike_back}
-use Rattle.zworld_model.proofs.Settling.{pass_takes, over_does_nothing}
+use Rattle.zworld_model.proofs.Settling.{pass_takes, over_does_nothing, passes_twice}
 use Rattle.zworld.specs.Held.{Held, kept_world, world_of}
 use Rattle.zworld.specs.support.Stepped.{Settles}
 use Rattle.zworld.specs.support.Settling.{TreeSettling, StandsAt, Point, GoesOn, Does, Tries}
 use Rattle.zworld.proofs.Tries.{goes_nowhere, goes_on_with, under}
-
--- how it ended, by how many events are left
-pub ended_at_limit : (left : ℕ) → left ≡ 0 → Limit ≡ (if left == 0 then Limit else Quiet)
-ended_at_limit left none = ap (λ n. if n == 0 then Limit else Quiet) (sym none)
-
-pub ended_quiet : (left : ℕ) → 0 < left → Quiet ≡ (if left == 0 then Limit else Quiet)
-ended_quiet left some = let more : (left == 0) ≡ false = grind (arith, nat_tests, some) in rw more refl
 
 -- strict or not
 module _ (strict : Bool) where
@@ -177,3 +170,30 @@ module _ (strict : Bool) where
         let done = goes_on_with strict (whole clients) (λ s. goes (asks s)) (λ s. s) a b d
         (under strict (whole clients) goes (λ s. goes (asks s)) a b (λ s. refl) passed) last in
         has_settled settled is (subst (λ n. Does strict (whole n) a d) known done)
+
+    -- where nothing is sent once more, the passes are all
+    pub settles_at_once : (clients : ℕ) (settled : Settled) → clients ≡ (kept_world old []).master.clients
+        → settled ≡ (if left == 0 then Limit else Quiet)
+        → ((history : History) (outcomes : List Outcome) (t : TreeSettling) → StandsAt new history left outcomes t
+        → with_tries kept_tree t (retry_events clients) ≡ t)
+        → Does strict (passes kept_tree (deliveries clients) limit) (record { held = old; left = limit; seen = seen })
+        (record { held = new; left = left; seen = all })
+        → Settles strict old new limit seen all settled
+    settles_at_once clients settled known is asks (told, given, more, leads, acted) =
+        let goes : TreeSettling → TreeSettling = passes kept_tree (deliveries clients) limit in
+        has_settled settled is (subst (λ n. Does strict (whole n) (record { held = old; left = limit; seen = seen })
+        (record { held = new; left = left; seen = all })) known (
+          told,
+          given,
+          more,
+          λ history outcomes s stands.
+              let after = leads history outcomes s stands in
+              let few : s.left ≤ limit = omega (arith, stands.remaining) in (
+                after.0,
+                after.1,
+                ap (λ t. goes (with_tries kept_tree t (retry_events clients))) after.2
+                    ∙ ap goes (asks (history ++ given) outcomes after.0 after.1) ∙ ap goes (sym after.2)
+                    ∙ passes_twice kept_tree (deliveries clients) limit limit s few ∙ after.2,
+              ),
+          acted,
+        ))

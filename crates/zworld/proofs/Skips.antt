@@ -1,27 +1,35 @@
 -- Places that are passed by: nothing is under way from them, or to them.
-use Rattle.std.proofs.Common.{Bool, ◌≡◌, ℕ, ◌+◌, ◌-◌, ◌<◌, ◌≤◌, zero, suc, true, false, List}
-use Rattle.std.proofs.Common.{[], length, take, get_or, inl, inr, refl, sym, ap, subst, ◌∙◌, arith}
+use Rattle.std.proofs.Common.{Bool, ◌≡◌, ℕ, ◌+◌, ◌-◌, ◌<◌, ◌≤◌, zero, suc, false, List}
+use Rattle.std.proofs.Common.{[], length, take, get_or, ◌∷◌, inl, inr, refl, sym, ap, subst, ◌∙◌, arith}
 use Rattle.std.proofs.lemmas.List.{take_all}
-use Rattle.std.proofs.lemmas.List.FromFn.{get_or-map-range_with_len, length-map-range_with_len}
+use Rattle.std.proofs.lemmas.List.Folds.{list_any-append}
+use Rattle.std.proofs.lemmas.List.FromFn.{get_or-map-range_with_len, length-map-range_with_len, map-range_with_len_more}
 use Rattle.std.proofs.lemmas.Bool.Decides.{nat_tests}
 use Rattle.std.specs.Prelude.{nat_lt, is_some}
+use Rattle.std.specs.List.{list_any}
 use Rattle.zcalls.proofs.Among.{test}
 use Rattle.zprotocol.specs.declared.limits.TheConstants.{MAX_SERVERS, PROCESSES}
 use Rattle.zprotocol.specs.declared.process.Process.{Process}
 use Rattle.zprotocol.specs.declared.process.Process.TheVariants.{Client}
 use Rattle.zprotocol.specs.Places.{place_of, process_at}
 use Rattle.zprotocol.proofs.Places.{place_of-process_at}
-use Rattle.zworld_model.specs.Settle.{processes, retry_events}
-use Rattle.zlinks.specs.Places.{links_of, is_silent, Between}
+use Rattle.zprotocol.specs.server.Machine.{kept_tree}
+use Rattle.zworld_model.specs.declared.event.Event.TheVariants.{Retry}
+use Rattle.zworld_model.specs.declared.outcome.Outcome.{Outcome}
+use Rattle.zworld_model.specs.Events.{is_enabled}
+use Rattle.zworld_model.specs.History.{History}
+use Rattle.zworld_model.specs.Settle.{processes, retry_events, with_tries}
+use Rattle.zworld_model.proofs.Alike.{have_the_same_enabled}
+use Rattle.zworld_model.proofs.Settling.{none_is_done}
+use Rattle.zlinks.specs.Places.{links_of}
 use Rattle.zlinks.specs.support.Counts.{passing}
 use Rattle.zlinks.proofs.Counts.{fails_at}
 use Rattle.zactor.specs.Acting.{TreeStanding}
 use Rattle.zworld_model.specs.Does.{AtMaster, AtServer, AtClient, Out}
 use Rattle.zworld.specs.support.Standing.{waits}
-use Rattle.zlinks.proofs.Searches.{silent_links}
 use Rattle.zworld.specs.Held.{Held, SendsNothing, bystander, client_of, standing_at, kept_world}
-use Rattle.zworld.specs.support.Settling.{Point, Tries, takes, takes_from}
-use Rattle.zworld.proofs.Tries.{goes_nowhere, idle_retry, one_more_retry, silent_tries, empty_try, one_more_receiver, one_more_sender}
+use Rattle.zworld.specs.support.Settling.{Point, StandsAt, TreeSettling, Tries, takes, takes_from}
+use Rattle.zworld.proofs.Tries.{silent_tries, empty_try, one_more_receiver, one_more_sender}
 
 -- there are so many processes
 pub length-processes : (clients : ℕ) → length (processes clients) ≡ MAX_SERVERS + 1 + clients
@@ -37,11 +45,6 @@ pub empty_link : (inside held : Held) (from to : Process) → inside ≡ held �
     → (kept_world held []).links from to ≡ []
 empty_link inside held from to same none = ap (λ (h : Held). links_of h.links from to) (sym same) ∙ none
 
--- nor on any from a process that is silent
-pub silent_place : (inside held : Held) (from : Process) → inside ≡ held → is_silent inside.links from ≡ true → SendsNothing (kept_world held []) from
-silent_place inside held from same silent to =
-    silent_links held.links from to (ap (λ (h : Held). is_silent h.links from) (sym same) ∙ silent)
-
 -- where no client waits, no call is sent once more
 waits_not : (standing : TreeStanding) → waits standing ≡ false → is_some (client_of standing).outstanding ≡ false
 waits_not (AtMaster v) not = refl
@@ -49,14 +52,21 @@ waits_not (AtServer v) not = refl
 waits_not (AtClient v) not = not
 waits_not Out not = refl
 
-pub no_retries : (strict : Bool) (n : ℕ) (p : Point) → passing waits p.held.actors ≡ 0 → Tries strict (retry_events n) p p
-no_retries strict zero p none = goes_nowhere strict (λ s. s) p
-no_retries strict (suc n) p none =
-    let next : n + 1 ≡ suc n = omega arith in
-    subst (λ k. Tries strict (retry_events k) p p) next
-    (one_more_retry strict n n p p p refl (no_retries strict n p none)
-    (idle_retry strict n p (waits_not (standing_at p.held.actors (Client n))
-    (fails_at waits p.held.actors (place_of (Client n)) (bystander (Client n)) refl none))))
+pub no_retries : (n : ℕ) (held : Held) (history : History) (left : ℕ) (outcomes : List Outcome) (s : TreeSettling)
+    → passing waits held.actors ≡ 0 → StandsAt held history left outcomes s → with_tries kept_tree s (retry_events n) ≡ s
+no_retries n held history left outcomes s none stands =
+    none_is_done kept_tree s (retry_events n) (none_waits n)
+  where
+    none_waits : (m : ℕ) → list_any (is_enabled s.world) (retry_events m) ≡ false
+    none_waits zero = refl
+    none_waits (suc m) =
+        let next : m + 1 ≡ suc m = omega arith in
+        let idle : is_enabled s.world (Retry m) ≡ false =
+        have_the_same_enabled kept_tree s.world (kept_world held history) (Retry m) stands.alike
+        ∙ waits_not (standing_at held.actors (Client m)) (fails_at waits held.actors (place_of (Client m)) (bystander (Client m)) refl none) in
+        subst (λ k. list_any (is_enabled s.world) (retry_events k) ≡ false) next
+        (ap (list_any (is_enabled s.world)) (map-range_with_len_more Retry 0 m m (omega arith))
+        ∙ list_any-append (is_enabled s.world) (retry_events m) (Retry m ∷ []) ∙ rw (none_waits m, idle) refl)
 
 -- the process that was asked for by its place is that of the list
 pub listed_as : (clients place : ℕ) (p : Process) → p ≡ process_at place → place < length (processes clients) → p ≡ get_or (processes clients) place p
@@ -64,13 +74,17 @@ listed_as clients place p is inside =
     subst (λ q. q ≡ get_or (processes clients) place q) (sym is) (listed clients place (omega (arith, inside, length-processes clients)))
 
 -- what is behind the end of a list isn't taken
-past : {X : Type 0} (xs : List X) (n : ℕ) → length xs ≤ n → take (n + 1) xs ≡ take n xs
+pub past : {X : Type 0} (xs : List X) (n : ℕ) → length xs ≤ n → take (n + 1) xs ≡ take n xs
 past xs n all = take_all (n + 1) xs (omega (arith, all)) ∙ sym (take_all n xs all)
+
+-- a fact of each process from one place on, and before another
+abbrev pub Within : ℕ → ℕ → (Process → Type 0) → Type 0
+Within start end Fact = (p : Process) → start ≤ place_of p → place_of p < end → Fact p
 
 module _ (strict : Bool) (clients : ℕ) (p : Point) where
   -- receivers to which nothing is under way
   pub skipped_receivers : (from : Process) (a : Point) (place k : ℕ) → place + k ≤ PROCESSES
-      → Between place (place + k) (λ to. (kept_world p.held []).links from to ≡ [])
+      → Within place (place + k) (λ to. (kept_world p.held []).links from to ≡ [])
       → Tries strict (takes_from (take place (processes clients)) from) a p
       → Tries strict (takes_from (take (place + k) (processes clients)) from) a p
   skipped_receivers from a place zero few none tries =
@@ -94,7 +108,7 @@ module _ (strict : Bool) (clients : ℕ) (p : Point) where
       ])
 
   pub receivers_to : (from : Process) (a : Point) (place next : ℕ) → place ≤ next → next ≤ PROCESSES
-      → Between place next (λ to. (kept_world p.held []).links from to ≡ [])
+      → Within place next (λ to. (kept_world p.held []).links from to ≡ [])
       → Tries strict (takes_from (take place (processes clients)) from) a p → Tries strict (takes_from (take next (processes clients)) from) a p
   receivers_to from a place next ahead few none tries =
       let far : place + (next - place) ≡ next = omega (arith, ahead) in
@@ -104,7 +118,7 @@ module _ (strict : Bool) (clients : ℕ) (p : Point) where
 
   -- and senders of which nothing is
   pub skipped_senders : (a : Point) (place k : ℕ) → place + k ≤ PROCESSES
-      → Between place (place + k) (SendsNothing (kept_world p.held []))
+      → Within place (place + k) (SendsNothing (kept_world p.held []))
       → Tries strict (takes (processes clients) (take place (processes clients))) a p
       → Tries strict (takes (processes clients) (take (place + k) (processes clients))) a p
   skipped_senders a place zero few none tries =
@@ -129,7 +143,7 @@ module _ (strict : Bool) (clients : ℕ) (p : Point) where
       ])
 
   pub senders_to : (a : Point) (place next : ℕ) → place ≤ next → next ≤ PROCESSES
-      → Between place next (SendsNothing (kept_world p.held []))
+      → Within place next (SendsNothing (kept_world p.held []))
       → Tries strict (takes (processes clients) (take place (processes clients))) a p
       → Tries strict (takes (processes clients) (take next (processes clients))) a p
   senders_to a place next ahead few none tries =

@@ -2,7 +2,7 @@
 use Rattle.std.proofs.Common.{◌≡◌, ℕ, ◌-◌, ◌<◌, ◌+◌, zero, suc, Bool, true, false, not, if◌then◌else◌, nat_lt, List, []}
 use Rattle.std.proofs.Common.{◌∷◌, ◌++◌, length, take, drop, get_or, refl, sym, ap, subst, ◌∙◌, append-nil}
 use Rattle.std.proofs.Common.{append_assoc, lt-ltb, arith}
-use Rattle.std.specs.Prelude.{◌&&◌, ◌||◌, is_some}
+use Rattle.std.specs.Prelude.{◌&&◌, ◌||◌}
 use Rattle.std.specs.List.{list_any}
 use Rattle.std.proofs.Math.Seq.{take-suc}
 use Rattle.std.proofs.lemmas.List.FromFn.{map-range_with_len_more}
@@ -180,13 +180,6 @@ module _ (strict : Bool) where
       none_taken [] s none = refl
       none_taken (to ∷ receivers) s none = ap (λ b. b || list_any (is_enabled s.world) (takes_from receivers from)) (none to)
           ∙ none_taken receivers s none
-
-  -- nor is anything sent once more by a client that waits for nothing
-  pub idle_retry : (c : ℕ) (p : Point) → is_some ((kept_world p.held []).clients c).outstanding ≡ false → Tries strict (Retry c ∷ []) p p
-  idle_retry c p none =
-      tries_nothing (Retry c ∷ []) p (λ history outcomes s stands.
-      none_is_done kept_tree s (Retry c ∷ []) (ap (λ b. b || false)
-      (have_the_same_enabled kept_tree s.world (kept_world p.held history) (Retry c) stands.alike ∙ none)))
 
   -- nor from a link on which nothing is
   pub empty_try : (from to : Process) (p : Point) → (kept_world p.held []).links from to ≡ [] → Tries strict (Take from to ∷ []) p p

@@ -1,9 +1,10 @@
 //! Settling (running until quiescent): passes over all channels, one retry of each waiting client,
 //! and passes again.
 
-ghost use Rattle.std.specs.Prelude.{◌≡◌, ◌≤◌, ◌<◌, ◌-◌, ◌&&◌, IfOk, OnErr};
+ghost use Rattle.std.specs.Prelude.{◌≡◌, ◌==◌, ◌≤◌, ◌<◌, ◌-◌, ◌&&◌, IfOk, OnErr};
 ghost use Rattle.std.specs.Prelude.{if◌then◌else◌};
 ghost use Rattle.ztree.specs.declared.limits.TheConstants.{MAX_CLIENTS};
+ghost use Rattle.zworld_model.specs.declared.settled.Settled.TheVariants.{Limit, Quiet};
 ghost use Rattle.zworld_model.specs.Settle.{deliveries, retry_events};
 ghost use Rattle.zworld.specs.Did.{is_idle, is_short};
 ghost use Rattle.zworld.specs.support.Stepped.{Settles};
@@ -19,7 +20,8 @@ use zworld_model::{CallEvent, Settled};
 
 impl Processes {
     /// Settles, with at most `limit` events: passes, a retry of each waiting client, and passes
-    /// again. Where it is strict, it is out of memory as soon as a server is.
+    /// again. Where no client waits, those would do nothing. Where it is strict, it is out of memory
+    /// as soon as a server is.
     pub(crate) fn settle(
         &mut self,
         limit: usize,
@@ -32,15 +34,13 @@ impl Processes {
         ensures needed { OnErr result (CanRunOut self.old limit) }
     {
         let clients = self.clients();
-        let mut left = self.passes(clients, limit, limit, strict, seen)?;
-        if self.waiting > 0 {
-            left = self.retry_all(clients, left)?;
+        let left = self.passes(clients, limit, limit, strict, seen)?;
+        if self.waiting == 0 {
+            return Ok(settled(left));
         }
-        left = self.passes(clients, limit, left, strict, seen)?;
-        if left == 0 {
-            return Ok(Settled::Limit);
-        }
-        Ok(Settled::Quiet)
+        let left = self.retry_all(clients, left)?;
+        let left = self.passes(clients, limit, left, strict, seen)?;
+        Ok(settled(left))
     }
 
     // Makes passes over all channels until one does nothing; returns how many events are left.
@@ -70,8 +70,8 @@ impl Processes {
     }
 
     // Makes one pass: a message from each channel, by sender and then by receiver, while more
-    // events may be done. Returns how many are left. It skips senders and receivers with nothing in
-    // flight, as they are when it comes there.
+    // events may be done. Returns how many are left. It skips channels with nothing in flight, as
+    // they are when it comes there.
     fn pass(
         &mut self,
         clients: u8,
@@ -87,27 +87,27 @@ impl Processes {
         ensures needed { OnErr result (CanRunOut self.old left) }
     {
         let count = 1 + MAX_SERVERS as usize + clients as usize;
-        let mut sender = self.links.next_sender(0);
-        while sender < count {
-            let Some(from) = Process::at(sender) else {
+        let mut turn = self.links.next_turn(0, 0);
+        while turn.sender < count {
+            if turn.receiver >= count {
+                turn = self.links.next_turn(turn.sender, turn.receiver + 1);
+                continue;
+            }
+            let Some(from) = Process::at(turn.sender) else {
                 unreachable!();
             };
-            let mut receiver = self.links.next_receiver(&from, 0);
-            while receiver < count {
-                let Some(to) = Process::at(receiver) else {
-                    unreachable!();
-                };
-                if left == 0 {
-                    return Ok(left);
-                }
-                let did = self.take(from, to, seen)?;
-                if must_stop(strict, did) {
-                    return Err(Memory);
-                }
-                left = left_after(left, did);
-                receiver = self.links.next_receiver(&from, receiver + 1);
+            let Some(to) = Process::at(turn.receiver) else {
+                unreachable!();
+            };
+            if left == 0 {
+                return Ok(left);
             }
-            sender = self.links.next_sender(sender + 1);
+            let did = self.take(from, to, seen)?;
+            if must_stop(strict, did) {
+                return Err(Memory);
+            }
+            left = left_after(left, did);
+            turn = self.links.next_turn(turn.sender, turn.receiver + 1);
         }
         Ok(left)
     }
@@ -131,6 +131,17 @@ impl Processes {
             left = left_after(left, did);
         }
         Ok(left)
+    }
+}
+
+// Returns how settling ended, by how many more events may be done.
+fn settled(left: usize) -> Settled
+    ensures { result ≡ (if left == 0 then Limit else Quiet) }
+{
+    if left == 0 {
+        Settled::Limit
+    } else {
+        Settled::Quiet
     }
 }
 

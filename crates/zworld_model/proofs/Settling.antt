@@ -197,6 +197,15 @@ module _ {M : Type 0} (machine : Does M) where
   passes_over events (suc more) s few = over_or_on events more s (omega (arith, few)) (is_over s events) refl
       (passes_over events more (with_tries machine s events))
 
+  -- so passes that are made once more do nothing
+  pub passes_twice : (events : List Event) (more limit : ℕ) (s : Settling M) → s.left ≤ more
+      → passes machine events limit (passes machine events more s) ≡ passes machine events more s
+  passes_twice events more zero s few = refl
+  passes_twice events more (suc limit) s few =
+      let done = passes machine events more s in
+      ap (λ over. elim over [ true ↦ done | false ↦ passes machine events limit (with_tries machine done events) ])
+      (passes_over events more s few)
+
   -- where settling ends quiet, no message can be taken
   pub quiet_has_nothing_to_take : (w : World M) (limit : ℕ) (outcomes : List Outcome) → settling_end (settle machine w limit outcomes) ≡ Quiet
       → list_any (is_enabled (settle machine w limit outcomes).world) (deliveries w.master.clients) ≡ false

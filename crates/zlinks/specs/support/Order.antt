@@ -4,7 +4,7 @@ use Rattle.std.specs.Prelude.{◌≡◌, ℕ, suc, ◌<◌, ◌≤◌, ◌==◌,
 use Rattle.std.specs.List.{AllByRecursion}
 use Rattle.zprotocol.specs.declared.message.Message.{Message}
 use Rattle.zprotocol.specs.declared.process.Process.{Process}
-use Rattle.zlinks.specs.Places.{Channel, Sent, Queues, sent_of}
+use Rattle.zlinks.specs.Places.{Channel, Sent, Queues, sent_of, Precedes, Reaches}
 
 -- this was sent on the channels
 abbrev pub Holds : {T : Type 0} → Sent T → Queues T → Type 0
@@ -17,10 +17,6 @@ longer channel message = record channel { others = channel.others ++ message ∷
 -- a channel isn't to the process at this place
 abbrev pub is_for_others : {T : Type 0} → ℕ → Channel T → Bool
 is_for_others to channel = not (channel.to == to)
-
--- two places precede two others: the senders' are apart, or they are one and the receivers' are
-abbrev pub Precedes : (from to next_from next_to : ℕ) → Type 0
-Precedes from to next_from next_to = (from ≤ next_from) × (next_from ≤ from → to < next_to)
 
 -- a channel comes before these places
 abbrev pub IsBefore : {T : Type 0} → Channel T → (from to : ℕ) → Type 0
@@ -36,7 +32,7 @@ IsBehind channel from to = Precedes from to channel.from channel.to
 
 -- it is at them or comes behind them
 abbrev pub IsFrom : {T : Type 0} → Channel T → (from to : ℕ) → Type 0
-IsFrom channel from to = (from ≤ channel.from) × (channel.from ≤ from → to ≤ channel.to)
+IsFrom channel from to = Reaches from to channel.from channel.to
 
 -- the channels are in order, each once: the one that comes first stands last
 abbrev pub AreSorted : {T : Type 0} → Sent T → Type 0

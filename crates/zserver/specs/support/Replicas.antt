@@ -8,14 +8,15 @@ use Rattle.zcalls.specs.declared.reply.Reply.{Reply}
 use Rattle.zcalls.specs.Kept.{KeptState}
 use Rattle.zops.specs.Machine.{MachineView}
 use Rattle.zprotocol.specs.declared.message.Message.TheVariants as message
+use Rattle.zprotocol.specs.declared.process.Process.{Process}
 use Rattle.zprotocol.specs.declared.process.Process.TheVariants.{Server}
 use Rattle.zprotocol.specs.server.Machine.{kept_tree}
 use Rattle.zprotocol.specs.server.Memory.{grows_by}
 use Rattle.zprotocol.specs.server.Table.{accept_result, entries_above, forward_post, has_room, if_initialised}
-use Rattle.zprotocol.specs.server.Table.{submit_row, query_row, update_row}
+use Rattle.zprotocol.specs.server.Table.{submit_row, query_row, update_row, server_step}
 use Rattle.zprotocol.specs.server.View.{Neighbour, Post, Transfer, spare}
 use Rattle.zserver.specs.declared.stopped.Stopped.{Stopped}
-use Rattle.zserver.specs.Server.{ServerState, TreeView, TreeResult, running}
+use Rattle.zserver.specs.Server.{ServerState, TreeView, TreeMessage, TreeResult, running}
 
 -- the state of a server, by its replica or by why it stopped: one that has stopped has no replica
 abbrev pub server_of : Result TreeView Stopped → ServerState
@@ -67,6 +68,10 @@ query_at v client number query = query_row kept_tree v client number query
 -- Update
 abbrev pub update_at : TreeView → ℕ → ℕ → ℕ → Entry → TreeResult
 update_at v p epoch n entry = update_row kept_tree v p epoch n entry
+
+-- what a message leads to, whoever sent it
+abbrev pub step_at : TreeView → Process → TreeMessage → TreeResult
+step_at v from m = server_step kept_tree v from m
 
 -- at this row a server grows: its log gets longer, or it sends something
 abbrev pub GrowsBy : TreeView → TreeResult → Type 0

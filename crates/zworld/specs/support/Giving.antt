@@ -60,7 +60,7 @@ did_of other = did.Done
 -- what callers see of a delivery, where this reply was handed out
 abbrev pub told_with : Process → Done → Option Reply → History
 told_with (Client c) (done.Answered number) (Some reply) = call_event.Answer c number reply ∷ []
-told_with to end none = []
+told_with to end given = []
 
 -- what callers see of a delivery was appended, and this became of it
 abbrev pub IsToldOf : History → Done → History → History → Did → Type 0

@@ -19,7 +19,7 @@ next parts at part l is = drop_more parts at part l ∙ ap (λ p. p ∷ drop (at
 pub loop-wanted-init : goal.loop-wanted-init
 loop-wanted-init c =
     let t = c.args.store.now.tree in
-    let none = c.new-replies.ensures.items in
+    let none = c.in_ok-replies.ensures.items in
     let no_length = ap length none in
     record {
       ran = run-start (run t c.args.client c.args.parts.now) ∙ (λ i. behind_all (sym none i) (run t c.args.client c.args.parts.now));
@@ -119,3 +119,6 @@ returns-in-Err-Memory-clause-mark c = λ m has.
 pub returns-clause-mark : goal.returns-clause-mark
 returns-clause-mark c = λ m has.
     mark_fewer (length (drop c.loop-wanted.wanted-index c.args.parts.now)) 0 m c.loop-wanted.store (omega arith) (c.loop-wanted.invariant.mark m has)
+
+pub returns-in_err-replies-clause-mark : goal.returns-in_err-replies-clause-mark
+returns-in_err-replies-clause-mark c = λ m has. mark_fewer (length c.args.parts.now) 0 m c.args.store.now (omega arith) has

@@ -1,30 +1,17 @@
-use Rattle.std.proofs.Common.{◌≤◌, ◌-◌, take}
-use Rattle.zworld_model.specs.Settle.{processes}
+use Rattle.std.proofs.Common.{◌<◌, ◌≤◌, ◌+◌, ◌-◌, ◌*◌}
 use Rattle.zprotocol.specs.declared.limits.TheConstants.{PROCESSES}
-use Rattle.zworld.specs.support.Settling.{Point, StillOrCould, Tries, takes, takes_from}
+use Rattle.zworld.specs.support.Settling.{StillOrCould}
+use Rattle.zworld.proofs.Turns.{CameTo}
 use Rattle.zworld.proofs.processes.Processes.pass.Given as goal
 
-abbrev pub decreases-loop-sender : goal.decreases-loop-sender
-decreases-loop-sender l = PROCESSES - l.sender
+-- turns go on by senders, and for one sender by receivers
+abbrev pub decreases-loop-turn : goal.decreases-loop-turn
+decreases-loop-turn l = (PROCESSES - l.turn.sender) * PROCESSES + (PROCESSES - l.turn.receiver)
 
--- so far the senders before this one had their turn
-abbrev pub invariant-loop-sender : goal.invariant-loop-sender
-invariant-loop-sender l =
-    (l.sender ≤ PROCESSES)
-    × Tries l.strict (takes (processes l.clients) (take l.sender (processes l.clients)))
-    (record { held = l.fn.self; left = l.fn.left; seen = l.fn.seen.items })
+-- so far the channels before this turn had theirs
+abbrev pub invariant-loop-turn : goal.invariant-loop-turn
+invariant-loop-turn l =
+    (l.turn.sender ≤ PROCESSES) × (l.turn.receiver < PROCESSES)
+    × CameTo l.strict l.clients l.turn (record { held = l.fn.self; left = l.fn.left; seen = l.fn.seen.items })
     (record { held = l.self; left = l.left; seen = l.seen.items })
-    × StillOrCould l.fn.self l.self l.fn.left l.left
-
-abbrev pub decreases-loop-receiver : goal.decreases-loop-receiver
-decreases-loop-receiver l = PROCESSES - l.receiver
-
--- and then, from where that led, the receivers before this one
-abbrev pub invariant-loop-receiver : goal.invariant-loop-receiver
-invariant-loop-receiver l =
-    (l.receiver ≤ PROCESSES)
-    × (p : Point)
-    × Tries l.strict (takes (processes l.clients) (take l.sender (processes l.clients)))
-    (record { held = l.fn.self; left = l.fn.left; seen = l.fn.seen.items }) p
-    × Tries l.strict (takes_from (take l.receiver (processes l.clients)) l.from) p (record { held = l.self; left = l.left; seen = l.seen.items })
     × StillOrCould l.fn.self l.self l.fn.left l.left

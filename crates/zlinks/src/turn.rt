@@ -1,0 +1,9 @@
+//! The channel whose turn it is.
+
+/// The places of the sender and of the receiver of a channel. The master has place 0; then come the
+/// servers and the clients, each by number.
+#[derive(Clone, Copy, Debug, PartialEq, Eq)]
+pub struct Turn {
+    pub sender: usize,
+    pub receiver: usize,
+}
