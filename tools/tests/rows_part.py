@@ -1,13 +1,11 @@
-#!/usr/bin/env python3
-"""Runs the built program on each file of rows/, and compares its output, its standard error and its exit status.
+"""Plays each file of rows/, and compares the output, the standard error and the exit status.
 
-    .ci/rows [PROGRAM [FILE ..]]
+A line of a file is a line of a script and, behind a tab each, the lines that it is answered with.
+{3*ab} stands for ababab, and \\015 for the byte of that octal number. Empty lines and those that
+begin with # are no lines of the script; nor are these:
 
-A line of a file is a line of a script and, behind a tab each, the lines that it is answered with. {3*ab} stands for ababab, and
-\\015 for the byte of that octal number. Empty lines and those that begin with # are no lines of the script; nor are these:
-
-    @servers N ..       the script is run over each of these numbers of servers; 1-16 are all from 1 to 16
-    @words WORD ..      the words that the program is called with, where they aren't 'script --servers N'
+    @servers N ..       the script is run over each of these numbers of servers; 1-16 are all of them
+    @words WORD ..      the words that the program is called with, in place of 'script --servers N'
     @times N LINE       N such lines, with the number of each, from 1 on, in the place of each #
     @alone              each line is a script of its own
     @bare               the last line has no LF
@@ -15,22 +13,17 @@ A line of a file is a line of a script and, behind a tab each, the lines that it
     @output FILE        where the output goes, in place of being compared
     @status N           the exit status, where it isn't 0
     @error LINE         the line on standard error, where there is one
-
-The program is the proved one: the gate's (crates/zk/out/zk, for races
-crates/zk_race/out/zk_race), or else the one that ./zk prove built. A word names another one.
-The last line is 'rows: N passed, M failed', counting the runs.
 """
 import contextlib
 import difflib
-import functools
 import glob
 import os
 import re
 import subprocess
-import sys
 
-sys.dont_write_bytecode = True
-HERE = os.path.dirname(os.path.dirname(os.path.abspath(__file__)))
+from report import Test
+from sources import ROOT
+
 SECONDS = 120
 SETTINGS = {"servers", "words", "alone", "bare", "input", "output", "status", "error"}
 
@@ -65,7 +58,7 @@ class Rows:
                 self.add(repeated.replace("#", str(number)))
         elif line.startswith("@"):
             if key not in SETTINGS:
-                raise SystemExit(f"rows: there is no setting @{key}")
+                raise ValueError(f"there is no setting @{key}")
             self.settings[key] = value
         elif line and not line.startswith("#"):
             self.add(line)
@@ -89,72 +82,57 @@ class Rows:
             text = b"\n".join(asked for asked, _ in rows) + (end if rows else b"")
             yield text, b"".join(answer + b"\n" for _, answers in rows for answer in answers)
 
+    def is_race(self):
+        return self.settings.get("words", "").startswith("race")
+
 
 def run(program, words, settings, text):
     """The output, the standard error and the exit status of one run."""
     with contextlib.ExitStack() as files:
         given, out = {"input": text}, subprocess.PIPE
         if "input" in settings:
-            given = {"stdin": os.open(os.path.join(HERE, settings["input"]), os.O_RDONLY)}
+            given = {"stdin": os.open(os.path.join(ROOT, settings["input"]), os.O_RDONLY)}
             files.callback(os.close, given["stdin"])
         if "output" in settings:
             out = files.enter_context(open(settings["output"], "wb"))
-        done = subprocess.run([program, *words], stdout=out, stderr=subprocess.PIPE, timeout=SECONDS, **given)
+        done = subprocess.run(
+            [program, *words], stdout=out, stderr=subprocess.PIPE, timeout=SECONDS, **given
+        )
     return done.stdout or b"", done.stderr, done.returncode
 
 
-def told(name, wanted, got):
+def differing(name, wanted, got):
     """The lines in which what was wanted differs from what came."""
     sides = [[it[:200] for it in text.decode(errors="replace").splitlines()] for text in (wanted, got)]
     return [f"{name} {it}" for it in difflib.unified_diff(*sides, lineterm="", n=0)][2:]
 
 
-@functools.lru_cache(maxsize=None)
-def proved(name):
-    """The proved program of that name, or None."""
-    sys.path.insert(0, f"{HERE}/tools")
-    import programs
-
-    return programs.proved(name)
-
-
-def built(words):
-    """The proved program for these words."""
-    return proved("zk_race" if words[:1] == [b"race"] else "zk")
-
-
-def failures(program, path):
-    """For each run of a file, what went wrong; the program is the built one where none is named."""
-    rows = Rows(path)
+def play(tally, program, path, rows):
+    """All runs of a file."""
     error = spelled(rows.settings["error"]) + b"\n" if "error" in rows.settings else b""
     status = int(rows.settings.get("status", 0))
     for words in rows.words():
         for text, wanted in rows.scripts():
-            out, err, ended = run(program or built(words), words, rows.settings, text)
-            wrong = told("output", wanted, out) + told("error", error, err)
-            if ended != status:
-                wrong.append(f"status {ended}")
-            if wrong or (out, err) != (wanted, error):
-                yield [f"FAILED {os.path.relpath(path, HERE)}: {b' '.join(words).decode(errors='replace')}", *wrong[:20]]
-            else:
-                yield []
+            out, said, ended = run(program, words, rows.settings, text)
+            if (out, said, ended) == (wanted, error, status):
+                tally.passes()
+                continue
+            wrong = differing("output", wanted, out) + differing("error", error, said)
+            name = f"{os.path.relpath(path, ROOT)}: {b' '.join(words).decode(errors='replace')}"
+            tally.fails(name, "\n".join([f"status {ended}", *wrong[:20]]))
 
 
-def main():
-    program = os.path.abspath(sys.argv[1]) if len(sys.argv) > 1 else None
-    for command in () if program else ("script", "race"):
-        if not built([command.encode()]):
-            print(f"rows: no proved program is there: ./zk prove {command}", file=sys.stderr)
-            return 1
-    passed = failed = 0
-    for path in sys.argv[2:] or sorted(glob.glob(os.path.join(HERE, "rows", "*.rows"))):
-        for wrong in failures(program, path):
-            passed, failed = passed + (not wrong), failed + bool(wrong)
-            for line in wrong:
-                print(line)
-    print(f"rows: {passed} passed, {failed} failed")
-    return 1 if failed or not passed else 0
+def test(builds, path):
+    """The test that a file is."""
+    rows = Rows(path)
+    crate = "zk_race" if rows.is_race() else "zk"
+    seconds = 5 if rows.is_race() else 1
+    return Test(os.path.basename(path), seconds, lambda tally: play(tally, builds.program(crate), path, rows))
 
 
-if __name__ == "__main__":
-    sys.exit(main())
+def files():
+    return sorted(glob.glob(f"{ROOT}/rows/*.rows"))
+
+
+def tests(builds):
+    return [test(builds, it) for it in files()]

@@ -1,0 +1,74 @@
+"""The programs that the tests run: proved, or built without proof. Each is built once."""
+import os
+import shutil
+import subprocess
+import threading
+
+import programs
+import serving
+import unproved
+from report import Failed, Skipped
+from sources import ROOT
+from told import Stopped
+
+SANITIZERS = "-g -fsanitize=address,undefined -fno-sanitize-recover=all".split()
+
+
+class Builds:
+    """What the tests of one run are given to run."""
+
+    def __init__(self, is_proved, room, say):
+        self.is_proved, self.room, self.say = is_proved, room, say
+        self.locks, self.alone, self.made = {}, threading.Lock(), {}
+
+    def once(self, name, make):
+        """What `make` gives, or what it raised. It is called once in this run."""
+        with self.alone:
+            lock = self.locks.setdefault(name, threading.Lock())
+        with lock:
+            if name not in self.made:
+                try:
+                    self.made[name] = make()
+                except (Failed, Skipped, Stopped) as error:
+                    self.made[name] = error
+        found = self.made[name]
+        if isinstance(found, Stopped):
+            raise Failed(str(found))
+        if isinstance(found, Exception):
+            raise found
+        return found
+
+    def program(self, crate):
+        """The path of a crate's program."""
+        return self.once(crate, lambda: self.proved(crate) if self.is_proved else self.tried(crate))
+
+    def proved(self, crate):
+        path = programs.proved(crate)
+        if not path:
+            raise Failed(f"no proved {crate} of these sources is there: `rt ci` builds it")
+        return path
+
+    def tried(self, crate):
+        return unproved.build(crate, lambda text: self.say(f"{crate}: {text}"))
+
+    def compiler(self):
+        """The C compiler of this machine."""
+        found = next(filter(shutil.which, serving.COMPILERS), None)
+        if not found:
+            raise Skipped("there is no C compiler here")
+        return found
+
+    def compiled(self, name, files, flags=()):
+        """A program, or a library where `-shared` is among the flags, of these files in C."""
+        return self.once(name, lambda: self.compile(name, files, flags))
+
+    def compile(self, name, files, flags):
+        path = f"{self.room}/{name}"
+        words = [self.compiler(), *serving.FLAGS, f"-I{ROOT}/include", "-o", path]
+        ran = subprocess.run(
+            [*words, *(it if os.path.isabs(it) else f"{ROOT}/{it}" for it in files), *flags],
+            stdin=subprocess.DEVNULL, stdout=subprocess.PIPE, stderr=subprocess.STDOUT, text=True,
+        )
+        if ran.returncode:
+            raise Failed(f"{name} doesn't compile: {ran.stdout[-1500:]}")
+        return path

@@ -1,0 +1,34 @@
+"""Races of threads in which servers are halted: each node is made once and set once."""
+import itertools
+import subprocess
+
+from report import Test, want_same
+
+SECONDS = 120
+# The numbers of servers, clients and nodes of a race. Each server is halted in turn, or none.
+SIZES = ((2, 2, 50), (3, 4, 200), (4, 31, 300), (8, 8, 400))
+ROUNDS = 2
+
+
+def race(program, servers, clients, rounds, halt):
+    words = ["race", "--servers", servers, "--clients", clients, "--rounds", rounds, "--halt", halt]
+    ran = subprocess.run(
+        [program, *map(str, words)], stdin=subprocess.DEVNULL, capture_output=True, text=True,
+        timeout=SECONDS,
+    )
+    told = "".join(f"node /n{it} version 1\n" for it in range(rounds))
+    want_same((ran.stdout, ran.stderr, ran.returncode), (f"{told}audit ok\n", "", 0), words)
+
+
+def test(builds, servers, clients, rounds):
+    def body(tally):
+        program = builds.program("zk_race")
+        for _, halt in itertools.product(range(ROUNDS), range(servers + 1)):
+            race(program, servers, clients, rounds, halt)
+            tally.passes()
+
+    return Test(f"race of {clients} clients over {servers} servers", 10, body)
+
+
+def tests(builds):
+    return [test(builds, *it) for it in SIZES]

@@ -1,0 +1,162 @@
+"""Runs tests on all processors, tells how far it is, and leaves nothing behind."""
+import concurrent.futures
+import ctypes
+import os
+import shutil
+import signal
+import subprocess
+import sys
+import tempfile
+import threading
+import time
+import traceback
+
+import kit
+from report import Failed, Skipped, Tally
+
+# The parts, each a module of this folder with a function `tests(builds)`, in the order of work.
+PARTS = ("tests", "rows", "race", "states", "memory", "serve", "folder", "library", "commands")
+# The part without one: `rt ci` runs the test functions itself.
+OF_THE_GATE = "tests"
+SUBREAPER = 36
+
+
+def say(text):
+    print(text, flush=True)
+
+
+def refuse(text, status):
+    print(f"test: {text}", file=sys.stderr)
+    return status
+
+
+def children():
+    """The processes that stand below this one, also those whose parent has ended."""
+    found, parents = set(), {}
+    for pid in filter(str.isdigit, os.listdir("/proc")):
+        try:
+            with open(f"/proc/{pid}/stat", "rb") as file:
+                parents[int(pid)] = int(file.read().rpartition(b")")[2].split()[1])
+        except (OSError, IndexError):
+            pass  # it has just ended
+    left = [os.getpid()]
+    while left:
+        at = left.pop()
+        more = [pid for pid, parent in parents.items() if parent == at and pid not in found]
+        found.update(more)
+        left += more
+    return found
+
+
+def end_children():
+    """Ends every process that a test has started."""
+    for _ in range(50):
+        left = children()
+        for pid in left:
+            try:
+                os.kill(pid, signal.SIGKILL)
+            except OSError:
+                pass
+        try:
+            while os.waitpid(-1, os.WNOHANG)[0]:
+                pass
+        except ChildProcessError:
+            pass
+        if not left:
+            return
+        time.sleep(0.02)
+
+
+class Run:
+    """The tests of one call."""
+
+    def __init__(self, tests):
+        self.tests = sorted(tests, key=lambda it: -it.seconds)
+        self.tally, self.left, self.began = Tally(say), len(tests), time.monotonic()
+        self.lock = threading.Lock()
+
+    def one(self, test):
+        began, own = time.monotonic(), Tally(say)
+        try:
+            test.body(own)
+            if own.is_empty():
+                own.passes()
+        except Skipped as error:
+            own.skips(test.name, str(error))
+        except (Failed, subprocess.SubprocessError) as error:
+            own.fails(test.name, str(error))
+        except Exception:
+            own.fails(test.name, traceback.format_exc())
+        self.tally.takes(own)
+        with self.lock:
+            self.left -= 1
+            took = time.monotonic() - began
+            say(f"{test.name}: {took:.1f} s; {self.left} of {len(self.tests)} left")
+
+    def all(self):
+        with concurrent.futures.ThreadPoolExecutor(len(os.sched_getaffinity(0))) as pool:
+            list(pool.map(self.one, self.tests))
+        for name in self.tally.failures:
+            say(f"FAILED: {name}")
+        for name in self.tally.skipped:
+            say(f"skipped: {name}")
+        say(f"{time.monotonic() - self.began:.0f} s")
+        say(str(self.tally))
+        return 1 if self.tally.failures or not self.tally.passed else 0
+
+
+def tests_of(parts, is_proved, room):
+    """The tests of these parts."""
+    from builds import Builds
+
+    builds, found = Builds(is_proved, room, say), []
+    for name in parts:
+        found += __import__(f"{name}_part").tests(builds)
+    return found
+
+
+def run(parts, is_proved):
+    """Runs the tests of these parts in a folder that is removed afterwards."""
+    room = tempfile.mkdtemp(prefix="jellqupas-test-")
+    os.environ["TMPDIR"] = tempfile.tempdir = room
+    # (what outlives its parent is this process's own, so that it can be ended)
+    ctypes.CDLL(None).prctl(SUBREAPER, 1, 0, 0, 0)
+
+    def ended(number, _):
+        end_children()
+        shutil.rmtree(room, ignore_errors=True)
+        print(f"test: ended by {signal.Signals(number).name}", file=sys.stderr, flush=True)
+        os._exit(128 + number)
+
+    for it in (signal.SIGINT, signal.SIGTERM, signal.SIGHUP):
+        signal.signal(it, ended)
+    try:
+        return Run(tests_of(parts, is_proved, room)).all()
+    finally:
+        end_children()
+        shutil.rmtree(room, ignore_errors=True)
+
+
+def main(words, usage):
+    usage = usage.strip().format(parts=" ".join(PARTS))
+    if words in (["--help"], ["-h"], ["help"]):
+        say(usage)
+        return 0
+    is_proved = words[:1] == ["--proved"]
+    is_quick = words == ["--quick"]
+    parts = words[1:] if is_proved else [] if is_quick else words
+    wrong = next((it for it in parts if it not in PARTS), None)
+    if wrong:
+        return refuse(f"there is no part '{wrong}'; ./test --help has the words", 2)
+    try:
+        if not kit.path_of_rt() or not kit.identity():
+            return refuse("the Rattle toolchain's rt is not on the PATH", 3)
+        if is_quick:
+            import quick
+
+            return quick.main()
+        chosen = [it for it in PARTS if it in parts or not parts and not (is_proved and it == OF_THE_GATE)]
+        return run(chosen, is_proved)
+    except OSError as error:
+        where = f"{error.filename}: " if error.filename else ""
+        return refuse(f"{where}{(error.strerror or str(error)).lower()}", 3)
