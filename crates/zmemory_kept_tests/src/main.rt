@@ -1,6 +1,6 @@
 //! What stands after a refused allocation where a state is kept: by itself, and in the file of a
 //! service. Each story is one call. Where one of its allocations is refused, it is told, and
-//! nothing that was kept is lost. `bench/refusals` refuses each allocation in turn, one a run.
+//! nothing that was kept is lost. `./test memory` refuses each allocation in turn, one a run.
 #![tactic(auto)]
 
 mod files;

@@ -3,7 +3,7 @@
 //!
 //! Each story is one call. Where one of its allocations is refused, the answer is the refusal that
 //! is named for it, or a server stops, and what holds then is what its clauses say. Where none is
-//! refused, all are done: the calls succeed where there is memory. `bench/refusals` refuses each
+//! refused, all are done: the calls succeed where there is memory. `./test memory` refuses each
 //! allocation in turn, one a run.
 #![tactic(auto)]
 

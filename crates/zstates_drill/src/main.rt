@@ -10,7 +10,7 @@
 //!
 //! A state of more than 16 rows isn't compared at each change: as soon as there were a sixteenth as
 //! many changes as rows. The line `drill SEED` makes 12,000 calls, drawn by that number.
-//! `.ci/states` gives it the scripts of `rows/`.
+//! `./test states` gives it the scripts of `rows/`.
 #![tactic(auto)]
 
 ghost use Rattle.std.specs.Prelude.{OnOk};

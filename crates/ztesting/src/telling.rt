@@ -1,7 +1,7 @@
 //! Reports of stories in which an allocation is refused.
 //!
 //! A program runs all of its stories, one after the other, and makes one allocation behind them.
-//! `bench/refusals` runs it once for each of its allocations, and refuses that one.
+//! `./test memory` runs it once for each of its allocations, and refuses that one.
 
 use crate::ended::Ended;
 use std::alloc::Global;
