@@ -1,0 +1,148 @@
+"""Variables in patterns that are spelled like a constructor, which the verdict of `rt ci` refuses.
+
+Such a variable takes every value: `none` where `None` was meant. `rt check` only prints a warning.
+A variable is found where its clause, or its case of an `elim`, doesn't use it. Another clause has
+a constructor at the same place. A constructor of that type is spelled so but for case, or but for
+one letter of more than three.
+
+It can't see a constructor that is written after a dot or by another name. Nor can it see what a
+variable means that is used, what a λ or a `let` takes apart, a clause whose patterns are on two
+lines, or a constructor spelled right that isn't imported. Of a .rt file it sees an `elim` alone.
+"""
+import re
+
+TOKEN = re.compile(r"[^\s(){},;]+|[(){},;]")
+# The beginning of a signature or a clause: its indentation, its name, its patterns, and : or =.
+ITEM = re.compile(
+    r"(?m)^( *)(?:(?:pub|abbrev|unfoldable|pattern) )*([^\s(){},;|=:\[\]]+)"
+    r"((?: +(?:\{[^{}\n]*\}|[^\s{}=:]+))*) ([:=])(?=\s)"
+)
+DATA = re.compile(r"(?m)^(?:pub )?data (\S+) .*\n((?:  .*\n|\n)*)")
+ENUM = re.compile(r"(?m)^(?:pub(?:\(.*?\))? )?enum (\w+).*\{\n((?: .*\n|\n)*)\}")
+USE = re.compile(r"(?m)^ *(?:ghost )?use Rattle\.(\w+)\.(\S+?)\.\{([^}]*)\}")
+# The types of the toolchain that are matched most.
+OF_TOOLCHAIN = {
+    "Option": {"None", "Some"}, "Result": {"Ok", "Err"}, "Bool": {"true", "false"},
+    "ℕ": {"zero", "suc"}, "◌⊎◌": {"inl", "inr"},
+}
+
+
+def declared(text):
+    """The types that a text declares, by name: the constructors of each."""
+    found = {name: set(re.findall(r"(?m)^    ([A-Z]\w*)", body)) for name, body in ENUM.findall(text)}
+    for name, body in DATA.findall(text):
+        rows = re.findall(r"(?m)^  (\S[^:\n]*?) :(?=\s)", body)
+        found[name] = {it for row in rows for it in row.split()}
+    return found
+
+
+def makers(text, types):
+    """For each constructor that a text may write without a dot, all constructors of its type.
+
+    `types` are the types of each crate, as `declared` returns them.
+    """
+    found = {it: made for made in declared(text).values() for it in made}
+    for crate, path, brought in USE.findall(text):
+        known, parts = types.get(crate, OF_TOOLCHAIN), path.split(".")
+        if parts[-1] == "TheVariants" and len(parts) > 1:
+            known = {"": known.get(parts[-2], set())}
+        names = {it.strip() for it in brought.split(",")}
+        found.update((it, made) for made in known.values() for it in made & names)
+    return found
+
+
+def is_near(one, other):
+    """Whether two names are one but for case, or but for one letter of more than three."""
+    one, other = one.lower(), other.lower()
+    same = next((at for at, (a, b) in enumerate(zip(one, other)) if a != b), min(len(one), len(other)))
+    rests = ((one[same + a:], other[same + b:]) for a, b in ((1, 1), (1, 0), (0, 1)))
+    return one == other or min(len(one), len(other)) > 3 and any(a == b for a, b in rests)
+
+
+def closing(tokens, at):
+    """The place of the token that closes the parenthesis or brace at this place."""
+    depth = 0
+    for here in range(at, len(tokens)):
+        depth += (tokens[here] in "({") - (tokens[here] in ")}")
+        if not depth:
+            return here
+    return len(tokens) - 1
+
+
+def patterns(tokens):
+    """The patterns side by side: each a name, or a constructor's name and its own patterns."""
+    found, at = [], 0
+    while at < len(tokens):
+        end = closing(tokens, at) if tokens[at] in "({" else at
+        if tokens[at] == "(":
+            found.append(joined(patterns(tokens[at + 1:end])))
+        elif tokens[at] != "{":
+            found.append(tokens[at])
+        at = end + 1
+    return found
+
+
+def joined(items):
+    """The pattern that these are between parentheses: an operator's or a constructor's."""
+    for at, it in enumerate(items):
+        if isinstance(it, str) and not re.search(r"[\w\[]", it):
+            return it, [joined(side) for side in (items[:at], items[at + 1:]) if side]
+    return items[0] if len(items) == 1 else (items[0], items[1:]) if items else "_"
+
+
+def named(pattern, place):
+    """Each name of a pattern, with its place: the number of each part, through constructors."""
+    name, parts = (pattern, ()) if isinstance(pattern, str) else pattern
+    if isinstance(name, str):
+        yield place, name
+        for number, part in enumerate(parts):
+            yield from named(part, (*place, name, number))
+
+
+def functions(text):
+    """The clauses of each function, in turn: where each is, its patterns, and what follows them."""
+    found = {}
+    for it in ITEM.finditer(text):
+        indent, name, left, mark = it.groups()
+        if mark == ":":
+            yield from filter(None, [found.pop((indent, name), None)])
+        elif left:
+            after = re.compile(rf"(?m)^ {{0,{len(indent)}}}(?=\S)").search(text, it.end())
+            body = it.end(), after.start() if after else len(text)
+            found.setdefault((indent, name), []).append((it.start(), TOKEN.findall(left), body))
+    yield from found.values()
+
+
+def cases(text):
+    """The cases of each `elim`, in turn, as `functions` has clauses."""
+    opened = []
+    for it in TOKEN.finditer(text):
+        top = opened[-1] if opened else None
+        if it[0] in ("[", "(", "{"):
+            opened.append({"bracket": it[0], "from": it.end(), "left": None, "all": []})
+        elif top and top["bracket"] == "[" and it[0] in ("|", "]", "↦"):
+            if it[0] == "↦" and not top["left"]:
+                tokens = TOKEN.findall(text, top["from"], it.start())
+                top.update({"left": (top["from"], ["(", *tokens, ")"]), "from": it.end()})
+            elif it[0] != "↦" and top["left"]:
+                top["all"].append((*top["left"], (top["from"], it.start())))
+                top.update({"left": None, "from": it.end()})
+        if it[0] in ("]", ")", "}") and opened:
+            yield opened.pop()["all"]
+
+
+def faults(text, types, is_source):
+    """Each variable that is spelled like a constructor: its place in the text, it, and that."""
+    of_type = makers(text, types)
+    for clauses in [*cases(text), *(() if is_source else functions(text))] if of_type else ():
+        seen, rows = {}, []
+        for at, left, body in clauses if len(clauses) > 1 else ():
+            row = [it for n, pattern in enumerate(patterns(left)) for it in named(pattern, (n,))]
+            rows.append((at, row, body))
+            for place, name in row:
+                seen.setdefault(place, set()).update(of_type.get(name, ()))
+        for at, row, (start, end) in rows:
+            for place, name in row:
+                near = [it for it in seen[place] if name not in seen[place] and is_near(name, it)]
+                if near and name not in re.split(r"[\s(){},;.]+", text[start:end]):
+                    yield at, name, near[0]
