@@ -5,9 +5,9 @@ A variable is found where its clause, or its case of an `elim`, doesn't use it. 
 a constructor at the same place. A constructor of that type is spelled so but for case, or but for
 one letter of more than three.
 
-It can't see a constructor that is written after a dot or by another name. Nor can it see what a
-variable means that is used, what a λ or a `let` takes apart, a clause whose patterns are on two
-lines, or a constructor spelled right that isn't imported. Of a .rt file it sees an `elim` alone.
+It can't see a constructor that is written after a dot or by another name. Nor can it see a
+variable that is used, what a λ or a `let` takes apart, patterns on two lines, or a constructor
+spelled right that isn't imported. Of a .rt file it sees an `elim` alone.
 """
 import re
 
@@ -29,10 +29,9 @@ OF_TOOLCHAIN = {
 
 def declared(text):
     """The types that a text declares, by name: the constructors of each."""
-    found = {name: set(re.findall(r"(?m)^    ([A-Z]\w*)", body)) for name, body in ENUM.findall(text)}
+    found = {it: set(re.findall(r"(?m)^    ([A-Z]\w*)", body)) for it, body in ENUM.findall(text)}
     for name, body in DATA.findall(text):
-        rows = re.findall(r"(?m)^  (\S[^:\n]*?) :(?=\s)", body)
-        found[name] = {it for row in rows for it in row.split()}
+        found[name] = {*" ".join(re.findall(r"(?m)^  (\S[^:\n]*?) :(?=\s)", body)).split()}
     return found
 
 
@@ -54,31 +53,21 @@ def makers(text, types):
 def is_near(one, other):
     """Whether two names are one but for case, or but for one letter of more than three."""
     one, other = one.lower(), other.lower()
-    same = next((at for at, (a, b) in enumerate(zip(one, other)) if a != b), min(len(one), len(other)))
-    rests = ((one[same + a:], other[same + b:]) for a, b in ((1, 1), (1, 0), (0, 1)))
-    return one == other or min(len(one), len(other)) > 3 and any(a == b for a, b in rests)
-
-
-def closing(tokens, at):
-    """The place of the token that closes the parenthesis or brace at this place."""
-    depth = 0
-    for here in range(at, len(tokens)):
-        depth += (tokens[here] in "({") - (tokens[here] in ")}")
-        if not depth:
-            return here
-    return len(tokens) - 1
+    less = [{it, *(it[:at] + it[at + 1:] for at in range(len(it)))} for it in (one, other)]
+    return one == other or min(len(one), len(other)) > 3 and bool(less[0] & less[1])
 
 
 def patterns(tokens):
-    """The patterns side by side: each a name, or a constructor's name and its own patterns."""
-    found, at = [], 0
-    while at < len(tokens):
-        end = closing(tokens, at) if tokens[at] in "({" else at
-        if tokens[at] == "(":
-            found.append(joined(patterns(tokens[at + 1:end])))
-        elif tokens[at] != "{":
-            found.append(tokens[at])
-        at = end + 1
+    """The patterns up to a closing bracket: each a name, or a constructor's name and its parts."""
+    found = []
+    for it in tokens:
+        if it in (")", "}"):
+            break
+        if it in ("(", "{"):
+            inner = joined(patterns(tokens))
+            found += [inner] if it == "(" else []
+        else:
+            found.append(it)
     return found
 
 
@@ -100,16 +89,17 @@ def named(pattern, place):
 
 
 def functions(text):
-    """The clauses of each function, in turn: where each is, its patterns, and what follows them."""
+    """The clauses of each function, in turn: where each is, its patterns, and its body's place."""
     found = {}
     for it in ITEM.finditer(text):
         indent, name, left, mark = it.groups()
         if mark == ":":
-            yield from filter(None, [found.pop((indent, name), None)])
+            yield found.pop((indent, name), [])
         elif left:
             after = re.compile(rf"(?m)^ {{0,{len(indent)}}}(?=\S)").search(text, it.end())
             body = it.end(), after.start() if after else len(text)
-            found.setdefault((indent, name), []).append((it.start(), TOKEN.findall(left), body))
+            clause = it.start(), patterns(iter(TOKEN.findall(left))), body
+            found.setdefault((indent, name), []).append(clause)
     yield from found.values()
 
 
@@ -117,13 +107,13 @@ def cases(text):
     """The cases of each `elim`, in turn, as `functions` has clauses."""
     opened = []
     for it in TOKEN.finditer(text):
-        top = opened[-1] if opened else None
+        top = opened[-1] if opened else {"bracket": ""}
         if it[0] in ("[", "(", "{"):
             opened.append({"bracket": it[0], "from": it.end(), "left": None, "all": []})
-        elif top and top["bracket"] == "[" and it[0] in ("|", "]", "↦"):
+        elif top["bracket"] == "[" and it[0] in ("|", "]", "↦"):
             if it[0] == "↦" and not top["left"]:
-                tokens = TOKEN.findall(text, top["from"], it.start())
-                top.update({"left": (top["from"], ["(", *tokens, ")"]), "from": it.end()})
+                left = patterns(iter(TOKEN.findall(text, top["from"], it.start())))
+                top.update({"left": (top["from"], [joined(left)]), "from": it.end()})
             elif it[0] != "↦" and top["left"]:
                 top["all"].append((*top["left"], (top["from"], it.start())))
                 top.update({"left": None, "from": it.end()})
@@ -137,7 +127,7 @@ def faults(text, types, is_source):
     for clauses in [*cases(text), *(() if is_source else functions(text))] if of_type else ():
         seen, rows = {}, []
         for at, left, body in clauses if len(clauses) > 1 else ():
-            row = [it for n, pattern in enumerate(patterns(left)) for it in named(pattern, (n,))]
+            row = [it for n, pattern in enumerate(left) for it in named(pattern, (n,))]
             rows.append((at, row, body))
             for place, name in row:
                 seen.setdefault(place, set()).update(of_type.get(name, ()))

@@ -15,38 +15,34 @@ from concurrent.futures import ProcessPoolExecutor
 import documents
 import kit
 import patterns
+from documents import fault, read
 from sources import ROOT
 
 SECONDS = 120
 HANDLES = "Handles allowed: Threads, Wait.\n"
 # How many edits a crate may have beside those that the table of wrong bodies names.
 MOST_EDITS = 10
-EDIT = re.compile(r"(?:definition-)?\w+-\w+")
 FILE_LINES, BODY_LINES, COLUMNS = 600, 45, 100
-# What is counted of Python, shell and C, and how many lines it may have.
-COUNTED, MOST_LINES = ("tools/", ".ci/", "bench/", "zk", "test", "library"), 5000
+# Where Python, shell and C are counted, and how many lines they may have.
+COUNTED, MOST_LINES = r"(?:tools|\.ci|bench)/|(?:zk|test|library)$", 5000
 PROGRAM = re.compile(r"#!.*\b(?:python3?|bash|sh)\b")
 COMMENT = re.compile(r"(?<!\S)--[^\n]*|\{-.*?-\}", re.S)
-UNFORMATTED = re.compile(r"(?m)^(.*?\.(?:rt|antt))(?: is|: (?:it does not parse: at )?(\d+):\d+:) (.*)$")
-FUNCTION = re.compile(r"( *)(?:[\w()]+ )*fn (\w+)")
-CLAUSE = re.compile(r" *(?:requires|ensures|ghost (?:view|invariant))\b")
+# How `rattle fmt` names a file that isn't in the layout, or the line at which it doesn't parse.
+UNFORMATTED = re.compile(r"(?m)^(.*?\.(?:rt|antt))(?: is|: (?:.*? at )?(\d+):\d+:) (.*)$")
+# A function with a body: its head, and its body by the indentation of its last line.
+FUNCTION = re.compile(
+    r"(?m)^( *)(?:[\w()]+ )*fn (\w+)(?:.*\{|.*[^;{}](?:\n(?:\1 .*)?|\n\1[^ ;{}\n].*[^;{}])*?\n\1.*\{)\n"
+    r"((?:\1 .*\n|\n)*)\1\}"
+)
+CLAUSE = re.compile(r"(?m)^ *(?:requires|ensures|ghost (?:view|invariant))\b.*$")
 # The crates by their names, and the types of each: what the processes of the looks share.
 CRATES, TYPES = {}, {}
 
 
-def short(path):
-    return os.path.relpath(path, ROOT)
-
-
-def text_of(path):
-    with open(path, encoding="utf-8", errors="replace") as file:
-        return file.read()
-
-
 def files_of(name):
-    """The files of a crate in Rattle's languages."""
+    """The files of a crate in Rattle's languages, from the top."""
     found = kit.toolchain().rtlib.files_of(CRATES[name].folder)
-    return [it for it in found if it.endswith((".rt", ".antt"))]
+    return [os.path.relpath(it, ROOT) for it in found if it.endswith((".rt", ".antt"))]
 
 
 def refusals(look, *given):
@@ -65,139 +61,118 @@ def texts(name):
     """What `rt ci` refuses in a crate before any proof."""
     rt, crate = kit.toolchain(), CRATES[name]
     looks = (rt.rtlib.stop_on_links, crate.folder), (rt.rtlib.stop_on_text, crate, "verdict")
-    faults = [it for look in (*looks, (rt.stop_on_words, crate)) for it in refusals(*look)]
+    refused = [it for look in (*looks, (rt.stop_on_words, crate)) for it in refusals(*look)]
+    yield from refused
     words = [(rt.RENAMES, "renames std, or takes it whole"), (rt.IGNORED, "a test that is ignored")]
-    lacking = [it for it in rt.REACHES if it not in crate.allowed]
-    words += [(rt.REACHES[it], f"needs the handle {it}") for it in lacking]
-    sources = {} if faults else rt.rtlib.blanked(crate.folder)
-    for path, text in ((it, sources[it]) for it in sources if it.endswith(".rt")):
-        found = ((it.start(), why) for pattern, why in words for it in re.finditer(pattern, text))
-        faults += [documents.at(short(path), text, *it) for it in found]
-        if path.endswith(("/src/main.rt", "/src/lib.rt")) and not re.search(rt.ASKS, text):
-            faults.append(f"{short(path)}:1: there is no line #![tactic(auto)]")
-    return faults
+    handles = [it for it in rt.REACHES if it not in crate.allowed]
+    words += [(rt.REACHES[it], f"needs the handle {it}") for it in handles]
+    for path, text in (() if refused else rt.rtlib.blanked(crate.folder).items()):
+        path = os.path.relpath(path, ROOT)
+        for pattern, why in words if path.endswith(".rt") else ():
+            yield from (fault(path, text, it.start(), why) for it in re.finditer(pattern, text))
+        if re.search(r"/src/(?:main|lib)\.rt$", path) and not re.search(rt.ASKS, text):
+            yield f"{path}:1: there is no line #![tactic(auto)]"
 
 
 def unread(folder):
     """Files in Rattle's languages below a folder that no check reads."""
-    look = kit.toolchain().rtlib.stop_on_unread
-    return refusals(look, f"{ROOT}/{folder}", [*CRATES.values()])
+    return refusals(kit.toolchain().rtlib.stop_on_unread, f"{ROOT}/{folder}", [*CRATES.values()])
 
 
 def unformatted(files):
-    """The files that aren't in the layout, or don't parse: file, line or nothing, and why."""
+    """The files that aren't in the layout, or don't parse: each with a line or none, and why."""
     words = [kit.toolchain().rtlib.RATTLE, "fmt", "--check", *files]
-    ran = subprocess.run(words, capture_output=True, text=True, timeout=SECONDS)
+    ran = subprocess.run(words, cwd=ROOT, capture_output=True, text=True, timeout=SECONDS)
     found = UNFORMATTED.findall(ran.stdout + ran.stderr)
     if ran.returncode not in (0, 1) or bool(found) != bool(ran.returncode):
-        raise OSError(f"rattle fmt: status {ran.returncode}: {ran.stderr[-500:]}")
+        raise OSError(f"rattle fmt ended with {ran.returncode}: {ran.stderr[-500:]}")
     return found
 
 
 def layout(names):
     found = unformatted([it for name in names for it in files_of(name)])
-    return [f"{short(path)}:{line or 1}: {why}" for path, line, why in found]
+    return [f"{path}:{line or 1}: {why}" for path, line, why in found]
 
 
 def edits(name):
-    """Edits of a crate that can't be put, or whose text doesn't parse; and whether they are too many."""
-    rt, crate = kit.toolchain(), CRATES[name]
-    good, bad = rt.edits_of(crate)
-    faults, made = [f"{short(it)}:1: no edit's name, or not right in must-fail/" for it in bad], {}
-    others = {f"{name}/{os.path.basename(it)[:-5]}" for it in good} - documents.edits_named()
+    """Edits of a crate that can't be put, or whose text doesn't parse; and too many edits."""
+    good, bad = kit.toolchain().edits_of(CRATES[name])
+    good, made = [os.path.relpath(it, ROOT) for it in good], {}
+    yield from (f"{os.path.relpath(it, ROOT)}:1: no edit's name or place" for it in bad)
+    others = {f"{name}/{os.path.basename(it)[:-5]}" for it in good} - documents.named_edits()
     if len(others) > MOST_EDITS:
-        faults.append(f"{short(crate.folder)}/must-fail:1: {len(others)} edits, {MOST_EDITS} at most")
+        yield f"crates/{name}/must-fail:1: {len(others)} edits, {MOST_EDITS} at most"
     with tempfile.TemporaryDirectory(prefix="jellqupas-quick-") as room:
         for edit in good:
-            changed, why = rt.read_edit(edit, crate.folder)
-            is_spec = any(it.startswith("specs/") for it in changed or ())
-            label = os.path.basename(edit)[:-5]
-            if not EDIT.fullmatch(label) or not why and is_spec != label.startswith("definition-"):
-                why = "FUNCTION-bug_in_words.edit, or definition-WORD-bug_in_words.edit of specs/"
-            faults += [f"{short(edit)}:1: {why}"] * bool(why)
+            changed, why = kit.toolchain().read_edit(f"{ROOT}/{edit}", CRATES[name].folder)
+            if not re.fullmatch(r"\w+(?:-\w+)+\.edit", os.path.basename(edit)):
+                why = why or "it isn't named FUNCTION-bug_in_words.edit"
+            yield from [f"{edit}:1: {why}"] * bool(why)
             for path, text in (changed or {}).items():
-                made[f"{room}/{len(made)}{os.path.splitext(path)[1]}"] = edit
-                with open([*made][-1], "w", encoding="utf-8") as file:
+                copy = f"{room}/{len(made)}{os.path.splitext(path)[1]}"
+                made[copy] = f"{edit}:1: then {path}"
+                with open(copy, "w", encoding="utf-8") as file:
                     file.write(text)
-        wrong = [it for it in unformatted([*made]) if it[1]] if made else ()
-    return faults + [f"{short(made[path])}:1: line {line} of it: {why}" for path, line, why in wrong]
+        wrong = unformatted([*made]) if made else ()
+    yield from (f"{made[path]}:{line}: {why}" for path, line, why in wrong if line)
 
 
 def variables(name):
     """Variables in patterns that are spelled like a constructor."""
-    faults = []
     for path in files_of(name):
-        text = COMMENT.sub(lambda it: re.sub(r"[^\n]", " ", it[0]), text_of(path))
+        text = COMMENT.sub(lambda it: re.sub(r"[^\n]", " ", it[0]), read(path))
         for place, variable, constructor in patterns.faults(text, TYPES, path.endswith(".rt")):
             what = f"the pattern's variable {variable} is spelled like {constructor}"
-            faults.append(documents.at(short(path), text, place, what))
-    return faults
+            yield fault(path, text, place, what)
 
 
 def sizes(name):
     """Files and functions that are too long, and clauses that are too wide."""
-    faults = []
-    for path in files_of(name):
-        lines = text_of(path).split("\n")
-        if len(lines) > FILE_LINES + 1:
-            faults.append(f"{short(path)}:1: {len(lines) - 1} lines")
-        for number, line in enumerate(lines if path.endswith(".rt") else (), 1):
-            head = FUNCTION.match(line)
-            if head and (long := length_of_body(lines[number - 1:], head[1])) > BODY_LINES:
-                faults.append(f"{short(path)}:{number}: {head[2]}: {long} lines of body")
-            if CLAUSE.match(line) and len(line) > COLUMNS:
-                faults.append(f"{short(path)}:{number}: a clause of {len(line)} columns")
-    return faults
-
-
-def length_of_body(lines, indent):
-    """The lines of the body of a function whose head is the first of these lines."""
-    ends = re.compile(rf"{indent}\S.*[;{{}}]$|{indent}[{{}}]$")
-    begin = next((at for at, it in enumerate(lines) if ends.match(it)), 0)
-    end = next((at for at, it in enumerate(lines) if at > begin and it == f"{indent}}}"), begin)
-    return end - begin if lines[begin].endswith("{") else 0
+    for path, text in ((it, read(it)) for it in files_of(name)):
+        if (lines := text.count("\n")) > FILE_LINES:
+            yield f"{path}:1: {lines} lines"
+        for it in FUNCTION.finditer(text if path.endswith(".rt") else ""):
+            if (lines := it[3].count("\n")) >= BODY_LINES:
+                yield fault(path, text, it.start(), f"{it[2]}: {lines} lines of body")
+        for it in CLAUSE.finditer(text if path.endswith(".rt") else ""):
+            if len(it[0]) > COLUMNS:
+                yield fault(path, text, it.start(), f"a clause of {len(it[0])} columns")
 
 
 def counts(paths):
     """Whether there is too much of Python, shell and C."""
-    count = 0
-    for path in (it for it in paths if it.startswith(COUNTED[:3]) or it in COUNTED[3:]):
-        text = documents.read(path)
-        if path.endswith((".py", ".sh", ".c", ".h")) or PROGRAM.match(text):
-            count += text.count("\n")
-    few = f"{count} lines of Python, shell and C, {MOST_LINES} at most"
-    return [f"tools:1: {few}"] if count > MOST_LINES else []
+    found = {it: read(it) for it in paths if re.match(COUNTED, it)}
+    is_code = lambda it: it.endswith((".py", ".sh", ".c", ".h")) or PROGRAM.match(found[it])
+    count = sum(text.count("\n") for it, text in found.items() if is_code(it))
+    if count > MOST_LINES:
+        yield f"tools:1: {count} lines of Python, shell and C, {MOST_LINES} at most"
 
 
 def committed(paths):
     """Files that rt makes, and the line that says which handles are allowed."""
-    made = [f"{it}:1: rt makes it" for it in paths if re.search(r"(^|/)out/", it)]
-    return made + [f"HANDLES:1: it is {HANDLES!r}"] * (documents.read("HANDLES") != HANDLES)
-
-
-def listed():
-    """The files that git knows or would add; none where this is no checkout."""
-    words = ["git", "-C", ROOT, "ls-files", "-z", "--cached", "--others", "--exclude-standard"]
-    ran = subprocess.run(words, capture_output=True, text=True, timeout=SECONDS)
-    return sorted({it for it in ran.stdout.split("\0") if os.path.isfile(f"{ROOT}/{it}")})
+    yield from (f"{it}:1: rt makes it" for it in paths if re.search(r"(?:^|/)out/", it))
+    if read("HANDLES") != HANDLES:
+        yield f"HANDLES:1: it isn't {HANDLES!r}"
 
 
 def tasks():
-    """Each look with what it is given, the longest first."""
-    paths = listed()
+    """Each look with what it is given: a crate, some crates, a folder, or all files."""
+    words = ["git", "-C", ROOT, "ls-files", "-z", "--cached", "--others", "--exclude-standard"]
+    listed = subprocess.run(words, capture_output=True, text=True, timeout=SECONDS, check=True)
+    paths = sorted({it for it in listed.stdout.split("\0") if os.path.isfile(f"{ROOT}/{it}")})
     names = sorted(CRATES, key=lambda it: -len(CRATES[it].below()))
-    found = [(look, it) for look in (texts, edits, variables, sizes) for it in names]
-    found += [(layout, names[it::4]) for it in range(4)]
-    found += [(unread, it) for it in sorted({it.partition("/")[0] for it in paths if "/" in it})]
-    whole = (
-        counts, committed, documents.links, documents.paths_named, documents.wide_lines,
-        documents.citations, documents.numbers, documents.wrong_bodies,
+    yield from ((look, it) for look in (texts, edits, variables, sizes) for it in names)
+    yield from ((layout, names[it::4]) for it in range(4))
+    yield from ((unread, it) for it in sorted({it.partition("/")[0] for it in paths if "/" in it}))
+    of_documents = (
+        documents.links, documents.named_paths, documents.wide_lines, documents.citations,
+        documents.numbers, documents.wrong_bodies,
     )
-    return found + [(look, paths) for look in whole]
+    yield from ((look, paths) for look in (counts, committed, *of_documents))
 
 
 def read_crates():
-    """Reads the crates and their types, and returns what the toolchain refuses there."""
+    """Reads the crates and their types, as far as the toolchain takes them."""
     rt = kit.toolchain()
     os.chdir(ROOT)
     rt.Crate.allowed = rt.handles_of(ROOT)
@@ -205,21 +180,20 @@ def read_crates():
     for name in CRATES:
         TYPES[name] = {}
         for path in files_of(name):
-            TYPES[name].update(patterns.declared(text_of(path)))
+            TYPES[name].update(patterns.declared(read(path)))
 
 
-def listed_faults(look, given):
+def found_by(look, given):
     return [*look(given)]
 
 
 def main():
-    refused = refusals(read_crates)
-    passed, failed, faults = 0, bool(refused), list(refused)
+    found = [refusals(read_crates)]
     fork = multiprocessing.get_context("fork")
     with ProcessPoolExecutor(len(os.sched_getaffinity(0)), fork) as pool:
-        for it in [pool.submit(listed_faults, *task) for task in ([] if refused else tasks())]:
-            found = it.result()
-            faults += found
-            passed, failed = passed + (not found), failed + bool(found)
-    print(*faults, f"{passed} passed, {failed} failed, 0 skipped", sep="\n", flush=True)
+        given = [] if found[0] else [pool.submit(found_by, *it) for it in tasks()]
+        found += [it.result() for it in given]
+    failed = sum(map(bool, found))
+    faults = [line for lines in found for line in lines]
+    print(*faults, f"{len(found) - failed} passed, {failed} failed, 0 skipped", sep="\n")
     return 1 if failed else 0
