@@ -31,7 +31,8 @@ COMMENT = re.compile(r"(?<!\S)--[^\n]*|\{-.*?-\}", re.S)
 UNFORMATTED = re.compile(r"(?m)^(.*?\.(?:rt|antt))(?: is|: (?:.*? at )?(\d+):\d+:) (.*)$")
 # A function with a body: its head, and its body by the indentation of its last line.
 FUNCTION = re.compile(
-    r"(?m)^( *)(?:[\w()]+ )*fn (\w+)(?:.*\{|.*[^;{}](?:\n(?:\1 .*)?|\n\1[^ ;{}\n].*[^;{}])*?\n\1.*\{)\n"
+    r"(?m)^( *)(?:[\w()]+ )*fn (\w+)"
+    r"(?:.*\{|.*[^;{}\n](?:\n(?:\1 .*)?|\n\1[^ ;{}\n].*[^;{}\n])*?\n\1.*\{)\n"
     r"((?:\1 .*\n|\n)*)\1\}"
 )
 CLAUSE = re.compile(r"(?m)^ *(?:requires|ensures|ghost (?:view|invariant))\b.*$")
