@@ -18,7 +18,7 @@ import patterns
 from documents import fault, read
 from sources import ROOT
 
-SECONDS = 120
+SECONDS = 300
 HANDLES = "Handles allowed: Threads, Wait.\n"
 # How many edits a crate may have beside those that the table of wrong bodies names.
 MOST_EDITS = 10
@@ -159,7 +159,9 @@ def committed(paths):
 def tasks():
     """Each look with what it is given: a crate, some crates, a folder, or all files."""
     words = ["git", "-C", ROOT, "ls-files", "-z", "--cached", "--others", "--exclude-standard"]
-    listed = subprocess.run(words, capture_output=True, text=True, timeout=SECONDS, check=True)
+    listed = subprocess.run(words, capture_output=True, text=True, timeout=SECONDS)
+    if listed.returncode:
+        raise OSError("git lists no files here")
     paths = sorted({it for it in listed.stdout.split("\0") if os.path.isfile(f"{ROOT}/{it}")})
     names = sorted(CRATES, key=lambda it: -len(CRATES[it].below()))
     yield from ((look, it) for look in (texts, edits, variables, sizes) for it in names)
@@ -185,15 +187,18 @@ def read_crates():
 
 
 def found_by(look, given):
-    return [*look(given)]
+    try:
+        return [*look(given)]
+    except (OSError, subprocess.SubprocessError) as error:
+        return [f"{look.__name__}: {error}"]
 
 
 def main():
     found = [refusals(read_crates)]
+    given = [] if found[0] else [*tasks()]
     fork = multiprocessing.get_context("fork")
     with ProcessPoolExecutor(len(os.sched_getaffinity(0)), fork) as pool:
-        given = [] if found[0] else [pool.submit(found_by, *it) for it in tasks()]
-        found += [it.result() for it in given]
+        found += [it.result() for it in [pool.submit(found_by, *it) for it in given]]
     failed = sum(map(bool, found))
     faults = [line for lines in found for line in lines]
     print(*faults, f"{len(found) - failed} passed, {failed} failed, 0 skipped", sep="\n")
