@@ -79,7 +79,8 @@ def named_paths(paths):
                 places = it[0], f"crates/{it[0]}", f"crates/{it[0].replace('/', '/must-fail/', 1)}"
                 ends = ("", ".antt", ".rt", ".edit")
                 found = (os.path.exists(f"{ROOT}/{at}{end}") for at in places for end in ends)
-                if it[1] in tops and not any(found):
+                is_form = re.search(r"/[A-Z]+(?:/|$)", it[0])
+                if it[1] in tops and not is_form and not any(found):
                     yield fault(path, text, quoted.start(), f"there is no {it[0]}")
 
 
@@ -121,19 +122,25 @@ def value(text):
     return int(number, 0) << int(shift or "0", 0)
 
 
+def named_bodies(pattern):
+    """What is like the pattern in the last column of the table of wrong bodies."""
+    rows = re.finditer(r"(?m)^\|.*\|([^|\n]*)\|[ \t]*$", read(WRONG_BODIES))
+    return [(row.start(), it) for row in rows for it in re.finditer(pattern, row[1])]
+
+
 def named_edits():
-    """The edits that the table of wrong bodies names in its last column, as crate/name."""
-    rows = re.findall(r"(?m)^\|.*\|([^|\n]*)\|[ \t]*$", read(WRONG_BODIES))
-    return {it.removesuffix(".edit") for row in rows for it in re.findall(r"`(\w+/[\w.-]+)`", row)}
+    """The edits that the table of wrong bodies names, as crate/name."""
+    found = {it[1]: at for at, it in named_bodies(r"`(\w+/[\w.-]+)`")}
+    return {it: at for it, at in found.items() if not it.startswith("rows/")}
 
 
 def wrong_bodies(paths):
-    """Edits, tests and other items that the table of wrong bodies names, and that aren't there."""
+    """Edits and tests that the table of wrong bodies names, and that aren't there."""
     text = read(WRONG_BODIES)
-    for it in sorted(named_edits()):
+    for it, at in named_edits().items():
         if f"crates/{it.replace('/', '/must-fail/')}.edit" not in paths:
-            yield fault(WRONG_BODIES, text, text.find(it), f"there is no edit {it}")
-    for it in re.finditer(r"`(\w+)(?:::\w+)*::(\w+)`", text):
+            yield fault(WRONG_BODIES, text, at, f"there is no edit {it}")
+    for at, it in named_bodies(r"`([a-z]\w*)(?:::\w+)*::(\w+)`"):
         sources = "".join(read(path) for path in paths if path.startswith(f"crates/{it[1]}/src/"))
         if not re.search(rf"\b(?:fn|struct|enum|trait|type|const|mod) {it[2]}\b", sources):
-            yield fault(WRONG_BODIES, text, it.start(), f"there is no {it[0]}")
+            yield fault(WRONG_BODIES, text, at, f"there is no {it[0]}")

@@ -100,7 +100,7 @@ def edits(name):
     good, bad = kit.toolchain().edits_of(CRATES[name])
     good, made = [os.path.relpath(it, ROOT) for it in good], {}
     yield from (f"{os.path.relpath(it, ROOT)}:1: no edit's name or place" for it in bad)
-    others = {f"{name}/{os.path.basename(it)[:-5]}" for it in good} - documents.named_edits()
+    others = {f"{name}/{os.path.basename(it)[:-5]}" for it in good} - {*documents.named_edits()}
     if len(others) > MOST_EDITS:
         yield f"crates/{name}/must-fail:1: {len(others)} edits, {MOST_EDITS} at most"
     with tempfile.TemporaryDirectory(prefix="jellqupas-quick-") as room:
