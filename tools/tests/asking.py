@@ -1,0 +1,182 @@
+"""Requests of each kind, refusals with their codes, watches, sessions and limits, in raw frames."""
+import time
+
+from frames import *
+from report import want, want_same
+from servers import Server, until
+from wire import NO_SESSION, Answer, Ended, Event, Wire, greeted, refused
+
+BAD_PATHS = (
+    b"", b"a", b"//", b"/.", b"/a\0b", b"/a\x7f", b"/a/", b"/a/..", b"/a b", b"/\xff", None,
+    b"/a\n1 delete /a any", b"/zookeeper/a", b"/" + b"n" * 256, b"/n" * 65, b"/nnnn" * 64 * 4,
+)
+BODIES = {CREATE: create_body, GET: look_body, SET: set_body, DELETE: at_version}
+REFUSED = (
+    *((NO_NODE, op, look_body("/no")) for op in (EXISTS, GET, LS, LS2)),
+    *((NO_NODE, op, create_body("/no/a")) for op in (CREATE, CREATE2)),
+    *((EXISTS_ALREADY, op, create_body("/a")) for op in (CREATE, CREATE2)),
+    (NO_NODE, SET, set_body("/no")), (NO_NODE, DELETE, at_version("/no")),
+    (NO_NODE, GET_ACL, text("/no")), (NO_NODE, CREATE_TTL, create_body("/no/a", kind=TTL, ttl=999)),
+    (NOT_EMPTY, DELETE, at_version("/a")), (NO_CHILDREN, CREATE, create_body("/e/a")),
+    (VERSION, DELETE, at_version("/a/b", 1)), (VERSION, SET, set_body("/a", version=7)),
+    (VERSION, SET, set_body("/a", version=-2)), (VERSION, CHECK, at_version("/a", 5)),
+    *((ACL, CREATE, create_body("/x", acls=it)) for it in (acl(1), acl(name="me"), int4(0))),
+    *((UNIMPLEMENTED, op, text("/a") + int4(3)) for op in (16, 17, 18, 102, 106, 999, -77)),
+    (UNIMPLEMENTED, SET_ACL, text("/a") + acl() + int4(-1)),
+    (UNIMPLEMENTED, CONTAINER, create_body("/x", kind=4)),
+    *((ARGUMENTS, CREATE, create_body("/x", kind=kind)) for kind in (7, -1, 5, 6)),
+    *((ARGUMENTS, CREATE_TTL, create_body("/x", kind=TTL, ttl=it)) for it in (0, -1, 1 << 62)),
+    (ARGUMENTS, CREATE, create_body("/x", b"x" * 65537)), (ARGUMENTS, DELETE, at_version("/")),
+    (ARGUMENTS, CREATE, create_body("/" + "n" * 255, kind=SEQUENTIAL)),
+    (ARGUMENTS, MULTI, multi_body(*[(CHECK, at_version("/a"))] * 65)),
+    *((ARGUMENTS, op, body(it)) for it in BAD_PATHS for op, body in BODIES.items()),
+)
+
+
+# A path and how it is watched, a change, and the events that are sent.
+WATCHED = (
+    ("/a", GET, ("set", "/a"), (CHANGED, "/a")), ("/a", EXISTS, ("set", "/a"), (CHANGED, "/a")),
+    ("/b", EXISTS, ("create", "/b"), (CREATED, "/b")), ("/a", LS, ("set", "/a")),
+    ("/b", GET, ("delete", "/b"), (DELETED, "/b")), ("/no", GET, ("create", "/no")),
+    ("/a", LS, ("create", "/a/c"), (CHILD, "/a")), ("/no", GET, ("set", "/no", b"", 5)),
+    ("/a", LS2, ("delete", "/a/c"), (CHILD, "/a")),
+    ("/no", LS, ("delete", "/no"), (DELETED, "/no")),
+)
+
+
+def requests(builds):
+    """Each request, and what is refused and so changes nothing."""
+    with Server(builds) as server, server.client() as it, server.client() as other:
+        want_same(it.create("/a", b"hi"), "/a", "a create")
+        stat = it.exists("/a")
+        want_same((stat.czxid, stat.mzxid, stat.pzxid), (it.zxid,) * 3, "its zxids")
+        want_same(stat[4:10], (0, 0, 0, 0, 2, 0), "the rest of its stat")
+        want(stat.ctime == stat.mtime > 1_600_000_000_000, f"its times: {stat}")
+        made = it.call(CREATE2, create_body("/a/b", b"ho"), Reader.named)
+        want_same(made, ("/a/b", it.exists("/a/b")), "a create with its stat")
+        body = create_body("/a/t-", kind=TTL_SEQUENTIAL, ttl=60000)
+        made = it.call(CREATE_TTL, body, Reader.named)
+        want_same(made, ("/a/t-0000000000", it.exists("/a/t-0000000000")), "one with a TTL")
+        new = it.set("/a", b"second", 0)
+        want_same((new.version, new.length, new.mzxid), (1, 6, it.zxid), "the stat of a set")
+        want_same((new.czxid, new.ctime, new.cversion), (stat.czxid, stat.ctime, 2), "what stays")
+        want_same(other.get("/a"), (b"second", new), "what another client gets")
+        names = other.call(LS2, look_body("/a"), lambda it: (it.texts(), it.stat()))
+        want_same(names, (["b", "t-0000000000"], it.exists("/a")), "names and a stat")
+        want_same(it.call(SYNC, text("/a"), Reader.text), "/a", "a sync")
+        want_same(it.ask(GET_ACL, text("/a")).body[: len(acl())], acl(), "the ACL of a node")
+        want_same(it.ask(CHECK, at_version("/a", 1))[2:], (OK, b""), "a check")
+        for xid in (0, 7, 7, 2**31 - 1, -2**31, -100):
+            want_same(it.ask(EXISTS, look_body("/a"), xid).code, OK, f"an xid of {xid}")
+        for _ in range(300):
+            it.post(CREATE, create_body("/n", kind=SEQUENTIAL), 1)
+            it.post(GET, look_body("/none"), 2)
+        got = [(it.answer(1).body, it.answer(2).code) for _ in range(300)]
+        want_same(got, [(text(f"/n{i:010}"), NO_NODE) for i in range(300)], "all in their order")
+        it.create("/e", kind=EPHEMERAL)
+        before, zxid = it.exists("/"), it.zxid
+        for code, op, body in REFUSED:
+            want_same(it.ask(op, body)[2:], (code, b""), f"{op} {body[:80]}")
+        want_same((it.exists("/"), it.zxid), (before, zxid), "a refusal changes nothing")
+        for scheme, code in (("digest", OK), ("ip", AUTH_FAILED)):
+            auth = int4(0) + text(scheme) + text("me:secret")
+            want_same(it.ask(AUTH, auth, AUTH_XID).code, code, f"auth by {scheme}")
+        want(it.is_ended(), "auth by no scheme closes the connection")
+
+
+def watches(builds):
+    """Each change is sent once to who waits for it, before any reply that shows it."""
+    with Server(builds, tick=500) as server, server.client() as it, server.client() as other:
+        it.create("/a")
+        for path, look, (name, *words), *events in WATCHED:
+            for _ in range(2):
+                it.ask(look, look_body(path, True))
+            it.seen.clear()
+            refused(getattr(other, name), *words)
+            want_same((it.events(), other.events()), (events, []), f"{look} of {path}")
+        it.events()
+        it.get("/a", True)
+        it.seen.clear()
+        it.set("/a", b"1")
+        want_same([type(x) for x in it.seen], [Event, Answer], "before the reply to the change")
+        it.call(CREATE_TTL, create_body("/t", kind=TTL, ttl=2000), Reader.named)
+        it.exists("/t", True)
+        want_same(it.next(), (DELETED, "/t"), "what a tick takes away")
+        with server.client(timeout=1000) as short:
+            short.create("/e", kind=EPHEMERAL)
+            it.exists("/e", True)
+            want_same(it.next(), (DELETED, "/e"), "what a session's end takes away")
+        for path in ("/same", "/gone", "/up"):
+            it.create(path)
+        since, paths = it.zxid, (["/a", "/gone", "/same"], ["/made", "/new"], ["/up", "/same"])
+        other.set("/a"), other.delete("/gone"), other.create("/made"), other.create("/up/x")
+        it.events()
+        it.call(SET_WATCHES, watches_body(since, *paths))
+        wanted = [(CREATED, "/made"), (DELETED, "/gone"), (CHANGED, "/a"), (CHILD, "/up")]
+        want_same(it.events(), wanted, "what has changed since")
+        other.set("/a"), other.create("/new"), other.set("/same")
+        want_same(it.events(), [(CREATED, "/new"), (CHANGED, "/same")], "the rest waits")
+
+
+def sessions(builds):
+    with Server(builds, tick=300) as server, server.client() as other:
+        for asked, granted in ((1500, 1500), (0, 600), (1 << 30, 6000), (-5, 600)):
+            with server.client(timeout=asked) as it:
+                want(abs(it.timeout - granted) <= 300, f"a timeout of {asked}: {it.timeout}")
+        it = server.client()
+        it.create("/e", kind=EPHEMERAL)
+        right = it.password
+        flipped = [right[:i] + bytes([right[i] ^ 128]) + right[i + 1 :] for i in range(16)]
+        for password in (*flipped, bytes(16), b"", None, right[:15], right + b"\0", other.password):
+            want_same(greeted(server.address, it, password), NO_SESSION, f"{password}")
+        want(it.ping(), "the session and its connection stay")
+        again = server.client(of=it)
+        want(it.is_ended(), "the older connection is closed")
+        want_same((again.session, again.password), (it.session, right), "a session is taken up")
+        want_same(other.exists("/e").owner, again.session, "with its node")
+        again.send(request(1, CLOSE) + request(2, CREATE, create_body("/late")))
+        want(again.next().code == OK and again.is_ended(), "it is closed, and its connection")
+        want_same(other.ls("/"), [], "its node is gone, and nothing after it is done")
+        want_same(greeted(server.address, it, right), NO_SESSION, "a closed session")
+        with server.client(timeout=900) as short:
+            short.create("/e", kind=EPHEMERAL)
+            for _ in range(10):
+                time.sleep(0.2)
+                short.get("/e")
+            began = time.monotonic()
+            want(until(lambda: refused(other.exists, "/e") == NO_NODE), "a session runs out")
+            want(0.5 * short.timeout < 1000 * (time.monotonic() - began), "after its timeout")
+            want(short.is_ended(), "its connection is closed")
+
+
+def is_room(server):
+    """Whether one more session is opened."""
+    try:
+        with Wire(server.address) as wire:
+            return bool(wire.greet())
+    except Ended:
+        return False
+
+
+def limits(builds):
+    """Nodes, the depth of a path, watches and sessions that are too many."""
+    with Server(builds) as server, server.client() as it, server.client() as other:
+        deep = ""
+        for _ in range(64):
+            deep = it.create(f"{deep}/d")
+        want_same(refused(it.create, f"{deep}/d"), ARGUMENTS, "64 names, and one more")
+        for number in range(4096 - 64):
+            it.post(CREATE, create_body(f"/m{number}"), 1)
+        codes = [it.answer(1).code for _ in range(4096 - 64)]
+        want_same((codes.count(OK), codes[-1]), (4096 - 65, SYSTEM), "nodes, and one too many")
+        it.delete("/m0")
+        for number in range(10000):
+            it.post(EXISTS, look_body(f"/w{number}", True))
+        want_same({it.next().code for _ in range(10000)}, {NO_NODE}, "10,000 watches")
+        want_same((refused(other.get, "/", True), other.get("/")[0]), (SYSTEM, b""), "one more")
+        it.create("/w0")
+        want_same((it.events(), refused(other.get, "/", True)), ([(CREATED, "/w0")], None), "room")
+        count = 0
+        while count < 1024 and is_room(server):
+            count += 1
+        want(1000 < count < 1024, f"{count} sessions beside those that were there")

@@ -1,0 +1,202 @@
+"""The server for ZooKeeper's clients: its bytes, its host, and the recipes of kazoo over it."""
+import os
+import resource
+import signal
+import socket
+import sys
+import time
+
+import asking
+import hostile
+from frames import CREATE, GET, SEQUENTIAL, create_body, greeting, int4, look_body, request
+from report import Skipped, Test, want, want_same
+from servers import Server, ended, until, words_of
+from wire import Ended, Wire
+
+RECIPES = f"{os.path.dirname(os.path.abspath(__file__))}/recipes.py"
+MOST, DATA, ESTABLISHED = 1000, 1 << 16, 1
+BAD_WORDS = (
+    "frob", "--frob", "--servers", "--servers 0", "--servers 17", "--servers 3x", "--servers=",
+    "--tick 9", f"--tick {'9' * 20}", "--tick 1e3", "--sync often", "--journal 0", "--listen",
+    "--data ", "--servers 3 ", *(f"--listen {it}" for it in (
+        "2181", "127.0.0.1", "127.0.0.1:", ":1", "127.0.0.1:65536", "127.0.0.1:-1", "999.0.0.1:1",
+        "somewhere:1", "::1:2181", "[::g]:1", "[]:1", "1" * 999 + ":1")),
+)
+FOUR_LETTERS = ((b"ruok", b"imok"), (b"isro", b"rw"), (b"envi", b"zookeeper.version="),
+                (b"srvr", b"\nMode: standalone\n"), (b"mntr", b"\nzk_num_alive_connections\t"))
+
+
+def with_kazoo():
+    """A Python that has kazoo."""
+    for it in (sys.executable, "/usr/bin/python3"):
+        if os.access(it, os.X_OK) and not ended([it, "-c", "import kazoo"])[0]:
+            return it
+    raise Skipped("no Python here has the package kazoo")
+
+
+def recipes(builds, tally):
+    python = builds.once("kazoo", with_kazoo)
+    with Server(builds) as server:
+        status, out, said = ended([python, "-B", RECIPES, server.at], 300)
+    for line in out.splitlines():
+        tally.passes() if line.startswith("ok ") else tally.fails("kazoo", line)
+    want((status, out.count("\n")) == (0, 9), f"kazoo's recipes: {status} {out} {said}")
+
+
+def words(builds):
+    own = words_of(builds)
+    for given in BAD_WORDS:
+        status, out, said = ended([*own, *given.split(" ")])
+        want_same((status, out, said.count("\n")), (2, "", 1), f"{given}: {said}")
+    for given, has in (("--help", "--listen"), ("--version", "jellqupas ")):
+        want(has in ended([own[0], given])[1], given)
+    for given in ("--listen=127.0.0.1:0", "--servers=16", "--tick=10", "--tick 3600000"):
+        with Server(builds, words=given.split(" ")) as server:
+            want(server.serves(), given)
+
+
+def addresses(builds):
+    with Server(builds) as server, server.client() as it:
+        for at in (server.at, "203.0.113.7:0"):
+            status, _, said = ended([*words_of(builds), "--listen", at])
+            want((status, said.count("\n"), at in said) == (3, 1, True), f"{at}: {status} {said}")
+        server.stop()
+        want(it.is_ended(), "its end closes the connections")
+    with Server(builds, words=["--listen", server.at]) as again:
+        want(again.serves(), "the port is free at once")
+    if not os.path.exists("/proc/net/if_inet6"):
+        return
+    with Server(builds, words=["--listen", "[::1]:0"]) as server:
+        with socket.create_connection(server.address, timeout=30) as it:
+            it.sendall(b"ruok")
+            want_same(it.recv(9), b"imok", "over IPv6")
+
+
+def four_letters(builds):
+    """Words of four letters, which monitors send in the place of a greeting."""
+    with Server(builds) as server, server.client() as other:
+        for word, has in FOUR_LETTERS:
+            for pieces in ([word], [word[:1], word[1:3], word[3:]]):
+                with Wire(server.address) as it:
+                    for piece in pieces:
+                        it.send(piece)
+                        other.ping()
+                    found = it.rest()
+                    want(has in found, f"{word}: {found}")
+
+
+def stalled(server, requests, room=None):
+    """A connection that doesn't read, and the bytes with which it asks for so much."""
+    several = (request(it, GET, look_body("/big")) for it in range(1, requests + 1))
+    return server.client(room=room), b"".join(several)
+
+
+def push(client, data):
+    """Sends what can be sent without waiting."""
+    client.socket.setblocking(False)
+    try:
+        client.socket.send(data)
+    except (BlockingIOError, ConnectionError):
+        pass
+
+
+def closed(clients):
+    """How many of these connections the server has closed."""
+    states = (it.socket.getsockopt(socket.IPPROTO_TCP, socket.TCP_INFO, 1)[0] for it in clients)
+    return sum(it != ESTABLISHED for it in states)
+
+
+def ends(builds):
+    """SIGTERM and SIGINT end it in the middle of anything, and SIGPIPE doesn't."""
+    for sent in (signal.SIGTERM, signal.SIGINT):
+        with Server(builds) as server, server.client() as it, Wire(server.address) as half:
+            it.create("/big", b"x" * DATA)
+            push(*stalled(server, 800))
+            half.send(greeting()[:9])
+            it.send(request(1, CREATE, create_body("/a"))[:20])
+            server.ran.send_signal(signal.SIGPIPE)
+            want(server.serves(), "it goes on")
+            server.stop(sent)
+
+
+def many(builds):
+    """1,000 connections. One more is closed at once, and one that ends leaves a place."""
+    limit = resource.getrlimit(resource.RLIMIT_NOFILE)
+    if limit[0] < 2048:
+        resource.setrlimit(resource.RLIMIT_NOFILE, (min(4096, limit[1]), limit[1]))
+    with Server(builds) as server:
+        clients = [server.client() for _ in range(MOST)]
+        for it in clients:
+            it.post(CREATE, create_body("/n-", kind=SEQUENTIAL))
+        want_same(len({it.next().body for it in clients}), MOST, "each is answered")
+        for _ in range(3):
+            with Wire(server.address) as wire:
+                want(wire.is_ended(), "one more is closed at once")
+        for _ in range(20):
+            clients.pop().drop()
+            want(until(lambda: asking.is_room(server)), "who ends leaves a place")
+        for it in clients:
+            it.drop()
+        want(until(server.serves), "all places are free again")
+
+
+def readers(builds):
+    """Who reads late gets all, in its order. Of who never reads some are closed."""
+    with Server(builds) as server, server.client() as other:
+        other.create("/big", b"x" * DATA)
+        late, data = stalled(server, 100)
+        late.send(data)
+        slow = [stalled(server, 100, room=4096)[0] for _ in range(60)]
+        for it in slow:
+            push(it, data)
+            want(other.ping(), "others are served")
+        for it in slow:
+            # (who is closed is sent so in answer to a byte)
+            push(it, b"\0")
+        want(until(lambda: 0 < closed(slow) < 60), f"{closed(slow)} of 60 are closed")
+        want(server.resident() < 200, f"{server.resident()} MiB for who never reads")
+        got = [late.next() for _ in range(100)]
+        want_same([it.xid for it in got], list(range(1, 101)), "all that was asked for")
+        want({len(it.body) for it in got} == {DATA + 72}, "and whole")
+
+
+def unfinished(builds):
+    """Requests that don't come to their end are bounded, by closing whoever holds most."""
+    with Server(builds) as server, server.client() as other:
+        clients = [server.client() for _ in range(90)]
+        for number, it in enumerate(clients):
+            try:
+                it.send(int4(1_000_009) + bytes(1_000_000 - number))
+            except Ended:
+                pass
+        want(other.ping(), "others are served")
+        want(until(lambda: 20 <= closed(clients) < 90), f"{closed(clients)} are closed")
+        want(server.resident() < 300, f"{server.resident()} MiB")
+        want(server.serves(), "new ones are served")
+
+
+def silence(builds):
+    """Who says nothing, or half a greeting, is closed after 10 s. Who has a session isn't."""
+    with Server(builds) as server, server.client() as it, Wire(server.address) as half:
+        began = time.monotonic()
+        half.send(greeting()[:20])
+        with Wire(server.address) as silent:
+            for wire in (half, silent):
+                want(wire.is_ended(), "it is closed")
+                want(9 <= time.monotonic() - began < 20, f"{time.monotonic() - began:.1f} s")
+        want(it.ping(), "not who has a session")
+
+
+EACH = (
+    asking.limits, asking.sessions, hostile.single_bytes, many, readers, unfinished, silence, words,
+    asking.requests, asking.watches, hostile.frames, addresses, ends, four_letters,
+)
+
+
+def tests(builds):
+    found = [Test("serve: recipes of kazoo", 30, lambda tally: recipes(builds, tally))]
+    found += [Test(f"serve: {it.__name__}", 10, lambda _, it=it: it(builds)) for it in EACH]
+    for first in range(0, 1000, 250):
+        body = lambda _, first=first: hostile.pieces(builds, first)
+        found.append(Test(f"serve: pieces from {first} on", 20, body))
+    return found

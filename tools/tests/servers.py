@@ -1,0 +1,115 @@
+"""Servers with a folder, for tests: a host in C, and the program zk_serve that it starts."""
+import os
+import signal
+import subprocess
+import tempfile
+
+import serving
+from builds import SANITIZERS
+from report import Failed, want, want_same
+from wire import Client, Ended, until
+
+HOST = (*serving.PROGRAM, serving.PIPED)
+# (another status than any of the host's, and what was freed isn't held for long)
+ENVIRONMENT = {**os.environ, "ASAN_OPTIONS": "exitcode=99:quarantine_size_mb=8"}
+# The last line that a server says before it serves.
+LAST = "zk: whoever can connect may do everything: nobody is asked who they are\n"
+
+
+def new_folder(builds):
+    """The name of a folder that isn't there yet."""
+    return f"{tempfile.mkdtemp(dir=builds.room)}/data"
+
+
+def words_of(builds, folder=None, sync="never"):
+    """The words that start a server at any port. Its host has sanitizers where they are there."""
+    try:
+        host = builds.compiled("serve_host", HOST, SANITIZERS)
+    except Failed:
+        host = builds.compiled("serve_host_plain", HOST)
+    words = [host, f"--keeper={builds.program(serving.KEEPER)}", "--listen", "127.0.0.1:0"]
+    return [*words, "--data", folder or new_folder(builds), "--sync", sync]
+
+
+def ended(words, seconds=60, **given):
+    """How a program ended: its status, and what it said."""
+    given = {"stdin": subprocess.DEVNULL, **given} if "input" not in given else given
+    ran = subprocess.run(
+        words, stdout=subprocess.PIPE, stderr=subprocess.PIPE, text=True, env=ENVIRONMENT,
+        timeout=seconds, **given,
+    )
+    return ran.returncode, ran.stdout, ran.stderr
+
+
+def is_running(pid):
+    try:
+        with open(f"/proc/{pid}/stat", encoding="ascii") as file:
+            return file.read().rpartition(")")[2].split()[0] not in "ZX"
+    except OSError:
+        return False
+
+
+class Server:
+    """A server that was started, and that has ended after the block of a `with`."""
+
+    def __init__(self, builds, folder=None, words=(), wrap=(), tick=2000, sync="never"):
+        self.error = tempfile.TemporaryFile()
+        self.ran = subprocess.Popen(
+            [*wrap, *words_of(builds, folder, sync), "--tick", str(tick), *words],
+            stdin=subprocess.DEVNULL, stdout=subprocess.DEVNULL, stderr=self.error, env=ENVIRONMENT,
+        )
+        until(lambda: LAST in self.said() or self.ran.poll() is not None, 60)
+        self.at = self.said().partition("listening on ")[2].split("\n")[0]
+        if not self.at:
+            self.ran.kill()
+            raise Failed(f"it doesn't listen: {self.said()}")
+        host, _, port = self.at.rpartition(":")
+        self.address = host.strip("[]"), int(port)
+
+    def __enter__(self):
+        return self
+
+    def __exit__(self, fault, *_):
+        self.kill() if fault else self.stop()
+
+    def said(self):
+        """What it said on standard error."""
+        # (the place in the file is the server's)
+        return os.pread(self.error.fileno(), 1 << 20, 0).decode(errors="replace")
+
+    def client(self, **given):
+        return Client(self.address, **given)
+
+    def serves(self):
+        """Whether a client is served."""
+        try:
+            with self.client() as it:
+                return it.ping()
+        except Ended:
+            return False
+
+    def resident(self):
+        """The MiB that the host has in memory."""
+        with open(f"/proc/{self.ran.pid}/statm", encoding="ascii") as file:
+            return int(file.read().split()[1]) * os.sysconf("SC_PAGE_SIZE") >> 20
+
+    def below(self):
+        """The processes that the host has started: what keeps its folder."""
+        with open(f"/proc/{self.ran.pid}/task/{self.ran.pid}/children", encoding="ascii") as file:
+            return [int(it) for it in file.read().split()]
+
+    def kill(self, of_child=False):
+        """Kills the host, or what keeps its folder: then both end. Returns the host's status."""
+        keepers = self.below() if self.ran.poll() is None else []
+        os.kill(keepers[0], signal.SIGKILL) if of_child else self.ran.kill()
+        status = self.ran.wait(60)
+        want(until(lambda: not any(map(is_running, keepers))), "what keeps the folder ends")
+        return status
+
+    def stop(self, sent=signal.SIGTERM, status=0, said=""):
+        """Ends it by a signal, if any, and wants this status and nothing more said than this."""
+        if sent:
+            self.ran.send_signal(sent)
+        want(until(lambda: self.ran.poll() is not None, 60) or self.kill(), "it ends")
+        got = self.ran.returncode, self.said().partition(LAST)[2]
+        want_same(got, (status, said), "the server's end")
