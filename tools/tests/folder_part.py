@@ -1,0 +1,259 @@
+"""The folder of a server: what was acknowledged is kept, over kills, full disks and restarts."""
+import base64
+import os
+import random
+import shutil
+import signal
+import tempfile
+import threading
+import time
+
+from frames import *
+from report import Failed, Skipped, Test, want, want_same
+from servers import Server, ended, new_folder, serving, until, words_of
+from wire import NO_SESSION, Ended, greeted, refused
+
+LIVES = 10
+# A journal that is shortened as soon as it may be, and bytes by which a change makes it longer.
+SHORT, PAD = ("--journal", "1"), b" " * 20000
+LARGE, ROOT = bytes(range(256)) * 250, base64.b64encode(b"root").decode()
+TASKS = ("compact", "export", "stat")
+# A command after which a file has at most 65,536 bytes.
+LIMITED = ("sh", "-c", 'trap "" XFSZ; ulimit -f 128; exec "$0" "$@"')
+
+
+class Writer(threading.Thread):
+    """Sets a node of its own to 1, 2, 3, .., many at once, until the server ends."""
+
+    def __init__(self, client, path, many, pad):
+        super().__init__(daemon=True)
+        self.client, self.path, self.many, self.pad, self.codes = client, path, many, pad, set()
+        self.sent = self.answered = int(client.get(path)[0])
+        self.start()
+
+    def run(self):
+        try:
+            while True:
+                numbers = range(self.sent + 1, self.sent + 1 + self.many)
+                self.sent = numbers[-1]
+                for it in numbers:
+                    self.client.post(SET, set_body(self.path, b"%d" % it + self.pad), it)
+                for it in numbers:
+                    self.codes.add(self.client.answer(it).code)
+                    self.answered = it
+        except Ended:
+            self.client.drop()
+
+
+def live(builds, folder, clients, chance, words):
+    """A life that is killed beneath load. Returns what wrote."""
+    server, found = Server(builds, folder, words, sync="batch"), []
+    for number, many in enumerate((1, 1, 4, 30)):
+        former = clients.get(number)
+        it = clients[number] = server.client(of=former)
+        if former:
+            owner = it.exists(f"/e{number}").owner
+            want_same((it.session, owner), (former.session,) * 2, "a session and its node")
+        else:
+            it.create(f"/w{number}", b"0")
+            it.create(f"/e{number}", kind=EPHEMERAL)
+        found.append(Writer(it, f"/w{number}", many, PAD if words and many > 1 else b""))
+    time.sleep(chance.random() * 0.3)
+    of_child = chance.random() < 0.3
+    want_same(server.kill(of_child), 1 if of_child else -signal.SIGKILL, "the status of the host")
+    for it in found:
+        it.join(60)
+        want(not it.is_alive() and it.codes <= {OK}, f"{it.path}: {it.codes}")
+    return found
+
+
+def kills(builds, seed):
+    """Lives that end by SIGKILL, of the host or of what keeps its folder.
+
+    After each all that was acknowledged is there, in its order, and nothing twice. The journals of
+    odd seeds are shortened all the time.
+    """
+    chance, folder, clients, words = random.Random(seed), new_folder(builds), {}, SHORT * (seed % 2)
+    for life in range(LIVES):
+        writers = live(builds, folder, clients, chance, words)
+        with Server(builds, folder) as server, server.client() as it:
+            for one in writers:
+                data, stat = it.get(one.path)
+                holds = one.answered <= int(data) == stat.version <= one.sent
+                want(holds, f"life {life}: {int(data)} of {one.answered} to {one.sent}, {stat}")
+    want(sum(it.answered for it in writers) > LIVES, "something was acknowledged")
+
+
+def seen(client):
+    """What a client sees, but for the times: those go on from when the server was started."""
+    stats = [(data, *stat[:2], *stat[4:]) for data, stat in map(client.get, ("/a", "/a/e"))]
+    return client.ls("/"), client.ls("/a"), stats
+
+
+def restart(builds):
+    """Nodes, sessions and their nodes live on. A session that was closed stays closed."""
+    folder = new_folder(builds)
+    server = Server(builds, folder, tick=200)
+    it, other, short = server.client(), server.client(), server.client(timeout=1000)
+    for path, kind in (("/a", 0), ("/a/e", EPHEMERAL), ("/a/s-", SEQUENTIAL), ("/gone", 0)):
+        it.create(path, b"data", kind)
+    it.set("/a", b"y")
+    it.delete("/gone")
+    other.create("/o", kind=EPHEMERAL)
+    short.create("/short", kind=EPHEMERAL)
+    before, zxid = seen(it), it.zxid
+    server.kill()
+    time.sleep(2)
+    with Server(builds, folder, tick=200) as server:
+        for password in (bytes([it.password[0] ^ 1]) + it.password[1:], bytes(16), other.password):
+            want_same(greeted(server.address, it, password), NO_SESSION, "another password")
+        again = server.client(of=it)
+        want_same((again.session, again.password), (it.session, it.password), "the session")
+        want_same(seen(again), before, "all that was, and no time went by")
+        want_same(again.create("/a/t-", kind=SEQUENTIAL), "/a/t-0000000001", "the next name")
+        want(again.exists("/a/t-0000000001").czxid > zxid, "zxids go on")
+        want(until(lambda: refused(again.exists, "/short") == NO_NODE), "who doesn't come back")
+        want_same(greeted(server.address, short, short.password), NO_SESSION, "isn't taken up")
+        again.call(CLOSE, b"")
+    with Server(builds, folder) as server, server.client() as third:
+        want_same(refused(third.get, "/a/e"), NO_NODE, "a node of a session that was closed")
+        want_same(third.exists("/o").owner, other.session, "the other session lives")
+        want_same(greeted(server.address, it, it.password), NO_SESSION, "a closed one stays closed")
+        want_same(greeted(server.address, other, other.password)[1], other.session, "the other one")
+
+
+def at_rest(builds, folder, task):
+    """How what does something with a folder ended: a server that isn't to serve it, or a task."""
+    if task == "serve":
+        return ended(words_of(builds, folder, "batch"))
+    return ended([builds.program(serving.KEEPER), folder, task, "3"])
+
+
+def shortening(builds):
+    """A journal is shortened while a client goes on, and by `compact`. It keeps all it kept."""
+    folder, longest, size = new_folder(builds), 0, lambda: os.path.getsize(f"{folder}/journal") - 1
+    with Server(builds, folder, SHORT) as server, server.client() as it:
+        it.create("/a")
+        it.create("/a/e", b"mine", EPHEMERAL)
+        for number in range(80):
+            it.set("/a", b"%d" % number + PAD)
+            longest = max(longest, size())
+        before = seen(it)
+        for task in TASKS:
+            in_use = (3, "", "zk: data: the folder is in use\n")
+            want_same(at_rest(builds, folder, task), in_use, f"{task} of a folder in use")
+    want(1000000 < longest < 1100000, f"it had {longest} bytes at most")
+    long, found = size(), at_rest(builds, folder, "compact")
+    want_same(found, (0, f"{size()} bytes, before {long}\n", ""), "compact")
+    want(size() < 60000 and os.listdir(folder) == ["journal"], f"{size()}, {os.listdir(folder)}")
+    with Server(builds, folder) as server, server.client(of=it) as again:
+        want_same((again.session, seen(again)), (it.session, before), "all that was")
+
+
+def export(builds):
+    """The tree of a folder as a script, which makes the same tree. The numbers of `stat`."""
+    folder, large = new_folder(builds), base64.b64encode(LARGE).decode()
+    with Server(builds, folder, tick=60000) as server, server.client(timeout=10**6) as it:
+        for made in ("/a", b"hi"), ("/a/e", b"mine", EPHEMERAL), ("/a-b", LARGE), ("/a/s-", b"", 2):
+            it.create(*made)
+        it.call(CREATE_TTL, create_body("/a/t", b"short", TTL, ttl=600000), Reader.named)
+        it.set("/", b"root")
+    lines = [f"1 set / any {ROOT}", "1 create /a p aGk=", "1 create /a/s-0000000000 p -",
+             "1 create /a/t t:10 c2hvcnQ=", f"1 create /a-b p {large}"]
+    for _ in range(2):
+        status, out, said = at_rest(builds, folder, "export")
+        want_same((status, out.splitlines()), (0, lines), "an export")
+        want(f"(the last is {it.zxid})" in said and said.count("left out: 1\n") == 2, said)
+        stat = dict(it.split(": ") for it in at_rest(builds, folder, "stat")[1].splitlines())
+        wanted = {"nodes": 6, "bytes of data": 15 + len(LARGE), "sessions": 1, "changes": it.zxid,
+                  "bytes of the journal": os.path.getsize(f"{folder}/journal")}
+        want_same({key: int(stat[key]) for key in wanted}, wanted, "stat")
+        want_same(at_rest(builds, folder, "compact")[0], 0, "compact")
+    lines += ["1 get /", "1 get /a-b", "1 ls /", "1 ls /a", "1 exists /a/e", ""]
+    out = ended([builds.program("zk"), "script", "--servers", "3"], input="\n".join(lines))[1]
+    want_same([it.split(" stat ")[0] for it in out.splitlines()][1:], [
+        "ok /a", "ok /a/s-0000000000", "ok /a/t", "ok /a-b", f"ok data {ROOT}",
+        f"ok data {large}", "ok 2 a a-b", "ok 2 s-0000000000 t", "no NoNode",
+    ], "an export that is played")
+
+
+def not_opened(builds):
+    """Folders in use, that aren't there, or are damaged: refused with a line, and untouched."""
+    folder = new_folder(builds)
+    for task in TASKS:
+        want_same(at_rest(builds, folder, task), (3, "", "zk: data: there is no journal\n"), task)
+    want(not os.path.exists(folder), "nothing is made")
+    with Server(builds, folder) as server, server.client() as it, open(f"{folder}-file", "wb"):
+        for name, said in (
+            (folder, "the folder is in use"), (f"{folder}/no/no", "the folder above is missing"),
+            (f"{folder}-file", "not a folder with a regular file"),
+        ):
+            want_same(at_rest(builds, name, "serve"), (3, "", f"zk: data: {said}\n"), name)
+        for number in range(3):
+            it.create(f"/n{number}", b"some data")
+    with open(f"{folder}/journal", "rb") as file:
+        whole = file.read()
+    for held, said in (
+        (b"hello, world\n", "not a journal"), (whole[:25] + b"x" + whole[26:], "damaged at byte 0"),
+        (whole[:19] + b"\x02" + whole[20:], "a journal of version 2"), (whole[:-20], "damaged at"),
+        (whole[:-20] + bytes([whole[-20] ^ 4]) + whole[-19:], "damaged at byte "),
+    ):
+        with open(f"{folder}/journal", "wb") as file:
+            file.write(held)
+        for it in ("serve", *TASKS):
+            status, out, found = at_rest(builds, folder, it)
+            want((status, out, found.count("\n")) == (3, "", 1), f"{said}: {status} {out} {found}")
+            want(found.startswith(f"zk: data: {said}"), f"{said}: {found}")
+        with open(f"{folder}/journal", "rb") as file:
+            want_same(file.read(), held, f"the file after {said}")
+
+
+def fill(builds, folder, wrap=()):
+    """Sets a node until the disk fails. What was acknowledged is kept."""
+    server, elsewhere = Server(builds, folder, (), wrap, sync="batch"), new_folder(builds)
+    it, answered = server.client(), 0
+    it.create("/c", b"x" * 1000)
+    try:
+        for answered in range(1000):
+            it.set("/c", b"%d " % (answered + 1) + b"x" * 1000)
+        raise Failed("it never was full")
+    except Ended:
+        server.stop(0, 4, "zk: data: the disk failed\n")
+    shutil.copytree(folder, elsewhere)
+    with Server(builds, elsewhere) as server, server.client() as it:
+        number = int(it.get("/c")[0].split()[0])
+        want(0 < answered <= number <= answered + 1, f"{number} kept, {answered} acknowledged")
+
+
+def full_disk(builds):
+    """A disk that is full, which root alone can mount; else a limit on the size of a file."""
+    disk = tempfile.mkdtemp(dir=builds.room)
+    if ended(["mount", "-t", "tmpfs", "-o", "size=65536", "jellqupas-test", disk])[0]:
+        return fill(builds, new_folder(builds), LIMITED)
+    try:
+        fill(builds, f"{disk}/data")
+    finally:
+        ended(["umount", "-l", disk])
+
+
+def synced(builds):
+    """A change is synced before it is acknowledged, and with `--sync never` it isn't."""
+    if not shutil.which("strace"):
+        raise Skipped("strace isn't there")
+    for mode in ("batch", "never"):
+        trace = f"{tempfile.mkdtemp(dir=builds.room)}/trace"
+        wrap = ("strace", "-D", "-f", "-e", "trace=fsync,fdatasync", "-o", trace)
+        server = Server(builds, wrap=wrap, sync=mode)
+        with server.client() as it, open(trace, encoding="utf-8") as file:
+            for number in range(5):
+                file.read()
+                it.create(f"/n{number}")
+                want_same(" = 0" in file.read(), mode == "batch", f"a sync at {mode}")
+        server.kill()
+
+
+def tests(builds):
+    each = restart, shortening, export, not_opened, full_disk, synced
+    found = [Test(f"folder: {it.__name__}", 8, lambda _, it=it: it(builds)) for it in each]
+    return found + [Test(f"folder: {LIVES} kills, {it}", 30, lambda _, it=it: kills(builds, it))
+                    for it in range(4)]
