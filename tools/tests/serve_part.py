@@ -3,6 +3,7 @@ import os
 import resource
 import signal
 import socket
+import subprocess
 import sys
 import time
 
@@ -187,9 +188,22 @@ def silence(builds):
         want(it.ping(), "not who has a session")
 
 
+def operator(builds):
+    """Lines of the operator: servers join and fail under a client, which loses nothing."""
+    with Server(builds, lines=subprocess.PIPE) as server, server.client() as it:
+        for number in range(4, 17):
+            for line in (f"join s{number}", "settle", f"fail s{number - 3}", "bad"):
+                server.ran.stdin.write(f"{line}\n".encode())
+                server.ran.stdin.flush()
+                wanted = {"settle": b"quiet\n", "bad": b"bad line\n"}.get(line, b"done\n")
+                want_same(server.ran.stdout.readline(), wanted, line)
+            it.create(f"/n{number}")
+        want_same(len(it.ls("/")), 13, "all that was created")
+
+
 EACH = (
     asking.limits, asking.sessions, hostile.single_bytes, many, readers, unfinished, silence, words,
-    asking.requests, asking.watches, hostile.frames, addresses, ends, four_letters,
+    asking.requests, asking.watches, hostile.frames, addresses, ends, four_letters, operator,
 )
 
 

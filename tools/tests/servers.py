@@ -52,11 +52,11 @@ def is_running(pid):
 class Server:
     """A server that was started, and that has ended after the block of a `with`."""
 
-    def __init__(self, builds, folder=None, words=(), wrap=(), tick=2000, sync="never"):
-        self.error = tempfile.TemporaryFile()
+    def __init__(self, builds, folder=None, words=(), wrap=(), tick=2000, sync="never", lines=None):
+        self.error, lines = tempfile.TemporaryFile(), lines or subprocess.DEVNULL
         self.ran = subprocess.Popen(
             [*wrap, *words_of(builds, folder, sync), "--tick", str(tick), *words],
-            stdin=subprocess.DEVNULL, stdout=subprocess.DEVNULL, stderr=self.error, env=ENVIRONMENT,
+            stdin=lines, stdout=lines, stderr=self.error, env=ENVIRONMENT,
         )
         until(lambda: LAST in self.said() or self.ran.poll() is not None, 60)
         self.at = self.said().partition("listening on ")[2].split("\n")[0]
