@@ -1,6 +1,7 @@
-/* Preloaded into a program by bench/refusals: one call of the allocator fails, the one whose number
-   REFUSED says. They are counted from 1, and begin where the program does; 0 lets all succeed. At
-   the end the number of calls is told on standard error. */
+/* Preloaded into a program: one call of the allocator fails, the one whose number REFUSED says.
+
+   Calls are counted from 1, once the program has begun; at 0 all succeed. At the end the number of
+   calls is written on standard error. */
 #define _GNU_SOURCE
 #include <errno.h>
 #include <stdatomic.h>
