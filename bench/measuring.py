@@ -1,0 +1,71 @@
+"""What the measurements share: their words, the programs, instructions, and rows of a table."""
+import argparse
+import contextlib
+import os
+import re
+import shutil
+import subprocess
+import sys
+import tempfile
+
+sys.dont_write_bytecode = True
+HERE = os.path.dirname(os.path.realpath(__file__))
+sys.path[:0] = [f"{HERE}/../tools", f"{HERE}/../tools/tests"]
+from builds import Builds  # noqa: E402 (the folders come first)
+from report import Failed, Skipped, want, want_same  # noqa: E402, F401
+
+CACHEGRIND = "valgrind --tool=cachegrind --cache-sim=no --cachegrind-out-file=/dev/null".split()
+
+
+def parser(usage, others=""):
+    """The words of a script. It takes NAME=PROGRAM where `others` says what is beside."""
+    raw = argparse.RawDescriptionHelpFormatter
+    made = argparse.ArgumentParser(description=usage, formatter_class=raw)
+    made.add_argument("--unproved", action="store_true", help="only to try a script: no proof")
+    if others:
+        pair = lambda word: tuple(word.split("=", 1))
+        made.add_argument("others", nargs="*", type=pair, metavar="NAME=PROGRAM", help=others)
+    return made
+
+
+@contextlib.contextmanager
+def builds(given):
+    """The programs. They are the proved ones of these sources, unless the words say otherwise."""
+    with tempfile.TemporaryDirectory(prefix="jellqupas-bench-") as room:
+        try:
+            yield Builds(not given.unproved, room, lambda text: print(text, file=sys.stderr))
+        except (Failed, Skipped) as error:
+            raise SystemExit(f"{sys.argv[0]}: {error}") from None
+        finally:
+            print(f"load {os.getloadavg()[0]:.1f}", file=sys.stderr)
+
+
+def instructions(words, lines):
+    """The instructions of a run on these lines, and its output."""
+    if not shutil.which("valgrind"):
+        raise Skipped("there is no valgrind here")
+    text = "".join(f"{line}\n" for line in lines).encode()
+    ran = subprocess.run([*CACHEGRIND, *words], input=text, capture_output=True)
+    found = re.search(rb"I +refs: +([0-9,]+)", ran.stderr)
+    if ran.returncode or not found:
+        raise Failed(f"{' '.join(words)}: {ran.stderr.decode()[-1000:]}")
+    return int(found[1].replace(b",", b"")), ran.stdout
+
+
+def row(*cells):
+    """Prints a row of a table."""
+    print(f"| {' | '.join(map(str, cells))} |", flush=True)
+
+
+def head(*cells):
+    """Prints the head of a table, after an empty line."""
+    print()
+    row(*cells)
+    print("|---" * len(cells) + "|")
+
+
+def compared(title, figures, outputs):
+    """Prints a row, and says whether all outputs are the same."""
+    is_same = len({*outputs}) == 1
+    row(title if is_same else f"{title} (outputs DIFFER)", *(f"{it:,.0f}" for it in figures))
+    return is_same

@@ -1,0 +1,122 @@
+#!/usr/bin/env python3
+"""Measures clusters of real threads, and prints three tables: races, at rest, and many calls.
+
+A race is run over 1 and 3 servers with 1, 4 and 31 clients, in 1,000 rounds of three calls. Its
+time goes from the start of the first client's thread to the end of the last one's. The audit and
+the lines come after that, and are timed apart.
+
+At rest (the program zrest) one client makes 500 updates, with a pause of 10 ms before each. The
+table has the processors' time over the time that passed; the switches of all threads a second; and
+of the calls' microseconds the median, what nine of ten don't exceed, and the most.
+
+Through many calls (the program zlong) one client sets and reads one node by turns. At each tenth
+the table has the calls a second of that tenth, and the memory in use. It fails where a call isn't
+answered, something is lost, or the memory in use grows by more than a megabyte.
+"""
+import itertools
+import os
+import re
+import statistics
+import subprocess
+import sys
+import time
+
+import measuring
+
+ROUNDS, RACED, SECONDS = 1000, 3, 20
+# The threads of a race beside its clients': sixteen servers and the master.
+OTHERS = 17
+CALLS, PAUSE, GROWTH = 500, 10_000, 1024
+PIPES = {"stdin": subprocess.PIPE, "stdout": subprocess.PIPE, "text": True}
+
+
+def race(program, preloaded, servers, clients):
+    """The calls a second of one race, and the milliseconds after it."""
+    words = ["race", "--servers", servers, "--clients", clients, "--rounds", ROUNDS]
+    counts = {"RACE_OTHERS": str(OTHERS), "RACE_CLIENTS": str(clients)}
+    ran = subprocess.run(
+        [program, *map(str, words)], capture_output=True, text=True, timeout=SECONDS, check=True,
+        env={**os.environ, "LD_PRELOAD": preloaded, **counts},
+    )
+    measuring.want(ran.stdout.endswith("audit ok\n"), f"{program}: a race did not end well")
+    raced, after = map(float, ran.stderr.split())
+    return RACED * ROUNDS / raced, 1000 * after
+
+
+def races(program, preloaded, servers, clients, times):
+    """Prints the row of some races."""
+    rates, after = zip(*(race(program, preloaded, servers, clients) for _ in range(times)))
+    tenth = statistics.mean(sorted(rates)[-max(1, times // 10) :])
+    figures = (f"{it:,.0f}" for it in (max(rates), tenth, statistics.median(rates)))
+    measuring.row(servers, clients, *figures, f"{statistics.median(after):.1f}")
+
+
+def status(pid, word):
+    """The sum of the numbers at this word in the status of a process, or of a thread."""
+    with open(f"/proc/{pid}/status", encoding="ascii") as file:
+        return sum(map(int, re.findall(rf"{word}:\s+(\d+)", file.read())))
+
+
+def used(pid):
+    """The seconds of a processor that a process has taken, and the switches of its threads."""
+    with open(f"/proc/{pid}/stat", encoding="ascii") as file:
+        words = file.read().rpartition(")")[2].split()
+    ticks, tasks = int(words[11]) + int(words[12]), os.listdir(f"/proc/{pid}/task")
+    switches = sum(status(f"{pid}/task/{it}", "ctxt_switches") for it in tasks)
+    return ticks / os.sysconf("SC_CLK_TCK"), switches
+
+
+def at_rest(program, servers):
+    """Prints the row of a cluster at rest."""
+    with subprocess.Popen([program], **PIPES) as ran:
+        ran.stdin.write(f"{servers} {CALLS} {PAUSE}\n")
+        ran.stdin.close()
+        time.sleep(0.5)
+        began, first = time.monotonic(), used(ran.pid)
+        time.sleep(CALLS * PAUSE / 1e6 - 1)
+        took, last = time.monotonic() - began, used(ran.pid)
+        calls = sorted(int(line) / 1000 for line in ran.stdout.read().split())
+    measuring.want(len(calls) == CALLS, f"{len(calls)} of {CALLS} calls were answered")
+    processors, switches = ((after - before) / took for before, after in zip(first, last))
+    times = switches, statistics.median(calls), calls[CALLS * 9 // 10], calls[-1]
+    measuring.row(servers, f"{processors:.2f}", *(f"{it:,.0f}" for it in times))
+
+
+def many(program, calls):
+    """Prints the rows of many calls over three servers."""
+    uses, line, done, began = [], "", 0, time.monotonic()
+    with subprocess.Popen([program], **PIPES) as ran:
+        ran.stdin.write(f"3 {calls}\n")
+        ran.stdin.flush()
+        for line in map(str.strip, ran.stdout):
+            if not line.isdigit():
+                break
+            now, here = time.monotonic(), int(line)
+            uses.append(status(ran.pid, "VmRSS"))
+            measuring.row(f"{here:,}", f"{(here - done) / (now - began):,.0f}", f"{uses[-1]:,}")
+            done, began = here, now
+        ran.stdin.close()
+    measuring.want(line == "nothing lost", f"zlong printed: {line}")
+    measuring.want(uses[-1] - uses[0] <= GROWTH, f"it grew by {uses[-1] - uses[0]:,} kB")
+
+
+def main():
+    words = measuring.parser(__doc__)
+    words.add_argument("--times", type=int, default=9, help="how often each race is run")
+    words.add_argument("--calls", type=int, default=3_000_000, help="calls of the third table")
+    given = words.parse_args()
+    with measuring.builds(given) as builds:
+        program, flags = builds.program("zk_race"), ("-shared", "-fPIC")
+        preloaded = builds.compiled("race_threads.so", ["bench/race_threads.c"], flags)
+        measuring.head("Servers", "Clients", "Best", "Best tenth", "Median", "Audit, ms")
+        for servers, clients in itertools.product((1, 3), (1, 4, 31)):
+            races(program, preloaded, servers, clients, given.times)
+        measuring.head("Servers", "Processors", "Switches a second", "Median, µs", "Nine", "Most")
+        for servers in (1, 3):
+            at_rest(builds.program("zrest"), servers)
+        measuring.head("Calls", "Calls a second", "Memory in use, kB")
+        many(builds.program("zlong"), given.calls)
+
+
+if __name__ == "__main__":
+    sys.exit(main())
