@@ -7,7 +7,6 @@ import sys
 
 import measuring
 
-OTHERS = "one more program of the same words and text"
 # 16 and 64 bytes in base64.
 SIXTEEN, SOME = "QUJDREVGR0hJSktMTU5PUA==", "QUJD" * 21 + "QQ=="
 DIRECTORIES = [f"/dir{i // 64:02}" for i in range(4000)]
@@ -76,7 +75,7 @@ def measure(programs, title, start, each, rounds):
 
 
 def main():
-    given = measuring.parser(__doc__, OTHERS).parse_args()
+    given = measuring.parser(__doc__, True).parse_args()
     with measuring.builds(given) as builds:
         programs = {"zk": builds.program("zk"), **dict(given.others)}
         measuring.head("Script", *programs)

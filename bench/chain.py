@@ -24,8 +24,7 @@ PLACES = {"machine": "one machine", "1": "chain of one server", "3": "chain of t
 CALLS = 100_000
 
 
-def node(i):
-    return bench.node(i * 741 % 1000)
+node = lambda i: bench.node(i * 741 % 1000)
 
 
 def multi(i):
@@ -85,15 +84,15 @@ def servers_alone(program):
     made, alone = cost("nowhere"), None
     measuring.head("Place", "An update", "A query", "Both", "Times the machine alone")
     for place, title in PLACES.items():
-        own = [it - less for it, less in zip(cost(place), made)]
-        own.append(sum(own))
+        update, query = (it - less for it, less in zip(cost(place), made))
+        own = update, query, update + query
         alone = alone or own
         times = ", ".join(f"{it / least:.2f}" for it, least in zip(own, alone))
         measuring.row(title, *(f"{it:,.0f}" for it in own), times)
 
 
 def main():
-    given = measuring.parser(__doc__, bench.OTHERS).parse_args()
+    given = measuring.parser(__doc__, True).parse_args()
     with measuring.builds(given) as builds:
         program = builds.program("zk")
         calls = {f"{n} server{'s' * (n > 1)}": command(program, n) for n in CHAINS}

@@ -49,9 +49,8 @@ int main(int count, char **words) {
     struct stat file;
     if (count != 7 || fstat(0, &file)) return 2;
     const char *text = mmap(NULL, file.st_size, PROT_READ, MAP_PRIVATE, 0, 0);
-    size_t connections = atoi(words[2]), depth = atoi(words[3]);
-    size_t each = atol(words[4]) / connections;
-    size_t request = atoi(words[5]), answer = atoi(words[6]), done = 0;
+    size_t connections = atoi(words[2]), depth = atoi(words[3]), done = 0;
+    size_t each = atol(words[4]) / connections, request = atoi(words[5]), answer = atoi(words[6]);
     size_t part = (file.st_size - GREETING) / request / connections;
     for (size_t i = 0; i < connections; i++) sockets[i] = greeted(atoi(words[1]), text);
     double began = now(), longest = 0;
@@ -71,8 +70,7 @@ int main(int count, char **words) {
             if (!sockets[i].revents) continue;
             ssize_t came = read(sockets[i].fd, room, sizeof room);
             if (came <= 0) stop("the server has closed a connection");
-            double wait = now() - all[i].asked;
-            if (wait > longest) longest = wait;
+            if (now() - all[i].asked > longest) longest = now() - all[i].asked;
             done += (all[i].came += came) == each * answer;
         }
     }

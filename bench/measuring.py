@@ -17,14 +17,14 @@ from report import Failed, Skipped, want, want_same  # noqa: E402, F401
 CACHEGRIND = "valgrind --tool=cachegrind --cache-sim=no --cachegrind-out-file=/dev/null".split()
 
 
-def parser(usage, others=""):
-    """The words of a script. It takes NAME=PROGRAM where `others` says what is beside."""
-    raw = argparse.RawDescriptionHelpFormatter
-    made = argparse.ArgumentParser(description=usage, formatter_class=raw)
+def parser(usage, has_others=False):
+    """The words of a script. Where it has others, NAME=PROGRAM names a program to compare."""
+    made = argparse.ArgumentParser(description=usage)
+    made.formatter_class = argparse.RawDescriptionHelpFormatter
     made.add_argument("--unproved", action="store_true", help="only to try a script: no proof")
-    if others:
+    if has_others:
         pair = lambda word: tuple(word.split("=", 1))
-        made.add_argument("others", nargs="*", type=pair, metavar="NAME=PROGRAM", help=others)
+        made.add_argument("others", nargs="*", type=pair, metavar="NAME=PROGRAM")
     return made
 
 
@@ -37,7 +37,7 @@ def builds(given):
         except (Failed, Skipped) as error:
             raise SystemExit(f"{sys.argv[0]}: {error}") from None
         finally:
-            print(f"load {os.getloadavg()[0]:.1f}", file=sys.stderr)
+            print("load", os.getloadavg()[0], file=sys.stderr)
 
 
 def instructions(words, lines):

@@ -6,9 +6,9 @@ each of 1 and 4 connections. Each figure is the best of five rounds and their me
 take turns. ZooKeeper is Debian's, where it is installed; its log is written with fsync (batch) and
 without (never).
 
-The second has folders of 4,000 nodes, over one server: how long one is compacted and opened, at
-best; and the longest wait of a client beside another one that has 200 sets under way, while the
-journal is never shortened, and all the time. The folders are below TMPDIR.
+The second has folders of 4,000 nodes, over one server: the best times to compact and to open one,
+and the longest wait of a client beside another one with 200 sets under way, while the journal is
+never shortened, and all the time. The folders are below TMPDIR.
 """
 import atexit
 import contextlib
@@ -36,8 +36,7 @@ ZOOKEEPER = f"""java -Xmx512m -cp {':'.join(JARS)} -Dzookeeper.forceSync={{force
     org.apache.zookeeper.server.ZooKeeperServerMain {{port}} {{folder}} 2000 0"""
 
 
-def text(data):
-    return struct.pack(">i", len(data)) + data
+text = lambda data: struct.pack(">i", len(data)) + data
 
 
 def requests(op, size):
@@ -142,15 +141,15 @@ def of_requests(builds, load, rounds):
 
 def wait(builds, load, folder, journal):
     """The longest wait of a client beside another one, and how often the journal was shortened."""
-    path, files, it = f"{folder}/journal", set(), kept(builds, folder, journal=journal)
+    files, it = [], kept(builds, folder, journal=journal)
     other = start(load, it.port, (1, 200), 1 << 30, "set")
     own = start(load, it.port, (1, 1), WAITS, "set")
     while own.poll() is None:
-        files.add(os.stat(path).st_ino)
+        files.append(os.stat(f"{folder}/journal").st_ino)
         time.sleep(0.005)
     other.kill()
     it.stop()
-    return ended(own)[1], len(files) - 1
+    return ended(own)[1], sum(map(int.__ne__, files, files[1:]))
 
 
 def of_folder(builds, load, size, rounds):
@@ -160,8 +159,7 @@ def of_folder(builds, load, size, rounds):
     ended(start(load, it.port, (1, 2), NODES, "create", size))
     it.stop()
     for _ in range(rounds):
-        began = time.monotonic()
-        words = [builds.program("zk_serve"), folder, "compact", "1"]
+        words, began = [builds.program("zk_serve"), folder, "compact", "1"], time.monotonic()
         subprocess.run(words, check=True, stdout=subprocess.DEVNULL)
         compacted.append(time.monotonic() - began)
         it = kept(builds, folder, journal=BOUNDS[0])

@@ -1,17 +1,15 @@
 #!/usr/bin/env python3
 """Measures clusters of real threads, and prints three tables: races, at rest, and many calls.
 
-A race is run over 1 and 3 servers with 1, 4 and 31 clients, in 1,000 rounds of three calls. Its
-time goes from the start of the first client's thread to the end of the last one's. The audit and
-the lines come after that, and are timed apart.
+A race has 1,000 rounds of three calls. Its time goes from the start of the first client's thread to
+the end of the last one's. The audit and the lines come after that, and are timed apart.
 
 At rest (the program zrest) one client makes 500 updates, with a pause of 10 ms before each. The
 table has the processors' time over the time that passed; the switches of all threads a second; and
 of the calls' microseconds the median, what nine of ten don't exceed, and the most.
 
-Through many calls (the program zlong) one client sets and reads one node by turns. At each tenth
-the table has the calls a second of that tenth, and the memory in use. It fails where a call isn't
-answered, something is lost, or the memory in use grows by more than a megabyte.
+Through many calls (the program zlong) one client sets and reads one node by turns. It fails where
+something is lost, or where the memory in use grows by more than a megabyte.
 """
 import itertools
 import os
