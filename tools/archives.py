@@ -2,10 +2,8 @@
 
     folder = built("zclib", f"library-{version}", make, tell)
 
-A crate is proved as ./zk prove proves the programs, and in the same place: what both stand on is
-proved once. Where the gate has proved the crates in the checkout itself, nothing is copied. What is
-made of an archive is kept by the sum of its sources, so another checkout of the same files finds
-it.
+What is made of an archive is kept by the sum of its sources, so another checkout of the same files
+finds it.
 """
 import os
 import shutil
@@ -23,18 +21,12 @@ from told import Stopped
 
 def run(words, folder, **given):
     """Runs one step of the build, and ends where it fails, with the end of what it said."""
-    ran = subprocess.Popen(
-        words, cwd=folder, stdin=subprocess.PIPE, stdout=subprocess.PIPE,
-        stderr=subprocess.STDOUT, text=True, errors="replace",
+    ran = subprocess.run(
+        words, cwd=folder, stdout=subprocess.PIPE, stderr=subprocess.STDOUT, text=True,
+        errors="replace", **(given or {"stdin": subprocess.DEVNULL}),
     )
-    try:
-        said = ran.communicate(**given)[0]
-    finally:
-        # (rt ends at once at the signal, and ends all that it started)
-        ran.terminate()
-        ran.wait()
     if ran.returncode:
-        sys.stderr.write(said[-10000:])
+        sys.stderr.write(ran.stdout[-10000:])
         raise Stopped(f"{os.path.basename(words[0])} failed")
 
 
@@ -44,12 +36,10 @@ def of_the_toolchain():
     return top, f"{top}/c/liblibc_c.a"
 
 
-def merge(archive, name, folder, more=()):
-    """Makes the archive of this name in the folder, with what it needs of the toolchain's own, and
-    of more of its archives by their names."""
+def merge(archive, name, folder):
+    """Makes the archive of this name in the folder, with what it needs of the toolchain's own."""
     top, own = of_the_toolchain()
-    added = "".join(f"addlib {it}\n" for it in (archive, own, *(f"{top}/c/{it}" for it in more)))
-    script = f"create {name}\n{added}save\nend\n"
+    script = f"create {name}\naddlib {archive}\naddlib {own}\nsave\nend\n"
     run([f"{top}/toolchain/bin/llvm-ar", "-M"], folder, input=script)
 
 
@@ -67,39 +57,31 @@ def built(crate, name, make, tell):
     folder, is_there = place(lines, name)
     if is_there:
         return folder
-    if not kit.path_of_rt():
-        raise Stopped("the Rattle toolchain's rt is not on the PATH")
+    kit.required()
     places.note_checkout()
-    archive = of_the_gate(crate, lines)
-    if archive:
-        tell("the gate has built the archive of these sources")
-        keep(archive, folder, make)
-        return folder
-    room = proof.room()
-    with places.locked(room, tell) as lock:
-        proof.copy(lines, room)
+    with proof.repository(lines, tell) as (top, lock):
         # (the sum of what is proved, whatever becomes of the checkout meanwhile)
-        folder, is_there = place(lines, name, room)
+        folder, is_there = place(lines, name, top)
         if not is_there:
-            proof.prove(lines, room, tell, lock)
-            keep(prove(crate, lines, room, tell), folder, make)
+            proof.prove(top, lock, crate)
+            keep(compiled(crate, top, tell), folder, make)
     return folder
 
 
-def of_the_gate(crate, lines):
-    """The archive that the gate built of these very sources, or None."""
-    path = f"{sources.ROOT}/out/gate/lib{crate}.a"
-    wanted = f"{sources.key_of(lines)} {kit.identity()}"
-    is_ours = sources.text_of(f"{path}.key").decode(errors="replace").strip() == wanted
-    return path if is_ours and os.path.isfile(path) else None
+def compiled(name, top, tell):
+    """The archive of a crate in the repository at `top`, over the libraries that `rt ci` left.
 
-
-def prove(crate, lines, root, tell):
-    """Has rt prove the crate itself and build its archive, in the repository at `root`."""
-    left = proof.in_minutes(proof.build_time(lines))
-    tell(f"proving {crate} itself and building the archive: {left}")
-    run([kit.path_of_rt(), "lib"], f"{root}/crates/{crate}")
-    return f"{root}/crates/{crate}/out/lib{crate}.a"
+    `rt ci` proves such a crate and builds nothing of it: so rt proves it once more, and builds it.
+    """
+    tell(f"building the archive of {name}, in a few minutes")
+    rt, crate = kit.toolchain(), kit.crate_of(top, name)
+    rt.rtlib.guarded()
+    crate.out, archive = sys.stderr, f"out/lib{name}.a"
+    words = [*crate.words(["--jobs", "1"], keeps=False), "--backend", "llvm"]
+    words += ["--toolchain", f"{rt.KIT}/toolchain", "-o", archive]
+    if crate.prove(["build", *words]):
+        raise Stopped(f"the archive of {name} can't be built")
+    return f"{crate.folder}/{archive}"
 
 
 def keep(archive, folder, make):

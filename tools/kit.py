@@ -1,28 +1,29 @@
 """The Rattle toolchain's own Python library, and this repository's crates as it sees them.
 
-What is proved, by which words and over which files is the toolchain's to say. The programs of
-this folder only choose the order, the folders, and how many checks run at once.
+What is proved, by which words and over which files is the toolchain's to say.
 """
 import importlib.machinery
 import importlib.util
 import os
 import shutil
 import sys
+import threading
 
 from told import Stopped
 
 sys.dont_write_bytecode = True
+LOADING = threading.Lock()
 
 
 def load(name, path):
     """The module that a Python program is, also where its name has no ending."""
-    if name in sys.modules:
-        return sys.modules[name]
-    loader = importlib.machinery.SourceFileLoader(name, path)
-    made = importlib.util.module_from_spec(importlib.util.spec_from_loader(name, loader))
-    sys.modules[name] = made
-    loader.exec_module(made)
-    return made
+    with LOADING:
+        if name not in sys.modules:
+            loader = importlib.machinery.SourceFileLoader(name, path)
+            spec = importlib.util.spec_from_loader(name, loader)
+            sys.modules[name] = importlib.util.module_from_spec(spec)
+            loader.exec_module(sys.modules[name])
+    return sys.modules[name]
 
 
 def path_of_rt():
@@ -36,25 +37,23 @@ def toolchain():
     return load("rt", path_of_rt())
 
 
-def crates_of(root):
-    """The crates of the repository at `root`, lowest first, read as the gate reads them."""
+def prepared(root):
+    """The same, which takes crates for those of the repository at `root`."""
     rt = toolchain()
-    os.chdir(root)
     rt.rtlib.Crate = rt.Crate
     rt.Crate.allowed = rt.handles_of(root)
-    return sorted(rt.rtlib.crates_below(root), key=lambda it: len(it.below()))
+    return rt
 
 
-def crates_named(root, names):
-    """These crates of the repository at `root`, by their names, as `crates_of` has them."""
-    rt, known = toolchain(), {}
+def crates_of(root):
+    """The crates of the repository at `root`, lowest first, read as `rt ci` reads them."""
     os.chdir(root)
-    rt.rtlib.Crate = rt.Crate
-    rt.Crate.allowed = rt.handles_of(root)
-    for name in names:
-        folder = f"{root}/crates/{name}"
-        known[folder] = known.get(folder) or rt.Crate(folder, root, known)
-    return {it.name: it for it in known.values() if it.name in names}
+    return sorted(prepared(root).rtlib.crates_below(root), key=lambda it: len(it.below()))
+
+
+def crate_of(root, name):
+    """The crate of this name in the repository at `root`."""
+    return prepared(root).Crate(f"{root}/crates/{name}", root, {})
 
 
 def required():

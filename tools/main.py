@@ -10,7 +10,7 @@ import sys
 
 import cleaning
 import programs
-import proving
+import proof
 import serving
 import sources
 import unproved
@@ -21,17 +21,17 @@ from told import Stopped, teller
 tell = teller("zk")
 HELP = ("help", "--help", "-h")
 MODES = ("--proved", "--unproved")
-PROVED = ("script", "race", "data", "library", "serve", "serve-data")
-# What is proved, in the words of who asks for it.
-TOLD = {
-    "script": "a script", "race": "a race", "data": "a script that keeps a folder",
-    "serve-data": "a server that keeps a folder",
+# What can be proved, in the words of who asks for it.
+PROVED = {
+    "script": "the program of a script", "race": "the program of a race",
+    "data": "the program of a script that keeps a folder", "library": "the library",
+    "serve": "the front of the server", "serve-data": "the program of a server that keeps a folder",
 }
 
 
 def refuse(text):
     """Ends for a word that isn't understood."""
-    raise Stopped(f"{text}; './zk help' tells the words", 2)
+    raise Stopped(f"{text}; './zk help' has the words", 2)
 
 
 def become(program, words):
@@ -44,38 +44,38 @@ def become(program, words):
 def get_unproved(command):
     """A command's program without proof, which is built first where it isn't there."""
     name = programs.NAMES[command]
-    path = programs.unproved(name)
-    if not path:
-        path = unproved.build(name, tell)
+    path = programs.unproved(name) or unproved.build(name, tell)
     tell(usage.warning(command))
-    # (the sanitizer in it has its own options, which the environment could change)
-    for it in [it for it in os.environ if it.endswith("SAN_OPTIONS")]:
-        del os.environ[it]
     # (where it stops at a fault it leaves no core file)
     resource.setrlimit(resource.RLIMIT_CORE, (0, resource.getrlimit(resource.RLIMIT_CORE)[1]))
     return path
 
 
-def run(mode, command, words, is_folder):
-    """Runs a script or a race: the proved program, or the one without proof, as the mode asks."""
-    if is_folder and command == "script":
-        raise Stopped("standard input is a folder")
-    command, words = words_of.program_of(command, words)
+def get(mode, command, is_proved_first=False):
+    """A command's program, as the mode asks: proved, or without proof where it isn't proved."""
     path = None if mode == "--unproved" else programs.proved(programs.NAMES[command])
     if path:
-        become(path, words)
+        return path
     if mode == "--proved":
-        asked = usage.asked(command)
-        raise Stopped(f"the program is not proved; './zk {asked}' proves it")
-    become(get_unproved(command), words)
+        raise Stopped(f"the program is not proved; './zk {usage.asked(command)}' proves it")
+    if mode != "--unproved" and is_proved_first:
+        return proof.program(programs.NAMES[command], tell)
+    return get_unproved(command)
 
 
-def serve(mode, words, is_folder):
+def run(mode, command, words, given):
+    """Runs a script or a race."""
+    if not getattr(given, "data", None):
+        become(get(mode, command), [command, *words])
+    servers = ["--servers", given.servers] if given.servers else []
+    become(get(mode, "data"), [given.data, given.sync or "batch", command, *servers])
+
+
+def serve(mode, _, words, given):
     """Runs the server for ZooKeeper's clients, which is proved and built first."""
-    if is_folder:
-        raise Stopped("standard input is a folder")
-    if "data" in words_of.read("serve", words):
-        become(serving.build_kept(), [f"--keeper={keeper(mode)}", *words])
+    if given.data:
+        host = serving.build_kept()
+        become(host, [f"--keeper={get(mode, 'serve-data', True)}", *words])
     if mode == "--unproved":
         refuse("the server in memory has no build without proof")
     path = serving.proved()
@@ -84,22 +84,10 @@ def serve(mode, words, is_folder):
     become(path or serving.build(tell), words)
 
 
-def keeper(mode):
-    """The program that keeps a server's folder, as the mode asks."""
-    name = programs.NAMES["serve-data"]
-    if mode == "--unproved":
-        return get_unproved("serve-data")
-    if mode == "--proved" and not programs.proved(name):
-        asked = usage.asked("serve-data")
-        raise Stopped(f"the program is not proved; './zk {asked}' proves it")
-    return programs.proved(name) or proving.prove(name, tell)
-
-
-def at_rest(mode, command, words):
+def at_rest(mode, command, _, given):
     """Does with a server's folder, on which no server runs, what the command says."""
-    folder = words_of.read(command, words)["data"]
-    servers = serving.servers_of(folder)
-    become(keeper(mode), [folder, command, str(servers)])
+    servers = serving.servers_of(given.data)
+    become(get(mode, "serve-data", True), [given.data, command, str(servers)])
 
 
 def prove(words):
@@ -109,19 +97,10 @@ def prove(words):
         refuse(f"prove takes one word of {', '.join(PROVED)}, not '{' '.join(words)}'")
     if what == "library":
         os.execv(f"{sources.ROOT}/library", [f"{sources.ROOT}/library"])
-    if what == "serve":
-        path = serving.build(tell)
-        tell("the front of the server is proved")
-    else:
-        path = proving.prove(programs.NAMES[what], tell)
-        tell(f"the program of {TOLD[what]} is proved")
+    is_served = what == "serve"
+    path = serving.build(tell) if is_served else proof.program(programs.NAMES[what], tell)
+    tell(f"{PROVED[what]} is proved")
     print(path)
-
-
-def clean(words):
-    if words not in ([], ["--all"]):
-        refuse(f"clean takes --all alone, not '{' '.join(words)}'")
-    cleaning.clean(bool(words), tell)
 
 
 def do(is_folder, words):
@@ -129,27 +108,21 @@ def do(is_folder, words):
     mode = words.pop(0) if words[:1] in ([it] for it in MODES) else None
     command = words.pop(0) if words else "" if mode else "help"
     if command in HELP or any(it in HELP[1:] for it in words):
-        sys.stdout.write(usage.usage())
-    elif command == "serve" and words == ["--version"]:
-        sys.stdout.write(usage.version())
+        print(usage.usage(), end="")
+    elif (command, words) in (("--version", []), ("serve", ["--version"])):
+        print(usage.version())
     elif command in words_of.OPTIONS:
-        wrong = words_of.wrong(command, words)
-        if wrong:
-            refuse(wrong)
-        if command == "serve":
-            serve(mode, words, is_folder)
-        elif command in words_of.AT_REST:
-            at_rest(mode, command, words)
-        else:
-            run(mode, command, words, is_folder)
+        given = words_of.read(command, words)
+        if is_folder and command in ("script", "serve"):
+            raise Stopped("standard input is a folder")
+        by_command = {"serve": serve, **dict.fromkeys(words_of.AT_REST, at_rest)}
+        by_command.get(command, run)(mode, command, words, given)
     elif mode:
-        refuse(f"{mode} wants script, race, serve, compact, export or stat behind it, not '{command}'")
+        refuse(f"{mode} wants script, race, serve, compact, export or stat, not '{command}'")
     elif command == "prove":
         prove(words)
-    elif command == "clean":
-        clean(words)
-    elif command == "--version" and not words:
-        sys.stdout.write(usage.version())
+    elif command == "clean" and words in ([], ["--all"]):
+        cleaning.clean(bool(words), tell)
     else:
         refuse(f"there is no command '{' '.join([command, *words])}'")
 

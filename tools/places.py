@@ -2,14 +2,13 @@
 
     programs/KEY/NAME            a proved program, by the sum of its sources
     programs/KEY/NAME-unproved   the same, built without proof
-    proofs/                      a repository of the crates that were proved last, with their proofs
+    proofs/                      where crates are proved
     checkouts/                   a file for each checkout, with its path
 """
 import contextlib
 import fcntl
 import hashlib
 import os
-import pwd
 
 import sources
 from told import Stopped
@@ -25,22 +24,10 @@ def absolute(name):
 
 def cache():
     """The folder of all that is kept. It may not be there yet."""
-    above = absolute("XDG_CACHE_HOME")
-    if above:
-        return f"{above}/jellqupas"
-    home = absolute("HOME")
-    if not home:
-        raise Stopped(f"{whose_home()}: set HOME or XDG_CACHE_HOME")
-    return f"{home}/.cache/jellqupas"
-
-
-def whose_home():
-    """Why there is no home folder."""
-    try:
-        pwd.getpwuid(os.getuid())
-    except KeyError:
-        return f"HOME is not set, and user {os.getuid()} has no name"
-    return "HOME is not set"
+    above, home = absolute("XDG_CACHE_HOME"), absolute("HOME")
+    if not above and not home:
+        raise Stopped("HOME is not set: set HOME or XDG_CACHE_HOME")
+    return f"{above or f'{home}/.cache'}/jellqupas"
 
 
 def made(folder):
@@ -65,34 +52,34 @@ def programs(key):
     return f"{cache()}/programs/{key}"
 
 
+def listed(name):
+    """The names in this folder of the cache."""
+    folder = f"{cache()}/{name}"
+    return sorted(os.listdir(folder)) if os.path.isdir(folder) else []
+
+
 @contextlib.contextmanager
-def locked(folder, tell=None):
+def locked(folder, tell):
     """Keeps others out of the folder, which is made where it isn't there. Gives the lock's file."""
     with open(f"{made(folder)}/lock", "w", encoding="ascii") as lock:
         try:
             fcntl.flock(lock, fcntl.LOCK_EX | fcntl.LOCK_NB)
         except BlockingIOError:
-            if tell:
-                tell(f"another call works in {folder}; waiting for it")
+            tell(f"another call works in {folder}; waiting for it")
             fcntl.flock(lock, fcntl.LOCK_EX)
         yield lock
 
 
 def note_checkout():
     """Notes that this checkout is there, so that nothing of its own is cleaned away."""
-    name = hashlib.sha256(os.fsencode(sources.ROOT)).hexdigest()[:16]
-    path = f"{made(f'{cache()}/checkouts')}/{name}"
-    if sources.text_of(path) != os.fsencode(sources.ROOT):
-        with open(f"{path}.{os.getpid()}", "wb") as file:
-            file.write(os.fsencode(sources.ROOT))
-        os.replace(f"{path}.{os.getpid()}", path)
+    path = os.fsencode(sources.ROOT)
+    name = hashlib.sha256(path).hexdigest()[:16]
+    with open(f"{made(f'{cache()}/checkouts')}/{name}", "wb") as file:
+        file.write(path)
 
 
 def checkouts():
     """The checkouts that are known and still there; this one always is."""
-    found, folder = {sources.ROOT}, f"{cache()}/checkouts"
-    for name in os.listdir(folder) if os.path.isdir(folder) else ():
-        root = os.fsdecode(sources.text_of(f"{folder}/{name}"))
-        if os.path.isfile(f"{root}/crates.txt") and os.path.isfile(f"{root}/zk"):
-            found.add(root)
-    return sorted(found)
+    noted = (sources.text_of(f"{cache()}/checkouts/{it}") for it in listed("checkouts"))
+    there = [it for it in map(os.fsdecode, noted) if os.path.isfile(f"{it}/crates.txt")]
+    return {sources.ROOT, *there}

@@ -2,6 +2,7 @@
 import contextlib
 import os
 
+import kit
 import places
 import sources
 
@@ -10,7 +11,7 @@ NAMES = {"script": "zk", "race": "zk_race", "data": "zk_data", "serve-data": "zk
 
 
 def of_the_gate(name, lines):
-    """The program that the gate built in the checkout, unless a source is newer."""
+    """The program that `rt ci` built in the checkout, unless a source is newer."""
     path = f"{sources.ROOT}/crates/{name}/out/{name}"
     if not os.access(path, os.X_OK):
         return None
@@ -27,29 +28,29 @@ def kept(name, key, is_proved):
 def proved(name):
     """The proved program of these very sources, or None."""
     lines = sources.lines_below(name)
-    found = of_the_gate(name, lines)
-    if found:
-        return found
-    path = kept(name, sources.key_of(lines), True)
-    return path if os.access(path, os.X_OK) else None
+    return of_the_gate(name, lines) or of_the_cache(name, lines, True)
 
 
 def unproved(name):
     """The program of these very sources that was built without proof, or None."""
-    path = kept(name, sources.key_of(sources.lines_below(name)), False)
+    return of_the_cache(name, sources.lines_below(name), False)
+
+
+def of_the_cache(name, lines, is_proved):
+    path = kept(name, sources.key_of(lines), is_proved)
     return path if os.access(path, os.X_OK) else None
 
 
 def kit_of(path):
-    """The toolchain that built the program, as `rt version` tells it; '' where nobody noted it."""
+    """The toolchain that built the program, as `rt version` prints it; '' where it isn't known."""
     return sources.text_of(f"{path}.kit").decode(errors="replace").strip()
 
 
-def keep(made, path, kit):
+def keep(made, path):
     """Puts a program where others find it, whole and with its toolchain, or not at all."""
     with contextlib.suppress(FileNotFoundError):
         os.remove(path)
     with open(f"{path}.kit", "w", encoding="utf-8") as file:
-        file.write(f"{kit}\n")
+        file.write(f"{kit.identity()}\n")
     os.chmod(made, 0o755)
     os.replace(made, path)

@@ -1,9 +1,8 @@
 """The servers for ZooKeeper's clients: hosts in C.
 
-The host of a server in memory is compiled around the archive of the front, which is proved, built
-and kept as archives.py says. It stands beside it, by the sum of what it is compiled of. The host of
-a server that keeps a folder starts a proved program, which is built as proving.py says, and stands
-beside that. Both want the machine's own compiler of C: that of the toolchain has no headers.
+The host of a server in memory is compiled around the archive of the front (archives.py). The host
+of a server that keeps a folder starts a proved program (proof.py). Each is kept by the sum of what
+it is compiled of. Both want the machine's own C compiler: that of the toolchain has no headers.
 """
 import hashlib
 import os
@@ -11,7 +10,6 @@ import shutil
 import tempfile
 
 import archives
-import kit
 import places
 import programs
 import sources
@@ -20,7 +18,7 @@ from told import Stopped
 # The crate with the exports, and that of the program which keeps a folder.
 CRATE = "zfront_c"
 KEEPER = "zk_serve"
-# What both hosts are compiled of, and each: in memory beside the archive.
+# What both hosts are compiled of, and each alone.
 PROGRAM = ("host/serve.c", "host/start.c")
 MEMORY, PIPED = "host/memory.c", "host/piped.c"
 HEADERS = ("host/front.h", "host/start.h", "include/jellqupas_front.h", "include/jellqupas.h")
@@ -30,10 +28,10 @@ COMPILERS = ("cc", "gcc", "clang")
 
 
 def compiler():
-    """The compiler of C that is on the PATH."""
+    """The C compiler that is on the PATH."""
     found = next(filter(shutil.which, COMPILERS), None)
     if not found:
-        raise Stopped("there is no compiler of C on the PATH: install gcc and libc6-dev")
+        raise Stopped("there is no C compiler on the PATH: install gcc and libc6-dev")
     return found
 
 
@@ -74,7 +72,7 @@ def compile_to(path, parts):
     """Compiles a host of these parts, which is then at the path, whole or not at all."""
     with tempfile.TemporaryDirectory(prefix="serve-", dir=os.path.dirname(path)) as folder:
         compile_host(parts, f"{folder}/serve")
-        programs.keep(f"{folder}/serve", path, kit.identity())
+        programs.keep(f"{folder}/serve", path)
     return path
 
 
@@ -89,7 +87,7 @@ def build(tell):
 
 
 def servers_of(folder):
-    """How many servers the journal of a folder is for; 1 where its program is to say what is wrong."""
+    """How many servers the journal of a folder is for; 1 where it doesn't say."""
     path = f"{folder}/journal"
     if not os.path.isfile(path):
         raise Stopped(f"data: {path}: there is no journal")

@@ -1,4 +1,4 @@
-"""The crates of this checkout: what each stands on, and the files that a proof reads of it."""
+"""The crates of this checkout: what each uses, and the files that a proof reads of it."""
 import hashlib
 import os
 
@@ -17,12 +17,12 @@ def known_lines(root=ROOT):
 
 
 def uses_of(line):
-    """The names that a line of crates.txt gives behind its colon."""
+    """The names after the colon of a line of crates.txt."""
     return line.partition("#")[0].partition(":")[2].split()
 
 
 def lines_below(name, root=ROOT):
-    """The lines of crates.txt of the crate and of those that it stands on, by their names."""
+    """The lines of crates.txt of the crate and of those below it, by their names."""
     known, found, left = known_lines(root), {}, [name]
     while left:
         name = left.pop()

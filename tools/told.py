@@ -1,4 +1,4 @@
-"""What ends a program of this folder, and how its progress is told."""
+"""What ends a program of this folder, and how its progress is printed."""
 import sys
 
 
@@ -11,7 +11,7 @@ class Stopped(Exception):
 
 
 def teller(name):
-    """A function that tells a line on standard error under this name."""
+    """A function that prints a line on standard error under this name."""
 
     def tell(text):
         print(f"{name}: {text}", file=sys.stderr, flush=True)

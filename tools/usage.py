@@ -1,4 +1,4 @@
-"""What ./zk tells of itself."""
+"""What ./zk prints of itself."""
 import os
 import re
 import shutil
@@ -7,7 +7,6 @@ import subprocess
 import kit
 import places
 import programs
-import proof
 import serving
 import sources
 from told import Stopped
@@ -18,7 +17,7 @@ A coordination service with ZooKeeper's data model and chain replication.
 ./zk script [--servers N]     plays the script on standard input, line by line:
                               calls and events (docs/GUIDE.md); N is 1 to 16 (1)
 ./zk script --data DIR [--servers N] [--sync batch|never]
-                              keeps what it told in DIR; never: until a power cut
+                              keeps its state in DIR; never: until a power cut
 ./zk race [--servers N] [--clients C] [--rounds R] [--halt S]
                               runs the service in threads, and audits the run:
                               N is 1 to 16 (3), C clients 1 to 31 (4), R nodes
@@ -27,35 +26,35 @@ A coordination service with ZooKeeper's data model and chain replication.
                               serves ZooKeeper's clients at 127.0.0.1:2181, in
                               memory: N is 1 to 16 (3), MS 10 to 3600000 (2000)
 ./zk serve --data DIR [--sync batch|never] [--journal MIB] ..
-                              keeps what it told in DIR, shortened from MIB on (64)
+                              keeps its state in DIR, shortened from MIB on (64)
 ./zk compact --data DIR       shortens a server's folder that isn't in use
-./zk export|stat --data DIR   writes its tree as a script; tells how large it is
+./zk export|stat --data DIR   writes its tree as a script; says how large it is
 A script or race without a proved program builds one without proof, in a minute.
 
 ./zk prove [script|race|data|serve-data|serve|library]
                               proves the program of a command, the server in
-                              memory, the library; stopped, it goes on
+                              memory, the library, by the toolchain's rt ci, in
+                              half an hour on four cores; stopped, it goes on
 ./zk --proved script ..       runs the proved program, or nothing; race, serve too
 ./zk --unproved script ..     runs the one without proof; race, serve --data too
 ./zk --version                the version, and which program would run
 ./zk clean [--all]            removes what is kept and no checkout uses, or all
 
 The status is the program's; 2: a word that isn't understood; 3: the program
-can't be built, or isn't proved. {kept}
+can't be built, or isn't proved. Programs are kept in {kept}
 """
-NUMBERS = "no one two three four five six seven eight".split()
 
 
 def kept():
-    """Where proofs and programs are kept."""
+    """Where programs are kept."""
     try:
         return places.cache()
     except Stopped as error:
-        return f"nowhere: {error}"
+        return f"no folder: {error}"
 
 
 def usage():
-    return USAGE.format(kept=f"Proofs and programs are kept (5 GB):\n{kept()}")
+    return USAGE.format(kept=kept())
 
 
 def asked(command):
@@ -64,16 +63,12 @@ def asked(command):
 
 
 def warning(command):
-    """What is told of a program that isn't proved."""
-    name, cores = programs.NAMES[command], len(os.sched_getaffinity(0))
-    minutes = max(1, round(proof.whole_time(sources.lines_below(name), cores) / 60))
-    number = NUMBERS[cores] if cores < len(NUMBERS) else cores
-    on = f"{minutes} minutes on {number} core{'s' * (cores > 1)}"
-    return f"this build is not proved; './zk {asked(command)}' proves it ({on})"
+    """What is printed of a program that isn't proved."""
+    return f"this build is not proved; './zk {asked(command)}' proves it"
 
 
 def version_number():
-    """The version, which stands in the library's header alone."""
+    """The version, which the library's header alone has."""
     header = sources.text_of(f"{sources.ROOT}/include/jellqupas.h").decode()
     found = re.search(r'^#define JELLQUPAS_VERSION "(.*)"$', header, re.M)
     return found[1] if found else "(no version)"
@@ -97,31 +92,22 @@ def commit():
     return f"{found or 'unknown'}{' with changes' if changed else ''}"
 
 
-def would_run(command):
-    """Which program a command would run."""
-    name = programs.NAMES[command]
+def would_run(find_proved, find_unproved):
+    """Which program would run."""
     try:
-        path = programs.proved(name)
+        path = find_proved()
         if path:
             return f"proved, by {programs.kit_of(path) or 'the gate'}"
-        is_built = programs.unproved(name)
-        return f"not proved{', built without proof' if is_built else ', not built yet'}"
-    except Stopped as error:
-        return f"not proved ({error})"
-
-
-def would_serve():
-    """Which server would run."""
-    try:
-        path = serving.proved()
-        return f"proved, by {programs.kit_of(path)}" if path else "not proved"
+        is_built = find_unproved()
+        return f"not proved{', built without proof' if is_built else ''}"
     except Stopped as error:
         return f"not proved ({error})"
 
 
 def version():
     lines = [f"jellqupas {version_number()}", f"commit: {commit()}"]
-    lines += [f"{it}: {would_run(it)}" for it in programs.NAMES]
-    lines += [f"serve: {would_serve()}"]
-    lines += [f"toolchain: {kit.identity() or 'rt is not on the PATH'}", f"kept in: {kept()}"]
-    return "\n".join(lines) + "\n"
+    for command, name in programs.NAMES.items():
+        ways = [lambda it=find, name=name: it(name) for find in (programs.proved, programs.unproved)]
+        lines += [f"{command}: {would_run(*ways)}"]
+    lines += [f"serve: {would_run(serving.proved, lambda: None)}"]
+    return "\n".join([*lines, f"toolchain: {kit.identity() or 'rt is not on the PATH'}"])
