@@ -13,13 +13,13 @@ SYNC = ("batch", "never")
 
 
 class Words(argparse.ArgumentParser):
-    """The words of one command."""
+    """The words of one command, and which call prints all of them."""
 
-    def __init__(self, command):
-        super().__init__(prog=f"zk {command}", add_help=False, allow_abbrev=False)
+    def __init__(self, command, helper):
+        super().__init__(prog=command, usage=helper, add_help=False, allow_abbrev=False)
 
     def error(self, message):
-        raise Stopped(f"{self.prog[3:]}: {message}; './zk help' has the words", 2)
+        raise Stopped(f"{self.prog}{message}; '{self.usage}' has the words", 2)
 
 
 def number(least, most):
@@ -69,7 +69,7 @@ OPTIONS = {
 
 def read(command, words):
     """The values that the words after a command give to its options; `Stopped` where they don't."""
-    parser = Words(command)
+    parser = Words(f"{command}: ", "./zk help")
     for name, kind in OPTIONS[command]:
         parser.add_argument(name, type=kind, required=command in AT_REST)
     if command in ("script", "serve"):

@@ -30,8 +30,8 @@ def refuse(text, status):
     return status
 
 
-def children():
-    """The processes that stand below this one, also those whose parent has ended."""
+def children(top=None):
+    """The processes below this one, or below `top`; also those whose parent has ended."""
     found, parents = set(), {}
     for pid in filter(str.isdigit, os.listdir("/proc")):
         try:
@@ -39,7 +39,7 @@ def children():
                 parents[int(pid)] = int(file.read().rpartition(b")")[2].split()[1])
         except (OSError, IndexError):
             pass  # it has just ended
-    left = [os.getpid()]
+    left = [top or os.getpid()]
     while left:
         at = left.pop()
         more = [pid for pid, parent in parents.items() if parent == at and pid not in found]
