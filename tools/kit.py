@@ -1,7 +1,4 @@
-"""The Rattle toolchain's own Python library, and this repository's crates as it sees them.
-
-What is proved, by which words and over which files is the toolchain's to say.
-"""
+"""The Rattle toolchain's own Python library, and this repository's crates as it sees them."""
 import importlib.machinery
 import importlib.util
 import os
@@ -9,6 +6,7 @@ import shutil
 import sys
 import threading
 
+from sources import text_of
 from told import Stopped
 
 sys.dont_write_bytecode = True
@@ -37,23 +35,12 @@ def toolchain():
     return load("rt", path_of_rt())
 
 
-def prepared(root):
-    """The same, which takes crates for those of the repository at `root`."""
+def crate_of(root, name):
+    """The crate of this name in the repository at `root`."""
     rt = toolchain()
     rt.rtlib.Crate = rt.Crate
     rt.Crate.allowed = rt.handles_of(root)
-    return rt
-
-
-def crates_of(root):
-    """The crates of the repository at `root`, lowest first, read as `rt ci` reads them."""
-    os.chdir(root)
-    return sorted(prepared(root).rtlib.crates_below(root), key=lambda it: len(it.below()))
-
-
-def crate_of(root, name):
-    """The crate of this name in the repository at `root`."""
-    return prepared(root).Crate(f"{root}/crates/{name}", root, {})
+    return rt.Crate(f"{root}/crates/{name}", root, {})
 
 
 def required():
@@ -68,9 +55,5 @@ def required():
 
 def identity():
     """The line that `rt version` prints, or None where there is no toolchain."""
-    rt = path_of_rt()
-    try:
-        with open(f"{os.path.dirname(os.path.dirname(rt))}/KIT-ID", encoding="utf-8") as file:
-            return file.read().strip()
-    except (OSError, TypeError):
-        return None
+    top = os.path.dirname(os.path.dirname(path_of_rt() or ""))
+    return text_of(f"{top}/KIT-ID").decode(errors="replace").strip() or None

@@ -4,11 +4,10 @@ Its first word says what standard input is: 'folder', or 'open' for anything els
 be handed to Python itself.
 """
 import os
-import resource
 import signal
 import sys
 
-import cleaning
+import places
 import programs
 import proof
 import serving
@@ -23,8 +22,7 @@ HELP = ("help", "--help", "-h")
 MODES = ("--proved", "--unproved")
 # What can be proved, in the words of who asks for it.
 PROVED = {
-    "script": "the program of a script", "race": "the program of a race",
-    "data": "the program of a script that keeps a folder", "library": "the library",
+    "script": "the program of a script", "race": "the program of a race", "library": "the library",
     "serve": "the front of the server", "serve-data": "the program of a server that keeps a folder",
 }
 
@@ -41,34 +39,22 @@ def become(program, words):
     os.execv(program, [program, *words])
 
 
-def get_unproved(command):
-    """A command's program without proof, which is built first where it isn't there."""
-    name = programs.NAMES[command]
+def get(mode, command, is_proved_first=False):
+    """A command's program, as the mode asks: proved, or built without proof where it isn't."""
+    name, asked = programs.NAMES[command], "prove" if command == "script" else f"prove {command}"
+    path = None if mode == "--unproved" else programs.proved(name)
+    if not path and mode == "--proved":
+        raise Stopped(f"the program is not proved; './zk {asked}' proves it")
+    if path or (is_proved_first and not mode):
+        return path or proof.program(name, tell)
     path = programs.unproved(name) or unproved.build(name, tell)
-    tell(usage.warning(command))
-    # (where it stops at a fault it leaves no core file)
-    resource.setrlimit(resource.RLIMIT_CORE, (0, resource.getrlimit(resource.RLIMIT_CORE)[1]))
+    tell(f"this build is not proved; './zk {asked}' proves it")
     return path
 
 
-def get(mode, command, is_proved_first=False):
-    """A command's program, as the mode asks: proved, or without proof where it isn't proved."""
-    path = None if mode == "--unproved" else programs.proved(programs.NAMES[command])
-    if path:
-        return path
-    if mode == "--proved":
-        raise Stopped(f"the program is not proved; './zk {usage.asked(command)}' proves it")
-    if mode != "--unproved" and is_proved_first:
-        return proof.program(programs.NAMES[command], tell)
-    return get_unproved(command)
-
-
-def run(mode, command, words, given):
+def run(mode, command, words, _):
     """Runs a script or a race."""
-    if not getattr(given, "data", None):
-        become(get(mode, command), [command, *words])
-    servers = ["--servers", given.servers] if given.servers else []
-    become(get(mode, "data"), [given.data, given.sync or "batch", command, *servers])
+    become(get(mode, command), [command, *words])
 
 
 def serve(mode, _, words, given):
@@ -122,7 +108,7 @@ def do(is_folder, words):
     elif command == "prove":
         prove(words)
     elif command == "clean" and words in ([], ["--all"]):
-        cleaning.clean(bool(words), tell)
+        places.clean(bool(words), tell)
     else:
         refuse(f"there is no command '{' '.join([command, *words])}'")
 

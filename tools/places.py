@@ -3,43 +3,37 @@
     programs/KEY/NAME            a proved program, by the sum of its sources
     programs/KEY/NAME-unproved   the same, built without proof
     proofs/                      where crates are proved
-    checkouts/                   a file for each checkout, with its path
+    checkouts/                   the path of each checkout
 """
 import contextlib
 import fcntl
 import hashlib
 import os
+import shutil
 
 import sources
 from told import Stopped
 
-
-def absolute(name):
-    """The folder that the environment's variable names, or None where it isn't set."""
-    value = os.environ.get(name)
-    if value and not os.path.isabs(value):
-        raise Stopped(f"{name} is no absolute path: {value}")
-    return value
+# What each checkout may have built.
+TOPS = ("zk", "zk_race", "zk_serve", "zclib", "zfront_c")
 
 
 def cache():
     """The folder of all that is kept. It may not be there yet."""
-    above, home = absolute("XDG_CACHE_HOME"), absolute("HOME")
-    if not above and not home:
-        raise Stopped("HOME is not set: set HOME or XDG_CACHE_HOME")
-    return f"{above or f'{home}/.cache'}/jellqupas"
+    home = os.environ.get("HOME")
+    above = os.environ.get("XDG_CACHE_HOME") or (f"{home}/.cache" if home else "")
+    if not os.path.isabs(above):
+        raise Stopped(f"HOME or XDG_CACHE_HOME is to be an absolute path, not '{above}'")
+    return f"{above}/jellqupas"
 
 
 def made(folder):
     """Makes the folder, which its owner alone may enter, and returns it."""
-    try:
+    with contextlib.suppress(OSError):
         os.makedirs(folder, mode=0o700, exist_ok=True)
-        if os.access(folder, os.R_OK | os.W_OK | os.X_OK):
-            return folder
-        reason = "permission denied"
-    except OSError as error:
-        reason = error.strerror.lower()
-    raise Stopped(f"{folder} can't be written: {reason}")
+    if not os.access(folder, os.R_OK | os.W_OK | os.X_OK):
+        raise Stopped(f"{folder} can't be written")
+    return folder
 
 
 def room():
@@ -83,3 +77,16 @@ def checkouts():
     noted = (sources.text_of(f"{cache()}/checkouts/{it}") for it in listed("checkouts"))
     there = [it for it in map(os.fsdecode, noted) if os.path.isfile(f"{it}/crates.txt")]
     return {sources.ROOT, *there}
+
+
+def clean(is_all, tell):
+    """Removes what no checkout uses, or all, and prints how much that was."""
+    there, spared = listed("programs"), set()
+    for root in () if is_all else checkouts():
+        spared |= {sources.key_of(sources.lines_below(it, root), root) for it in TOPS}
+    with locked(room(), tell):
+        shutil.rmtree(f"{room()}/repository", ignore_errors=True)
+    gone = [it for it in there if it not in spared]
+    for it in gone:
+        shutil.rmtree(programs(it), ignore_errors=True)
+    print(f"removed {len(gone)} of {len(there)} folders of programs in {cache()}")

@@ -1,13 +1,13 @@
 """The programs of this checkout: where they are, proved or not, and who built them."""
-import contextlib
 import os
+import shutil
 
 import kit
 import places
 import sources
 
-# The program that a command runs. What keeps the folder of a script or a server is one of its own.
-NAMES = {"script": "zk", "race": "zk_race", "data": "zk_data", "serve-data": "zk_serve"}
+# The program that a command runs. What keeps the folder of a server is one of its own.
+NAMES = {"script": "zk", "race": "zk_race", "serve-data": "zk_serve"}
 
 
 def of_the_gate(name, lines):
@@ -47,9 +47,8 @@ def kit_of(path):
 
 
 def keep(made, path):
-    """Puts a program where others find it, whole and with its toolchain, or not at all."""
-    with contextlib.suppress(FileNotFoundError):
-        os.remove(path)
+    """Puts what was built where others find it, whole and with its toolchain, or not at all."""
+    shutil.rmtree(path, ignore_errors=True)
     with open(f"{path}.kit", "w", encoding="utf-8") as file:
         file.write(f"{kit.identity()}\n")
     os.chmod(made, 0o755)

@@ -1,4 +1,4 @@
-"""Proves crates of this checkout by `rt ci`, in a copy of them alone, and builds what they make.
+"""Proves crates of this checkout by `rt ci`, in a copy of them alone, and keeps what is built.
 
 `rt ci` keeps what it proved, beside the toolchain. So a proof that was stopped goes on where it
 was, and only what changed is proved again. It prints on standard error.
@@ -21,8 +21,7 @@ def copy(lines, to):
     os.makedirs(f"{to}/.git")
     with open(f"{to}/crates.txt", "w", encoding="utf-8") as file:
         file.writelines(lines.values())
-    if os.path.exists(f"{sources.ROOT}/HANDLES"):
-        shutil.copy(f"{sources.ROOT}/HANDLES", to)
+    shutil.copy(f"{sources.ROOT}/HANDLES", to)
     for name in lines:
         crate = f"{sources.ROOT}/crates/{name}"
         ignored = lambda at, _, top=crate: sources.APART if at == top else ()
@@ -58,27 +57,34 @@ def prove(top, lock, what):
         raise Stopped(f"{what} is not proved")
 
 
-def is_there(path):
-    """Whether this very toolchain proved the program."""
-    return os.access(path, os.X_OK) and programs.kit_of(path) == kit.identity()
+def place(crate, name, root=sources.ROOT):
+    """The path of what is built under this name of these very sources of a crate, and whether it is
+    there: built by this very toolchain, or by any where none is on the PATH."""
+    path = f"{places.programs(sources.key_of(sources.lines_below(crate, root), root))}/{name}"
+    return path, os.path.exists(path) and kit.identity() in (None, programs.kit_of(path))
+
+
+def built(crate, name, make, tell):
+    """The path of what is built of a crate. Where it isn't there, the crate is proved in the
+    repository `top` first, and make(top, path) builds it."""
+    path, is_there = place(crate, name)
+    if is_there:
+        return path
+    kit.required()
+    places.note_checkout()
+    with repository(sources.lines_below(crate), tell) as (top, lock):
+        # (the sum of what is proved, whatever becomes of the checkout meanwhile)
+        path, is_there = place(crate, name, top)
+        if not is_there:
+            prove(top, lock, crate)
+            make(top, f"{top}/built")
+            places.made(os.path.dirname(path))
+            programs.keep(f"{top}/built", path)
+    return path
 
 
 def program(name, tell):
     """The path of the proved program, which is proved and built first where it isn't there."""
-    lines = sources.lines_below(name)
-    found = programs.of_the_gate(name, lines)
-    if found:
-        return found
-    path = programs.kept(name, sources.key_of(lines), True)
-    if is_there(path):
-        return path
-    kit.required()
-    places.note_checkout()
-    with repository(lines, tell) as (top, lock):
-        # (the sum of what is proved, whatever becomes of the checkout meanwhile)
-        path = programs.kept(name, sources.key_of(lines, top), True)
-        if not is_there(path):
-            prove(top, lock, name)
-            places.made(os.path.dirname(path))
-            programs.keep(f"{top}/crates/{name}/out/{name}", path)
-    return path
+    take = lambda top, to: os.rename(f"{top}/crates/{name}/out/{name}", to)
+    found = programs.of_the_gate(name, sources.lines_below(name))
+    return found or built(name, name, take, tell)

@@ -12,6 +12,7 @@ import tempfile
 import archives
 import places
 import programs
+import proof
 import sources
 from told import Stopped
 
@@ -35,7 +36,7 @@ def compiler():
     return found
 
 
-def place(folder, own=MEMORY):
+def place(folder, own):
     """Where the host of these very sources is, in the folder."""
     found = hashlib.sha256()
     for it in (*PROGRAM, own, *HEADERS):
@@ -43,23 +44,11 @@ def place(folder, own=MEMORY):
     return f"{folder}/serve-{found.hexdigest()[:16]}"
 
 
-def place_of_kept():
-    """Where the host of a server that keeps a folder is."""
-    key = sources.key_of(sources.lines_below(KEEPER))
-    return place(places.made(places.programs(key)), PIPED)
-
-
 def proved():
     """The program of these very sources, or None."""
-    folder, is_there = archives.place(sources.lines_below(CRATE), "front")
-    path = place(os.path.dirname(folder))
+    folder, is_there = proof.place(CRATE, "front")
+    path = place(os.path.dirname(folder), MEMORY)
     return path if is_there and os.access(path, os.X_OK) else None
-
-
-def archive(tell):
-    """The archive of the front, which is proved and built first where it isn't there."""
-    make = lambda found, folder: archives.merge(found, ARCHIVE, folder)
-    return f"{archives.built(CRATE, 'front', make, tell)}/{ARCHIVE}"
 
 
 def compile_host(parts, to, flags=()):
@@ -82,8 +71,10 @@ def build(tell):
     if path:
         return path
     compiler()
-    front = archive(tell)
-    return compile_to(place(os.path.dirname(os.path.dirname(front))), (MEMORY, front))
+    make = lambda found, folder: archives.merge(found, ARCHIVE, folder)
+    folder = archives.built(CRATE, "front", make, tell)
+    path = place(os.path.dirname(folder), MEMORY)
+    return compile_to(path, (MEMORY, f"{folder}/{ARCHIVE}"))
 
 
 def servers_of(folder):
@@ -98,5 +89,6 @@ def servers_of(folder):
 
 def build_kept():
     """The host of a server that keeps a folder, which is compiled where it isn't there."""
-    path = place_of_kept()
+    key = sources.key_of(sources.lines_below(KEEPER))
+    path = place(places.made(places.programs(key)), PIPED)
     return path if os.access(path, os.X_OK) else compile_to(path, (PIPED,))

@@ -33,10 +33,7 @@ def lines_below(name, root=ROOT):
 
 
 def files_of(names, root=ROOT):
-    """The files that a proof of these crates reads, and their folders.
-
-    A folder is newer where a file of it was removed.
-    """
+    """The files that a proof of these crates reads, and their folders, which removals change."""
     yield from (f"{root}/crates.txt", f"{root}/HANDLES")
     for name in names:
         top = f"{root}/crates/{name}"

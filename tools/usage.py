@@ -16,8 +16,6 @@ A coordination service with ZooKeeper's data model and chain replication.
 
 ./zk script [--servers N]     plays the script on standard input, line by line:
                               calls and events (docs/GUIDE.md); N is 1 to 16 (1)
-./zk script --data DIR [--servers N] [--sync batch|never]
-                              keeps its state in DIR; never: until a power cut
 ./zk race [--servers N] [--clients C] [--rounds R] [--halt S]
                               runs the service in threads, and audits the run:
                               N is 1 to 16 (3), C clients 1 to 31 (4), R nodes
@@ -26,12 +24,13 @@ A coordination service with ZooKeeper's data model and chain replication.
                               serves ZooKeeper's clients at 127.0.0.1:2181, in
                               memory: N is 1 to 16 (3), MS 10 to 3600000 (2000)
 ./zk serve --data DIR [--sync batch|never] [--journal MIB] ..
-                              keeps its state in DIR, shortened from MIB on (64)
+                              keeps its state in DIR, never: until a power cut;
+                              shortened from MIB on (64)
 ./zk compact --data DIR       shortens a server's folder that isn't in use
 ./zk export|stat --data DIR   writes its tree as a script; says how large it is
 A script or race without a proved program builds one without proof, in a minute.
 
-./zk prove [script|race|data|serve-data|serve|library]
+./zk prove [script|race|serve-data|serve|library]
                               proves the program of a command, the server in
                               memory, the library, by the toolchain's rt ci, in
                               half an hour on four cores; stopped, it goes on
@@ -45,26 +44,11 @@ can't be built, or isn't proved. Programs are kept in {kept}
 """
 
 
-def kept():
-    """Where programs are kept."""
-    try:
-        return places.cache()
-    except Stopped as error:
-        return f"no folder: {error}"
-
-
 def usage():
-    return USAGE.format(kept=kept())
-
-
-def asked(command):
-    """The words that prove a command's program."""
-    return "prove" if command == "script" else f"prove {command}"
-
-
-def warning(command):
-    """What is printed of a program that isn't proved."""
-    return f"this build is not proved; './zk {asked(command)}' proves it"
+    try:
+        return USAGE.format(kept=places.cache())
+    except Stopped as error:
+        return USAGE.format(kept=f"no folder: {error}")
 
 
 def version_number():
@@ -74,40 +58,29 @@ def version_number():
     return found[1] if found else "(no version)"
 
 
-def git(*words):
-    """What git says of this checkout, or None where there is none."""
-    if not shutil.which("git") or not os.path.exists(f"{sources.ROOT}/.git"):
-        return None
-    ran = subprocess.run(
-        ["git", "-C", sources.ROOT, *words], stdin=subprocess.DEVNULL, capture_output=True,
-        text=True, errors="replace",
-    )
-    return ran.stdout.strip() if ran.returncode == 0 else None
-
-
 def commit():
     """The checkout's commit, and whether files differ from it."""
-    found = git("rev-parse", "--short=12", "HEAD")
-    changed = found and git("status", "--porcelain", "--untracked-files=no")
-    return f"{found or 'unknown'}{' with changes' if changed else ''}"
+    if not shutil.which("git") or not os.path.exists(f"{sources.ROOT}/.git"):
+        return "unknown"
+    words = ["git", "-C", sources.ROOT, "describe", "--always", "--abbrev=12", "--dirty"]
+    given = {"stdin": subprocess.DEVNULL, "capture_output": True, "text": True}
+    return subprocess.run(words, **given).stdout.strip() or "unknown"
 
 
-def would_run(find_proved, find_unproved):
-    """Which program would run."""
+def would_run(command):
+    """Which program a command would run."""
     try:
-        path = find_proved()
+        name = programs.NAMES.get(command)
+        path = programs.proved(name) if name else serving.proved()
         if path:
             return f"proved, by {programs.kit_of(path) or 'the gate'}"
-        is_built = find_unproved()
+        is_built = name and programs.unproved(name)
         return f"not proved{', built without proof' if is_built else ''}"
     except Stopped as error:
         return f"not proved ({error})"
 
 
 def version():
-    lines = [f"jellqupas {version_number()}", f"commit: {commit()}"]
-    for command, name in programs.NAMES.items():
-        ways = [lambda it=find, name=name: it(name) for find in (programs.proved, programs.unproved)]
-        lines += [f"{command}: {would_run(*ways)}"]
-    lines += [f"serve: {would_run(serving.proved, lambda: None)}"]
-    return "\n".join([*lines, f"toolchain: {kit.identity() or 'rt is not on the PATH'}"])
+    lines = [f"{it}: {would_run(it)}" for it in (*programs.NAMES, "serve")]
+    lines += [f"toolchain: {kit.identity() or 'rt is not on the PATH'}"]
+    return "\n".join([f"jellqupas {version_number()}", f"commit: {commit()}", *lines])

@@ -9,7 +9,6 @@ from told import Stopped
 
 # What is done with a server's folder that isn't in use.
 AT_REST = ("compact", "export", "stat")
-SYNC = ("batch", "never")
 
 
 class Words(argparse.ArgumentParser):
@@ -50,30 +49,28 @@ def folder(text):
     return text
 
 
-address.__name__, folder.__name__ = "ADDRESS:PORT", "folder"
-SERVERS, DATA = ("--servers", number(1, 16)), ("--data", folder)
+address.__name__ = "ADDRESS:PORT"
+SERVERS = {"--servers": number(1, 16)}
 # The options of each command, each with the type of its value.
 OPTIONS = {
-    "script": (SERVERS, DATA),
-    "race": (
-        SERVERS, ("--clients", number(1, 31)), ("--rounds", number(1, 1000)),
-        ("--halt", number(0, 16)),
-    ),
-    "serve": (
-        SERVERS, DATA, ("--tick", number(10, 3600000)), ("--listen", address),
-        ("--journal", number(1, 1048576)),
-    ),
-    **{it: (DATA,) for it in AT_REST},
+    "script": SERVERS,
+    "race": {
+        **SERVERS, "--clients": number(1, 31), "--rounds": number(1, 1000), "--halt": number(0, 16),
+    },
+    "serve": {
+        **SERVERS, "--data": folder, "--tick": number(10, 3600000), "--listen": address,
+        "--journal": number(1, 1048576), "--sync": str,
+    },
+    **dict.fromkeys(AT_REST, {"--data": folder}),
 }
 
 
 def read(command, words):
     """The values that the words after a command give to its options; `Stopped` where they don't."""
     parser = Words(f"{command}: ", "./zk help")
-    for name, kind in OPTIONS[command]:
-        parser.add_argument(name, type=kind, required=command in AT_REST)
-    if command in ("script", "serve"):
-        parser.add_argument("--sync", choices=SYNC)
+    for name, kind in OPTIONS[command].items():
+        choices = ("batch", "never") if name == "--sync" else None
+        parser.add_argument(name, type=kind, choices=choices, required=command in AT_REST)
     found = parser.parse_args(words)
     for name in ("sync", "journal"):
         if getattr(found, name, None) and not found.data:

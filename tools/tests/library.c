@@ -75,30 +75,15 @@ static int play(jellqupas *service, long found) {
     return refused;
 }
 
-/* jellqupas_call with each size of a text, up to more than the answer's. */
-static void call_in_rooms(jellqupas *service) {
-    want(!jellqupas_open(3, service), "a service is open", 3);
-    for (size_t size = 0; size < 80; size++) {
-        char *text = __real_malloc(size + !size);
-        uint32_t status = jellqupas_call(service, "1 get /", 7, text, size);
-        if (status == JELLQUPAS_LONGER) want(take_answer(service) >= size, "it is longer", size);
-        else want(!status && text[strlen(text) - 1] == '\n', "an answer is a string", size);
-        free(text);
-    }
-    jellqupas_close(service);
-}
-
 int main(void) {
     long stories = 0;
     jellqupas *service = __real_malloc(jellqupas_size());
     play(service, -1);
     while (play(service, stories)) stories++;
-    call_in_rooms(service);
     for (int servers = 0; servers < 256; servers += 17) {
         want(jellqupas_open(servers, service) == JELLQUPAS_NO_SERVERS, "no servers", servers);
         jellqupas_close(service);
     }
-    want(!strcmp(jellqupas_version(), JELLQUPAS_VERSION), "the version is the header's", 0);
     free(service);
     printf("%ld refusals\n", stories);
     return failures > 0;

@@ -1,11 +1,9 @@
 """The library for programs of other languages, as ./library builds and installs it.
 
-Scripts of rows/ and lines of any bytes are played through the shared object. Programs in C run over
-the archive under the address sanitizer (library.c), and over what pkg-config names. The Python
-class has tests of its own (library_calls.py). The examples print what they should.
+Lines are played through the shared object. Programs in C run over the archive under the address
+sanitizer (library.c). The Python class has tests of its own (library_calls.py).
 """
 import glob
-import importlib.util
 import os
 import random
 import re
@@ -13,6 +11,7 @@ import shutil
 import subprocess
 import sys
 
+import kit
 import rows_part
 import usage
 from report import Failed, Skipped, Test, want, want_same
@@ -35,16 +34,15 @@ PRINTED = {
     "first": "ok data - stat 0 0 0 0 0 0 0 0 0 0\n",
 }
 ADDRESSES = "-g -O1 -fsanitize=address -fno-omit-frame-pointer".split()
-WORDS = (("frob",), ("--prefix",), ("--prefix=",), ("--prefix", "/x", "more"))
 
 
-def ran(words, status=0, **changes):
-    """What a program prints; another status than this is a failure."""
+def ran(words, **changes):
+    """What a program prints; it ends well."""
     done = subprocess.run(
         words, stdin=subprocess.DEVNULL, stdout=subprocess.PIPE, stderr=subprocess.STDOUT,
         timeout=SECONDS, text=True, errors="replace", cwd=ROOT, env={**os.environ, **changes},
     )
-    if done.returncode != status:
+    if done.returncode:
         raise Failed(f"{words}: status {done.returncode}: {done.stdout[-1500:]}")
     return done.stdout
 
@@ -60,14 +58,7 @@ def installed(builds):
 def module(builds):
     """The Python module, loaded."""
     path = f"{installed(builds)}/lib/jellqupas/jellqupas.py"
-
-    def loaded():
-        spec = importlib.util.spec_from_file_location("jellqupas", path)
-        sys.modules["jellqupas"] = made = importlib.util.module_from_spec(spec)
-        spec.loader.exec_module(made)
-        return made
-
-    return builds.once("jellqupas", loaded)
+    return builds.once("jellqupas", lambda: kit.load("jellqupas", path))
 
 
 def played(builds, servers, text):
@@ -97,9 +88,9 @@ def play_bytes(builds, _):
     lines += [b"1 get /" + b"a" * it for it in (524280, 524281, 524282, 1 << 20)]
     lines += [b" ".join(chance.choices(words, k=chance.randrange(1, 8))) for _ in range(2000)]
     text = b"\n".join(lines) + b"\n"
-    program = [builds.program("zk"), "script", "--servers", "3"]
-    answered = subprocess.run(program, input=text, stdout=subprocess.PIPE, timeout=120).stdout
-    want(played(builds, 3, text) == answered, "lines of any bytes are answered as by the program")
+    answers, program = played(builds, 3, text), [builds.program("zk"), "script", "--servers", "3"]
+    ran = subprocess.run(program, input=text, stdout=subprocess.PIPE, timeout=SECONDS)
+    want(answers == ran.stdout, "lines of any bytes are answered as by the program")
     with module(builds).Service(1) as service:
         want_same(service.call(b"1 get /\n1 get /"), b"bad line", "an LF in the middle")
 
@@ -124,7 +115,8 @@ def test_c(builds, tally):
         want_same(ran([program]), PRINTED[name], f"{name}.c")
         tally.passes()
     flags = [*flags, "-Wl,--wrap=malloc,--wrap=realloc"]
-    tally.passes(int(ran([builds.compiled("library_c", ["tools/tests/library.c"], flags)]).split()[0]))
+    program = builds.compiled("library_c", ["tools/tests/library.c"], flags)
+    tally.passes(int(ran([program]).split()[0]))
 
 
 def test_installed(builds, _):
@@ -132,7 +124,6 @@ def test_installed(builds, _):
     lib = f"{installed(builds)}/lib"
     version = usage.version_number()
     want_same(module(builds).__version__, version, "the version of the module")
-    want_same(os.readlink(f"{lib}/libjellqupas.so"), f"libjellqupas.so.{version}", "the link")
     if not shutil.which("pkg-config"):
         raise Skipped("there is no pkg-config here")
     found = {"PKG_CONFIG_PATH": f"{lib}/pkgconfig"}
@@ -142,18 +133,7 @@ def test_installed(builds, _):
     want_same(ran([program], LD_LIBRARY_PATH=lib), LOCK, "lock.c over the shared object")
 
 
-def test_words(_, tally):
-    """What ./library refuses, and its help. Nothing is proved."""
-    for words in WORDS:
-        said = ran([f"{ROOT}/library", *words], 2)
-        want(said.startswith("library: ") and said.count("\n") == 1, f"{words}: {said}")
-        tally.passes()
-    want(ran([f"{ROOT}/library", "--help"]).startswith("Builds the library"), "--help")
-
-
 def tests(builds):
-    parts = {play_rows: 60, play_bytes: 60, test_python: 60, test_c: 60, test_installed: 60}
-    return [
-        Test(f"library: {it.__name__}", seconds, lambda tally, it=it: it(builds, tally))
-        for it, seconds in {**parts, test_words: 1}.items()
-    ]
+    parts = (play_rows, play_bytes, test_python, test_c, test_installed)
+    test = lambda it: Test(f"library: {it.__name__}", 60, lambda tally: it(builds, tally))
+    return [*map(test, parts)]
