@@ -1,10 +1,9 @@
 #!/usr/bin/env python3
-"""Measures instructions over chains of 1, 3 and 8 servers by valgrind, and prints three tables.
+"""Measures instructions over chains of 1, 3 and 8 servers by valgrind, and prints two tables.
 
 The first has those of a line, as the difference of two scripts of which one has more of the same
 lines. Further programs are measured on one server. The second has those of a join together with a
-failure of the head. The third has those of a call at the servers alone (the program zcost), without
-text, clients and links, and without those of making it.
+failure of the head.
 
 All outputs of the first are compared. Where they differ the row says so, and the status is 1.
 """
@@ -19,9 +18,6 @@ MULTI = (
     "1 multi create /t p - ; set {0} any {3} ; create /t/k p {3} ; check {1} any ; "
     "delete /t/k any ; set {2} any {3} ; delete /t 0 ; check {4} any"
 )
-# The places of zcost, and its calls.
-PLACES = {"machine": "one machine", "1": "chain of one server", "3": "chain of three servers"}
-CALLS = 100_000
 
 
 node = lambda i: bench.node(i * 741 % 1000)
@@ -69,28 +65,6 @@ def change(program, servers, count):
     return (run(*turns, "1 ls /")[0] - run("1 ls /")[0]) / (8 - servers)
 
 
-def at_servers(program, place, kind):
-    """Instructions of a call at the servers alone."""
-    order = lambda calls: measuring.instructions([program], [f"{place} {kind} {calls}"])
-    some, said = order(CALLS)
-    answered = 0 if place == "nowhere" else CALLS
-    measuring.want_same(said, b"%d answered\n" % answered, f"{place} {kind}")
-    return (some - order(0)[0]) / CALLS
-
-
-def servers_alone(program):
-    """Prints the third table."""
-    cost = lambda place: [at_servers(program, place, it) for it in ("update", "query")]
-    made, alone = cost("nowhere"), None
-    measuring.head("Place", "An update", "A query", "Both", "Times the machine alone")
-    for place, title in PLACES.items():
-        update, query = (it - less for it, less in zip(cost(place), made))
-        own = update, query, update + query
-        alone = alone or own
-        times = ", ".join(f"{it / least:.2f}" for it, least in zip(own, alone))
-        measuring.row(title, *(f"{it:,.0f}" for it in own), times)
-
-
 def main():
     given = measuring.parser(__doc__, True).parse_args()
     with measuring.builds(given) as builds:
@@ -102,7 +76,6 @@ def main():
         measuring.head("Nodes", "A join and a failure, 1 server", "3 servers")
         for count in (0, 1000, 4000):
             measuring.row(f"{count:,}", *(f"{change(program, n, count):,.0f}" for n in (1, 3)))
-        servers_alone(builds.program("zcost"))
     return 0 if all(same) else 1
 
 

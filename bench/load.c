@@ -2,7 +2,7 @@
 
    Standard input is a file: a greeting, and requests of REQUEST bytes each, whose answers have
    ANSWER bytes each. Every connection sends its own part of them, again and again, with DEPTH under
-   way. It prints the seconds that CALLS of them took, and the longest wait for an answer. */
+   way. It prints the seconds that CALLS of them took. */
 #define _GNU_SOURCE
 #include <arpa/inet.h>
 #include <errno.h>
@@ -19,7 +19,6 @@
 enum { MOST = 64, GREETING = 49, GREETED = 41 };
 static struct {
     size_t sent, came;
-    double asked;
 } all[MOST];
 static struct pollfd sockets[MOST];
 static char room[1 << 18];
@@ -53,7 +52,7 @@ int main(int count, char **words) {
     size_t each = atol(words[4]) / connections, request = atoi(words[5]), answer = atoi(words[6]);
     size_t part = (file.st_size - GREETING) / request / connections;
     for (size_t i = 0; i < connections; i++) sockets[i] = greeted(atoi(words[1]), text);
-    double began = now(), longest = 0;
+    double began = now();
     while (done < connections) {
         for (size_t i = 0; i < connections; i++) {
             size_t at = all[i].sent % part, more = depth + all[i].came / answer - all[i].sent;
@@ -62,7 +61,7 @@ int main(int count, char **words) {
             if (!more) continue;
             const char *from = text + GREETING + (i * part + at) * request;
             size_t size = more * request;
-            all[i].sent += more, all[i].asked = now();
+            all[i].sent += more;
             if (write(sockets[i].fd, from, size) != (ssize_t)size) stop("a write");
         }
         if (poll(sockets, connections, 30000) <= 0) stop("no answer, or one of another length");
@@ -70,10 +69,9 @@ int main(int count, char **words) {
             if (!sockets[i].revents) continue;
             ssize_t came = read(sockets[i].fd, room, sizeof room);
             if (came <= 0) stop("the server has closed a connection");
-            if (now() - all[i].asked > longest) longest = now() - all[i].asked;
             done += (all[i].came += came) == each * answer;
         }
     }
-    printf("%.9f %.9f\n", now() - began, longest);
+    printf("%.9f\n", now() - began);
     return 0;
 }

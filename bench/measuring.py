@@ -36,8 +36,6 @@ def builds(given):
             yield Builds(not given.unproved, room, lambda text: print(text, file=sys.stderr))
         except (Failed, Skipped) as error:
             raise SystemExit(f"{sys.argv[0]}: {error}") from None
-        finally:
-            print("load", os.getloadavg()[0], file=sys.stderr)
 
 
 def instructions(words, lines):

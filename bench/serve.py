@@ -6,9 +6,8 @@ each of 1 and 4 connections. Each figure is the best of five rounds and their me
 take turns. ZooKeeper is Debian's, where it is installed; its log is written with fsync (batch) and
 without (never).
 
-The second has folders of 4,000 nodes, over one server: the best times to compact and to open one,
-and the longest wait of a client beside another one with 200 sets under way, while the journal is
-never shortened, and all the time. The folders are below TMPDIR.
+The second has folders of 4,000 nodes, over one server: the best times to compact and to open one.
+The folders are below TMPDIR.
 """
 import atexit
 import contextlib
@@ -27,9 +26,9 @@ import measuring
 import serving
 
 ROUNDS, SHAPES = 5, ((1, 1), (4, 1), (1, 200), (4, 200))
-NODES, GETS, WAITS = 4_000, 5, 20_000
-# The MiB from which on a journal is shortened: never, or at once.
-BOUNDS = 1 << 20, 1
+NODES, GETS = 4_000, 5
+# The MiB from which on a journal is shortened: never.
+NEVER = 1 << 20
 JARS = "/usr/share/java/zookeeper.jar", "/usr/share/java/slf4j-nop.jar"
 ZOOKEEPER = f"""java -Xmx512m -cp {':'.join(JARS)} -Dzookeeper.forceSync={{force}}
     -Dzookeeper.4lw.commands.whitelist=ruok -Dzookeeper.admin.enableServer=false
@@ -44,7 +43,7 @@ def requests(op, size):
     acl = struct.pack(">ii", 1, 31) + text(b"world") + text(b"anyone") + bytes(4)
     number, rest, answer = {
         "create": (1, text(bytes(size)) + acl, 12), "delete": (2, b"\xff" * 4, 0),
-        "get": (4, b"\0", 72 + size), "set": (5, text(bytes(size)) + b"\xff" * 4, 68),
+        "get": (4, b"\0", 72 + size),
     }[op]
     made = [text(struct.pack(">iqiq", 0, 0, 30000, 0) + text(bytes(16)) + b"\0")]
     for it in range(NODES):
@@ -63,10 +62,10 @@ def start(load, port, shape, calls, op, size=10):
 
 
 def ended(ran):
-    """The seconds of the calls, and the longest wait of one."""
+    """The seconds of the calls."""
     said = ran.communicate()[0]
     measuring.want(not ran.returncode, "the calls are not answered")
-    return tuple(map(float, said.split()))
+    return float(said)
 
 
 class Server:
@@ -97,7 +96,7 @@ class Server:
 
     def measure(self, load, shape, calls, op):
         """Notes how many of these calls are answered in a second."""
-        took = ended(start(load, self.port, shape, calls, op))[0]
+        took = ended(start(load, self.port, shape, calls, op))
         self.found.setdefault((shape, op), []).append(calls / took)
 
 
@@ -139,38 +138,21 @@ def of_requests(builds, load, rounds):
         it.stop()
 
 
-def wait(builds, load, folder, journal):
-    """The longest wait of a client beside another one, and how often the journal was shortened."""
-    files, it = [], kept(builds, folder, journal=journal)
-    other = start(load, it.port, (1, 200), 1 << 30, "set")
-    own = start(load, it.port, (1, 1), WAITS, "set")
-    while own.poll() is None:
-        files.append(os.stat(f"{folder}/journal").st_ino)
-        time.sleep(0.005)
-    other.kill()
-    it.stop()
-    return ended(own)[1], sum(map(int.__ne__, files, files[1:]))
-
-
 def of_folder(builds, load, size, rounds):
     """Prints the row of a folder with nodes of this size."""
     folder, compacted, opened = f"{builds.room}/kept-{size}", [], []
-    it = kept(builds, folder, journal=BOUNDS[0])
+    it = kept(builds, folder, journal=NEVER)
     ended(start(load, it.port, (1, 2), NODES, "create", size))
     it.stop()
     for _ in range(rounds):
         words, began = [builds.program("zk_serve"), folder, "compact", "1"], time.monotonic()
         subprocess.run(words, check=True, stdout=subprocess.DEVNULL)
         compacted.append(time.monotonic() - began)
-        it = kept(builds, folder, journal=BOUNDS[0])
+        it = kept(builds, folder, journal=NEVER)
         opened.append(it.opened)
         it.stop()
-    length = os.path.getsize(f"{folder}/journal") / 1e6
-    (quiet, _), (longest, times) = (wait(builds, load, folder, it) for it in BOUNDS)
-    measuring.row(
-        f"{NODES:,} of {size >> 10} KiB", f"{length:,.1f}", f"{min(compacted):.2f}",
-        f"{min(opened):.2f}", f"{quiet:.3f}", f"{longest:.3f}, shortened {times} times",
-    )
+    length, name = os.path.getsize(f"{folder}/journal") / 1e6, f"{NODES:,} of {size >> 10} KiB"
+    measuring.row(name, f"{length:,.1f}", f"{min(compacted):.2f}", f"{min(opened):.2f}")
 
 
 def main():
@@ -180,7 +162,7 @@ def main():
     with measuring.builds(given) as builds:
         load = builds.compiled("load", ["bench/load.c"])
         of_requests(builds, load, given.rounds)
-        measuring.head("Nodes", "MB", "Compacted, s", "Opened, s", "Longest wait, s", "shortened")
+        measuring.head("Nodes", "MB", "Compacted, s", "Opened, s")
         for size in (1 << 10, 1 << 16):
             of_folder(builds, load, size, given.rounds)
 

@@ -1,8 +1,8 @@
 #!/usr/bin/env python3
 """Measures clusters of real threads, and prints three tables: races, at rest, and many calls.
 
-A race has 1,000 rounds of three calls. Its time goes from the start of the first client's thread to
-the end of the last one's. The audit and the lines come after that, and are timed apart.
+A race has 1,000 rounds of three calls. Its time is that of the program, with its start, its audit
+and its lines.
 
 At rest (the program zrest) one client makes 500 updates, with a pause of 10 ms before each. The
 table has the processors' time over the time that passed; the switches of all threads a second; and
@@ -22,31 +22,24 @@ import time
 import measuring
 
 ROUNDS, RACED, SECONDS = 1000, 3, 20
-# The threads of a race beside its clients': sixteen servers and the master.
-OTHERS = 17
 CALLS, PAUSE, GROWTH = 500, 10_000, 1024
 PIPES = {"stdin": subprocess.PIPE, "stdout": subprocess.PIPE, "text": True}
 
 
-def race(program, preloaded, servers, clients):
-    """The calls a second of one race, and the milliseconds after it."""
-    words = ["race", "--servers", servers, "--clients", clients, "--rounds", ROUNDS]
-    counts = {"RACE_OTHERS": str(OTHERS), "RACE_CLIENTS": str(clients)}
-    ran = subprocess.run(
-        [program, *map(str, words)], capture_output=True, text=True, timeout=SECONDS, check=True,
-        env={**os.environ, "LD_PRELOAD": preloaded, **counts},
-    )
+def race(program, servers, clients):
+    """The calls a second of one race."""
+    words, began = ["race", "--servers", servers, "--clients", clients], time.monotonic()
+    words = [program, *map(str, words), "--rounds", str(ROUNDS)]
+    ran = subprocess.run(words, capture_output=True, text=True, timeout=SECONDS, check=True)
+    took = time.monotonic() - began
     measuring.want(ran.stdout.endswith("audit ok\n"), f"{program}: a race did not end well")
-    raced, after = map(float, ran.stderr.split())
-    return RACED * ROUNDS / raced, 1000 * after
+    return RACED * ROUNDS / took
 
 
-def races(program, preloaded, servers, clients, times):
+def races(program, servers, clients, times):
     """Prints the row of some races."""
-    rates, after = zip(*(race(program, preloaded, servers, clients) for _ in range(times)))
-    tenth = statistics.mean(sorted(rates)[-max(1, times // 10) :])
-    figures = (f"{it:,.0f}" for it in (max(rates), tenth, statistics.median(rates)))
-    measuring.row(servers, clients, *figures, f"{statistics.median(after):.1f}")
+    rates = [race(program, servers, clients) for _ in range(times)]
+    measuring.row(servers, clients, f"{max(rates):,.0f}", f"{statistics.median(rates):,.0f}")
 
 
 def status(pid, word):
@@ -104,11 +97,9 @@ def main():
     words.add_argument("--calls", type=int, default=3_000_000, help="calls of the third table")
     given = words.parse_args()
     with measuring.builds(given) as builds:
-        program, flags = builds.program("zk_race"), ("-shared", "-fPIC")
-        preloaded = builds.compiled("race_threads.so", ["bench/race_threads.c"], flags)
-        measuring.head("Servers", "Clients", "Best", "Best tenth", "Median", "Audit, ms")
+        measuring.head("Servers", "Clients", "Best", "Median")
         for servers, clients in itertools.product((1, 3), (1, 4, 31)):
-            races(program, preloaded, servers, clients, given.times)
+            races(builds.program("zk_race"), servers, clients, given.times)
         measuring.head("Servers", "Processors", "Switches a second", "Median, µs", "Nine", "Most")
         for servers in (1, 3):
             at_rest(builds.program("zrest"), servers)

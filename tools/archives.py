@@ -8,7 +8,7 @@ import sys
 
 import kit
 import proof
-from told import Stopped
+from ending import Stopped
 
 
 def run(words, folder, **given):

@@ -7,7 +7,7 @@ import sys
 import threading
 
 from sources import text_of
-from told import Stopped
+from ending import Stopped
 
 sys.dont_write_bytecode = True
 LOADING = threading.Lock()

@@ -15,7 +15,7 @@ import sources
 import unproved
 import usage
 import words as words_of
-from told import Stopped, teller
+from ending import Stopped, run, teller
 
 tell = teller("zk")
 HELP = ("help", "--help", "-h")
@@ -52,7 +52,7 @@ def get(mode, command, is_proved_first=False):
     return path
 
 
-def run(mode, command, words, _):
+def play(mode, command, words, _):
     """Runs a script or a race."""
     become(get(mode, command), [command, *words])
 
@@ -102,7 +102,7 @@ def do(is_folder, words):
         if is_folder and command in ("script", "serve"):
             raise Stopped("standard input is a folder")
         by_command = {"serve": serve, **dict.fromkeys(words_of.AT_REST, at_rest)}
-        by_command.get(command, run)(mode, command, words, given)
+        by_command.get(command, play)(mode, command, words, given)
     elif mode:
         refuse(f"{mode} wants script, race, serve, compact, export or stat, not '{command}'")
     elif command == "prove":
@@ -113,28 +113,5 @@ def do(is_folder, words):
         refuse(f"there is no command '{' '.join([command, *words])}'")
 
 
-def stopped(number, _):
-    raise Stopped("stopped; the next call goes on from here", 128 + number)
-
-
-def main(stdin, *words):
-    for it in (signal.SIGINT, signal.SIGTERM, signal.SIGHUP):
-        signal.signal(it, stopped)
-    try:
-        do(stdin == "folder", list(words))
-        sys.stdout.flush()
-    except Stopped as error:
-        tell(str(error))
-        return error.status
-    except BrokenPipeError:
-        # (whoever read the output has enough of it)
-        os.dup2(os.open(os.devnull, os.O_WRONLY), 1)
-        return 141
-    except OSError as error:
-        tell(f"{error.filename or 'the toolchain'}: {(error.strerror or str(error)).lower()}")
-        return 3
-    return 0
-
-
 if __name__ == "__main__":
-    sys.exit(main(*sys.argv[1:]))
+    sys.exit(run(tell, do, sys.argv[1] == "folder", sys.argv[2:]))

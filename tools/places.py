@@ -3,18 +3,16 @@
     programs/KEY/NAME            a proved program, by the sum of its sources
     programs/KEY/NAME-unproved   the same, built without proof
     proofs/                      where crates are proved
-    checkouts/                   the path of each checkout
 """
 import contextlib
 import fcntl
-import hashlib
 import os
 import shutil
 
 import sources
-from told import Stopped
+from ending import Stopped
 
-# What each checkout may have built.
+# What a checkout may have built.
 TOPS = ("zk", "zk_race", "zk_serve", "zclib", "zfront_c")
 
 
@@ -46,12 +44,6 @@ def programs(key):
     return f"{cache()}/programs/{key}"
 
 
-def listed(name):
-    """The names in this folder of the cache."""
-    folder = f"{cache()}/{name}"
-    return sorted(os.listdir(folder)) if os.path.isdir(folder) else []
-
-
 @contextlib.contextmanager
 def locked(folder, tell):
     """Keeps others out of the folder, which is made where it isn't there. Gives the lock's file."""
@@ -64,29 +56,13 @@ def locked(folder, tell):
         yield lock
 
 
-def note_checkout():
-    """Notes that this checkout is there, so that nothing of its own is cleaned away."""
-    path = os.fsencode(sources.ROOT)
-    name = hashlib.sha256(path).hexdigest()[:16]
-    with open(f"{made(f'{cache()}/checkouts')}/{name}", "wb") as file:
-        file.write(path)
-
-
-def checkouts():
-    """The checkouts that are known and still there; this one always is."""
-    noted = (sources.text_of(f"{cache()}/checkouts/{it}") for it in listed("checkouts"))
-    there = [it for it in map(os.fsdecode, noted) if os.path.isfile(f"{it}/crates.txt")]
-    return {sources.ROOT, *there}
-
-
 def clean(is_all, tell):
-    """Removes what no checkout uses, or all, and prints how much that was."""
-    there, spared = listed("programs"), set()
-    for root in () if is_all else checkouts():
-        spared |= {sources.key_of(sources.lines_below(it, root), root) for it in TOPS}
+    """Removes what this checkout doesn't use, or all, and prints how much that was."""
+    there = os.listdir(made(f"{cache()}/programs"))
     with locked(room(), tell):
         shutil.rmtree(f"{room()}/repository", ignore_errors=True)
-    gone = [it for it in there if it not in spared]
+    own = {sources.key_of(sources.lines_below(it)) for it in TOPS}
+    gone = [it for it in there if is_all or it not in own]
     for it in gone:
         shutil.rmtree(programs(it), ignore_errors=True)
     print(f"removed {len(gone)} of {len(there)} folders of programs in {cache()}")

@@ -13,9 +13,7 @@ NAMES = {"script": "zk", "race": "zk_race", "serve-data": "zk_serve"}
 def of_the_gate(name, lines):
     """The program that `rt ci` built in the checkout, unless a source is newer."""
     path = f"{sources.ROOT}/crates/{name}/out/{name}"
-    if not os.access(path, os.X_OK):
-        return None
-    built = os.stat(path).st_mtime_ns
+    built = os.stat(path).st_mtime_ns if there(path) else 0
     read = (it for it in sources.files_of(lines) if os.path.exists(it))
     return path if all(os.stat(it).st_mtime_ns < built for it in read) else None
 
@@ -28,16 +26,15 @@ def kept(name, key, is_proved):
 def proved(name):
     """The proved program of these very sources, or None."""
     lines = sources.lines_below(name)
-    return of_the_gate(name, lines) or of_the_cache(name, lines, True)
+    return of_the_gate(name, lines) or there(kept(name, sources.key_of(lines), True))
 
 
 def unproved(name):
     """The program of these very sources that was built without proof, or None."""
-    return of_the_cache(name, sources.lines_below(name), False)
+    return there(kept(name, sources.key_of(sources.lines_below(name)), False))
 
 
-def of_the_cache(name, lines, is_proved):
-    path = kept(name, sources.key_of(lines), is_proved)
+def there(path):
     return path if os.access(path, os.X_OK) else None
 
 

@@ -13,7 +13,7 @@ import kit
 import places
 import programs
 import sources
-from told import Stopped
+from ending import Stopped
 
 
 def copy(lines, to):
@@ -71,7 +71,6 @@ def built(crate, name, make, tell):
     if is_there:
         return path
     kit.required()
-    places.note_checkout()
     with repository(sources.lines_below(crate), tell) as (top, lock):
         # (the sum of what is proved, whatever becomes of the checkout meanwhile)
         path, is_there = place(crate, name, top)

@@ -14,7 +14,7 @@ import places
 import programs
 import proof
 import sources
-from told import Stopped
+from ending import Stopped
 
 # The crate with the exports, and that of the program which keeps a folder.
 CRATE = "zfront_c"
@@ -48,19 +48,14 @@ def proved():
     """The program of these very sources, or None."""
     folder, is_there = proof.place(CRATE, "front")
     path = place(os.path.dirname(folder), MEMORY)
-    return path if is_there and os.access(path, os.X_OK) else None
-
-
-def compile_host(parts, to, flags=()):
-    """Compiles a host of these parts beside what all are made of, with more flags."""
-    words = [compiler(), *FLAGS, *flags, f"-I{sources.ROOT}/include", "-o", to]
-    archives.run([*words, *PROGRAM, *parts], sources.ROOT)
+    return programs.there(path) if is_there else None
 
 
 def compile_to(path, parts):
     """Compiles a host of these parts, which is then at the path, whole or not at all."""
     with tempfile.TemporaryDirectory(prefix="serve-", dir=os.path.dirname(path)) as folder:
-        compile_host(parts, f"{folder}/serve")
+        words = [compiler(), *FLAGS, f"-I{sources.ROOT}/include", "-o", f"{folder}/serve"]
+        archives.run([*words, *PROGRAM, *parts], sources.ROOT)
         programs.keep(f"{folder}/serve", path)
     return path
 
@@ -91,4 +86,4 @@ def build_kept():
     """The host of a server that keeps a folder, which is compiled where it isn't there."""
     key = sources.key_of(sources.lines_below(KEEPER))
     path = place(places.made(places.programs(key)), PIPED)
-    return path if os.access(path, os.X_OK) else compile_to(path, (PIPED,))
+    return programs.there(path) or compile_to(path, (PIPED,))

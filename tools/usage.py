@@ -9,7 +9,7 @@ import places
 import programs
 import serving
 import sources
-from told import Stopped
+from ending import Stopped
 
 USAGE = """\
 A coordination service with ZooKeeper's data model and chain replication.
@@ -37,7 +37,7 @@ A script or race without a proved program builds one without proof, in a minute.
 ./zk --proved script ..       runs the proved program, or nothing; race, serve too
 ./zk --unproved script ..     runs the one without proof; race, serve --data too
 ./zk --version                the version, and which program would run
-./zk clean [--all]            removes what is kept and no checkout uses, or all
+./zk clean [--all]            removes programs that aren't of this checkout, or all
 
 The status is the program's; 2: a word that isn't understood; 3: the program
 can't be built, or isn't proved. Programs are kept in {kept}

@@ -5,7 +5,7 @@ The programs refuse wrong words themselves. Here they are refused before a build
 import argparse
 import ipaddress
 
-from told import Stopped
+from ending import Stopped
 
 # What is done with a server's folder that isn't in use.
 AT_REST = ("compact", "export", "stat")

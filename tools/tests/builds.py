@@ -9,7 +9,7 @@ import serving
 import unproved
 from report import Failed, Skipped
 from sources import ROOT
-from told import Stopped
+from ending import Stopped
 
 SANITIZERS = "-g -fsanitize=address,undefined -fno-sanitize-recover=all".split()
 

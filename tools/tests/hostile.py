@@ -111,16 +111,6 @@ def pieces(builds, first, count=250):
         want_same(*(it.observer.ls("/") for it in (whole, other)), "the nodes")
 
 
-def single_bytes(builds):
-    """A request of each kind, byte by byte."""
-    each = enumerate(bodies("/d/a", b"x")[:-2], 1)
-    data = greeting() + b"".join(request(xid, *it) for xid, it in each)
-    with Player(builds) as whole, Player(builds) as other:
-        found = whole.play(data)
-        want_same(other.play(data, range(1, len(data))), found, "byte by byte")
-        want(len(found) > 1000 and found.count(int4(-1)) >= 3, f"each request: {found}")
-
-
 def frames(builds):
     """Frames that are no request, or no greeting: each closes its connection, and makes no call."""
     late, whole = (request(1, CREATE, create_body(it, b"x")) for it in ("/late", "/a"))

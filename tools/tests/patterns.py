@@ -1,13 +1,13 @@
 """Variables in patterns that are spelled like a constructor, which the verdict of `rt ci` refuses.
 
 Such a variable takes every value: `none` where `None` was meant. `rt check` only prints a warning.
-A variable is found where its clause, or its case of an `elim`, doesn't use it. Another clause has
-a constructor at the same place. A constructor of that type is spelled so but for case, or but for
-one letter of more than three.
+A variable is found where its clause doesn't use it. Another clause has a constructor at the same
+place. A constructor of that type is spelled so but for case, or but for one letter of more than
+three.
 
 It can't see a constructor that is written after a dot or by another name. Nor can it see a
-variable that is used, what a λ or a `let` takes apart, patterns on two lines, or a constructor
-spelled right that isn't imported. Of a .rt file it sees an `elim` alone.
+variable that is used, what a λ, a `let` or an `elim` takes apart, patterns on two lines, or a
+constructor spelled right that isn't imported. It looks at files of specs and proofs alone.
 """
 import re
 
@@ -103,28 +103,10 @@ def functions(text):
     yield from found.values()
 
 
-def cases(text):
-    """The cases of each `elim`, in turn, as `functions` has clauses."""
-    opened = []
-    for it in TOKEN.finditer(text):
-        top = opened[-1] if opened else {"bracket": ""}
-        if it[0] in ("[", "(", "{"):
-            opened.append({"bracket": it[0], "from": it.end(), "left": None, "all": []})
-        elif top["bracket"] == "[" and it[0] in ("|", "]", "↦"):
-            if it[0] == "↦" and not top["left"]:
-                left = patterns(iter(TOKEN.findall(text, top["from"], it.start())))
-                top.update({"left": (top["from"], [joined(left)]), "from": it.end()})
-            elif it[0] != "↦" and top["left"]:
-                top["all"].append((*top["left"], (top["from"], it.start())))
-                top.update({"left": None, "from": it.end()})
-        if it[0] in ("]", ")", "}") and opened:
-            yield opened.pop()["all"]
-
-
-def faults(text, types, is_source):
+def faults(text, types):
     """Each variable that is spelled like a constructor: its place in the text, it, and that."""
     of_type = makers(text, types)
-    for clauses in [*cases(text), *(() if is_source else functions(text))] if of_type else ():
+    for clauses in functions(text) if of_type else ():
         seen, rows = {}, []
         for at, left, body in clauses if len(clauses) > 1 else ():
             row = [it for n, pattern in enumerate(left) for it in named(pattern, (n,))]

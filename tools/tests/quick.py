@@ -24,7 +24,7 @@ HANDLES = "Handles allowed: Threads, Wait.\n"
 MOST_EDITS = 10
 FILE_LINES, BODY_LINES, CLAUSE_COLUMNS = 600, 45, 102
 # Where Python, shell and C are counted, and how many lines they may have.
-COUNTED, MOST_LINES = r"(?:tools|\.ci|bench)/|(?:zk|test|library)$", 5000
+COUNTED, MOST_LINES = r"(?:tools|\.ci|bench)/|(?:zk|library)$", 5000
 PROGRAM = re.compile(r"#!.*\b(?:python3?|bash|sh)\b")
 COMMENT = re.compile(r"(?<!\S)--[^\n]*|\{-.*?-\}", re.S)
 # How `rattle fmt` names a file that isn't in the layout, or the line at which it doesn't parse.
@@ -120,9 +120,9 @@ def edits(name):
 
 def variables(name):
     """Variables in patterns that are spelled like a constructor."""
-    for path in files_of(name):
+    for path in (it for it in files_of(name) if it.endswith(".antt")):
         text = COMMENT.sub(lambda it: re.sub(r"[^\n]", " ", it[0]), read(path))
-        for place, variable, constructor in patterns.faults(text, TYPES, path.endswith(".rt")):
+        for place, variable, constructor in patterns.faults(text, TYPES):
             what = f"the pattern's variable {variable} is spelled like {constructor}"
             yield fault(path, text, place, what)
 

@@ -9,10 +9,10 @@ import time
 
 import asking
 import hostile
-from frames import CREATE, GET, SEQUENTIAL, create_body, greeting, int4, look_body, request
+from frames import CREATE, GET, SEQUENTIAL, create_body, greeting, look_body, request
 from report import Skipped, Test, want, want_same
 from servers import Server, ended, until, words_of
-from wire import Ended, Wire
+from wire import Wire
 
 RECIPES = f"{os.path.dirname(os.path.abspath(__file__))}/recipes.py"
 MOST, DATA, ESTABLISHED = 1000, 1 << 16, 1
@@ -161,21 +161,6 @@ def readers(builds):
         want({len(it.body) for it in got} == {DATA + 72}, "and whole")
 
 
-def unfinished(builds):
-    """Requests that don't come to their end are bounded, by closing whoever holds most."""
-    with Server(builds) as server, server.client() as other:
-        clients = [server.client() for _ in range(90)]
-        for number, it in enumerate(clients):
-            try:
-                it.send(int4(1_000_009) + bytes(1_000_000 - number))
-            except Ended:
-                pass
-        want(other.ping(), "others are served")
-        want(until(lambda: 20 <= closed(clients) < 90), f"{closed(clients)} are closed")
-        want(server.resident() < 300, f"{server.resident()} MiB")
-        want(server.serves(), "new ones are served")
-
-
 def silence(builds):
     """Who says nothing, or half a greeting, is closed after 10 s. Who has a session isn't."""
     with Server(builds) as server, server.client() as it, Wire(server.address) as half:
@@ -202,7 +187,7 @@ def operator(builds):
 
 
 EACH = (
-    asking.limits, asking.sessions, hostile.single_bytes, many, readers, unfinished, silence, words,
+    asking.limits, asking.sessions, many, readers, silence, words,
     asking.requests, asking.watches, hostile.frames, addresses, ends, four_letters, operator,
 )
 

@@ -1,5 +1,5 @@
-//! A cluster without traces, and one client that calls for long. `bench/long.py` measures how many
-//! calls it makes a second, and what memory it takes meanwhile.
+//! A cluster without traces, and one client that calls for long. `bench/threads.py` measures how
+//! many calls it makes a second, and what memory it takes meanwhile.
 //!
 //! Each line of the input is an order `SERVERS CALLS`: a chain of so many servers, and so many
 //! calls, by turns a set of one node and a read of it. At each tenth of them it writes how many are

@@ -1,5 +1,5 @@
-//! A cluster at rest, but for one client that calls now and then. `bench/idle.py` measures what its
-//! threads take, and how long a call takes behind the rest.
+//! A cluster at rest, but for one client that calls now and then. `bench/threads.py` measures what
+//! its threads take, and how long a call takes after a rest.
 //!
 //! Each line of the input is an order `SERVERS CALLS MICROS`: a chain of so many servers, and so
 //! many sets of one node with such a pause before each. Each set's line is the nanoseconds it took.

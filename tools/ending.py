@@ -1,0 +1,45 @@
+"""How a program of this folder ends, and how it prints its progress."""
+import os
+import signal
+import sys
+
+
+class Stopped(Exception):
+    """Why a program ends before its work is done, and its exit status."""
+
+    def __init__(self, text, status=3):
+        super().__init__(text)
+        self.status = status
+
+
+def teller(name):
+    """A function that prints a line on standard error under this name."""
+
+    def tell(text):
+        print(f"{name}: {text}", file=sys.stderr, flush=True)
+
+    return tell
+
+
+def stopped(number, _):
+    raise Stopped("stopped; the next call goes on from here", 128 + number)
+
+
+def run(tell, do, *given):
+    """Calls `do`, and returns the exit status: 0, or that of the fault or signal that ended it."""
+    for it in (signal.SIGINT, signal.SIGTERM, signal.SIGHUP):
+        signal.signal(it, stopped)
+    try:
+        do(*given)
+        sys.stdout.flush()
+    except Stopped as error:
+        tell(str(error))
+        return error.status
+    except BrokenPipeError:
+        # (whoever read the output has enough of it)
+        os.dup2(os.open(os.devnull, os.O_WRONLY), 1)
+        return 141
+    except OSError as error:
+        tell(f"{error.filename or 'the toolchain'}: {(error.strerror or str(error)).lower()}")
+        return 3
+    return 0
