@@ -40,16 +40,15 @@ class Builds:
 
     def program(self, crate):
         """The path of a crate's program."""
-        return self.once(crate, lambda: self.proved(crate) if self.is_proved else self.tried(crate))
+        tell = lambda text: self.say(f"{crate}: {text}")
+        make = self.proved if self.is_proved else lambda it: unproved.build(it, tell)
+        return self.once(crate, lambda: make(crate))
 
     def proved(self, crate):
         path = programs.proved(crate)
         if not path:
             raise Failed(f"no proved {crate} of these sources is there: `rt ci` builds it")
         return path
-
-    def tried(self, crate):
-        return unproved.build(crate, lambda text: self.say(f"{crate}: {text}"))
 
     def compiler(self):
         """The C compiler of this machine."""

@@ -1,5 +1,4 @@
 """What came of the tests: how many passed, what failed, and what was skipped and why."""
-import threading
 from typing import Callable, NamedTuple
 
 # The characters of a failure that are shown.
@@ -38,32 +37,27 @@ def want_same(got, wanted, what):
 
 
 class Tally:
-    """Counts tests. Several threads may count at once."""
+    """Counts tests. One thread counts at a time."""
 
     def __init__(self, say):
-        self.say, self.lock = say, threading.Lock()
-        self.passed, self.failures, self.skipped = 0, [], []
+        self.say, self.passed, self.failures, self.skipped = say, 0, [], []
 
     def passes(self, count=1):
-        with self.lock:
-            self.passed += count
+        self.passed += count
 
     def fails(self, name, text):
-        with self.lock:
-            self.failures.append(name)
+        self.failures.append(name)
         self.say(f"FAILED {name}: {text[:SHOWN]}")
 
     def skips(self, name, why):
-        with self.lock:
-            self.skipped.append(name)
+        self.skipped.append(name)
         self.say(f"skipped {name}: {why}")
 
     def takes(self, other):
         """Adds what another tally has counted."""
-        with self.lock:
-            self.passed += other.passed
-            self.failures += other.failures
-            self.skipped += other.skipped
+        self.passed += other.passed
+        self.failures += other.failures
+        self.skipped += other.skipped
 
     def is_empty(self):
         return not (self.passed or self.failures or self.skipped)

@@ -1,4 +1,4 @@
-"""Runs tests on all processors, tells how far it is, and leaves nothing behind."""
+"""Runs tests on all processors, says how far it is, and leaves nothing in its place."""
 import concurrent.futures
 import ctypes
 import os
@@ -12,13 +12,16 @@ import time
 import traceback
 
 import kit
+import places
+from ending import Stopped
 from report import Failed, Skipped, Tally
 
 # The parts, each a module of this folder with a function `tests(builds)`, in the order of work.
 PARTS = ("tests", "rows", "race", "states", "memory", "serve", "folder", "library", "commands")
 # The part without one: `rt ci` runs the test functions itself.
 OF_THE_GATE = "tests"
-SUBREAPER = 36
+# The bytes of disk that are needed, and prctl's number for who takes over processes.
+NEEDED, SUBREAPER = 1 << 30, 36
 
 
 def say(text):
@@ -87,8 +90,8 @@ class Run:
             own.fails(test.name, str(error))
         except Exception:
             own.fails(test.name, traceback.format_exc())
-        self.tally.takes(own)
         with self.lock:
+            self.tally.takes(own)
             self.left -= 1
             took = time.monotonic() - began
             say(f"{test.name}: {took:.1f} s; {self.left} of {len(self.tests)} left")
@@ -117,7 +120,7 @@ def tests_of(parts, is_proved, room):
 
 def run(parts, is_proved):
     """Runs the tests of these parts in a folder that is removed afterwards."""
-    room = tempfile.mkdtemp(prefix="jellqupas-test-")
+    cache, room = places.made(places.cache()), tempfile.mkdtemp(prefix="jellqupas-test-")
     os.environ["TMPDIR"] = tempfile.tempdir = room
     # (what outlives its parent is this process's own, so that it can be ended)
     ctypes.CDLL(None).prctl(SUBREAPER, 1, 0, 0, 0)
@@ -131,6 +134,9 @@ def run(parts, is_proved):
     for it in (signal.SIGINT, signal.SIGTERM, signal.SIGHUP):
         signal.signal(it, ended)
     try:
+        for it in (room, cache):
+            if shutil.disk_usage(it).free < NEEDED:
+                return refuse(f"{it}: less than {NEEDED >> 20} MiB of disk are free", 3)
         return Run(tests_of(parts, is_proved, room)).all()
     finally:
         end_children()
@@ -149,14 +155,15 @@ def main(words, usage):
     if wrong:
         return refuse(f"there is no part '{wrong}'; ./test --help has the words", 2)
     try:
-        if not kit.path_of_rt() or not kit.identity():
-            return refuse("the Rattle toolchain's rt is not on the PATH", 3)
+        kit.required()
         if is_quick:
             import quick
 
             return quick.main()
         chosen = [it for it in PARTS if it in parts or not parts and not (is_proved and it == OF_THE_GATE)]
         return run(chosen, is_proved)
+    except Stopped as error:
+        return refuse(str(error), error.status)
     except OSError as error:
         where = f"{error.filename}: " if error.filename else ""
         return refuse(f"{where}{(error.strerror or str(error)).lower()}", 3)
