@@ -1,4 +1,4 @@
-"""What the measurements share: their words, the programs, instructions, and rows of a table."""
+"""What the measurements share: words, programs, instructions, and rows of a table."""
 import argparse
 import contextlib
 import os

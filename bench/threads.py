@@ -8,8 +8,8 @@ At rest (the program zrest) one client makes 500 updates, with a pause of 10 ms 
 table has the processors' time over the time that passed; the switches of all threads a second; and
 of the calls' microseconds the median, what nine of ten don't exceed, and the most.
 
-Through many calls (the program zlong) one client sets and reads one node by turns. It fails where
-something is lost, or where the memory in use grows by more than a megabyte.
+Through many calls (the program zlong) one client sets and reads one node by turns. Nothing may be
+lost, and the memory in use may grow by a megabyte.
 """
 import itertools
 import os
@@ -23,17 +23,16 @@ import measuring
 
 ROUNDS, RACED, SECONDS = 1000, 3, 20
 CALLS, PAUSE, GROWTH = 500, 10_000, 1024
-PIPES = {"stdin": subprocess.PIPE, "stdout": subprocess.PIPE, "text": True}
+PIPES = {"text": True, **dict.fromkeys(("stdin", "stdout"), subprocess.PIPE)}
 
 
 def race(program, servers, clients):
     """The calls a second of one race."""
-    words, began = ["race", "--servers", servers, "--clients", clients], time.monotonic()
-    words = [program, *map(str, words), "--rounds", str(ROUNDS)]
-    ran = subprocess.run(words, capture_output=True, text=True, timeout=SECONDS, check=True)
-    took = time.monotonic() - began
+    words = f"race --servers {servers} --clients {clients} --rounds {ROUNDS}".split()
+    given, began = {"capture_output": True, "text": True, "timeout": SECONDS}, time.monotonic()
+    ran = subprocess.run([program, *words], check=True, **given)
     measuring.want(ran.stdout.endswith("audit ok\n"), f"{program}: a race did not end well")
-    return RACED * ROUNDS / took
+    return RACED * ROUNDS / (time.monotonic() - began)
 
 
 def races(program, servers, clients, times):

@@ -44,6 +44,11 @@ class Builds:
         make = self.proved if self.is_proved else lambda it: unproved.build(it, tell)
         return self.once(crate, lambda: make(crate))
 
+    def tests(self, crate):
+        """The path of a program that calls a crate's test functions, which isn't proved."""
+        tell = lambda text: self.say(f"{crate}: {text}")
+        return self.once(f"tests of {crate}", lambda: unproved.build(crate, tell, True))
+
     def proved(self, crate):
         path = programs.proved(crate)
         if not path:
