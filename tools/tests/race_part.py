@@ -4,10 +4,9 @@ import subprocess
 
 from report import Test, want_same
 
-SECONDS = 120
+SECONDS, ROUNDS = 120, 2
 # The numbers of servers, clients and nodes of a race. Each server is halted in turn, or none.
 SIZES = ((2, 2, 50), (3, 4, 200), (4, 31, 300), (8, 8, 400))
-ROUNDS = 2
 
 
 def race(program, servers, clients, rounds, halt):

@@ -42,7 +42,7 @@ def numbers(text):
 
 
 class Rows:
-    """What a file says: its settings, and its lines, each with its answers."""
+    """The settings of a file, and its lines, each with its answers."""
 
     def __init__(self, path):
         self.settings, self.lines = {}, []
