@@ -118,26 +118,27 @@ def tests_of(parts, is_proved, room):
     return found
 
 
+def ended(number, _):
+    signal.signal(number, signal.SIG_IGN)
+    raise Stopped(f"ended by {signal.Signals(number).name}", 128 + number)
+
+
 def run(parts, is_proved):
     """Runs the tests of these parts in a folder that is removed afterwards."""
     cache, room = places.made(places.cache()), tempfile.mkdtemp(prefix="jellqupas-test-")
     os.environ["TMPDIR"] = tempfile.tempdir = room
     # (what outlives its parent is this process's own, so that it can be ended)
     ctypes.CDLL(None).prctl(SUBREAPER, 1, 0, 0, 0)
-
-    def ended(number, _):
-        end_children()
-        shutil.rmtree(room, ignore_errors=True)
-        print(f"test: ended by {signal.Signals(number).name}", file=sys.stderr, flush=True)
-        os._exit(128 + number)
-
-    for it in (signal.SIGINT, signal.SIGTERM, signal.SIGHUP):
-        signal.signal(it, ended)
     try:
         for it in (room, cache):
             if shutil.disk_usage(it).free < NEEDED:
-                return refuse(f"{it}: less than {NEEDED >> 20} MiB of disk are free", 3)
-        return Run(tests_of(parts, is_proved, room)).all()
+                raise Stopped(f"{it}: less than {NEEDED >> 20} MiB of disk are free")
+        child = os.fork()
+        if not child:
+            os._exit(Run(tests_of(parts, is_proved, room)).all())
+        for it in (signal.SIGINT, signal.SIGTERM, signal.SIGHUP):
+            signal.signal(it, ended)
+        return abs(os.waitstatus_to_exitcode(os.waitpid(child, 0)[1]))
     finally:
         end_children()
         shutil.rmtree(room, ignore_errors=True)
@@ -148,8 +149,7 @@ def main(words, usage):
     if words in (["--help"], ["-h"], ["help"]):
         say(usage)
         return 0
-    is_proved = words[:1] == ["--proved"]
-    is_quick = words == ["--quick"]
+    is_proved, is_quick = words[:1] == ["--proved"], words == ["--quick"]
     parts = words[1:] if is_proved else [] if is_quick else words
     wrong = next((it for it in parts if it not in PARTS), None)
     if wrong:
