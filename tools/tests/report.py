@@ -14,7 +14,8 @@ class Skipped(Exception):
 
 
 class Test(NamedTuple):
-    """A test: its name, about how many seconds it takes, and its body.
+    """A test: its name, its seconds, and its body. The longest test comes first, so of the tests of
+    one program one alone has the 100 seconds of its build.
 
     The body is called with a `Tally` of its own. Where it counts nothing there, its return counts
     as one test that passed.

@@ -4,7 +4,7 @@ A line of a file is a line of a script and, behind a tab each, the lines that it
 {3*ab} stands for ababab, and \\015 for the byte of that octal number. Empty lines and those that
 begin with # are no lines of the script; nor are these:
 
-    @servers N ..       the script is run over each of these numbers of servers; 1-16 are all of them
+    @servers N ..       the script is run over each of these numbers of servers; 1-16 are all
     @words WORD ..      the words that the program is called with, in place of 'script --servers N'
     @times N LINE       N such lines, with the number of each, from 1 on, in the place of each #
     @alone              each line is a script of its own
@@ -103,7 +103,7 @@ def run(program, words, settings, text):
 
 def differing(name, wanted, got):
     """The lines in which what was wanted differs from what came."""
-    sides = [[it[:200] for it in text.decode(errors="replace").splitlines()] for text in (wanted, got)]
+    sides = [[it[:200] for it in one.decode(errors="replace").split("\n")] for one in (wanted, got)]
     return [f"{name} {it}" for it in difflib.unified_diff(*sides, lineterm="", n=0)][2:]
 
 
@@ -126,8 +126,9 @@ def test(builds, path):
     """The test that a file is."""
     rows = Rows(path)
     crate = "zk_race" if rows.is_race() else "zk"
-    seconds = 5 if rows.is_race() else 1
-    return Test(os.path.basename(path), seconds, lambda tally: play(tally, builds.program(crate), path, rows))
+    seconds = 100 if path.endswith("/log_at_size.rows") else 5 if rows.is_race() else 1
+    body = lambda tally: play(tally, builds.program(crate), path, rows)
+    return Test(os.path.basename(path), seconds, body)
 
 
 def files():

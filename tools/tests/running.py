@@ -160,8 +160,8 @@ def main(words, usage):
             import quick
 
             return quick.main()
-        chosen = [it for it in PARTS if it in parts or not parts and not (is_proved and it == OF_THE_GATE)]
-        return run(chosen, is_proved)
+        every = [it for it in PARTS if not (is_proved and it == OF_THE_GATE)]
+        return run([it for it in PARTS if it in (parts or every)], is_proved)
     except Stopped as error:
         return refuse(str(error), error.status)
     except OSError as error:

@@ -193,7 +193,7 @@ EACH = (
 
 
 def tests(builds):
-    found = [Test("serve: recipes of kazoo", 30, lambda tally: recipes(builds, tally))]
+    found = [Test("serve: recipes of kazoo", 100, lambda tally: recipes(builds, tally))]
     found += [Test(f"serve: {it.__name__}", 10, lambda _, it=it: it(builds)) for it in EACH]
     for first in range(0, 1000, 250):
         body = lambda _, first=first: hostile.pieces(builds, first)

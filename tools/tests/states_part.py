@@ -46,5 +46,5 @@ def test(builds, name, seconds, found):
 def tests(builds):
     found = list(scripts())
     parts = [(f"rows, part {it + 1}", 5, found[it::PARTS]) for it in range(PARTS)]
-    parts += [(it.decode().strip(), 30, [("a drawn script", it)]) for it in DRAWN]
+    parts += [(it.decode().strip(), n, [("drawn", it)]) for n, it in zip((100, 40), DRAWN)]
     return [test(builds, *it) for it in parts]

@@ -35,4 +35,4 @@ def call_all(tally, builds, crate):
 def tests(builds):
     crates = (it.split("/")[-3] for it in sorted(glob.glob(f"{ROOT}/crates/*_tests/src/lib.rt")))
     body = lambda crate: lambda tally: call_all(tally, builds, crate)
-    return [Test(f"tests of {it}", 60, body(it)) for it in crates]
+    return [Test(f"tests of {it}", 100, body(it)) for it in crates]
