@@ -4,18 +4,16 @@ import re
 import subprocess
 
 from report import Test, want
-from sources import ROOT
+from sources import ROOT, text_of
 
 SECONDS = 120
 LISTED = re.compile(r"(?m)^(\S+): test$")
 
 
-def call(program, *words):
+def call(program, word):
     """What a call prints, and its status."""
-    ran = subprocess.run(
-        [program, *words], stdin=subprocess.DEVNULL, stdout=subprocess.PIPE,
-        stderr=subprocess.STDOUT, text=True, errors="replace", timeout=SECONDS,
-    )
+    pipes = {"stdin": subprocess.DEVNULL, "stdout": subprocess.PIPE, "stderr": subprocess.STDOUT}
+    ran = subprocess.run([program, word], text=True, errors="replace", timeout=SECONDS, **pipes)
     return ran.stdout, ran.returncode
 
 
@@ -26,13 +24,13 @@ def call_all(tally, builds, crate):
     want(names, "no test is listed")
     for name in names:
         said, status = call(program, name)
-        if status or not said.endswith("test result: ok\n"):
-            tally.fails(f"{crate}::{name}", f"status {status}: {said}")
-        else:
-            tally.passes()
+        is_ok = not status and said.endswith("test result: ok\n")
+        tally.passes() if is_ok else tally.fails(f"{crate}::{name}", f"status {status}: {said}")
 
 
 def tests(builds):
-    crates = (it.split("/")[-3] for it in sorted(glob.glob(f"{ROOT}/crates/*_tests/src/lib.rt")))
+    found = glob.glob(f"{ROOT}/crates/*/src/**/*.rt", recursive=True)
+    with_tests = (it.removeprefix(f"{ROOT}/crates/") for it in found if b"#[test]" in text_of(it))
     body = lambda crate: lambda tally: call_all(tally, builds, crate)
+    crates = sorted({it.partition("/")[0] for it in with_tests})
     return [Test(f"tests of {it}", 100, body(it)) for it in crates]
