@@ -1,3 +1,4 @@
+pub mod Inputs
 pub mod Outbox
 pub mod Streams
 pub mod support

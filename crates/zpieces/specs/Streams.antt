@@ -23,9 +23,9 @@ StreamRows = FinMap nat_cmp StreamView
 abbrev pub empty_in : Phase → StreamView
 empty_in phase = record { phase = phase; bytes = [] }
 
--- the stream of a connection on which nothing was read yet, by the password of a session on it
-abbrev pub opened : List ℕ → StreamView
-opened password = empty_in (Silent password)
+-- the stream of a connection on which nothing was read yet
+abbrev pub opened : StreamView
+opened = empty_in Silent
 
 -- the streams with that of one connection changed, if it has one
 abbrev pub changed : (StreamView → StreamView) → StreamRows → ℕ → StreamRows

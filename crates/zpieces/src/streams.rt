@@ -10,7 +10,6 @@ use crate::table::StreamTable;
 use std::alloc::Global;
 use std::marker::Model;
 use zalloc::Memory;
-use zsittings::Password;
 
 /// The streams of all connections, each under its connection's number.
 #[derive(Drop)]
@@ -64,11 +63,11 @@ impl Streams {
 
     /// Adds the stream of a connection on which nothing was read yet, in place of any that it has.
     /// After `Memory` nothing has changed.
-    pub fn open(&mut self, connection: u32, password: Password) -> Result<(), Memory>
-        ensures ok { OnOk result (self.new ≡ finite.insert self.old connection (opened password)) }
+    pub fn open(&mut self, connection: u32) -> Result<(), Memory>
+        ensures ok { OnOk result (self.new ≡ finite.insert self.old connection opened) }
         ensures err { OnErr result (self.new ≡ self.old) }
     {
-        self.table.insert(connection, Phase::Silent(password))
+        self.table.insert(connection, Phase::Silent)
     }
 
     /// Sets how far a connection is, if it has a stream. Allocates nothing.

@@ -2,8 +2,8 @@
 
 use crate::row::Row;
 use zcalls::Update;
+use zpasswords::Password;
 use zprotocol::ServerId;
-use zsittings::Password;
 
 /// What a server logs.
 #[derive(Drop)]

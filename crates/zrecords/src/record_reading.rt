@@ -10,8 +10,8 @@ use crate::record::Record;
 use crate::row::Row;
 use std::alloc::Global;
 use zforms::{Fault, ReadError, end, sized_at, u8_at};
+use zpasswords::Password;
 use zprotocol::ServerId;
-use zsittings::Password;
 
 /// Reads the record that all of the bytes spell.
 pub(crate) fn whole_record(alloc: Global, bytes: &[u8]) -> Result<Record, ReadError>

@@ -9,8 +9,8 @@ use crate::record::Record;
 use crate::row::Row;
 use std::alloc::{AllocError, Global};
 use zforms::{put_sized, put_u8};
+use zpasswords::Password;
 use zprotocol::ServerId;
-use zsittings::Password;
 
 /// Writes a record.
 #[tactic(auto, unfolding(crate::specs::Records::logged))]

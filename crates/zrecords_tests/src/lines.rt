@@ -8,10 +8,10 @@ use zcalls::{
     Check, Create, Data, Delete, Expected, Kind, Lifetime, Multi, Part, SessionId, SetData, Ttl,
     Update,
 };
+use zpasswords::Password;
 use zpath::Path;
 use zprotocol::ServerId;
 use zrecords::{Record, Row, next_record, read_records, write_records};
-use zsittings::Password;
 
 // A create of a node with so many bytes.
 fn create(alloc: Global, path: &str, kind: Kind, len: usize) -> Option<Create> {

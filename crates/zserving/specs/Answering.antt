@@ -1,12 +1,12 @@
 -- What a request does to the tables once its calls were answered. The source is zookeeper.jute and
 -- the ZooKeeper Programmer's Guide, "ZooKeeper Watches".
 use Rattle.std.specs.Prelude.{ℕ, Bool, List, if◌then◌else◌}
+use Rattle.ztree.specs.Tree.{Tree}
 use Rattle.zcalls.specs.declared.call.Call.{Call}
 use Rattle.zcalls.specs.declared.reply.Reply.{Reply}
 use Rattle.zjute.specs.declared.code.Code.TheVariants as code
 use Rattle.zjute.specs.declared.request.Asked.{Asked}
 use Rattle.zjute.specs.declared.request.Request.{Request}
-use Rattle.zknown.specs.Known.{KnownView}
 use Rattle.zanswering.specs.declared.answer.Answer.{Answer}
 use Rattle.zanswering.specs.declared.clock.Clock.{Clock}
 use Rattle.zanswering.specs.declared.clock.Now.{Now}
@@ -17,22 +17,22 @@ use Rattle.zserving.specs.Replying.{absorbed_all, replied}
 use Rattle.zserving.specs.Watching.{granted_all, some_lacked}
 use Rattle.zserving.specs.Wishes.{wishes}
 
--- where the tree is
-abbrev pub now_of : KnownView → Now
-now_of known = record { zxid = known.zxid; time = known.time }
+-- where a tree is
+abbrev pub now_of : Tree → Now
+now_of t = record { zxid = t.zxid; time = t.time }
 
 -- the answer to a request; where there was no room for a watch, an error
-abbrev pub answer_unless : Bool → Clock → KnownView → Asked → List Call → List Reply → Answer
-answer_unless lacked clock known asked calls replies =
-    if lacked then failed code.SystemError else answer_in clock (now_of known) asked calls replies
+abbrev pub answer_unless : Bool → Clock → Now → Asked → List Call → List Reply → Answer
+answer_unless lacked clock now asked calls replies =
+    if lacked then failed code.SystemError else answer_in clock now asked calls replies
 
 -- the watches of a request are set, and it is answered
-abbrev pub granted_and_answered : Clock → KnownView → ℕ → Request → List Call → List Reply → TablesView → TablesView
-granted_and_answered clock known c request calls replies t =
+abbrev pub granted_and_answered : Clock → Now → ℕ → Request → List Call → List Reply → TablesView → TablesView
+granted_and_answered clock now c request calls replies t =
     let wished = wishes request.asked calls replies in
-    replied known c request.xid (answer_unless (some_lacked c wished t) clock known request.asked calls replies) (granted_all c wished t)
+    replied now.zxid c request.xid (answer_unless (some_lacked c wished t) clock now request.asked calls replies) (granted_all c wished t)
 
 -- the events of its calls come first, then the watches that it sets, and then the answer
-abbrev pub answered : Clock → KnownView → ℕ → Request → List Call → List Reply → TablesView → TablesView
-answered clock known c request calls replies t =
-    granted_and_answered clock known c request calls replies (absorbed_all calls replies t)
+abbrev pub answered : Clock → Now → ℕ → Request → List Call → List Reply → TablesView → TablesView
+answered clock now c request calls replies t =
+    granted_and_answered clock now c request calls replies (absorbed_all calls replies t)

@@ -9,30 +9,29 @@ use Rattle.zjute.specs.declared.connecting.ConnectResponse.{ConnectResponse}
 use Rattle.zjute.specs.Connecting.{connect_response}
 use Rattle.zjute.specs.Frames.{frame}
 use Rattle.zjute.specs.Replies.{reply_text}
-use Rattle.zknown.specs.Known.{KnownView}
 use Rattle.zanswering.specs.declared.answer.Answer.{Answer}
 use Rattle.zanswering.specs.Answers.{failed}
 use Rattle.zanswering.specs.Stats.{long_of}
 
 -- an answer to the request with this xid, behind its header, which has the zxid of the tree
-abbrev pub answer_text : KnownView → ℤ → Answer → List ℕ
-answer_text known xid answer =
-    reply_text (record { xid = xid; zxid = long_of known.zxid; code = answer.code; body = answer.body })
+abbrev pub answer_text : ℕ → ℤ → Answer → List ℕ
+answer_text zxid xid answer =
+    reply_text (record { xid = xid; zxid = long_of zxid; code = answer.code; body = answer.body })
 
 -- what is told in the place of an answer that no frame can hold
 abbrev pub too_long : Answer
 too_long = failed code.MarshallingError
 
 -- the text that a frame can hold
-abbrev pub text_told : KnownView → ℤ → Answer → List ℕ
-text_told known xid answer =
-    if nat_lt MAX_FRAME (length (answer_text known xid answer))
-    then answer_text known xid too_long
-    else answer_text known xid answer
+abbrev pub text_told : ℕ → ℤ → Answer → List ℕ
+text_told zxid xid answer =
+    if nat_lt MAX_FRAME (length (answer_text zxid xid answer))
+    then answer_text zxid xid too_long
+    else answer_text zxid xid answer
 
 -- an answer as a frame
-abbrev pub answer_frame : KnownView → ℤ → Answer → List ℕ
-answer_frame known xid answer = frame (text_told known xid answer)
+abbrev pub answer_frame : ℕ → ℤ → Answer → List ℕ
+answer_frame zxid xid answer = frame (text_told zxid xid answer)
 
 -- a client that isn't who it says is told so, and its connection is closed
 abbrev pub ends_connection : Code → Bool

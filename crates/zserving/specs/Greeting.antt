@@ -1,19 +1,17 @@
 -- The answer to a connection's first frame. The source is zookeeper.jute (`ConnectRequest`) and the
 -- ZooKeeper Programmer's Guide, "ZooKeeper Sessions".
-use Rattle.std.specs.Prelude.{ℕ, ℤ, pos, negsuc, Bool, List, [], int_lt, replicate, if◌then◌else◌}
+use Rattle.std.specs.Prelude.{ℕ, ℤ, pos, Bool, List, [], int_lt, nat_eq, replicate, if◌then◌else◌}
 use Rattle.std.specs.Option.{option_map_or}
-use Rattle.std.specs.FinMap.{get}
+use lib.Pointwise.{pointwise}
 use Rattle.zjute.specs.declared.connecting.ConnectRequest.{ConnectRequest}
-use Rattle.zknown.specs.Known.{KnownView}
 use Rattle.zanswering.specs.Stats.{long_of}
 use Rattle.zasking.specs.Timeouts.{millis_told}
-use Rattle.zsittings.specs.Sittings.{passes}
 use Rattle.ztables.specs.Tables.{TablesView, sent, closed, sitting, taken_up}
 use Rattle.zserving.specs.Frames.{response_frame}
 
 -- the client has seen changes that this tree hasn't
-abbrev pub is_ahead : KnownView → ConnectRequest → Bool
-is_ahead known request = int_lt (long_of known.zxid) request.last_zxid_seen
+abbrev pub is_ahead : ℕ → ConnectRequest → Bool
+is_ahead zxid request = int_lt (long_of zxid) request.last_zxid_seen
 
 -- a session is told on a connection, with its timeout in milliseconds
 abbrev pub session_told : ConnectRequest → ℕ → ℤ → List ℕ → ℕ → TablesView → TablesView
@@ -23,7 +21,7 @@ session_told request session timeout password c t =
 -- a new session, whose timeout is granted in ticks
 abbrev pub welcomed : ℕ → ConnectRequest → ℕ → ℕ → List ℕ → ℕ → TablesView → TablesView
 welcomed tick request session ticks password c t =
-    session_told request session (millis_told tick ticks) password c (sitting session password c t)
+    session_told request session (millis_told tick ticks) password c (sitting session c t)
 
 -- a client without a session: it is told so, and its connection is closed
 abbrev pub turned_away : ConnectRequest → ℕ → TablesView → TablesView
@@ -33,15 +31,9 @@ turned_away request c t = closed c (sent c (response_frame request (pos 0) (pos 
 abbrev pub given : ConnectRequest → List ℕ
 given request = option_map_or (λ bytes. bytes) request.password []
 
--- a client comes back to a session that the tree has; it must give its whole password
-abbrev pub came_back : ConnectRequest → ℕ → ℤ → ℕ → TablesView → TablesView
-came_back request session timeout c t =
-    if passes t.sittings session (given request)
-    then session_told request session timeout (given request) c (taken_up session c t)
+-- a client comes back to a session of the tree, which has this password. It must give all of it
+abbrev pub came_back : ℕ → ConnectRequest → ℕ → ℕ → List ℕ → ℕ → TablesView → TablesView
+came_back tick request session ticks password c t =
+    if pointwise nat_eq (given request) password
+    then session_told request session (millis_told tick ticks) password c (taken_up session c t)
     else turned_away request c t
-
--- a client comes back to the session with this number
-abbrev pub returned : ℕ → KnownView → ConnectRequest → ℤ → ℕ → TablesView → TablesView
-returned tick known request (pos session) c t =
-    option_map_or (λ s. came_back request session (millis_told tick s.timeout) c t) (get known.sessions session) (turned_away request c t)
-returned tick known request (negsuc n) c t = turned_away request c t

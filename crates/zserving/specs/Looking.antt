@@ -1,11 +1,8 @@
 -- Which watched nodes went away, or lost a child, with a session or at a tick: each place is looked
 -- at. The source is the ZooKeeper Programmer's Guide, "ZooKeeper Watches". What a tick or the end of
 -- a session takes away is all taken by one change, so its zxid tells it.
-use Rattle.std.specs.Prelude.{ℕ, List, [], ◌∷◌, ◌++◌, map, ◌==◌, if◌then◌else◌}
+use Rattle.std.specs.Prelude.{ℕ, List, [], ◌∷◌, ◌++◌, ◌==◌, if◌then◌else◌}
 use Rattle.ztree.specs.declared.node.Stat.{Stat}
-use Rattle.zcalls.specs.declared.call.Call.{Call}
-use Rattle.zcalls.specs.declared.call.Call.TheVariants.{Query}
-use Rattle.zcalls.specs.declared.call.Query.TheVariants.{Exists}
 use Rattle.zcalls.specs.declared.reply.Reply.{Reply}
 use Rattle.zcalls.specs.declared.reply.Reply.TheVariants as reply
 use Rattle.zcalls.specs.declared.refusal.Refusal.TheVariants.{NoNode}
@@ -15,13 +12,6 @@ use Rattle.zevents.specs.Events.{event}
 use Rattle.zwatches.specs.declared.place.Place.{Place}
 use Rattle.zwatches.specs.declared.kind.Kind.{Kind}
 use Rattle.zwatches.specs.declared.kind.Kind.TheVariants.{Children}
-
--- a place is looked at by a query whether its node exists
-abbrev pub look_at : Place → Call
-look_at p = Query (Exists p.path)
-
-abbrev pub looks_at : List Place → List Call
-looks_at places = map look_at places
 
 -- the children of a node that is there have changed with this zxid
 abbrev pub children_seen : ℕ → Place → Stat → List Event

@@ -4,7 +4,6 @@ use Rattle.std.specs.Prelude.{ℕ, ℤ, List, ◌∷◌, if◌then◌else◌}
 use Rattle.zcalls.specs.declared.call.Call.{Call}
 use Rattle.zcalls.specs.declared.call.Call.TheVariants as call
 use Rattle.zcalls.specs.declared.reply.Reply.{Reply}
-use Rattle.zknown.specs.Known.{KnownView}
 use Rattle.zevents.specs.Events.{events_of}
 use Rattle.zanswering.specs.declared.answer.Answer.{Answer}
 use Rattle.ztables.specs.Tables.{TablesView, sent, closed}
@@ -24,8 +23,8 @@ absorbed_all (call ∷ calls) (reply ∷ replies) t = absorbed_all calls replies
 absorbed_all calls replies t = t
 
 -- a connection is told an answer to the request with this xid
-abbrev pub replied : KnownView → ℕ → ℤ → Answer → TablesView → TablesView
-replied known c xid answer t =
+abbrev pub replied : ℕ → ℕ → ℤ → Answer → TablesView → TablesView
+replied zxid c xid answer t =
     if ends_connection answer.code
-    then closed c (sent c (answer_frame known xid answer) t)
-    else sent c (answer_frame known xid answer) t
+    then closed c (sent c (answer_frame zxid xid answer) t)
+    else sent c (answer_frame zxid xid answer) t

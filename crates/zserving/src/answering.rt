@@ -13,7 +13,6 @@ use zalloc::Memory;
 use zanswering::{Clock, Now, answer_to};
 use zcalls::{Call, Reply};
 use zjute::{Body, Code, Request};
-use zknown::Known;
 use ztables::Tables;
 
 /// A request whose calls were all answered.
@@ -35,15 +34,15 @@ pub fn answer(
     alloc: Global,
     tables: &mut Tables,
     clock: &Clock,
-    known: &Known,
+    now: &Now,
     done: &Done,
 ) -> Result<(), Memory>
     ensures { OnOk result (tables.new
-        ≡ answered clock.now known.now done.now.connection done.now.request.now
+        ≡ answered clock.now now.now done.now.connection done.now.request.now
         done.now.calls.now done.now.replies.now tables.old) }
 {
     absorb_all(alloc, tables, done.calls, done.replies)?;
-    grant_and_answer(alloc, tables, clock, known, done)
+    grant_and_answer(alloc, tables, clock, now, done)
 }
 
 // Sets the watches of a request, and tells its answer.
@@ -51,21 +50,21 @@ fn grant_and_answer(
     alloc: Global,
     tables: &mut Tables,
     clock: &Clock,
-    known: &Known,
+    now: &Now,
     done: &Done,
 ) -> Result<(), Memory>
     ensures { OnOk result (tables.new
-        ≡ granted_and_answered clock.now known.now done.now.connection done.now.request.now
+        ≡ granted_and_answered clock.now now.now done.now.connection done.now.request.now
         done.now.calls.now done.now.replies.now tables.old) }
 {
     let wishes = wishes(alloc, &done.request.asked, done.calls, done.replies)?;
     let lacked = grant_all(tables, done.connection, &wishes)?;
     drop(wishes);
-    let answer = answer_unless(alloc, lacked, clock, known, done)?;
+    let answer = answer_unless(alloc, lacked, clock, now, done)?;
     reply(
         alloc,
         tables,
-        known,
+        now.zxid,
         done.connection,
         done.request.xid,
         answer,
@@ -77,11 +76,11 @@ fn answer_unless(
     alloc: Global,
     lacked: bool,
     clock: &Clock,
-    known: &Known,
+    now: &Now,
     done: &Done,
 ) -> Result<zanswering::Answer, Memory>
     ensures { IfOk result (λ answer. answer
-        ≡ table.answer_unless lacked clock.now known.now done.now.request.now.asked
+        ≡ table.answer_unless lacked clock.now now.now done.now.request.now.asked
         done.now.calls.now done.now.replies.now) }
 {
     if lacked {
@@ -90,14 +89,10 @@ fn answer_unless(
             body: Body::Nothing,
         });
     }
-    let at = Now {
-        zxid: known.zxid(),
-        time: known.time(),
-    };
     answer_to(
         alloc,
         clock,
-        &at,
+        now,
         &done.request.asked,
         done.calls,
         done.replies,

@@ -13,8 +13,8 @@ use zjute::{
     Body, Bytes, Code, ConnectRequest, ConnectResponse, WriteError, write_connect_response,
     write_reply,
 };
-use zknown::Known;
-use zsittings::Password;
+use zpasswords::Password;
+use ztree::Zxid;
 
 /// Returns whether a connection is closed behind an answer with this code.
 pub(crate) fn ends_connection(code: Code) -> bool
@@ -26,34 +26,33 @@ pub(crate) fn ends_connection(code: Code) -> bool
 /// Returns an answer as a frame. One that no frame can hold is told as an error.
 pub(crate) fn answer_frame(
     alloc: Global,
-    known: &Known,
+    zxid: Zxid,
     xid: i32,
     answer: Answer,
 ) -> Result<Vec<u8>, Memory>
-    ensures { IfOk result (λ bytes. bytes.items ≡ table.answer_frame known.now xid answer) }
+    ensures { IfOk result (λ bytes. bytes.items ≡ table.answer_frame zxid xid answer) }
 {
-    let zxid = long_of(known.zxid().number());
     let Answer { code, body } = answer;
     let told = zjute::Reply {
         xid,
-        zxid,
+        zxid: long_of(zxid.number()),
         code,
         body,
     };
     match write_reply(alloc, &told) {
         Ok(bytes) => Ok(bytes),
         Err(WriteError::Memory) => Err(Memory),
-        Err(WriteError::TooLong) => too_long_frame(alloc, known, xid),
+        Err(WriteError::TooLong) => too_long_frame(alloc, zxid, xid),
     }
 }
 
 // Returns what is told where no frame can hold an answer.
-fn too_long_frame(alloc: Global, known: &Known, xid: i32) -> Result<Vec<u8>, Memory>
-    ensures { IfOk result (λ bytes. bytes.items ≡ frame (answer_text known.now xid too_long)) }
+fn too_long_frame(alloc: Global, zxid: Zxid, xid: i32) -> Result<Vec<u8>, Memory>
+    ensures { IfOk result (λ bytes. bytes.items ≡ frame (answer_text zxid xid too_long)) }
 {
     let told = zjute::Reply {
         xid,
-        zxid: long_of(known.zxid().number()),
+        zxid: long_of(zxid.number()),
         code: Code::MarshallingError,
         body: Body::Nothing,
     };

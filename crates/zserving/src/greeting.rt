@@ -2,7 +2,7 @@
 
 ghost use Rattle.std.specs.Prelude.{◌≡◌, OnOk};
 ghost use Rattle.zserving.specs.Greeting as table;
-ghost use Rattle.zserving.specs.Greeting.{came_back, returned, turned_away, welcomed};
+ghost use Rattle.zserving.specs.Greeting.{came_back, turned_away, welcomed};
 
 use crate::frames::response_frame;
 use crate::numbers::long_of;
@@ -10,21 +10,20 @@ use std::alloc::Global;
 use zalloc::Memory;
 use zasking::{TickLength, millis_told};
 use zjute::ConnectRequest;
-use zknown::Known;
-use zsittings::Password;
+use zpasswords::Password;
 use ztables::Tables;
-use ztree::SessionId;
+use ztree::{SessionId, Zxid};
 
 /// Returns whether a client has seen changes that the tree hasn't.
-pub fn is_ahead(known: &Known, request: &ConnectRequest) -> bool
-    ensures { result ≡ table.is_ahead known.now request.now }
+pub fn is_ahead(zxid: Zxid, request: &ConnectRequest) -> bool
+    ensures { result ≡ table.is_ahead zxid request.now }
 {
-    long_of(known.zxid().number()) < request.last_zxid_seen
+    long_of(zxid.number()) < request.last_zxid_seen
 }
 
-/// A session that was opened for a client.
+/// A session of the tree, which a client may have.
 #[derive(Clone, Copy)]
-pub struct Opened {
+pub struct Granted {
     /// Its id.
     pub id: SessionId,
     /// The timeout that was granted, in ticks.
@@ -39,71 +38,41 @@ pub fn welcome(
     tables: &mut Tables,
     tick: TickLength,
     request: &ConnectRequest,
-    session: &Opened,
+    session: &Granted,
     connection: u32,
 ) -> Result<(), Memory>
     ensures { OnOk result (tables.new
         ≡ welcomed tick request.now session.now.id session.now.ticks session.now.password
         connection tables.old) }
 {
-    tables.sit(session.id, session.password, connection)?;
+    tables.sit(session.id, connection)?;
     let timeout = millis_told(tick, session.ticks);
     let id = long_of(session.id.number());
     let frame = response_frame(alloc, request, timeout, id, &session.password)?;
     tables.send(connection, frame)
 }
 
-/// Lets a client come back to the session that it names, if the tree has it and the whole password
-/// is given. Else the client is told that it has none, and the connection is closed.
+/// Lets a client come back to a session of the tree, if all bytes of its password are given. Else
+/// the client is told that it has none, and the connection is closed.
 pub fn come_back(
     alloc: Global,
     tables: &mut Tables,
     tick: TickLength,
-    known: &Known,
     request: &ConnectRequest,
+    session: &Granted,
     connection: u32,
 ) -> Result<(), Memory>
     ensures { OnOk result (tables.new
-        ≡ returned tick known.now request.now request.now.session_id connection tables.old) }
+        ≡ came_back tick request.now session.now.id session.now.ticks session.now.password
+        connection tables.old) }
 {
-    if request.session_id < 0 {
+    if !session.password.is_given(given(request)) {
         return turn_away(alloc, tables, request, connection);
     }
-    let id = SessionId::new(request.session_id as u64);
-    match known.session(id) {
-        Some(session) => {
-            let timeout = millis_told(tick, session.timeout);
-            resume(alloc, tables, request, id, timeout, connection)
-        }
-        None => turn_away(alloc, tables, request, connection),
-    }
-}
-
-// Lets a client come back to a session that the tree has, if the whole password is given.
-fn resume(
-    alloc: Global,
-    tables: &mut Tables,
-    request: &ConnectRequest,
-    session: SessionId,
-    timeout: i32,
-    connection: u32,
-) -> Result<(), Memory>
-    ensures { OnOk result (tables.new
-        ≡ came_back request.now session timeout connection tables.old) }
-{
-    let Some(password) = tables.password(session) else {
-        return turn_away(alloc, tables, request, connection);
-    };
-    if !tables.take_up(session, given(request), connection)? {
-        return turn_away(alloc, tables, request, connection);
-    }
-    let frame = response_frame(
-        alloc,
-        request,
-        timeout,
-        long_of(session.number()),
-        &password,
-    )?;
+    tables.take_up(session.id, connection)?;
+    let timeout = millis_told(tick, session.ticks);
+    let id = long_of(session.id.number());
+    let frame = response_frame(alloc, request, timeout, id, &session.password)?;
     tables.send(connection, frame)
 }
 
@@ -117,8 +86,8 @@ fn given(request: &ConnectRequest) -> &[u8]
     }
 }
 
-// Tells a client that it has no session, and closes its connection.
-fn turn_away(
+/// Tells a client that it has no session, and closes its connection.
+pub fn turn_away(
     alloc: Global,
     tables: &mut Tables,
     request: &ConnectRequest,

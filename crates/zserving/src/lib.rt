@@ -1,8 +1,8 @@
 //! What a server for ZooKeeper's clients does with the replies of the service.
 //!
 //! `answer` tells a request's answer, behind the events that its calls made and the watches that it
-//! sets. `welcome` and `come_back` answer the first frame of a connection. `looks_at` and `look`
-//! find out which watched nodes went away with a session or at a tick. All of it changes tables
+//! sets. `welcome` and `come_back` answer the first frame of a connection. `look` tells which
+//! watched nodes went away with a session or at a tick. All of it changes tables
 //! alone: it knows no socket, no clock and no tree. `specs/` defines each, exactly.
 #![tactic(auto)]
 
@@ -22,6 +22,6 @@ mod wishes;
 
 pub use absorbing::absorb;
 pub use answering::{Done, answer};
-pub use greeting::{Opened, come_back, is_ahead, welcome};
-pub use looking::{look, looks_at};
+pub use greeting::{Granted, come_back, is_ahead, turn_away, welcome};
+pub use looking::look;
 pub use replying::reply;

@@ -7,23 +7,23 @@ use crate::frames::{answer_frame, ends_connection};
 use std::alloc::Global;
 use zalloc::Memory;
 use zanswering::Answer;
-use zknown::Known;
 use ztables::Tables;
+use ztree::Zxid;
 
 /// Tells the answer to the request with this number, as a frame. A client that isn't who it says is
 /// told so, and its connection is closed.
 pub fn reply(
     alloc: Global,
     tables: &mut Tables,
-    known: &Known,
+    zxid: Zxid,
     connection: u32,
     xid: i32,
     answer: Answer,
 ) -> Result<(), Memory>
-    ensures { OnOk result (tables.new ≡ replied known.now connection xid answer tables.old) }
+    ensures { OnOk result (tables.new ≡ replied zxid connection xid answer tables.old) }
 {
     let is_last = ends_connection(answer.code);
-    let frame = answer_frame(alloc, known, xid, answer)?;
+    let frame = answer_frame(alloc, zxid, xid, answer)?;
     tables.send(connection, frame)?;
     if is_last {
         tables.close(connection)

@@ -1,12 +1,10 @@
--- Which session has which connection, and by which password a connection takes a session up. The
--- source is the ZooKeeper Programmer's Guide, "ZooKeeper Sessions". A sitting is what a server
--- keeps of a session beside the tree.
-use Rattle.std.specs.Prelude.{ℕ, Bool, true, false, List, None, Some, if◌then◌else◌, map, nat_eq}
+-- Which session has which connection. The source is the ZooKeeper Programmer's Guide, "ZooKeeper
+-- Sessions". A sitting is what a server keeps of a session beside the tree.
+use Rattle.std.specs.Prelude.{ℕ, true, false, List, None, Some, if◌then◌else◌, map, unwrap_or}
 use Rattle.std.specs.Option.{option_map_or}
 use Rattle.std.specs.Ordering.{nat_cmp}
 use Rattle.std.specs.List.{filter_map}
 use Rattle.std.specs.FinMap.{FinMap, get, insert, entries, from_entries}
-use lib.Pointwise.{pointwise}
 use Rattle.zsittings.specs.declared.sitting.Sitting.{Sitting}
 
 -- a sitting for each session, under the session's id
@@ -14,15 +12,15 @@ abbrev pub SittingsView : Type 0
 SittingsView = FinMap nat_cmp Sitting
 
 -- the sitting of a session that a connection opens
-abbrev pub new_sitting : List ℕ → ℕ → Sitting
-new_sitting password connection =
-    record { password = password; connection = Some connection; is_touched = false; made_ephemeral = false }
+abbrev pub new_sitting : ℕ → Sitting
+new_sitting connection =
+    record { connection = Some connection; is_touched = false; made_ephemeral = false }
 
 -- the sitting of a session that was opened before, and has no connection now. Whether it made an
 -- ephemeral node isn't known: it counts as one that did
-abbrev pub restored_sitting : List ℕ → Sitting
-restored_sitting password =
-    record { password = password; connection = None; is_touched = false; made_ephemeral = true }
+abbrev pub restored_sitting : Sitting
+restored_sitting =
+    record { connection = None; is_touched = false; made_ephemeral = true }
 
 -- with a connection, which asked for it just now
 abbrev pub taken_up : ℕ → Sitting → Sitting
@@ -44,17 +42,13 @@ left s = record s { connection = None }
 abbrev pub rested : Sitting → Sitting
 rested s = record s { is_touched = false }
 
+-- the sittings once a connection has taken a session up. One that isn't here was opened before
+abbrev pub with_seat : SittingsView → ℕ → ℕ → SittingsView
+with_seat m id connection = insert m id (taken_up connection (unwrap_or (get m id) restored_sitting))
+
 -- the sittings with that of one session changed, if it exists
 abbrev pub with_changed : (Sitting → Sitting) → SittingsView → ℕ → SittingsView
 with_changed change m id = option_map_or (λ s. insert m id (change s)) (get m id) m
-
--- the bytes given are all those of the session's password
-abbrev pub passes : SittingsView → ℕ → List ℕ → Bool
-passes m id given = option_map_or (λ s. pointwise nat_eq given s.password) (get m id) false
-
--- the sittings after a connection gives a password for a session: it has the session if it passes
-abbrev pub after_take_up : SittingsView → ℕ → List ℕ → ℕ → SittingsView
-after_take_up m id given connection = if passes m id given then with_changed (taken_up connection) m id else m
 
 -- the sessions that asked for anything since the last rest, in the order of ids
 abbrev pub touched_ids : SittingsView → List ℕ

@@ -1,4 +1,4 @@
-//! Which session has which connection, and by which password a connection takes a session up.
+//! Which session has which connection.
 //!
 //! It consumes what a server's connections do to sessions: open one, take one up, leave it. It
 //! produces what is kept of each, and the ids of those that asked for anything.
@@ -7,13 +7,11 @@
 
 pub mod laws;
 mod listing;
-mod password;
 mod restored;
 mod rows;
 mod sitting;
 mod sittings;
 mod table;
 
-pub use password::Password;
 pub use sitting::Sitting;
 pub use sittings::Sittings;

@@ -2,12 +2,11 @@
 
 ghost use Rattle.std.specs.Prelude.{◌≡◌, IfOk, OnErr, OnOk};
 ghost use Rattle.std.specs.FinMap as finite;
-ghost use Rattle.zsittings.specs.Sittings.{after_take_up, all_rested, left, new_sitting, passes};
+ghost use Rattle.zsittings.specs.Sittings.{all_rested, left, new_sitting};
 ghost use Rattle.zsittings.specs.Sittings.{restored_sitting};
-ghost use Rattle.zsittings.specs.Sittings.{taken_up, touched, touched_ids, with_changed};
+ghost use Rattle.zsittings.specs.Sittings.{touched, touched_ids, with_changed, with_seat};
 ghost use Rattle.zsittings.specs.Sittings.{with_ephemeral};
 
-use crate::password::Password;
 use crate::restored::restored;
 use crate::sitting::Sitting;
 use crate::table::SittingTable;
@@ -16,8 +15,8 @@ use std::marker::Model;
 use zalloc::Memory;
 use ztree::SessionId;
 
-/// Which session has which connection, and by which password another may take it up. Only `open`,
-/// `restore`, `touched` and `ids` allocate.
+/// Which session has which connection. Only `open`, `restore`, `seat`, `touched` and
+/// `ids` allocate.
 #[derive(Drop)]
 pub struct Sittings {
     table: SittingTable,
@@ -59,13 +58,12 @@ impl Sittings {
     }
 
     /// Adds a session that a connection opens. After `Memory` nothing has changed.
-    pub fn open(&mut self, id: SessionId, password: Password, connection: u32) -> Result<(), Memory>
+    pub fn open(&mut self, id: SessionId, connection: u32) -> Result<(), Memory>
         ensures ok { OnOk result
-            (self.new ≡ finite.insert self.old id (new_sitting password connection)) }
+            (self.new ≡ finite.insert self.old id (new_sitting connection)) }
         ensures err { OnErr result (self.new ≡ self.old) }
     {
         let sitting = Sitting {
-            password,
             connection: Some(connection),
             is_touched: false,
             made_ephemeral: false,
@@ -75,49 +73,30 @@ impl Sittings {
 
     /// Adds a session that was opened before, and has no connection now. After `Memory` nothing has
     /// changed.
-    pub fn restore(&mut self, id: SessionId, password: Password) -> Result<(), Memory>
+    pub fn restore(&mut self, id: SessionId) -> Result<(), Memory>
         ensures ok { OnOk result
-            (self.new ≡ finite.insert self.old id (restored_sitting password)) }
+            (self.new ≡ finite.insert self.old id restored_sitting) }
         ensures err { OnErr result (self.new ≡ self.old) }
     {
-        self.table.insert(id, restored(password))
+        self.table.insert(id, restored())
     }
 
-    /// Gives a session to a connection, if the bytes given are all those of its password. Returns
-    /// whether they are; if not, nothing has changed.
-    pub fn take_up(&mut self, id: SessionId, given: &[u8], connection: u32) -> bool
-        ensures passes { result ≡ passes self.old id given.now }
-        ensures after { self.new ≡ after_take_up self.old id given.now connection }
+    /// Gives a session to a connection. One that isn't here was opened before. After `Memory`
+    /// nothing has changed.
+    pub fn seat(&mut self, id: SessionId, connection: u32) -> Result<(), Memory>
+        ensures ok { OnOk result (self.new ≡ with_seat self.old id connection) }
+        ensures err { OnErr result (self.new ≡ self.old) }
     {
-        if !self.passes(id, given) {
-            return false;
-        }
-        self.seat(id, connection);
-        true
-    }
-
-    /// Returns whether the bytes given are all those of the session's password.
-    pub fn passes(&self, id: SessionId, given: &[u8]) -> bool
-        ensures { result ≡ passes self.now id given.now }
-    {
-        match self.table.get(id) {
-            Some(sitting) => given == sitting.password.as_bytes(),
-            None => false,
-        }
-    }
-
-    /// Gives a session to a connection, if it exists.
-    pub fn seat(&mut self, id: SessionId, connection: u32)
-        ensures { self.new ≡ with_changed (taken_up connection) self.old id }
-    {
-        if let Some(sitting) = self.table.get(id) {
-            let taken_up = Sitting {
-                connection: Some(connection),
-                is_touched: true,
-                ..sitting
-            };
-            self.table.put(id, taken_up);
-        }
+        let sitting = match self.table.get(id) {
+            Some(sitting) => sitting,
+            None => restored(),
+        };
+        let taken_up = Sitting {
+            connection: Some(connection),
+            is_touched: true,
+            ..sitting
+        };
+        self.table.insert(id, taken_up)
     }
 
     /// Notes that a session asked for something, if it exists.

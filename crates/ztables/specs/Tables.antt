@@ -10,8 +10,7 @@ use Rattle.zpieces.specs.Streams.{StreamRows, phase_of, with_phase}
 use Rattle.zpieces.specs.Streams as stream
 use Rattle.zpieces.specs.Outbox.{PieceView}
 use Rattle.zpieces.specs.Outbox as outbox
-use Rattle.zsittings.specs.Sittings.{SittingsView, with_changed, left, new_sitting}
-use Rattle.zsittings.specs.Sittings as seats
+use Rattle.zsittings.specs.Sittings.{SittingsView, with_changed, with_seat, left, new_sitting}
 use Rattle.zwatches.specs.Watches.{Watches}
 use Rattle.zwatches.specs.Events as watch
 
@@ -23,7 +22,7 @@ pub record TablesView : Type 0 where
 
 -- something may still be sent in this phase of a connection
 abbrev pub may_send : Option Phase → Bool
-may_send (Some (Silent password)) = true
+may_send (Some Silent) = true
 may_send (Some (Speaking session)) = true
 may_send (Some Closing) = false
 may_send None = false
@@ -34,7 +33,7 @@ is_open t c = may_send (phase_of t.streams c)
 
 -- the session of a connection in this phase
 abbrev pub session_in : Option Phase → Option ℕ
-session_in (Some (Silent password)) = None
+session_in (Some Silent) = None
 session_in (Some (Speaking session)) = Some session
 session_in (Some Closing) = None
 session_in None = None
@@ -53,10 +52,6 @@ with_piece p t = record t { unsent = t.unsent ++ p ∷ [] }
 -- bytes are to be sent on a connection; on one that is closing nothing goes
 abbrev pub sent : ℕ → List ℕ → TablesView → TablesView
 sent c bytes t = if is_open t c then with_piece (piece c bytes) t else t
-
--- bytes are to be sent to the operator, who has the number 0 and is no connection of a client
-abbrev pub operator_sent : List ℕ → TablesView → TablesView
-operator_sent bytes t = with_piece (piece 0 bytes) t
 
 -- the session of a connection has no connection any more, if there is one
 abbrev pub without_seat : Option ℕ → TablesView → SittingsView
@@ -83,11 +78,11 @@ ended c t =
     record (parted c t) { streams = finite.remove t.streams c; unsent = outbox.without t.unsent c }
 
 -- a session was opened on a connection
-abbrev pub sitting : ℕ → List ℕ → ℕ → TablesView → TablesView
-sitting session password c t =
+abbrev pub sitting : ℕ → ℕ → TablesView → TablesView
+sitting session c t =
     record t {
       streams = with_phase t.streams c (Speaking session);
-      sittings = finite.insert t.sittings session (new_sitting password c);
+      sittings = finite.insert t.sittings session (new_sitting c);
     }
 
 -- the connection that a session has
@@ -103,7 +98,7 @@ abbrev pub seated : ℕ → ℕ → TablesView → TablesView
 seated session c t =
     record t {
       streams = with_phase t.streams c (Speaking session);
-      sittings = with_changed (seats.taken_up c) t.sittings session;
+      sittings = with_seat t.sittings session c;
     }
 
 -- a session is taken up by a connection, and that which it had is to be closed

@@ -8,17 +8,16 @@ ghost use Rattle.ztables.specs.Tables.{is_open, session_in};
 use crate::tables::Tables;
 use zalloc::Memory;
 use zpieces::Phase;
-use zsittings::Password;
 use ztree::SessionId;
 
 impl Tables {
-    /// Opens a connection: a session that is opened on it will have this password.
-    pub fn open(&mut self, connection: u32, password: Password) -> Result<(), Memory>
+    /// Opens a connection.
+    pub fn open(&mut self, connection: u32) -> Result<(), Memory>
         ensures { OnOk result (self.new ≡ record self.old {
-          streams = finite.insert self.old.streams connection (opened password);
+          streams = finite.insert self.old.streams connection opened;
         }) }
     {
-        self.streams.open(connection, password)
+        self.streams.open(connection)
     }
 
     /// Returns how far a connection is, if it is there.
@@ -34,7 +33,7 @@ impl Tables {
     {
         match self.phase(connection)? {
             Phase::Speaking(session) => Some(session),
-            Phase::Silent(_) | Phase::Closing => None,
+            Phase::Silent | Phase::Closing => None,
         }
     }
 
@@ -43,7 +42,7 @@ impl Tables {
         ensures { result ≡ is_open self.now connection }
     {
         match self.phase(connection) {
-            Some(Phase::Silent(_) | Phase::Speaking(_)) => true,
+            Some(Phase::Silent | Phase::Speaking(_)) => true,
             Some(Phase::Closing) | None => false,
         }
     }

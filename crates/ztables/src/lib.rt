@@ -1,8 +1,7 @@
 //! The state of a server for ZooKeeper's clients, without the service behind it.
 //!
-//! It knows the connections and the bytes that came on them, the sessions with their connections
-//! and passwords, the watches, and what is still to be sent. Each method is a definition of
-//! `specs/`, exactly. All of it is pure: it knows no socket, no clock, and no tree.
+//! It knows the connections and the bytes that came on them, the sessions with their connections,
+//! the watches, and what is still to be sent. Each method is a definition of `specs/`, exactly. All of it is pure: it knows no socket, no clock, and no tree.
 #![tactic(auto)]
 
 mod closing;

@@ -19,19 +19,19 @@ ghost use Rattle.zpieces.specs.declared.phase.Phase.TheVariants.{Closing, Silent
 ghost use Rattle.zpieces.specs.Streams.{phase_of};
 ghost use Rattle.zsittings.specs.Sittings.{SittingsView, with_changed, with_ephemeral};
 ghost use Rattle.zsittings.specs.support.Samples.{some_sittings};
-ghost use Rattle.ztables.specs.Tables.{TablesView, closed, connection_of, may_send, operator_sent};
+ghost use Rattle.ztables.specs.Tables.{TablesView, closed, connection_of, may_send};
 ghost use Rattle.ztables.specs.Tables.{seated, sent, session_in, taken_up};
 ghost use Rattle.ztables.specs.Telling.{event_frame, in_order, sent_on};
 ghost use Rattle.ztables.specs.Sweeping.{gone, made_by, noted, swept};
 
 /// What may be sent in each phase of a connection, and which session it has.
 pub fn phases()
-    ensures silent { (password : List ℕ) → may_send (Some (Silent password)) ≡ true }
+    ensures silent { may_send (Some Silent) ≡ true }
     ensures speaking { may_send (Some (Speaking 7)) ≡ true }
     ensures closing { may_send (Some Closing) ≡ false }
     ensures absent { may_send None ≡ false }
     ensures session { session_in (Some (Speaking 7)) ≡ Some 7 }
-    ensures no_session { (password : List ℕ) → session_in (Some (Silent password)) ≡ None }
+    ensures no_session { session_in (Some Silent) ≡ None }
 {}
 
 /// Pieces go behind those that are to be sent. Behind the last one of a connection nothing goes.
@@ -48,8 +48,6 @@ pub fn pieces()
         ≡ t.unsent ++ record { connection = 3; bytes = []; is_last = true } ∷ [] }
     ensures once { (t : TablesView) → phase_of t.streams 3 ≡ Some Closing → closed 3 t ≡ t }
     ensures absent { (t : TablesView) → phase_of t.streams 3 ≡ None → closed 3 t ≡ t }
-    ensures operator { (t : TablesView) → (operator_sent (9 ∷ []) t).unsent
-        ≡ t.unsent ++ record { connection = 0; bytes = 9 ∷ []; is_last = false } ∷ [] }
 {}
 
 /// Connection 5 takes up session 7, or the tree has it no more.

@@ -3,7 +3,7 @@
 ghost use Rattle.std.specs.Prelude.{◌≡◌, drop, OnOk};
 ghost use Rattle.std.specs.Option.{option_copied};
 ghost use Rattle.zpieces.specs.Outbox.{first_of};
-ghost use Rattle.ztables.specs.Tables.{operator_sent, sent};
+ghost use Rattle.ztables.specs.Tables.{sent};
 
 use crate::tables::Tables;
 use zalloc::Memory;
@@ -19,17 +19,6 @@ impl Tables {
         }
         self.outbox.push(Piece {
             connection,
-            bytes,
-            is_last: false,
-        })
-    }
-
-    /// Sends bytes to the operator, who has the number 0 and is no connection of a client.
-    pub fn answer_operator(&mut self, bytes: Vec<u8>) -> Result<(), Memory>
-        ensures { OnOk result (self.new ≡ operator_sent bytes.items self.old) }
-    {
-        self.outbox.push(Piece {
-            connection: 0,
             bytes,
             is_last: false,
         })

@@ -1,37 +1,30 @@
 //! The end of sessions.
 
 ghost use Rattle.std.specs.Prelude.{◌≡◌, IfOk, OnOk};
-ghost use Rattle.std.specs.List.{filter};
-ghost use Rattle.ztables.specs.Sweeping.{gone, is_gone, made_one, some_made_one, swept, swept_all};
+ghost use Rattle.std.specs.FinMap as finite;
+ghost use Rattle.ztables.specs.Sweeping.{made_one, some_made_one, swept, swept_all};
 
 use crate::tables::Tables;
-use std::alloc::Global;
 use zalloc::Memory;
-use zknown::Known;
 use ztree::SessionId;
 
 impl Tables {
-    /// Closes the connections of the sessions that the tree has no more, and forgets these
-    /// sessions. Returns whether one of them had made an ephemeral node.
-    pub fn sweep(&mut self, known: &Known) -> Result<bool, Memory>
-        ensures swept { OnOk result (self.new
-            ≡ swept_all (gone known.now.sessions self.old.sittings) self.old) }
-        ensures made { IfOk result (λ made. made
-            ≡ some_made_one self.old.sittings (gone known.now.sessions self.old.sittings)) }
+    /// Returns the sessions that are known here, in rising order.
+    pub fn session_ids(&self) -> Result<Vec<SessionId>, Memory>
+        ensures { IfOk result (λ ids. ids.items ≡ finite.keys self.now.sittings) }
     {
-        let ids = self.gone(known)?;
-        let made = self.some_made_one(&ids);
-        self.sweep_all(&ids)?;
-        Ok(made)
+        self.sittings.ids()
     }
 
-    // Returns the sessions that the tree has no more.
-    fn gone(&self, known: &Known) -> Result<Vec<SessionId>, Memory>
-        ensures { IfOk result (λ ids. ids.items
-            ≡ gone known.now.sessions self.now.sittings) }
+    /// Closes the connections of these sessions, and forgets the sessions. Returns whether one of
+    /// them had made an ephemeral node.
+    pub fn sweep(&mut self, ids: &[SessionId]) -> Result<bool, Memory>
+        ensures swept { OnOk result (self.new ≡ swept_all ids.now self.old) }
+        ensures made { IfOk result (λ made. made ≡ some_made_one self.old.sittings ids.now) }
     {
-        let ids = self.sittings.ids()?;
-        gone_among(self.alloc, &ids, known)
+        let made = self.some_made_one(ids);
+        self.sweep_all(ids)?;
+        Ok(made)
     }
 
     // Returns whether one of these sessions made an ephemeral node.
@@ -74,17 +67,4 @@ impl Tables {
         self.sittings.remove(id);
         Ok(())
     }
-}
-
-// Returns the sessions among these that the tree has no more.
-fn gone_among(alloc: Global, ids: &[SessionId], known: &Known) -> Result<Vec<SessionId>, Memory>
-    ensures { IfOk result (λ gone. gone.items ≡ filter (is_gone known.now.sessions) ids.now) }
-{
-    let mut gone = Vec::new(alloc);
-    for id in ids {
-        if known.session(*id).is_none() {
-            gone.push(*id)?;
-        }
-    }
-    Ok(gone)
 }

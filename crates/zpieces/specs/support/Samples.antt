@@ -5,9 +5,9 @@ use Rattle.zpieces.specs.declared.phase.Phase.{Phase}
 use Rattle.zpieces.specs.declared.phase.Phase.TheVariants.{Silent, Speaking}
 use Rattle.zpieces.specs.Streams.{StreamView, StreamRows}
 
--- nothing was read on connection 5, and a session on it will have this password
+-- nothing was read on connection 5
 abbrev pub silent : StreamView
-silent = record { phase = Silent (8 ∷ 9 ∷ []); bytes = [] }
+silent = record { phase = Silent; bytes = [] }
 
 -- connection 3, in some phase, with some bytes
 abbrev pub entries_with : Phase → List ℕ → List (ℕ × StreamView)

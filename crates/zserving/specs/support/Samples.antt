@@ -4,6 +4,7 @@ use Rattle.ztree.specs.support.Samples.{at_a, at_a_b}
 use Rattle.zcalls.specs.declared.call.Call.{Call}
 use Rattle.zcalls.specs.declared.call.Call.TheVariants.{Query}
 use Rattle.zcalls.specs.declared.call.Query.TheVariants.{Exists}
+use Rattle.zanswering.specs.declared.clock.Now.{Now}
 use Rattle.zjute.specs.declared.connecting.ConnectRequest.{ConnectRequest}
 use Rattle.zjute.specs.declared.request.Asked.{Asked}
 use Rattle.zjute.specs.declared.request.Look.{Look}
@@ -40,6 +41,10 @@ request_9 asked = record { xid = pos 9; asked = asked }
 -- a place of watches at /a
 abbrev pub place_a : Kind → Place
 place_a kind = record { path = at_a; kind = kind }
+
+-- a tree is at tick 4, and its last change was the 8th
+abbrev pub now : Now
+now = record { zxid = 8; time = 4 }
 
 -- a password
 abbrev pub some_password : List ℕ

@@ -2,6 +2,7 @@
 
 ghost use Rattle.std.specs.Prelude.{◌≡◌, ℕ, pos, true, false, [], ◌∷◌};
 ghost use Rattle.std.specs.FinSet.{insert};
+ghost use Rattle.ztree.specs.Tree.{Tree};
 ghost use Rattle.ztree.specs.support.Samples.{at_a, at_a_b, some_stat};
 ghost use Rattle.zcalls.specs.declared.call.Call.TheVariants.{Update};
 ghost use Rattle.zcalls.specs.declared.call.Update.TheVariants as act;
@@ -15,7 +16,6 @@ ghost use Rattle.zevents.specs.Events.{event};
 ghost use Rattle.zevents.specs.support.Samples.{create_a_b, set_a_b, delete_a_b, gone_a_b};
 ghost use Rattle.zanswering.specs.Answers.{done, failed};
 ghost use Rattle.zanswering.specs.support.Samples.{clock};
-ghost use Rattle.zknown.specs.support.Samples.{some_known};
 ghost use Rattle.zwatches.specs.declared.kind.Kind.TheVariants.{Data};
 ghost use Rattle.zwatches.specs.Watches.{watch, is_full};
 ghost use Rattle.ztables.specs.Tables.{TablesView, closed, sent};
@@ -25,7 +25,7 @@ ghost use Rattle.zserving.specs.Frames.{answer_frame};
 ghost use Rattle.zserving.specs.Replying.{absorbed, absorbed_all, replied};
 ghost use Rattle.zserving.specs.Watching.{granted, granted_all, lacks_room, some_lacked};
 ghost use Rattle.zserving.specs.Answering.{answered, now_of};
-ghost use Rattle.zserving.specs.support.Samples.{look_a, exists_a, request_9};
+ghost use Rattle.zserving.specs.support.Samples.{look_a, exists_a, now, request_9};
 
 /// Calls that were answered: the events of each are told.
 pub fn calls_are_absorbed()
@@ -44,10 +44,10 @@ pub fn calls_are_absorbed()
 
 /// An answer is sent. Behind that to a client that isn't who it says the connection is closed.
 pub fn answers_are_told()
-    ensures done { (t : TablesView) → replied some_known 1 (pos 9) (done body.Nothing) t
-        ≡ sent 1 (answer_frame some_known (pos 9) (done body.Nothing)) t }
-    ensures auth { (t : TablesView) → replied some_known 1 (pos 9) (failed code.AuthFailed) t
-        ≡ closed 1 (sent 1 (answer_frame some_known (pos 9) (failed code.AuthFailed)) t) }
+    ensures done { (t : TablesView) → replied 8 1 (pos 9) (done body.Nothing) t
+        ≡ sent 1 (answer_frame 8 (pos 9) (done body.Nothing)) t }
+    ensures auth { (t : TablesView) → replied 8 1 (pos 9) (failed code.AuthFailed) t
+        ≡ closed 1 (sent 1 (answer_frame 8 (pos 9) (failed code.AuthFailed)) t) }
 {}
 
 /// Wishes are granted, if there is room.
@@ -72,15 +72,15 @@ pub fn wishes_are_granted()
 
 /// A request is answered behind its events and its watches.
 pub fn requests_are_answered()
-    ensures now { now_of some_known ≡ record { zxid = 8; time = 4 } }
-    ensures ping { (t : TablesView) → answered clock some_known 1 (request_9 asked.Ping) [] [] t
-        ≡ replied some_known 1 (pos 9) (done body.Nothing) t }
-    ensures events { (t : TablesView) → answered clock some_known 1
+    ensures now { (t : Tree) → now_of (record t { zxid = 8; time = 4 }) ≡ now }
+    ensures ping { (t : TablesView) → answered clock now 1 (request_9 asked.Ping) [] [] t
+        ≡ replied 8 1 (pos 9) (done body.Nothing) t }
+    ensures events { (t : TablesView) → answered clock now 1
         (request_9 (asked.Delete (record { path = (look_a false).path; version = pos 0 })))
         (Update (act.Delete delete_a_b) ∷ []) (reply.Deleted ∷ []) t
-        ≡ replied some_known 1 (pos 9) (done body.Nothing) (told_all gone_a_b t) }
+        ≡ replied 8 1 (pos 9) (done body.Nothing) (told_all gone_a_b t) }
     ensures full { (t : TablesView) → is_full t.watches (watch at_a Data 1) ≡ true
-        → answered clock some_known 1 (request_9 (asked.Exists (look_a true))) (exists_a ∷ [])
+        → answered clock now 1 (request_9 (asked.Exists (look_a true))) (exists_a ∷ [])
         (reply.Exists some_stat ∷ []) t
-        ≡ replied some_known 1 (pos 9) (failed code.SystemError) t }
+        ≡ replied 8 1 (pos 9) (failed code.SystemError) t }
 {}

@@ -1,14 +1,12 @@
 //! Answers as frames.
 
-ghost use Rattle.std.specs.Prelude.{◌≡◌, ◌<◌, ℤ, pos, true, false, [], ◌∷◌, ◌++◌, length, None, Some};
+ghost use Rattle.std.specs.Prelude.{◌≡◌, ◌<◌, ℕ, ℤ, pos, true, false, [], ◌∷◌, ◌++◌, length, None, Some};
 ghost use Rattle.zjute.specs.Jute.{neg};
 ghost use Rattle.zjute.specs.declared.limits.TheConstants.{MAX_FRAME};
 ghost use Rattle.zjute.specs.declared.code.Code.TheVariants as code;
 ghost use Rattle.zjute.specs.declared.reply.Body.TheVariants as body;
 ghost use Rattle.zanswering.specs.declared.answer.Answer.{Answer};
 ghost use Rattle.zanswering.specs.Answers.{done, failed};
-ghost use Rattle.zknown.specs.Known.{KnownView};
-ghost use Rattle.zknown.specs.support.Samples.{some_known};
 ghost use Rattle.zserving.specs.Frames.{answer_text, too_long, text_told, answer_frame, ends_connection};
 ghost use Rattle.zserving.specs.Frames.{flag_told, response_frame};
 ghost use Rattle.zserving.specs.support.Samples.{greeting, some_password};
@@ -16,7 +14,7 @@ ghost use Rattle.zserving.specs.support.Samples.{greeting, some_password};
 /// The answer to a ping, behind change 8: its xid is -2.
 #[tactic(auto, unfolding(zjute::specs::Replies::reply_text, zjute::specs::Jute::int, zjute::specs::Jute::long))]
 pub fn a_ping_is_answered()
-    ensures frame { answer_frame some_known (neg 2) (done body.Nothing)
+    ensures frame { answer_frame 8 (neg 2) (done body.Nothing)
         ≡ 0 ∷ 0 ∷ 0 ∷ 16 ∷ 255 ∷ 255 ∷ 255 ∷ 254 ∷ 0 ∷ 0 ∷ 0 ∷ 0 ∷ 0 ∷ 0 ∷ 0 ∷ 8
         ∷ 0 ∷ 0 ∷ 0 ∷ 0 ∷ [] }
 {}
@@ -24,9 +22,9 @@ pub fn a_ping_is_answered()
 /// An answer that no frame can hold.
 pub fn long_answers()
     ensures error { too_long ≡ failed code.MarshallingError }
-    ensures told { (known : KnownView) (xid : ℤ) (answer : Answer)
-        → MAX_FRAME < length (answer_text known xid answer)
-        → text_told known xid answer ≡ answer_text known xid too_long }
+    ensures told { (zxid : ℕ) (xid : ℤ) (answer : Answer)
+        → MAX_FRAME < length (answer_text zxid xid answer)
+        → text_told zxid xid answer ≡ answer_text zxid xid too_long }
 {}
 
 /// The codes behind which a connection is closed.

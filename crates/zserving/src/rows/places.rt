@@ -7,13 +7,8 @@ ghost use Rattle.zcalls.specs.declared.reply.Reply.TheVariants as reply;
 ghost use Rattle.zjute.specs.declared.event.EventKind.TheVariants.{NodeDeleted, NodeChildrenChanged};
 ghost use Rattle.zevents.specs.Events.{event};
 ghost use Rattle.zwatches.specs.declared.kind.Kind.TheVariants.{Data, Children};
-ghost use Rattle.zserving.specs.Looking.{looks_at, seen_at, seen};
-ghost use Rattle.zserving.specs.support.Samples.{exists_a, place_a};
-
-/// Each place is asked for, in order.
-pub fn places_are_looked_at()
-    ensures two { looks_at (place_a Data ∷ place_a Children ∷ []) ≡ exists_a ∷ exists_a ∷ [] }
-{}
+ghost use Rattle.zserving.specs.Looking.{seen_at, seen};
+ghost use Rattle.zserving.specs.support.Samples.{place_a};
 
 /// What is seen by change 3, with which the children of the node changed last.
 pub fn what_is_seen()

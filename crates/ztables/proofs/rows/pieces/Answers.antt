@@ -9,5 +9,4 @@ returns c =
       closed = λ t e. rw e refl;
       once = λ t e. rw e refl;
       absent = λ t e. rw e refl;
-      operator = λ t. refl;
     }

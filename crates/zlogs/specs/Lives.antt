@@ -1,0 +1,36 @@
+-- Logs of lives, one after the other: each life begins with the tree that the one before it left.
+-- Lives are this project's profile.
+use Rattle.std.specs.Prelude.{◌≡◌, List, [], ◌∷◌, ◌++◌}
+use Rattle.ztree.specs.Tree.{Tree, opening_tree}
+use Rattle.zcalls.specs.declared.call.Call.{Call}
+use Rattle.zworld_model.specs.FromTree.{CanStart}
+use Rattle.zlogs.specs.Logs.{Log, calls_of, tree_after, IsOneTrees, IsOneTreesFrom}
+
+-- the logs of lives, one after the other, from a tree on
+abbrev pub AreLivesFrom : Tree → List Log → Type 0
+AreLivesFrom t [] = Unit {0}
+AreLivesFrom t (log ∷ logs) = IsOneTreesFrom t log × AreLivesFrom (tree_after t (calls_of log)) logs
+
+-- all of them as one log
+abbrev pub whole : List Log → Log
+whole [] = []
+whole (log ∷ logs) = log ++ whole logs
+
+-- ---- laws: the functions of `src/laws.rt` promise them
+
+-- the replies of all lives are those of one plain tree, as if it had lived once
+abbrev pub LivesAreOneTrees : Type 0
+LivesAreOneTrees = (logs : List Log) → AreLivesFrom opening_tree logs → IsOneTrees (whole logs)
+
+-- the same from any tree on
+abbrev pub LivesAreOneTreesFrom : Type 0
+LivesAreOneTreesFrom = (t : Tree) (logs : List Log) → AreLivesFrom t logs → IsOneTreesFrom t (whole logs)
+
+-- two lives leave the tree that one leaves
+abbrev pub LivesLeaveOneTree : Type 0
+LivesLeaveOneTree =
+    (t : Tree) (first second : Log) → tree_after t (calls_of (first ++ second)) ≡ tree_after (tree_after t (calls_of first)) (calls_of second)
+
+-- and a service can begin with it again
+abbrev pub TreesCanStartAgain : Type 0
+TreesCanStartAgain = (t : Tree) (calls : List Call) → CanStart t → CanStart (tree_after t calls)

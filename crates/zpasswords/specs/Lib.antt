@@ -1,0 +1,3 @@
+pub mod Hmac
+pub mod Passwords
+pub mod support

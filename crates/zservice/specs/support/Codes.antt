@@ -1,0 +1,10 @@
+-- How what a tree in memory stands for is stored, by the codes of its parts: a proof tells two of
+-- them apart by them.
+use Rattle.std.specs.Prelude.{Bool, refl}
+use Rattle.std.specs.Coded.{Coded, code_by, coded×, coded_bool}
+use Rattle.ztree.specs.Tree.{Tree}
+use Rattle.ztree.specs.support.Codes.{coded_tree}
+use Rattle.zservice.specs.Local.{LocalTreeView}
+
+abbrev pub coded_local_tree : Coded LocalTreeView
+coded_local_tree = code_by (Tree × Bool) (coded× coded_tree coded_bool) (λ v. (v.tree, v.is_broken)) (λ p. record { tree = p.0; is_broken = p.1 }) (λ _. refl)

@@ -1,4 +1,0 @@
-pub mod Turns
-pub mod World
-pub mod Laws
-pub mod FromTree
