@@ -1,5 +1,4 @@
 mod Results
 mod Frames
-mod Late
-mod Lines
+mod Asked
 mod Seating

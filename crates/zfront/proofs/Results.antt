@@ -1,4 +1,4 @@
--- On results, and on texts that are written one after the other.
+-- On texts that are written one after the other.
 use Rattle.std.proofs.Common.{◌∙◌, ap, append_assoc, Result, Ok, Err, OnOk, List, ℕ, ◌++◌}
 use Rattle.std.specs.Prelude.{String, string_bytes}
 use Rattle.zlines.specs.Texts.{Writes}

@@ -1,7 +1,9 @@
 -- What becomes of the first frame of a connection. The source is zookeeper.jute (`ConnectRequest`)
 -- and the ZooKeeper Programmer's Guide, "ZooKeeper Sessions".
-use Rattle.std.specs.Prelude.{◌≡◌, ℕ, pos, Bool, true, false, List, [], ◌∷◌, Result, Ok, Err}
+use Rattle.std.specs.Prelude.{ℕ, ℤ, pos, negsuc, List, [], ◌∷◌, Result, Ok, Err, if◌then◌else◌}
+use Rattle.std.specs.Option.{option_map_or}
 use Rattle.std.specs.Ordering.{int_eq}
+use Rattle.std.specs.FinMap.{get}
 use Rattle.zforms.specs.Readers.{whole}
 use Rattle.zforms.specs.declared.fault.Fault.{Fault}
 use Rattle.zcalls.specs.declared.call.Call.{Call}
@@ -12,41 +14,43 @@ use Rattle.zcalls.specs.declared.reply.Reply.TheVariants.{Opened}
 use Rattle.zjute.specs.Connecting.{connect_request}
 use Rattle.zjute.specs.declared.connecting.ConnectRequest.{ConnectRequest}
 use Rattle.zasking.specs.Timeouts.{ticks_asked}
+use Rattle.zpasswords.specs.Passwords.{password_of}
 use Rattle.ztables.specs.Tables.{TablesView, closed}
-use Rattle.zserving.specs.Greeting.{welcomed, returned, is_ahead}
-use Rattle.zfront.specs.Front.{FrontView, with_tables, Asks}
+use Rattle.zserving.specs.Greeting.{welcomed, came_back, turned_away, is_ahead}
+use Rattle.zfront.specs.Front.{FrontView, with_tables, asked, replies_to}
 
 -- the call that opens a session
 abbrev pub opening : ℕ → ConnectRequest → Call
 opening tick greeting = Update (Open (ticks_asked tick greeting.timeout))
 
--- it was opened, or not: then the connection is closed
-abbrev pub opened : ℕ → ConnectRequest → List ℕ → ℕ → List Reply → TablesView → TablesView
-opened tick greeting password c (Opened session ticks ∷ replies) t = welcomed tick greeting session ticks password c t
-opened tick greeting password c replies t = closed c t
+-- it was opened, and has the password that the secret gives it; or not: then the connection is closed
+abbrev pub opened : ℕ → List ℕ → ConnectRequest → ℕ → List Reply → TablesView → TablesView
+opened tick secret greeting c (Opened session ticks ∷ replies) t =
+    welcomed tick greeting session ticks (password_of secret session) c t
+opened tick secret greeting c replies t = closed c t
 
 -- a session is to be opened
-abbrev pub Opens : ConnectRequest → List ℕ → ℕ → FrontView → FrontView → Type 0
-Opens greeting password c old new =
-    (middle : FrontView) × (replies : List Reply) × Asks old (opening old.clock.tick greeting ∷ []) middle replies
-    × (new ≡ with_tables (opened middle.clock.tick greeting password c replies middle.tables) middle)
+abbrev pub with_session : ConnectRequest → ℕ → FrontView → FrontView
+with_session greeting c v =
+    let calls = opening v.clock.tick greeting ∷ [] in
+    with_tables (opened v.clock.tick v.secret greeting c (replies_to calls v) v.tables) (asked calls v)
 
--- the session number 0 asks for a new session
-abbrev pub GreetsIf : Bool → ConnectRequest → List ℕ → ℕ → FrontView → FrontView → Type 0
-GreetsIf true greeting password c old new = Opens greeting password c old new
-GreetsIf false greeting password c old new =
-    new ≡ with_tables (returned old.clock.tick old.asker.known greeting greeting.session_id c old.tables) old
+-- a client comes back to the session with this number, if the tree has it
+abbrev pub returned : ConnectRequest → ℤ → ℕ → FrontView → TablesView
+returned greeting (pos session) c v =
+    option_map_or (λ s. came_back v.clock.tick greeting session s.timeout (password_of v.secret session) c v.tables)
+    (get v.tree.sessions session) (turned_away greeting c v.tables)
+returned greeting (negsuc n) c v = turned_away greeting c v.tables
 
--- a client that has seen more than the tree has is closed
-abbrev pub GreetsUnless : Bool → ConnectRequest → List ℕ → ℕ → FrontView → FrontView → Type 0
-GreetsUnless true greeting password c old new = new ≡ with_tables (closed c old.tables) old
-GreetsUnless false greeting password c old new = GreetsIf (int_eq greeting.session_id (pos 0)) greeting password c old new
+-- bytes that spell a greeting, or none. A client that has seen more than the tree has is closed. The
+-- session number 0 asks for a new session
+abbrev pub greeted_by : Result ConnectRequest Fault → ℕ → FrontView → FrontView
+greeted_by (Err fault) c v = with_tables (closed c v.tables) v
+greeted_by (Ok greeting) c v =
+    if is_ahead v.tree.zxid greeting then with_tables (closed c v.tables) v else
+    if int_eq greeting.session_id (pos 0) then with_session greeting c v else
+    with_tables (returned greeting greeting.session_id c v) v
 
--- bytes that spell a greeting, or none
-abbrev pub GreetsBy : Result ConnectRequest Fault → List ℕ → ℕ → FrontView → FrontView → Type 0
-GreetsBy (Err fault) password c old new = new ≡ with_tables (closed c old.tables) old
-GreetsBy (Ok greeting) password c old new = GreetsUnless (is_ahead old.asker.known greeting) greeting password c old new
-
--- the first frame of a connection, which has this password for a session
-abbrev pub Greets : List ℕ → List ℕ → ℕ → FrontView → FrontView → Type 0
-Greets bytes password c old new = GreetsBy (whole connect_request bytes) password c old new
+-- the first frame of a connection
+abbrev pub greeted : List ℕ → ℕ → FrontView → FrontView
+greeted bytes c v = greeted_by (whole connect_request bytes) c v

@@ -4,7 +4,6 @@ pub mod Greeting
 pub mod Words
 pub mod Reading
 pub mod Ticking
-pub mod Orders
 pub mod Restoring
 pub mod Inputs
 pub mod support

@@ -1,34 +1,29 @@
 -- What becomes of the bytes that come on a connection: they are cut into frames, and each is done
 -- before the next is looked at. The source is zookeeper.jute. The bound on what is kept of all
 -- connections is this project's profile.
-use Rattle.std.specs.Prelude.{◌≡◌, ℕ, ◌+◌, ◌<◌, ◌^◌, Bool, true, false, ◌||◌, nat_lt, is_some, List, [], ◌∷◌, ◌++◌, length, Option, None, Some, if◌then◌else◌}
+use Rattle.std.specs.Prelude.{◌≡◌, ℕ, ◌+◌, ◌<◌, ◌^◌, Bool, true, false, ◌||◌, nat_lt, List, [], ◌∷◌, ◌++◌, length, Option, None, Some, if◌then◌else◌}
 use Rattle.zjute.specs.Frames.{Front, Whole, TooLong, next_of, IsEnd}
 use Rattle.zpieces.specs.declared.phase.Phase.{Phase}
 use Rattle.zpieces.specs.declared.phase.Phase.TheVariants.{Silent, Speaking, Closing}
 use Rattle.zpieces.specs.Streams.{bytes_of, held_of, phase_of, with_bytes}
 use Rattle.ztables.specs.Tables.{TablesView, is_open, closed}
 use Rattle.zfront.specs.declared.limits.TheConstants.{MAX_KEPT}
-use Rattle.zfront.specs.Front.{FrontView, with_tables, IsReady}
+use Rattle.zfront.specs.Front.{FrontView, with_tables}
 use Rattle.zfront.specs.Requests.{Serves}
-use Rattle.zfront.specs.Greeting.{Greets}
+use Rattle.zfront.specs.Greeting.{greeted}
 use Rattle.zfront.specs.declared.word.Word.{Word}
 use Rattle.zfront.specs.Words.{word_in, said}
 
 -- a frame of a connection in this phase
 abbrev pub HandlesIn : Option Phase → List ℕ → ℕ → FrontView → FrontView → Type 0
-HandlesIn (Some (Silent password)) bytes c old new = Greets bytes password c old new
+HandlesIn (Some Silent) bytes c old new = new ≡ greeted bytes c old
 HandlesIn (Some (Speaking session)) bytes c old new = Serves bytes session c old new
 HandlesIn (Some Closing) bytes c old new = new ≡ old
 HandlesIn None bytes c old new = new ≡ old
 
--- while a call is late nothing is asked: the connection is closed
-abbrev pub HandlesUnless : Bool → List ℕ → ℕ → FrontView → FrontView → Type 0
-HandlesUnless true bytes c old new = new ≡ with_tables (closed c old.tables) old
-HandlesUnless false bytes c old new = HandlesIn (phase_of old.tables.streams c) bytes c old new
-
 -- a frame
 abbrev pub Handles : List ℕ → ℕ → FrontView → FrontView → Type 0
-Handles bytes c old new = (ready : FrontView) × IsReady old ready × HandlesUnless (is_some ready.late) bytes c ready new
+Handles bytes c old new = HandlesIn (phase_of old.tables.streams c) bytes c old new
 
 -- frames, one after the other, each on a connection that is open then
 abbrev pub HandlesAll : List (List ℕ) → ℕ → FrontView → FrontView → Type 0
@@ -70,7 +65,7 @@ Keeps rest c old new = held_of old.tables.streams < 2 ^ 64 → new ≡ keeps res
 
 -- a word of four letters is answered in the place of a greeting, and its connection is closed
 abbrev pub word_asked : Option Phase → List ℕ → Option Word
-word_asked (Some (Silent password)) came = word_in came
+word_asked (Some Silent) came = word_in came
 word_asked other came = None
 
 -- bytes that begin with a word, or are frames

@@ -29,7 +29,7 @@ abbrev pub srvr_text : FrontView → List ℕ
 srvr_text v =
     codes "Zookeeper version: jellqupas-0.1.0\n"
     ++ (number_line (codes "Connections: ") (finite.len v.tables.streams)
-    ++ (number_line (codes "Zxid: ") v.asker.known.zxid
+    ++ (number_line (codes "Zxid: ") v.tree.zxid
     ++ codes "Mode: standalone\n"))
 
 -- the same for monitoring

@@ -1,50 +1,62 @@
 //! Making calls.
 
-ghost use Rattle.std.specs.Prelude.{◌≡◌, IfOk, OnOk};
-ghost use Rattle.std.specs.List.{slice_get};
-ghost use Rattle.zfront.specs.Front.{Asks};
+ghost use Rattle.std.specs.Prelude.{◌≡◌, ◌++◌, [], ◌∷◌, IfOk, OnOk};
+ghost use Rattle.zcalls.specs.declared.call.Call.TheVariants as call;
+ghost use Rattle.zworld_model.specs.PlainTree.{serve};
+ghost use Rattle.zfront.specs.Front.{asked, replies_to};
 
 use crate::inner::Inner;
-use std::mem;
 use zalloc::Memory;
-use zcalls::{Call, Reply};
+use zcalls::{Call, Reply, Update};
+use zservice::TreeService;
+use ztree::Zxid;
 
-impl Inner {
-    // Makes calls in their order, and returns their replies. Where one gets no reply it is late, and
-    // those behind it aren't made.
+impl<T: TreeService> Inner<T> {
+    // Makes calls in their order, and returns their replies.
     pub(crate) fn ask(&mut self, calls: &[Call]) -> Result<Vec<Reply>, Memory>
-        ensures { IfOk result (λ replies. Asks self.old calls.now self.new replies.items) }
+        ensures replies { IfOk result
+            (λ replies. replies.items ≡ replies_to calls.now self.old) }
+        ensures asked { OnOk result (self.new ≡ asked calls.now self.old) }
     {
-        let replies = self.alone.ask_all(calls)?;
-        match self.note_late(calls, replies.len()) {
-            Ok(()) => Ok(replies),
-            Err(memory) => {
-                drop(replies);
-                Err(memory)
-            }
+        let mut replies = Vec::new(self.alloc);
+        for call in calls {
+            let reply = self.ask_one(call)?;
+            replies.push(reply)?;
+        }
+        Ok(replies)
+    }
+
+    // Returns the zxid of the last change.
+    pub(crate) fn last_change(&self) -> Result<Zxid, Memory>
+        ensures { IfOk result (λ zxid. zxid ≡ self.now.tree.zxid) }
+    {
+        let (zxid, _) = self.service.clock()?;
+        Ok(zxid)
+    }
+
+    // Makes a call.
+    fn ask_one(&mut self, call: &Call) -> Result<Reply, Memory>
+        ensures reply { IfOk result (λ reply. reply ≡ (serve self.old.tree 0 call.now).1) }
+        ensures asked { OnOk result (self.new ≡ asked (call.now ∷ []) self.old) }
+    {
+        match call {
+            Call::Update(update) => self.apply(update),
+            Call::Query(query) => self.service.ask(query),
         }
     }
 
-    // Notes the call at a place as late, if there is one.
-    fn note_late(&mut self, calls: &[Call], place: usize) -> Result<(), Memory>
-        ensures { OnOk result
-            (self.new ≡ record self.old { late = slice_get calls.now place }) }
+    // Applies an update, and notes it where updates are kept.
+    fn apply(&mut self, update: &Update) -> Result<Reply, Memory>
+        ensures reply { IfOk result
+            (λ reply. reply ≡ (serve self.old.tree 0 (call.Update update.now)).1) }
+        ensures asked { OnOk result
+            (self.new ≡ asked (call.Update update.now ∷ []) self.old) }
     {
-        match calls.get(place) {
-            Some(call) => {
-                let copy = call.copied(self.alloc)?;
-                self.set_late(Some(copy));
-            }
-            None => self.set_late(None),
+        let copy = update.copied(self.alloc)?;
+        let (reply, update) = self.service.apply(copy)?;
+        if self.is_kept {
+            self.made.push(update)?;
         }
-        Ok(())
-    }
-
-    // Notes which call is late, if one is.
-    pub(crate) fn set_late(&mut self, late: Option<Call>)
-        ensures { self.new ≡ record self.old { late = late } }
-    {
-        let before = mem::replace(&mut self.late, late);
-        drop(before);
+        Ok(reply)
     }
 }

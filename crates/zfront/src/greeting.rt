@@ -1,126 +1,113 @@
 //! The first frame of a connection.
 
 ghost use Rattle.std.specs.Prelude.{◌≡◌, OnOk};
-ghost use Rattle.zserving.specs.Greeting.{is_ahead, welcomed};
+ghost use Rattle.std.specs.Prelude.{Ok as Read};
 ghost use Rattle.zfront.specs.Front.{with_tables};
-ghost use Rattle.zfront.specs.Greeting.{Greets, GreetsUnless, opened, opening, Opens};
+ghost use Rattle.zfront.specs.Greeting.{greeted, greeted_by, opened, opening, returned, with_session};
 
 use crate::inner::Inner;
 use zalloc::Memory;
 use zasking::{TickLength, ticks_asked};
 use zcalls::{Call, Reply, Update};
 use zjute::{ConnectRequest, ReadError, read_connect};
-use zserving::{Opened, come_back, is_ahead, welcome};
-use zsittings::Password;
+use zservice::TreeService;
+use zserving::{Granted, come_back, is_ahead, turn_away, welcome};
+use ztree::SessionId;
 
-impl Inner {
-    // Does what the first frame of a connection asks for. A session that is opened on it has this
-    // password. A frame that is no greeting closes its connection.
-    pub(crate) fn greet(
-        &mut self,
-        bytes: &[u8],
-        password: Password,
-        connection: u32,
-    ) -> Result<(), Memory>
-        ensures { OnOk result (Greets bytes.now password connection self.old self.new) }
+impl<T: TreeService> Inner<T> {
+    // Does what the first frame of a connection asks for. One that is no greeting closes it.
+    pub(crate) fn greet(&mut self, bytes: &[u8], connection: u32) -> Result<(), Memory>
+        ensures { OnOk result (self.new ≡ greeted bytes.now connection self.old) }
     {
         match read_connect(self.alloc, bytes) {
-            Ok(greeting) => {
-                let done = self.greet_by(&greeting, password, connection);
-                drop(greeting);
-                done
-            }
+            Ok(greeting) => self.greet_by(&greeting, connection),
             Err(ReadError::Fault(_)) => self.tables.close(connection),
             Err(ReadError::Memory) => Err(Memory),
         }
     }
 
     // The same for a greeting.
-    fn greet_by(
-        &mut self,
-        greeting: &ConnectRequest,
-        password: Password,
-        connection: u32,
-    ) -> Result<(), Memory>
-        ensures { OnOk result (GreetsUnless (is_ahead self.old.asker.known greeting.now)
-            greeting.now password connection self.old self.new) }
+    fn greet_by(&mut self, greeting: &ConnectRequest, connection: u32) -> Result<(), Memory>
+        ensures { OnOk result
+            (self.new ≡ greeted_by (Read greeting.now) connection self.old) }
     {
-        if is_ahead(self.alone.known(), greeting) {
+        if is_ahead(self.last_change()?, greeting) {
             return self.tables.close(connection);
         }
         if greeting.session_id == 0 {
-            return self.open_session(greeting, password, connection);
+            return self.open_session(greeting, connection);
         }
-        come_back(
-            self.alloc,
-            &mut self.tables,
-            self.clock.tick,
-            self.alone.known(),
-            greeting,
-            connection,
-        )
+        self.take_up(greeting, connection)
     }
 
     // Opens a session.
-    fn open_session(
-        &mut self,
-        greeting: &ConnectRequest,
-        password: Password,
-        connection: u32,
-    ) -> Result<(), Memory>
-        ensures { OnOk result (Opens greeting.now password connection self.old self.new) }
+    fn open_session(&mut self, greeting: &ConnectRequest, connection: u32) -> Result<(), Memory>
+        ensures { OnOk result (self.new ≡ with_session greeting.now connection self.old) }
     {
         let calls = [opening(self.clock.tick, greeting)];
-        let replies = self.ask(&calls);
-        drop(calls);
-        let replies = replies?;
-        let done = self.tell_opened(greeting, password, connection, &replies);
-        drop(replies);
-        done
+        let replies = self.ask(&calls)?;
+        self.tell_opened(greeting, connection, &replies)
     }
 
     // Tells a client its new session, if it was opened, or closes the connection.
     fn tell_opened(
         &mut self,
         greeting: &ConnectRequest,
-        password: Password,
         connection: u32,
         replies: &[Reply],
     ) -> Result<(), Memory>
-        ensures { OnOk result (self.new ≡ with_tables (opened self.old.clock.tick greeting.now
-            password connection replies.now self.old.tables) self.old) }
+        ensures { OnOk result (self.new ≡ with_tables (opened self.old.clock.tick self.old.secret
+            greeting.now connection replies.now self.old.tables) self.old) }
     {
         match replies {
             [Reply::Opened(id, ticks), ..] => {
-                let session = Opened {
+                let session = Granted {
                     id: *id,
                     ticks: *ticks,
-                    password,
+                    password: self.secret.password_of(*id),
                 };
-                self.welcome(greeting, session, connection)
+                let tick = self.clock.tick;
+                welcome(
+                    self.alloc,
+                    &mut self.tables,
+                    tick,
+                    greeting,
+                    &session,
+                    connection,
+                )
             }
             _ => self.tables.close(connection),
         }
     }
 
-    // Tells a client its new session.
-    fn welcome(
-        &mut self,
-        greeting: &ConnectRequest,
-        session: Opened,
-        connection: u32,
-    ) -> Result<(), Memory>
-        ensures { OnOk result (self.new ≡ with_tables (welcomed self.old.clock.tick greeting.now
-            session.id session.ticks session.password connection self.old.tables) self.old) }
+    // Lets a client come back to the session that it names, if the tree has it.
+    fn take_up(&mut self, greeting: &ConnectRequest, connection: u32) -> Result<(), Memory>
+        ensures { OnOk result (self.new ≡ with_tables
+            (returned greeting.now greeting.now.session_id connection self.old) self.old) }
     {
-        welcome(
-            self.alloc,
-            &mut self.tables,
-            self.clock.tick,
-            greeting,
-            &session,
-            connection,
-        )
+        if greeting.session_id < 0 {
+            return turn_away(self.alloc, &mut self.tables, greeting, connection);
+        }
+        let id = SessionId::new(greeting.session_id as u64);
+        match self.service.session(id)? {
+            Some(session) => {
+                let granted = Granted {
+                    id,
+                    ticks: session.timeout,
+                    password: self.secret.password_of(id),
+                };
+                let tick = self.clock.tick;
+                come_back(
+                    self.alloc,
+                    &mut self.tables,
+                    tick,
+                    greeting,
+                    &granted,
+                    connection,
+                )
+            }
+            None => turn_away(self.alloc, &mut self.tables, greeting, connection),
+        }
     }
 }
 

@@ -1,41 +1,37 @@
 //! The state of a server that has memory.
 
-ghost use Rattle.std.specs.Prelude.{◌≡◌, [], false, true, IfOk, OnOk};
-ghost use Rattle.std.specs.FinMap.{keys};
-ghost use Rattle.ztree.specs.Tree.{opening_tree};
-ghost use Rattle.zserver.specs.Server.{IsFresh};
-ghost use Rattle.zalone.specs.Changes.{no_changes};
-ghost use Rattle.zfront.specs.Inputs as input;
-ghost use Rattle.zfront.specs.Restoring.{IsRestored, sessions_of};
+ghost use Rattle.std.specs.Prelude.{◌≡◌, IfOk, OnOk};
+ghost use Rattle.zpieces.specs.Inputs.{input_of};
+ghost use Rattle.zfront.specs.Inputs.{Does};
+ghost use Rattle.zfront.specs.Restoring.{all_taken, beginning};
 
-use crate::seats::tables_of;
+use crate::beginning::tables_of;
 use std::alloc::Global;
 use std::marker::Model;
+use std::mem;
 use zalloc::Memory;
-use zalone::Alone;
 use zanswering::Clock;
-use zcalls::Call;
-use zprotocol::ServerId;
-use zserver::Snapshot;
-use zsittings::Password;
+use zcalls::Update;
+use zpasswords::Secret;
+use zpieces::Input;
+use zservice::TreeService;
 use ztables::Tables;
-use ztree::SessionId;
 
-// The client of the service, the tables, and what is left to be done. After a call ran out of memory
+// The service of the tree, the tables, and what is left to be taken. After a call ran out of memory
 // nothing is promised of it.
 #[derive(Drop)]
-pub(crate) struct Inner {
+pub(crate) struct Inner<T: TreeService> {
     pub(crate) alloc: Global,
-    pub(crate) alone: Alone,
+    pub(crate) service: T,
     pub(crate) tables: Tables,
-    // The call that has no reply yet.
-    pub(crate) late: Option<Call>,
-    // Whether watched nodes are to be looked at.
-    pub(crate) must_look: bool,
+    // Whether updates are kept, and those that were not taken yet.
+    pub(crate) is_kept: bool,
+    pub(crate) made: Vec<Update>,
+    pub(crate) secret: Secret,
     pub(crate) clock: Clock,
 }
 
-impl Model for Inner {
+impl<T: TreeService> Model for Inner<T> {
     ghost use Rattle.zfront.specs.Front.{FrontView};
     ghost use Rattle.zfront.specs.support.Codes.{coded_front};
 
@@ -44,67 +40,59 @@ impl Model for Inner {
     ghost coded = { coded_front };
 
     ghost view = { λ f. record {
-      asker = f.alone;
+      tree = T.tree f.service;
       tables = f.tables;
-      late = f.late;
-      must_look = f.must_look;
+      is_kept = f.is_kept;
+      made = f.made.items;
+      secret = f.secret;
       clock = f.clock;
     } };
 }
 
-impl Inner {
-    // Returns a server with an empty tree. Nothing that it makes is kept.
-    pub(crate) fn new(alloc: Global, last: ServerId, clock: Clock) -> Result<Inner, Memory>
-        ensures new { IfOk result (IsRestored last clock opening_tree []) }
-        ensures keeps { IfOk result (λ v. v.asker.changes ≡ no_changes false) }
-    {
-        Ok(Inner {
-            alloc,
-            alone: Alone::new(alloc, last, false)?,
-            tables: Tables::new(alloc),
-            late: None,
-            must_look: false,
-            clock,
-        })
-    }
-
-    // Returns a server that begins with the snapshot's tree and these seats. What it makes is kept
-    // until it is taken.
-    pub(crate) fn restored(
+impl<T: TreeService + Drop> Inner<T> {
+    // Returns a server that begins with the service's tree.
+    pub(crate) fn new(
         alloc: Global,
-        last: ServerId,
+        service: T,
+        secret: Secret,
         clock: Clock,
-        snapshot: &Snapshot,
-        seats: &[(SessionId, Password)],
-    ) -> Result<Inner, Memory>
-        requires fresh { IsFresh snapshot.now }
-        requires seated { sessions_of seats.now ≡ keys snapshot.now.machine.plain.sessions }
-        ensures restored { IfOk result
-            (IsRestored last clock snapshot.now.machine.plain seats.now) }
-        ensures keeps { IfOk result (λ v. v.asker.changes ≡ no_changes true) }
+        is_kept: bool,
+    ) -> Result<Inner<T>, Memory>
+        ensures { IfOk result (λ v. v ≡ beginning (T.tree service) secret clock is_kept) }
     {
-        let tables = tables_of(alloc, seats)?;
+        let sessions = service.session_ids()?;
+        let tables = tables_of(alloc, &sessions)?;
         Ok(Inner {
             alloc,
-            alone: Alone::restored(alloc, last, snapshot, true)?,
+            service,
             tables,
-            late: None,
-            must_look: false,
+            is_kept,
+            made: Vec::new(alloc),
+            secret,
             clock,
         })
     }
 
-    // Adds a connection, with the password of a session that is opened on it.
-    pub(crate) fn open(&mut self, connection: u32, password: Password) -> Result<(), Memory>
-        ensures { OnOk result (input.Opens connection password self.old self.new) }
+    // Takes an input.
+    pub(crate) fn take(&mut self, input: Input<'_>) -> Result<(), Memory>
+        ensures { OnOk result (Does (input_of input.entry) self.old self.new) }
     {
-        self.tables.open(connection, password)
+        match input {
+            Input::Opened(connection) => self.tables.open(connection),
+            Input::Came(connection, bytes) => self.came(connection, bytes),
+            Input::Ended(connection) => {
+                self.tables.end(connection);
+                Ok(())
+            }
+            Input::Tick => self.tick(),
+        }
     }
 
-    // Removes a connection.
-    pub(crate) fn end(&mut self, connection: u32)
-        ensures { input.Ends connection self.old self.new }
+    // Takes the updates that were made.
+    pub(crate) fn take_made(&mut self) -> Vec<Update>
+        ensures all { result.items ≡ self.old.made }
+        ensures taken { self.new ≡ all_taken self.old }
     {
-        self.tables.end(connection);
+        mem::replace(&mut self.made, Vec::new(self.alloc))
     }
 }

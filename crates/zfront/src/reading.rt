@@ -1,9 +1,8 @@
 //! The bytes that come on connections.
 
-ghost use Rattle.std.specs.Prelude.{◌≡◌, is_some, None, Some, IfOk, OnOk};
+ghost use Rattle.std.specs.Prelude.{◌≡◌, None, Some, IfOk, OnOk};
 ghost use Rattle.zjute.specs.Frames.{next_of};
-ghost use Rattle.zpieces.specs.Streams.{phase_of};
-ghost use Rattle.zfront.specs.Reading.{Comes, ComesBehind, ComesBy, Handles, HandlesIn, HandlesUnless};
+ghost use Rattle.zfront.specs.Reading.{Comes, ComesBehind, ComesBy, Handles, HandlesIn};
 ghost use Rattle.zfront.specs.Reading.{is_too_long, Keeps, Reads};
 
 use crate::inner::Inner;
@@ -11,8 +10,9 @@ use crate::limits::MAX_KEPT;
 use zalloc::Memory;
 use zjute::{Next, next_frame};
 use zpieces::Phase;
+use zservice::TreeService;
 
-impl Inner {
+impl<T: TreeService> Inner<T> {
     // Reads bytes that came on a connection. On one that isn't open they are dropped.
     pub(crate) fn came(&mut self, connection: u32, bytes: &[u8]) -> Result<(), Memory>
         ensures { OnOk result (Comes bytes.now connection self.old self.new) }
@@ -65,29 +65,9 @@ impl Inner {
         Ok(rest)
     }
 
-    // Handles a frame.
+    // Handles a frame by the phase of its connection.
     fn handle(&mut self, connection: u32, frame: &[u8]) -> Result<(), Memory>
         ensures { OnOk result (Handles frame.now connection self.old self.new) }
-    {
-        self.get_ready()?;
-        self.handle_unless_late(connection, frame)
-    }
-
-    // Handles a frame, or closes its connection while a call is late.
-    fn handle_unless_late(&mut self, connection: u32, frame: &[u8]) -> Result<(), Memory>
-        ensures { OnOk result (HandlesUnless (is_some self.old.late) frame.now connection
-            self.old self.new) }
-    {
-        if self.late.is_some() {
-            return self.tables.close(connection);
-        }
-        self.handle_now(connection, frame)
-    }
-
-    // Handles a frame by the phase of its connection.
-    fn handle_now(&mut self, connection: u32, frame: &[u8]) -> Result<(), Memory>
-        ensures { OnOk result (HandlesIn (phase_of self.old.tables.streams connection) frame.now
-            connection self.old self.new) }
     {
         match self.tables.phase(connection) {
             Some(phase) => self.handle_in(phase, connection, frame),
@@ -101,7 +81,7 @@ impl Inner {
             (HandlesIn (Some phase) frame.now connection self.old self.new) }
     {
         match phase {
-            Phase::Silent(password) => self.greet(frame, password, connection),
+            Phase::Silent => self.greet(frame, connection),
             Phase::Speaking(session) => self.serve(frame, session, connection),
             Phase::Closing => Ok(()),
         }

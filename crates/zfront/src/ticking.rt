@@ -1,59 +1,32 @@
 //! Ticks.
 
-ghost use Rattle.std.specs.Prelude.{◌≡◌, is_some, IfOk, OnOk};
-ghost use Rattle.zfront.specs.Ticking.{ping, tick_calls, Ticks, TicksBy, TicksIf, TicksNow};
+ghost use Rattle.std.specs.Prelude.{◌≡◌, IfOk, OnOk};
+ghost use Rattle.zfront.specs.Ticking.{tick_calls, Ticks, TicksBy};
 
 use crate::inner::Inner;
 use std::alloc::Global;
 use zalloc::Memory;
-use zcalls::{Call, Reply, Update};
+use zcalls::{Call, Update};
+use zservice::TreeService;
 use ztree::SessionId;
 
-impl Inner {
-    // Renews the sessions that were heard of since the last tick, and lets time go on. While a call
-    // is late no time goes by.
+impl<T: TreeService> Inner<T> {
+    // Renews the sessions that were heard of since the last tick, and lets time go on.
     pub(crate) fn tick(&mut self) -> Result<(), Memory>
         ensures { OnOk result (Ticks self.old self.new) }
     {
-        self.get_ready()?;
-        if self.late.is_some() {
-            return Ok(());
-        }
-        self.tick_now()
-    }
-
-    // The same where no call is late.
-    fn tick_now(&mut self) -> Result<(), Memory>
-        ensures { OnOk result (TicksNow self.old self.new) }
-    {
         let sessions = self.tables.touched()?;
-        let calls = tick_calls(self.alloc, &sessions);
-        drop(sessions);
-        let calls = calls?;
-        let done = self.make_tick(&calls);
-        drop(calls);
-        done
+        let calls = tick_calls(self.alloc, &sessions)?;
+        self.make_tick(&calls)
     }
 
-    // Makes the calls of a tick.
+    // Makes the calls of a tick, and begins anew to note whose clients are heard.
     fn make_tick(&mut self, calls: &[Call]) -> Result<(), Memory>
         ensures { OnOk result (TicksBy calls.now self.old self.new) }
     {
         let replies = self.ask(calls)?;
-        let done = self.end_tick(&replies);
-        drop(replies);
-        done
-    }
-
-    // Begins anew to note whose clients are heard, if the calls of a tick were answered.
-    fn end_tick(&mut self, replies: &[Reply]) -> Result<(), Memory>
-        ensures { OnOk result (TicksIf (is_some self.old.late) replies.now self.old self.new) }
-    {
-        if self.late.is_some() {
-            return Ok(());
-        }
         self.tables.rest();
-        self.tidy_and_look(replies)
+        self.tidy(calls, &replies)
     }
 }
 

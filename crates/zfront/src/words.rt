@@ -10,15 +10,16 @@ use crate::inner::Inner;
 use crate::word::Word;
 use zalloc::Memory;
 use zpieces::Phase;
+use zservice::TreeService;
 
-impl Inner {
+impl<T: TreeService> Inner<T> {
     // Returns the word that stands in front of what came, if nothing was read on the connection.
     pub(crate) fn word_asked(&self, connection: u32, came: &[u8]) -> Option<Word>
         ensures { result
             ≡ word_asked (phase_of self.now.tables.streams connection) came.now }
     {
         match self.tables.phase(connection) {
-            Some(Phase::Silent(_)) => word_in(came),
+            Some(Phase::Silent) => word_in(came),
             _ => None,
         }
     }
@@ -67,7 +68,8 @@ impl Inner {
     {
         out.push_str("Zookeeper version: jellqupas-0.1.0\n")?;
         write_number("Connections: ", self.tables.connections() as u64, out)?;
-        write_number("Zxid: ", self.alone.known().zxid().number(), out)?;
+        let last = self.last_change()?;
+        write_number("Zxid: ", last.number(), out)?;
         out.push_str("Mode: standalone\n")?;
         Ok(())
     }

@@ -5,7 +5,7 @@ use Rattle.zfront.proofs.Results.{on_ok}
 use Rattle.zfront.proofs.inner.Inner.read.Goals as goal
 
 pub returns-in-None : goal.returns-in-None
-returns-in-None c =
+returns-in-None g c =
     let asked = ap (word_asked (phase_of c.args.self.now.tables.streams c.args.connection)) c.deref.ensures.value in
     on_ok c.read_all.result
     (λ comes. subst (λ w. ComesBy w c.args.came.items c.args.connection c.args.self.now c.read_all.new.self)

@@ -6,7 +6,7 @@ use Rattle.zfront.proofs.inner.Inner.read_all.Goals as goal
 
 -- nothing was read, so what came is the rest
 pub returns-then-rest-len : goal.returns-then-rest-len
-returns-then-rest-len c =
+returns-then-rest-len g c =
     let came = c.args.came.items in
     let middle = c.read_frames.new.self in
     let reads : Reads came c.args.connection c.args.self.now c.in_ok-rest.rest.now middle =
@@ -18,7 +18,7 @@ returns-then-rest-len c =
     c.keep.ensures
 
 pub returns : goal.returns
-returns c =
+returns g c =
     let came = c.args.came.items in
     let middle = c.read_frames.new.self in
     let reads : Reads came c.args.connection c.args.self.now c.in_ok-rest.rest.now middle =

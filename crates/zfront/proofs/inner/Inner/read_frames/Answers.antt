@@ -5,10 +5,10 @@ use Rattle.zfront.proofs.Frames.{cuts_more, handles_more, shorter}
 use Rattle.zfront.proofs.inner.Inner.read_frames.Goals as goal
 
 pub loop-self-smaller : goal.loop-self-smaller
-loop-self-smaller c = shorter c.loop-self.rest.now c.in-Whole.frame.now c.in-Whole.more.now c.in-Whole.ensures
+loop-self-smaller g c = shorter c.loop-self.rest.now c.in-Whole.frame.now c.in-Whole.more.now c.in-Whole.ensures
 
 pub loop-self-preserved : goal.loop-self-preserved
-loop-self-preserved c =
+loop-self-preserved g c =
     let all = c.loop-self.invariant in
     let frame = c.in-Whole.frame.now in
     let middle = c.loop-self.self in

@@ -8,7 +8,7 @@ use Rattle.zfront.proofs.Results.{on_ok, writes_more}
 use Rattle.zfront.proofs.inner.Inner.write_mntr.Goals as goal
 
 pub returns : goal.returns
-returns c =
+returns g c =
     let one = c.push_str.new.self in
     let two = c.write_number.new.out in
     let three = c.write_number-2.new.out in

@@ -7,15 +7,14 @@ use Rattle.zfront.proofs.Results.{writes_more}
 use Rattle.zfront.proofs.inner.Inner.write_srvr.Goals as goal
 
 pub returns : goal.returns
-returns c =
-    let v = c.args.self.now in
+returns g c =
     let one = c.push_str.new.self in
     let two = c.write_number.new.out in
     let three = c.write_number-2.new.out in
     let end = c.push_str-2.new.self in
     let connections = subst (λ n. Writes one two (number_line (codes "Connections: ") n)) (c.connections.ensures
     ∙ ap (λ (v : FrontView). finite.len v.tables.streams) c.self.view_is) c.in_ok-write_number.ensures in
-    let zxid = subst (λ n. Writes two three (number_line (codes "Zxid: ") n)) (c.number.ensures ∙ c.zxid.ensures
-    ∙ ap (λ k. k.zxid) c.known.ensures ∙ ap (λ (v : FrontView). v.asker.known.zxid) c.self.view_is) c.in_ok-write_number-2.ensures in
+    let zxid = subst (λ n. Writes two three (number_line (codes "Zxid: ") n)) (c.number.ensures ∙ c.in_ok-last.ensures)
+    c.in_ok-write_number-2.ensures in
     writes_more c.args.out.now one end _ _ c.in_ok-push_str.ensures.bytes
     (writes_more one two end _ _ connections (writes_more two three end _ _ zxid c.in_ok-push_str-2.ensures.bytes))

@@ -1,0 +1,20 @@
+//! The sessions with which a server begins.
+
+ghost use Rattle.std.specs.Prelude.{◌≡◌, IfOk};
+ghost use Rattle.zfront.specs.Restoring.{tables_of};
+
+use std::alloc::Global;
+use zalloc::Memory;
+use ztables::Tables;
+use ztree::SessionId;
+
+/// Returns tables in which each of these sessions is there, without a connection.
+pub(crate) fn tables_of(alloc: Global, sessions: &[SessionId]) -> Result<Tables, Memory>
+    ensures { IfOk result (λ tables. tables ≡ tables_of sessions.now) }
+{
+    let mut tables = Tables::new(alloc);
+    for session in sessions {
+        tables.restore(*session)?;
+    }
+    Ok(tables)
+}
