@@ -52,13 +52,13 @@ Talked c speaking old new = (talk : Talk) × IsCalm speaking talk × (view c new
 abbrev pub Calm : ℕ → TablesView → TablesView → Type 0
 Calm c old new = Free c old → Talked c (speaks (phase_of old.streams c)) old new × Free c new
 
-pub calm-followed : (speaking : Bool) (a b : Talk) → IsCalm speaking a → (is_closed a ≡ false → IsCalm speaking b) → IsCalm speaking (followed a b)
+calm-followed : (speaking : Bool) (a b : Talk) → IsCalm speaking a → (is_closed a ≡ false → IsCalm speaking b) → IsCalm speaking (followed a b)
 calm-followed speaking Quiet b one two = two refl
 calm-followed speaking (Tells event a) b one two = (one.0, calm-followed speaking a b one.1 two)
 calm-followed speaking (Answers bytes a) b one two = absurd one
 calm-followed speaking Closes b one two = tt
 
-pub talked_both : (c : ℕ) (speaking : Bool) (old middle new : TablesView) (one : Talked c speaking old middle)
+talked_both : (c : ℕ) (speaking : Bool) (old middle new : TablesView) (one : Talked c speaking old middle)
     → (is_closed one.0 ≡ false → (two : Talk) × IsCalm speaking two × (view c new ≡ run c two (view c middle)))
     → (is_closed one.0 ≡ true → (two : Talk) × (view c new ≡ run c two (view c middle))) → Talked c speaking old new
 talked_both c speaking old middle new one is_on shut = by (is_closed one.0) refl
@@ -83,7 +83,7 @@ pub same_stream : (c : ℕ) (old new : TablesView) (talk : Talk) → is_closed t
 same_stream c old new talk still is = ap (λ (w : View). w.0) is ∙ run_stream c talk (view c old) still
 
 -- what is sent and told leaves the streams
-pub sent_streams : (d : ℕ) (bytes : List ℕ) (t : TablesView) → (sent d bytes t).streams ≡ t.streams
+sent_streams : (d : ℕ) (bytes : List ℕ) (t : TablesView) → (sent d bytes t).streams ≡ t.streams
 sent_streams d bytes t = elim (is_open t d) as (λ b. (if b then with_piece (piece d bytes) t else t).streams ≡ t.streams) [
   | true ↦ refl
   | false ↦ refl
@@ -153,7 +153,7 @@ module _ (c : ℕ) where
   )
   event_talk speaking e d t own (inr other) = (Quiet, tt, view-sent-elsewhere c d (event_frame e) t other)
 
-  pub event_sent : (e : Event) (d : ℕ) (t : TablesView) → (d ≡ c → speaks (phase_of t.streams c) ≡ true) → Calm c t (sent d (event_frame e) t)
+  event_sent : (e : Event) (d : ℕ) (t : TablesView) → (d ≡ c → speaks (phase_of t.streams c) ≡ true) → Calm c t (sent d (event_frame e) t)
   event_sent e d t own free = (event_talk (speaks (phase_of t.streams c)) e d t own (same_number d c), free-sent c d (event_frame e) t free)
 
   among : (d : ℕ) (ds : List ℕ) → d ≡ c → list_any (λ x. eqb x c) (d ∷ ds) ≡ true
@@ -207,7 +207,7 @@ module _ (c : ℕ) where
       ∙ contains_key-keys (from_entries {R = nat_cmp} marks) c
       ∙ tied_any (in_order set) there
 
-  pub tells : (e : Event) (t : TablesView) → Calm c t (told e t)
+  tells : (e : Event) (t : TablesView) → Calm c t (told e t)
   tells e t free = (
     sent_on_talk (speaks (phase_of t.streams c)) e (in_order (watches.told t.watches e.kind e.path)) (unwatched e t)
         (λ there.
@@ -222,7 +222,7 @@ module _ (c : ℕ) where
 
   -- ---- calls that were answered
 
-  pub absorbs : (call : Call) (reply : Reply) (t : TablesView) → Calm c t (absorbed call reply t)
+  absorbs : (call : Call) (reply : Reply) (t : TablesView) → Calm c t (absorbed call reply t)
   absorbs (Update update) reply t =
       let u = record t { sittings = noted update reply t.sittings } in
       both t u (told_all (events_of update reply) u)

@@ -43,7 +43,7 @@ length_more n came more bytes rest is = by (nat_lt MAX_FRAME n) is
     by false is = cut_more n came more bytes rest is
 
 -- the first frame stays the first one, and four bytes at least came
-pub next_more : (came more bytes rest : List ℕ) → next_of came ≡ Whole bytes rest
+next_more : (came more bytes rest : List ℕ) → next_of came ≡ Whole bytes rest
     → (next_of (came ++ more) ≡ Whole bytes (rest ++ more)) × (4 ≤ length came)
 unfolding next_of
 next_more came more bytes rest is = by (nat_lt (length came) 4) refl is
@@ -74,7 +74,7 @@ cuts_both came [] next rest last is more = subst (λ xs. Cuts xs next last) (sym
 cuts_both came (bytes ∷ frames) next rest last has more = (has.0, has.1, cuts_both has.0 frames next rest last has.2 more)
 
 -- four bytes tell the word
-pub word_more : (came more : List ℕ) → 4 ≤ length came → word_in (came ++ more) ≡ word_in came
+word_more : (came more : List ℕ) → 4 ≤ length came → word_in (came ++ more) ≡ word_in came
 word_more came more enough = rw (take-append-le 4 came more enough) refl
 
 pub cuts_word : (came more bytes : List ℕ) (frames : List (List ℕ)) (rest : List ℕ) → Cuts came (bytes ∷ frames) rest

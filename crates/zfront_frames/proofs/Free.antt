@@ -2,7 +2,7 @@
 -- stays at each change of the tables.
 use Rattle.std.proofs.Common.{◌≡◌, ◌≢◌, ◌⊎◌, inl, inr, ◌∙◌, ℕ, Bool, true, false, not, ◌&&◌, ◌||◌, List, Option, None}
 use Rattle.std.proofs.Common.{Some, refl, sym, ap, subst, eqb}
-use Rattle.std.specs.Prelude.{if◌then◌else◌}
+use Rattle.std.specs.Prelude.{if◌then◌else◌, unwrap_or}
 use Rattle.std.proofs.lemmas.Bool.{eq-eqb}
 use Rattle.std.specs.Cmp.{nat_cmp_total}
 use Rattle.std.specs.Ordering.{eq_by_cmp}
@@ -16,7 +16,7 @@ use Rattle.zpieces.specs.declared.phase.Phase.TheVariants.{Silent, Speaking, Clo
 use Rattle.zpieces.specs.Outbox.{PieceView}
 use Rattle.zpieces.specs.Streams.{StreamRows, empty_in, phase_of}
 use Rattle.zsittings.specs.declared.sitting.Sitting.{Sitting}
-use Rattle.zsittings.specs.Sittings.{SittingsView, left, new_sitting, with_changed}
+use Rattle.zsittings.specs.Sittings.{SittingsView, left, new_sitting, restored_sitting, with_changed}
 use Rattle.zsittings.specs.Sittings as seats
 use Rattle.zevents.specs.declared.event.Event.{Event}
 use Rattle.zwatches.specs.declared.kind.Kind.{Kind}
@@ -32,7 +32,7 @@ use Rattle.zfront_laws.proofs.Seated.{same_number, seat_elsewhere, seat_here, co
 use Rattle.zfront_frames.proofs.Views.{phase_in, changed-elsewhere}
 
 abbrev pub speaks : Option Phase → Bool
-speaks (Some (Silent password)) = false
+speaks (Some Silent) = false
 speaks (Some (Speaking session)) = true
 speaks (Some Closing) = false
 speaks None = false
@@ -159,38 +159,24 @@ free-forgotten c session t free =
     near other is (inr apart) = sym
         (ap connection_in (get-remove-elsewhere nat_cmp_total nat_cmp-IsAntisymmetric t.sittings session other apart)) ∙ is
 
--- who has the seats, where one connection gets that of a session
-new_seat : (m : SittingsView) (session d x other : ℕ) (password : List ℕ) → connection_of (insert m session (new_sitting password d)) other ≡ Some x
+-- who has the seats, where a session gets a sitting with a connection
+new_seat : (m : SittingsView) (session d x other : ℕ) (s : Sitting) → s.connection ≡ Some d → connection_of (insert m session s) other ≡ Some x
     → ((other ≡ session) × (d ≡ x)) ⊎ ((other ≢ session) × (connection_of m other ≡ Some x))
-new_seat m session d x other password is = near (same_number other session)
+new_seat m session d x other s sits is = near (same_number other session)
   where
     near : (other ≡ session) ⊎ (other ≢ session) → ((other ≡ session) × (d ≡ x)) ⊎ ((other ≢ session) × (connection_of m other ≡ Some x))
     near (inl same) =
         inl (
           same,
-          same_some d x (sym (ap connection_in (get-insert-here nat_cmp_total nat_cmp-IsAntisymmetric m session (new_sitting password d)))
-              ∙ ap (connection_of (insert m session (new_sitting password d))) (sym same) ∙ is),
+          same_some d x (sym (ap connection_in (get-insert-here nat_cmp_total nat_cmp-IsAntisymmetric m session s) ∙ sits)
+              ∙ ap (connection_of (insert m session s)) (sym same) ∙ is),
         )
     near (inr apart) =
-        inr (
-          apart,
-          sym (ap connection_in (get-insert-elsewhere nat_cmp_total nat_cmp-IsAntisymmetric m session
-              (new_sitting password d) other apart)) ∙ is,
-        )
+        inr (apart, sym (ap connection_in (get-insert-elsewhere nat_cmp_total nat_cmp-IsAntisymmetric m session s other apart)) ∙ is)
 
-taken_seat : (m : SittingsView) (session d x other : ℕ) → connection_of (with_changed (seats.taken_up d) m session) other ≡ Some x
-    → ((other ≡ session) × (d ≡ x)) ⊎ ((other ≢ session) × (connection_of m other ≡ Some x))
-taken_seat m session d x other is = near (same_number other session)
-  where
-    there : (o : Option Sitting) → get m session ≡ o → connection_of (with_changed (seats.taken_up d) m session) session ≡ Some x → d ≡ x
-    there None none has =
-        absurd (none_some x (sym (ap (λ o. connection_of (option_map_or (λ s. insert m session (seats.taken_up d s)) o m) session) none
-        ∙ ap connection_in none) ∙ has))
-    there (Some s) is_there has = same_some d x (sym (ap connection_in (seat_here (seats.taken_up d) m session s is_there)) ∙ has)
-
-    near : (other ≡ session) ⊎ (other ≢ session) → ((other ≡ session) × (d ≡ x)) ⊎ ((other ≢ session) × (connection_of m other ≡ Some x))
-    near (inl same) = inl (same, there (get m session) refl (ap (connection_of (with_changed (seats.taken_up d) m session)) (sym same) ∙ is))
-    near (inr apart) = inr (apart, sym (ap connection_in (seat_elsewhere (seats.taken_up d) m session other apart)) ∙ is)
+-- that of one that is taken up
+abbrev taken_in : SittingsView → ℕ → ℕ → Sitting
+taken_in m session d = seats.taken_up d (unwrap_or (get m session) restored_sitting)
 
 -- another connection gets it
 seat_of_another : (c d : ℕ) (t : TablesView) (session other : ℕ) → d ≢ c → ((other ≡ session) × (d ≡ c))
@@ -199,37 +185,36 @@ seat_of_another : (c d : ℕ) (t : TablesView) (session other : ℕ) → d ≢ c
 seat_of_another c d t session other apart (inl own) = absurd (apart own.1)
 seat_of_another c d t session other apart (inr was) = was.1
 
-pub free-sitting-elsewhere : (c d session : ℕ) (password : List ℕ) (t : TablesView) → d ≢ c → Free c t → Free c (sitting session password d t)
-free-sitting-elsewhere c d session password t other free =
-    free_by c t (sitting session password d t) (changed-elsewhere (λ s. record s { phase = Speaking session }) t.streams d c (λ is. other (sym is)))
-    (λ s is. seat_of_another c d t session s other (new_seat t.sittings session d c s password is)) (λ w is own. is) free
+pub free-sitting-elsewhere : (c d session : ℕ) (t : TablesView) → d ≢ c → Free c t → Free c (sitting session d t)
+free-sitting-elsewhere c d session t other free =
+    free_by c t (sitting session d t) (changed-elsewhere (λ s. record s { phase = Speaking session }) t.streams d c (λ is. other (sym is)))
+    (λ s is. seat_of_another c d t session s other (new_seat t.sittings session d c s (new_sitting d) refl is)) (λ w is own. is) free
 
 pub free-seated-elsewhere : (c d session : ℕ) (t : TablesView) → d ≢ c → Free c t → Free c (seated session d t)
 free-seated-elsewhere c d session t other free =
     free_by c t (seated session d t) (changed-elsewhere (λ s. record s { phase = Speaking session }) t.streams d c (λ is. other (sym is)))
-    (λ s is. seat_of_another c d t session s other (taken_seat t.sittings session d c s is)) (λ w is own. is) free
+    (λ s is. seat_of_another c d t session s other (new_seat t.sittings session d c s (taken_in t.sittings session d) refl is)) (λ w is own. is) free
 
 -- the connection itself gets it, and speaks then
-own_seat : (c : ℕ) (t : TablesView) (session other : ℕ) (password : List ℕ) (p : Option Phase) → Free c t
-    → phase_of t.streams c ≡ Some (Silent password) → p ≡ Some (Speaking session)
+own_seat : (c : ℕ) (t : TablesView) (session other : ℕ) (p : Option Phase) → Free c t → phase_of t.streams c ≡ Some Silent
+    → p ≡ Some (Speaking session)
     → ((other ≡ session) × (c ≡ c)) ⊎ ((other ≢ session) × (connection_of t.sittings other ≡ Some c)) → p ≡ Some (Speaking other)
-own_seat c t session other password p free silent speaking (inl own) = speaking ∙ ap (λ s. Some (Speaking s)) (sym own.0)
-own_seat c t session other password p free silent speaking (inr was) =
+own_seat c t session other p free silent speaking (inl own) = speaking ∙ ap (λ s. Some (Speaking s)) (sym own.0)
+own_seat c t session other p free silent speaking (inr was) =
     let clash : false ≡ true = sym (ap speaks silent) ∙ ap speaks (free.seat other was.1) in
     absurd (cc clash)
 
-module _ (c session : ℕ) (silence : List ℕ) (t : TablesView) (free : Free c t) (silent : phase_of t.streams c ≡ Some (Silent silence)) where
-  pub free-sitting : (password : List ℕ) → phase_of (sitting session password c t).streams c ≡ Some (Speaking session)
-      → Free c (sitting session password c t)
-  free-sitting password speaking = record {
-    seat = λ s is. own_seat c t session s silence (phase_of (sitting session password c t).streams c) free silent speaking
-        (new_seat t.sittings session c c s password is);
+module _ (c session : ℕ) (t : TablesView) (free : Free c t) (silent : phase_of t.streams c ≡ Some Silent) where
+  pub free-sitting : phase_of (sitting session c t).streams c ≡ Some (Speaking session) → Free c (sitting session c t)
+  free-sitting speaking = record {
+    seat = λ s is. own_seat c t session s (phase_of (sitting session c t).streams c) free silent speaking
+        (new_seat t.sittings session c c s (new_sitting c) refl is);
     watch = λ w is own. ap speaks speaking;
   }
 
   pub free-seated : phase_of (seated session c t).streams c ≡ Some (Speaking session) → Free c (seated session c t)
   free-seated speaking = record {
-    seat = λ s is. own_seat c t session s silence (phase_of (seated session c t).streams c) free silent speaking
-        (taken_seat t.sittings session c c s is);
+    seat = λ s is. own_seat c t session s (phase_of (seated session c t).streams c) free silent speaking
+        (new_seat t.sittings session c c s (taken_in t.sittings session c) refl is);
     watch = λ w is own. ap speaks speaking;
   }

@@ -68,7 +68,7 @@ pieces-followed c Closes b still = absurd (cc still)
 added_not : (c : ℕ) (bytes : List ℕ) (w : View) → sends w ≡ false → added c bytes w ≡ w
 added_not c bytes w off = ap (λ (b : Bool). if b then (w.0, w.1 ++ piece c bytes ∷ []) else w) off
 
-pub shut_not : (c : ℕ) (w : View) → sends w ≡ false → shut c w ≡ w
+shut_not : (c : ℕ) (w : View) → sends w ≡ false → shut c w ≡ w
 shut_not c w off = ap (λ (b : Bool). if b then (Some (empty_in Closing), w.1 ++ last_piece c ∷ []) else w) off
 
 pub run_not : (c : ℕ) (talk : Talk) (w : View) → sends w ≡ false → run c talk w ≡ w
@@ -77,7 +77,7 @@ run_not c (Tells event talk) w off = ap (run c talk) (added_not c (event_frame e
 run_not c (Answers bytes talk) w off = ap (run c talk) (added_not c bytes w off) ∙ run_not c talk w off
 run_not c Closes w off = shut_not c w off
 
-pub shut_ends : (c : ℕ) (w : View) → sends (shut c w) ≡ false
+shut_ends : (c : ℕ) (w : View) → sends (shut c w) ≡ false
 shut_ends c w = by (sends w) refl
   where
     by : (b : Bool) → sends w ≡ b → sends (if b then (Some (empty_in Closing), w.1 ++ last_piece c ∷ []) else w) ≡ false
@@ -86,7 +86,7 @@ shut_ends c w = by (sends w) refl
 
 -- ---- one that is
 
-pub added_open : (c : ℕ) (bytes : List ℕ) (w : View) → sends w ≡ true → added c bytes w ≡ (w.0, w.1 ++ piece c bytes ∷ [])
+added_open : (c : ℕ) (bytes : List ℕ) (w : View) → sends w ≡ true → added c bytes w ≡ (w.0, w.1 ++ piece c bytes ∷ [])
 added_open c bytes w is_on = ap (λ (b : Bool). if b then (w.0, w.1 ++ piece c bytes ∷ []) else w) is_on
 
 pub shut_open : (c : ℕ) (w : View) → sends w ≡ true → shut c w ≡ (Some (empty_in Closing), w.1 ++ last_piece c ∷ [])
@@ -151,10 +151,10 @@ on-own c p is = ap (λ (b : Bool). cond b (p ∷ []) []) (eq-eqb p.connection c 
 on-other : (c : ℕ) (p : PieceView) → p.connection ≢ c → on c (p ∷ []) ≡ []
 on-other c p other = ap (λ (b : Bool). cond b (p ∷ []) []) (ne_eqb p.connection c other)
 
-pub on-with : (c : ℕ) (ps : List PieceView) (p : PieceView) → p.connection ≡ c → on c (ps ++ p ∷ []) ≡ on c ps ++ p ∷ []
+on-with : (c : ℕ) (ps : List PieceView) (p : PieceView) → p.connection ≡ c → on c (ps ++ p ∷ []) ≡ on c ps ++ p ∷ []
 on-with c ps p is = on-both c ps (p ∷ []) ∙ ap (λ qs. on c ps ++ qs) (on-own c p is)
 
-pub on-without : (c : ℕ) (ps : List PieceView) (p : PieceView) → p.connection ≢ c → on c (ps ++ p ∷ []) ≡ on c ps
+on-without : (c : ℕ) (ps : List PieceView) (p : PieceView) → p.connection ≢ c → on c (ps ++ p ∷ []) ≡ on c ps
 on-without c ps p other = on-both c ps (p ∷ []) ∙ ap (λ qs. on c ps ++ qs) (on-other c p other) ∙ append-nil (on c ps)
 
 -- ---- streams

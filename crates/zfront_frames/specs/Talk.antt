@@ -20,16 +20,17 @@ use Rattle.zasking.specs.Requests.{calls_in}
 use Rattle.zasking.specs.Timeouts.{millis_told}
 use Rattle.zasking.specs.declared.fault.Unasked.TheVariants.{Refused, Memory}
 use Rattle.zevents.specs.declared.event.Event.{Event}
-use Rattle.zknown.specs.Known.{KnownView, known_of}
 use Rattle.zanswering.specs.declared.answer.Answer.{Answer}
 use Rattle.zanswering.specs.declared.clock.Clock.{Clock}
+use Rattle.zanswering.specs.declared.clock.Now.{Now}
 use Rattle.zanswering.specs.Answers.{failed}
 use Rattle.zanswering.specs.Stats.{long_of}
-use Rattle.zturns.specs.Turns.{Log, calls_of, replies_of, tree_after}
+use Rattle.zlogs.specs.Logs.{Log, calls_of, replies_of, tree_after}
+use Rattle.zpasswords.specs.Passwords.{password_of}
 use Rattle.zpieces.specs.Outbox.{PieceView}
 use Rattle.ztables.specs.Tables.{piece, last_piece}
 use Rattle.ztables.specs.Telling.{event_frame}
-use Rattle.zserving.specs.Answering.{answer_unless}
+use Rattle.zserving.specs.Answering.{answer_unless, now_of}
 use Rattle.zserving.specs.Frames.{answer_frame, response_frame}
 use Rattle.zserving.specs.Greeting.{given}
 use Rattle.zserving.specs.Wishes.{wishes}
@@ -61,85 +62,91 @@ is_closed Closes = true
 
 -- what a request is answered, by what it means: the code that refuses it, and no calls; or what the
 -- replies to its calls say. One that asks for watches is told an error where there was no room
-abbrev pub Says : Meaning (List Call) → Clock → KnownView → Asked → Log → Answer → Type 0
-Says (Err (Refused code)) clock known asked part answer = (part ≡ []) × (answer ≡ failed code)
-Says (Err Memory) clock known asked part answer = ⊥
-Says (Ok calls) clock known asked part answer =
+abbrev pub Says : Meaning (List Call) → Clock → Now → Asked → Log → Answer → Type 0
+Says (Err (Refused code)) clock now asked part answer = (part ≡ []) × (answer ≡ failed code)
+Says (Err Memory) clock now asked part answer = ⊥
+Says (Ok calls) clock now asked part answer =
     (calls_of part ≡ calls)
-    × ((lacked : Bool) × (wishes asked calls (replies_of part) ≡ [] → lacked ≡ false) × (answer ≡ answer_unless lacked clock known asked calls (replies_of part)))
-
--- these bytes answer a request, which acts for this session: a frame under its xid. Its calls with
--- their replies are the last ones of this log. Its header has the zxid of the tree that they left
-pub record IsAnswer (session : ℕ) (bytes told : List ℕ) (tree : Tree) (log : Log) : Type 0 where
-  pub asked : Request
-  pub clock : Clock
-  pub answer : Answer
-  pub before : Log
-  pub part : Log
-  pub reads : whole request bytes ≡ Ok asked
-  pub frames : told ≡ answer_frame (known_of tree) asked.xid answer
-  pub stands : log ≡ before ++ part
-  pub says : Says (calls_in clock.tick session asked.asked) clock (known_of tree) asked.asked part answer
+    × ((lacked : Bool) × (wishes asked calls (replies_of part) ≡ [] → lacked ≡ false) × (answer ≡ answer_unless lacked clock now asked calls (replies_of part)))
 
 -- the tree that the calls of a log leave
 abbrev pub tree_behind : Tree → Log → Tree
 tree_behind tree log = tree_after tree (calls_of log)
 
--- each frame of a session has one answer, in their order, and each answer has its frame. The calls
--- of a request stand in the log behind those of the requests before it. Where the connection was
--- closed, one frame may have no answer
-abbrev pub Answered : ℕ → Tree → Log → List (List ℕ) → Talk → Type 0
-Answered session tree log frames Quiet = frames ≡ []
-Answered session tree log frames (Tells event talk) = Answered session tree log frames talk
-Answered session tree log frames (Answers told talk) =
-    (bytes : List ℕ) × (rest : List (List ℕ)) × (front behind : Log) × (frames ≡ bytes ∷ rest) × (log ≡ front ++ behind)
-    × IsAnswer session bytes told (tree_behind tree front) front
-    × Answered session (tree_behind tree front) behind rest talk
-Answered session tree log frames Closes = length frames ≤ 1
-
--- what a client is told that greets, and its session: one that it opens, whose reply is the last one
--- of this log; or one of the tree, which it asked for with a password
-abbrev pub IsOpened : Clock → ℕ → ConnectRequest → Log → List ℕ → Type 0
-IsOpened clock session greeting log told =
-    (before : Log) × (ticks : ℕ) × (password : List ℕ) × (greeting.session_id ≡ pos 0)
-    × (log ≡ before ++ (opening clock.tick greeting, Opened session ticks) ∷ [])
-    × (told ≡ response_frame greeting (millis_told clock.tick ticks) (long_of session) password)
-
-abbrev pub IsReturned : Clock → ℕ → ConnectRequest → Tree → List ℕ → Type 0
-IsReturned clock session greeting tree told =
-    (sits : Session) × (greeting.session_id ≡ pos session) × (get tree.sessions session ≡ Some sits)
-    × (told ≡ response_frame greeting (millis_told clock.tick sits.timeout) (long_of session) (given greeting))
-
--- these bytes answer a greeting: its client is told that it has this session
-pub record IsWelcome (session : ℕ) (bytes told : List ℕ) (tree : Tree) (log : Log) : Type 0 where
-  pub greeting : ConnectRequest
-  pub clock : Clock
-  pub reads : whole connect_request bytes ≡ Ok greeting
-  pub has : IsOpened clock session greeting log told ⊎ IsReturned clock session greeting tree told
-
--- or that it has none: the session 0
+-- a client that greets is told that it has no session: the session 0
 pub record IsTurnedAway (bytes told : List ℕ) : Type 0 where
   pub greeting : ConnectRequest
   pub reads : whole connect_request bytes ≡ Ok greeting
   pub frames : told ≡ response_frame greeting (pos 0) (pos 0) (replicate 16 0)
 
--- the first frame is a greeting, and its answer goes first. Who is turned away is closed behind it;
--- and the frames of the others are answered for their session
-abbrev pub Greeted : ℕ → Tree → Log → List (List ℕ) → Talk → Type 0
-Greeted session tree log frames Quiet = frames ≡ []
-Greeted session tree log frames (Tells event talk) = ⊥
-Greeted session tree log frames (Answers told talk) =
-    (bytes : List ℕ) × (rest : List (List ℕ)) × (front behind : Log) × (frames ≡ bytes ∷ rest) × (log ≡ front ++ behind)
-    × ((IsWelcome session bytes told (tree_behind tree front) front × Answered session (tree_behind tree front) behind rest talk)
-    ⊎ (IsTurnedAway bytes told × (rest ≡ []) × (talk ≡ Closes)))
-Greeted session tree log frames Closes = length frames ≤ 1
+-- ---- talks of a server with this clock and this secret
 
--- a text goes, and the close, and no frame is answered
-abbrev pub SaysText : (FrontView → List ℕ) → List (List ℕ) → Talk → Type 0
-SaysText text frames talk = (frames ≡ []) × ((v : FrontView) × (talk ≡ Answers (text v) Closes))
+module _ (clock : Clock) (secret : List ℕ) where
+  -- these bytes answer a request, which acts for this session: a frame under its xid. Its calls with
+  -- their replies are the last ones of this log. Its header has the zxid of the tree that they left
+  pub record IsAnswer (session : ℕ) (bytes told : List ℕ) (tree : Tree) (log : Log) : Type 0 where
+    pub asked : Request
+    pub answer : Answer
+    pub before : Log
+    pub part : Log
+    pub reads : whole request bytes ≡ Ok asked
+    pub frames : told ≡ answer_frame tree.zxid asked.xid answer
+    pub stands : log ≡ before ++ part
+    pub says : Says (calls_in clock.tick session asked.asked) clock (now_of tree) asked.asked part answer
 
--- what goes on a connection, by the frames in front of what came on it. Where a word of four
--- letters stands in front, its text goes in the place of the answer to a greeting
-abbrev pub IsTalk : List ℕ → Log → List (List ℕ) → Talk → Type 0
-IsTalk came log frames talk =
-    MatchOption (word_in came) ((session : ℕ) × Greeted session opening_tree log frames talk) (λ word. SaysText (text_of_word word) frames talk)
+  -- each frame of a session has one answer, in their order, and each answer has its frame. The calls
+  -- of a request stand in the log behind those of the requests before it. Where the connection was
+  -- closed, one frame may have no answer
+  abbrev pub Answered : ℕ → Tree → Log → List (List ℕ) → Talk → Type 0
+  Answered session tree log frames Quiet = frames ≡ []
+  Answered session tree log frames (Tells event talk) = Answered session tree log frames talk
+  Answered session tree log frames (Answers told talk) =
+      (bytes : List ℕ) × (rest : List (List ℕ)) × (front behind : Log) × (frames ≡ bytes ∷ rest) × (log ≡ front ++ behind)
+      × IsAnswer session bytes told (tree_behind tree front) front
+      × Answered session (tree_behind tree front) behind rest talk
+  Answered session tree log frames Closes = length frames ≤ 1
+
+  -- what a client is told that greets, and its session: one that it opens, whose reply is the last one
+  -- of this log; or one of the tree, whose password it gave. The password told is the one that the
+  -- secret gives the session
+  abbrev pub IsOpened : ℕ → ConnectRequest → Log → List ℕ → Type 0
+  IsOpened session greeting log told =
+      (before : Log) × (ticks : ℕ) × (greeting.session_id ≡ pos 0)
+      × (log ≡ before ++ (opening clock.tick greeting, Opened session ticks) ∷ [])
+      × (told ≡ response_frame greeting (millis_told clock.tick ticks) (long_of session) (password_of secret session))
+
+  abbrev pub IsReturned : ℕ → ConnectRequest → Tree → List ℕ → Type 0
+  IsReturned session greeting tree told =
+      (sits : Session) × (greeting.session_id ≡ pos session) × (get tree.sessions session ≡ Some sits)
+      × (given greeting ≡ password_of secret session)
+      × (told ≡ response_frame greeting (millis_told clock.tick sits.timeout) (long_of session) (given greeting))
+
+  -- these bytes answer a greeting: its client is told that it has this session
+  pub record IsWelcome (session : ℕ) (bytes told : List ℕ) (tree : Tree) (log : Log) : Type 0 where
+    pub greeting : ConnectRequest
+    pub reads : whole connect_request bytes ≡ Ok greeting
+    pub has : IsOpened session greeting log told ⊎ IsReturned session greeting tree told
+
+  -- the first frame is a greeting, and its answer goes first. Who is turned away is closed behind it;
+  -- and the frames of the others are answered for their session
+  abbrev pub Greeted : ℕ → Tree → Log → List (List ℕ) → Talk → Type 0
+  Greeted session tree log frames Quiet = frames ≡ []
+  Greeted session tree log frames (Tells event talk) = ⊥
+  Greeted session tree log frames (Answers told talk) =
+      (bytes : List ℕ) × (rest : List (List ℕ)) × (front behind : Log) × (frames ≡ bytes ∷ rest) × (log ≡ front ++ behind)
+      × ((IsWelcome session bytes told (tree_behind tree front) front × Answered session (tree_behind tree front) behind rest talk)
+      ⊎ (IsTurnedAway bytes told × (rest ≡ []) × (talk ≡ Closes)))
+  Greeted session tree log frames Closes = length frames ≤ 1
+
+  -- a text goes, and the close, and no frame is answered. The text is that of a server with this clock,
+  -- this secret, and the tree that a front of the log leaves
+  abbrev pub SaysText : (FrontView → List ℕ) → Log → List (List ℕ) → Talk → Type 0
+  SaysText text log frames talk =
+      (frames ≡ []) × ((v : FrontView) × (front behind : Log) × (log ≡ front ++ behind) × (v.tree ≡ tree_behind opening_tree front)
+      × (v.clock ≡ clock) × (v.secret ≡ secret) × (talk ≡ Answers (text v) Closes))
+
+  -- what goes on a connection, by the frames in front of what came on it. Where a word of four
+  -- letters stands in front, its text goes in the place of the answer to a greeting
+  abbrev pub IsTalk : List ℕ → Log → List (List ℕ) → Talk → Type 0
+  IsTalk came log frames talk =
+      MatchOption (word_in came) ((session : ℕ) × Greeted session opening_tree log frames talk) (λ word. SaysText (text_of_word word) log frames talk)

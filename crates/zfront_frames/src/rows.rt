@@ -3,27 +3,33 @@
 ghost use Rattle.std.specs.Prelude.{◌≡◌, ℕ, pos, true, false, List, [], ◌∷◌, ◌++◌, Some, Ok, Err};
 ghost use Rattle.std.specs.FinMap.{get};
 ghost use Rattle.zforms.specs.Readers.{whole};
-ghost use Rattle.ztree.specs.Tree.{Tree};
+ghost use Rattle.ztree.specs.Tree.{Tree, opening_tree};
 ghost use Rattle.zcalls.specs.declared.reply.Reply.TheVariants.{Opened};
 ghost use Rattle.zjute.specs.Asking.{request};
 ghost use Rattle.zjute.specs.declared.connecting.ConnectRequest.{ConnectRequest};
 ghost use Rattle.zjute.specs.declared.code.Code.{Code};
 ghost use Rattle.zjute.specs.declared.request.Asked.{Asked};
+ghost use Rattle.zasking.specs.Timeouts.{millis_told};
 ghost use Rattle.zasking.specs.declared.fault.Unasked.TheVariants.{Refused};
 ghost use Rattle.zevents.specs.declared.event.Event.{Event};
-ghost use Rattle.zknown.specs.Known.{KnownView, known_of};
 ghost use Rattle.zanswering.specs.declared.answer.Answer.{Answer};
 ghost use Rattle.zanswering.specs.declared.clock.Clock.{Clock};
+ghost use Rattle.zanswering.specs.declared.clock.Now.{Now};
 ghost use Rattle.zanswering.specs.Answers.{failed};
-ghost use Rattle.zturns.specs.Turns.{Log};
+ghost use Rattle.zanswering.specs.Stats.{long_of};
+ghost use Rattle.zlogs.specs.Logs.{Log};
+ghost use Rattle.zpasswords.specs.Passwords.{password_of};
 ghost use Rattle.zpieces.specs.Outbox.{PieceView};
 ghost use Rattle.ztables.specs.Tables.{piece, last_piece};
 ghost use Rattle.ztables.specs.Telling.{event_frame};
-ghost use Rattle.zserving.specs.Frames.{answer_frame};
+ghost use Rattle.zserving.specs.Frames.{answer_frame, response_frame};
+ghost use Rattle.zserving.specs.Greeting.{given};
+ghost use Rattle.zfront.specs.Front.{FrontView};
 ghost use Rattle.zfront.specs.Greeting.{opening};
 ghost use Rattle.zfront_frames.specs.Talk.{IsOpened, IsReturned};
 ghost use Rattle.zfront_frames.specs.Talk.{Answered, Answers, Closes, Greeted, IsAnswer, Says};
-ghost use Rattle.zfront_frames.specs.Talk.{Quiet, Tells, is_closed, pieces_of};
+ghost use Rattle.zfront_frames.specs.Talk.{Quiet, SaysText, Talk, Tells, is_closed, pieces_of};
+ghost use Rattle.zfront_frames.specs.Talk.{tree_behind};
 ghost use Rattle.zfront_frames.specs.Laws.{on};
 
 /// An event and an answer are one piece each, in order, and a close is the last piece.
@@ -44,64 +50,92 @@ pub fn pieces_of_one_are_picked()
 /// An answer is a frame under the xid of its own request. Its header has the zxid of the tree that
 /// the calls left, and these are the last ones of the log.
 pub fn answers_are_under_their_xid()
-    ensures reads { (session : ℕ) (bytes told : List ℕ) (tree : Tree) (log : Log)
-        (answer : IsAnswer session bytes told tree log)
+    ensures reads { (clock : Clock) (secret : List ℕ) (session : ℕ) (bytes told : List ℕ)
+        (tree : Tree) (log : Log) (answer : IsAnswer clock secret session bytes told tree log)
         → whole request bytes ≡ Ok answer.asked }
-    ensures xid { (session : ℕ) (bytes told : List ℕ) (tree : Tree) (log : Log)
-        (answer : IsAnswer session bytes told tree log)
-        → told ≡ answer_frame (known_of tree) answer.asked.xid answer.answer }
-    ensures stands { (session : ℕ) (bytes told : List ℕ) (tree : Tree) (log : Log)
-        (answer : IsAnswer session bytes told tree log)
+    ensures xid { (clock : Clock) (secret : List ℕ) (session : ℕ) (bytes told : List ℕ)
+        (tree : Tree) (log : Log) (answer : IsAnswer clock secret session bytes told tree log)
+        → told ≡ answer_frame tree.zxid answer.asked.xid answer.answer }
+    ensures stands { (clock : Clock) (secret : List ℕ) (session : ℕ) (bytes told : List ℕ)
+        (tree : Tree) (log : Log) (answer : IsAnswer clock secret session bytes told tree log)
         → log ≡ answer.before ++ answer.part }
 {}
 
 /// A request that is refused at once has its code as its answer, and no calls.
 pub fn a_refusal_makes_no_call()
-    ensures answer { (code : Code) (clock : Clock) (known : KnownView) (asked : Asked) (part : Log)
-        (answer : Answer) → Says (Err (Refused code)) clock known asked part answer
+    ensures answer { (code : Code) (clock : Clock) (now : Now) (asked : Asked) (part : Log)
+        (answer : Answer) → Says (Err (Refused code)) clock now asked part answer
         → answer ≡ failed code }
-    ensures calls { (code : Code) (clock : Clock) (known : KnownView) (asked : Asked) (part : Log)
-        (answer : Answer) → Says (Err (Refused code)) clock known asked part answer → part ≡ [] }
+    ensures calls { (code : Code) (clock : Clock) (now : Now) (asked : Asked) (part : Log)
+        (answer : Answer) → Says (Err (Refused code)) clock now asked part answer → part ≡ [] }
 {}
 
 /// A frame without an answer stands only where the connection was closed, and no answer is without
 /// its frame.
 pub fn each_frame_has_one_answer()
-    ensures event { (session : ℕ) (tree : Tree) (log : Log) (event : Event)
-        → Answered session tree log [] (Tells event Quiet) }
-    ensures unanswered { (session : ℕ) (tree : Tree) (log : Log) (bytes : List ℕ)
-        → Answered session tree log (bytes ∷ []) Quiet → ⊥ }
-    ensures closed { (session : ℕ) (tree : Tree) (log : Log) (bytes : List ℕ)
-        → Answered session tree log (bytes ∷ []) Closes }
-    ensures two_unanswered { (session : ℕ) (tree : Tree) (log : Log) (one two : List ℕ)
-        → Answered session tree log (one ∷ (two ∷ [])) Closes → ⊥ }
-    ensures unasked { (session : ℕ) (tree : Tree) (log : Log) (told : List ℕ)
-        → Answered session tree log [] (Answers told Quiet) → ⊥ }
-    ensures twice { (session : ℕ) (tree : Tree) (log : Log) (bytes told again : List ℕ)
-        → Answered session tree log (bytes ∷ []) (Answers told (Answers again Quiet)) → ⊥ }
+    ensures event { (clock : Clock) (secret : List ℕ) (session : ℕ) (tree : Tree) (log : Log)
+        (event : Event) → Answered clock secret session tree log [] (Tells event Quiet) }
+    ensures unanswered { (clock : Clock) (secret : List ℕ) (session : ℕ) (tree : Tree) (log : Log)
+        (bytes : List ℕ) → Answered clock secret session tree log (bytes ∷ []) Quiet → ⊥ }
+    ensures closed { (clock : Clock) (secret : List ℕ) (session : ℕ) (tree : Tree) (log : Log)
+        (bytes : List ℕ) → Answered clock secret session tree log (bytes ∷ []) Closes }
+    ensures two_unanswered { (clock : Clock) (secret : List ℕ) (session : ℕ) (tree : Tree)
+        (log : Log) (one two : List ℕ)
+        → Answered clock secret session tree log (one ∷ (two ∷ [])) Closes → ⊥ }
+    ensures unasked { (clock : Clock) (secret : List ℕ) (session : ℕ) (tree : Tree) (log : Log)
+        (told : List ℕ) → Answered clock secret session tree log [] (Answers told Quiet) → ⊥ }
+    ensures twice { (clock : Clock) (secret : List ℕ) (session : ℕ) (tree : Tree) (log : Log)
+        (bytes told again : List ℕ)
+        → Answered clock secret session tree log (bytes ∷ []) (Answers told (Answers again Quiet))
+        → ⊥ }
 {}
 
 /// Nothing goes in front of the answer to a greeting.
 pub fn the_greeting_is_answered_first()
-    ensures event { (session : ℕ) (tree : Tree) (log : Log) (frames : List (List ℕ)) (event : Event)
-        → Greeted session tree log frames (Tells event Quiet) → ⊥ }
-    ensures closed { (session : ℕ) (tree : Tree) (log : Log) (bytes : List ℕ)
-        → Greeted session tree log (bytes ∷ []) Closes }
+    ensures event { (clock : Clock) (secret : List ℕ) (session : ℕ) (tree : Tree) (log : Log)
+        (frames : List (List ℕ)) (event : Event)
+        → Greeted clock secret session tree log frames (Tells event Quiet) → ⊥ }
+    ensures closed { (clock : Clock) (secret : List ℕ) (session : ℕ) (tree : Tree) (log : Log)
+        (bytes : List ℕ) → Greeted clock secret session tree log (bytes ∷ []) Closes }
 {}
 
-/// A session that is told was opened by the call of its greeting, the last one of the log. Or it is
-/// one of the tree, and its client asked for it.
+/// A session that is told was opened by the call of its greeting, the last one of the log, and its
+/// password is told. Or it is one of the tree, whose client asked for it and gave its password.
 pub fn a_session_is_told_that_is_there()
-    ensures opened { (clock : Clock) (session : ℕ) (greeting : ConnectRequest) (log : Log)
-        (told : List ℕ) (has : IsOpened clock session greeting log told)
+    ensures opened { (clock : Clock) (secret : List ℕ) (session : ℕ) (greeting : ConnectRequest)
+        (log : Log) (told : List ℕ) (has : IsOpened clock secret session greeting log told)
         → log ≡ has.0 ++ (opening clock.tick greeting, Opened session has.1) ∷ [] }
-    ensures asks { (clock : Clock) (session : ℕ) (greeting : ConnectRequest) (log : Log)
-        (told : List ℕ) → IsOpened clock session greeting log told
+    ensures asks { (clock : Clock) (secret : List ℕ) (session : ℕ) (greeting : ConnectRequest)
+        (log : Log) (told : List ℕ) → IsOpened clock secret session greeting log told
         → greeting.session_id ≡ pos 0 }
-    ensures returned { (clock : Clock) (session : ℕ) (greeting : ConnectRequest) (tree : Tree)
-        (told : List ℕ) (has : IsReturned clock session greeting tree told)
+    ensures password { (clock : Clock) (secret : List ℕ) (session : ℕ) (greeting : ConnectRequest)
+        (log : Log) (told : List ℕ) (has : IsOpened clock secret session greeting log told)
+        → told ≡ response_frame greeting (millis_told clock.tick has.1) (long_of session)
+        (password_of secret session) }
+    ensures returned { (clock : Clock) (secret : List ℕ) (session : ℕ) (greeting : ConnectRequest)
+        (tree : Tree) (told : List ℕ) (has : IsReturned clock secret session greeting tree told)
         → get tree.sessions session ≡ Some has.0 }
-    ensures named { (clock : Clock) (session : ℕ) (greeting : ConnectRequest) (tree : Tree)
-        (told : List ℕ) → IsReturned clock session greeting tree told
+    ensures named { (clock : Clock) (secret : List ℕ) (session : ℕ) (greeting : ConnectRequest)
+        (tree : Tree) (told : List ℕ) → IsReturned clock secret session greeting tree told
         → greeting.session_id ≡ pos session }
+    ensures given { (clock : Clock) (secret : List ℕ) (session : ℕ) (greeting : ConnectRequest)
+        (tree : Tree) (told : List ℕ) → IsReturned clock secret session greeting tree told
+        → given greeting ≡ password_of secret session }
+{}
+
+/// The text of a word is that of a server with this clock, this secret, and a tree that a front of
+/// the log leaves. No frame is answered.
+pub fn a_text_is_that_of_a_tree_of_the_log()
+    ensures frames { (clock : Clock) (secret : List ℕ) (text : FrontView → List ℕ) (log : Log)
+        (frames : List (List ℕ)) (talk : Talk)
+        → SaysText clock secret text log frames talk → frames ≡ [] }
+    ensures talk { (clock : Clock) (secret : List ℕ) (text : FrontView → List ℕ) (log : Log)
+        (frames : List (List ℕ)) (talk : Talk) (has : SaysText clock secret text log frames talk)
+        → talk ≡ Answers (text has.1.0) Closes }
+    ensures front { (clock : Clock) (secret : List ℕ) (text : FrontView → List ℕ) (log : Log)
+        (frames : List (List ℕ)) (talk : Talk) (has : SaysText clock secret text log frames talk)
+        → log ≡ has.1.1 ++ has.1.2 }
+    ensures tree { (clock : Clock) (secret : List ℕ) (text : FrontView → List ℕ) (log : Log)
+        (frames : List (List ℕ)) (talk : Talk) (has : SaysText clock secret text log frames talk)
+        → has.1.0.tree ≡ tree_behind opening_tree has.1.1 }
 {}

@@ -9,13 +9,12 @@ use Rattle.std.specs.List.{list_any}
 use Rattle.std.specs.Option.{option_map}
 use Rattle.std.specs.Ordering.{eq_by_cmp, nat_cmp}
 use Rattle.ztree.proofs.Maps.{get-insert-here, get-insert-elsewhere, get-inserted, none_some, tied, tied_same}
-use Rattle.zcalls.specs.Lists.{Among}
 use Rattle.zpieces.specs.declared.phase.Phase.{Phase}
 use Rattle.zpieces.specs.Streams.{StreamRows, StreamView, phase_of}
 use Rattle.zsittings.specs.declared.sitting.Sitting.{Sitting}
 use Rattle.zsittings.specs.Sittings.{SittingsView, restored_sitting}
 use Rattle.ztables.specs.Tables.{TablesView, connection_of}
-use Rattle.zfront.specs.Restoring.{Seat, seated, sessions_of, tables_of}
+use Rattle.zfront.specs.Restoring.{no_tables, seated, tables_of}
 use Rattle.zfront_laws.proofs.Seated.{Has, connection_in, same_number}
 
 -- it has no connection, and may have made an ephemeral node
@@ -44,86 +43,77 @@ unseated t bare session = each (get t.sittings session) refl
     each None found = refl
     each (Some s) found = (bare.apart session s found).free
 
--- ---- the sittings of seats
+-- ---- the sittings of sessions
 
--- what holds of each sitting before, and of each seat, holds of each sitting behind them
-each_seat : (P : ℕ → Sitting → Type 0) (seats : List Seat) (m : SittingsView) → ((id : ℕ) (s : Sitting) → get m id ≡ Some s → P id s)
-    → ((seat : Seat) → Among seat seats → P seat.0 (restored_sitting seat.1)) → (id : ℕ) (s : Sitting) → get (seated seats m) id ≡ Some s → P id s
-each_seat P [] m before at id s there = before id s there
-each_seat P (seat ∷ seats) m before at id s there = each_seat P seats (insert m seat.0 (restored_sitting seat.1)) put
-    (λ other among. at other (inr among)) id s there
+-- a number is one of these
+abbrev Listed : ℕ → List ℕ → Type 0
+Listed id sessions = list_any (eq_by_cmp nat_cmp id) sessions ≡ true
+
+first_listed : (session : ℕ) (sessions : List ℕ) → Listed session (session ∷ sessions)
+first_listed session sessions = rw (tied nat_cmp_total nat_cmp-IsAntisymmetric session) refl
+
+later_listed : (id session : ℕ) (sessions : List ℕ) → Listed id sessions → Listed id (session ∷ sessions)
+later_listed id session sessions is = behind (eq_by_cmp nat_cmp id session)
   where
-    by : (q : ℕ) (x : Sitting) → ((q ≡ seat.0) × (restored_sitting seat.1 ≡ x)) ⊎ ((q ≢ seat.0) × (get m q ≡ Some x)) → P q x
-    by q x (inl is) = subst (λ (n : ℕ). P n x) (sym is.0) (subst (P seat.0) is.1 (at seat (inl refl)))
+    behind : (b : Bool) → b || list_any (eq_by_cmp nat_cmp id) sessions ≡ true
+    behind true = refl
+    behind false = is
+
+-- what holds of each sitting before, and of each session, holds of each sitting behind them
+each_seat : (P : ℕ → Sitting → Type 0) (sessions : List ℕ) (m : SittingsView) → ((id : ℕ) (s : Sitting) → get m id ≡ Some s → P id s)
+    → ((id : ℕ) → Listed id sessions → P id restored_sitting) → (id : ℕ) (s : Sitting) → get (seated sessions m) id ≡ Some s → P id s
+each_seat P [] m before at id s there = before id s there
+each_seat P (session ∷ sessions) m before at id s there = each_seat P sessions (insert m session restored_sitting) put
+    (λ other listed. at other (later_listed other session sessions listed)) id s there
+  where
+    by : (q : ℕ) (x : Sitting) → ((q ≡ session) × (restored_sitting ≡ x)) ⊎ ((q ≢ session) × (get m q ≡ Some x)) → P q x
+    by q x (inl is) = subst (λ (n : ℕ). P n x) (sym is.0) (subst (P session) is.1 (at session (first_listed session sessions)))
     by q x (inr was) = before q x was.1
 
-    put : (q : ℕ) (x : Sitting) → get (insert m seat.0 (restored_sitting seat.1)) q ≡ Some x → P q x
-    put q x is = by q x (get-inserted nat_cmp_total nat_cmp-IsAntisymmetric m seat.0 (restored_sitting seat.1) q x is)
+    put : (q : ℕ) (x : Sitting) → get (insert m session restored_sitting) q ≡ Some x → P q x
+    put q x is = by q x (get-inserted nat_cmp_total nat_cmp-IsAntisymmetric m session restored_sitting q x is)
 
 -- who has a sitting keeps one
-keeps_one : (seats : List Seat) (m : SittingsView) (id : ℕ) → Has m id → Has (seated seats m) id
+keeps_one : (sessions : List ℕ) (m : SittingsView) (id : ℕ) → Has m id → Has (seated sessions m) id
 keeps_one [] m id has = has
-keeps_one (seat ∷ seats) m id has = keeps_one seats (insert m seat.0 (restored_sitting seat.1)) id (by (same_number id seat.0))
+keeps_one (session ∷ sessions) m id has = keeps_one sessions (insert m session restored_sitting) id (by (same_number id session))
   where
-    own : Sitting
-    own = restored_sitting seat.1
+    by : (id ≡ session) ⊎ (id ≢ session) → Has (insert m session restored_sitting) id
+    by (inl is) = (
+      restored_sitting,
+      ap (get (insert m session restored_sitting)) is ∙ get-insert-here nat_cmp_total nat_cmp-IsAntisymmetric m session restored_sitting,
+    )
+    by (inr other) = (has.0, get-insert-elsewhere nat_cmp_total nat_cmp-IsAntisymmetric m session restored_sitting id other ∙ has.1)
 
-    by : (id ≡ seat.0) ⊎ (id ≢ seat.0) → Has (insert m seat.0 own) id
-    by (inl is) = (own, ap (get (insert m seat.0 own)) is ∙ get-insert-here nat_cmp_total nat_cmp-IsAntisymmetric m seat.0 own)
-    by (inr other) = (has.0, get-insert-elsewhere nat_cmp_total nat_cmp-IsAntisymmetric m seat.0 own id other ∙ has.1)
-
--- and each session of the seats has one
-pub each_sits : (seats : List Seat) (m : SittingsView) (id : ℕ) → list_any (eq_by_cmp nat_cmp id) (sessions_of seats) ≡ true → Has (seated seats m) id
+-- and each of these sessions has one
+pub each_sits : (sessions : List ℕ) (m : SittingsView) (id : ℕ) → list_any (eq_by_cmp nat_cmp id) sessions ≡ true → Has (seated sessions m) id
 each_sits [] m id is = absurd (cc is)
-each_sits (seat ∷ seats) m id is = by (each_sits seats (insert m seat.0 own) id) (eq_by_cmp nat_cmp id seat.0) refl is
+each_sits (session ∷ sessions) m id is = by (each_sits sessions (insert m session restored_sitting) id) (eq_by_cmp nat_cmp id session) refl is
   where
-    own : Sitting
-    own = restored_sitting seat.1
-
-    by : (list_any (eq_by_cmp nat_cmp id) (sessions_of seats) ≡ true → Has (seated seats (insert m seat.0 own)) id)
-        → (b : Bool) → eq_by_cmp nat_cmp id seat.0 ≡ b
-        → b || list_any (eq_by_cmp nat_cmp id) (sessions_of seats) ≡ true → Has (seated seats (insert m seat.0 own)) id
+    by : (Listed id sessions → Has (seated sessions (insert m session restored_sitting)) id) → (b : Bool) → eq_by_cmp nat_cmp id session ≡ b
+        → b || list_any (eq_by_cmp nat_cmp id) sessions ≡ true → Has (seated sessions (insert m session restored_sitting)) id
     by later true same any =
-        let here = tied_same nat_cmp_total nat_cmp-IsAntisymmetric id seat.0 same in
-        keeps_one seats (insert m seat.0 own) id (
-          own,
-          ap (get (insert m seat.0 own)) here
-              ∙ get-insert-here nat_cmp_total nat_cmp-IsAntisymmetric m seat.0 own,
+        let here = tied_same nat_cmp_total nat_cmp-IsAntisymmetric id session same in
+        keeps_one sessions (insert m session restored_sitting) id (
+          restored_sitting,
+          ap (get (insert m session restored_sitting)) here
+              ∙ get-insert-here nat_cmp_total nat_cmp-IsAntisymmetric m session restored_sitting,
         )
     by later false same any = later any
 
--- the session of a seat is one of theirs
-listed : (seats : List Seat) (seat : Seat) → Among seat seats → list_any (eq_by_cmp nat_cmp seat.0) (sessions_of seats) ≡ true
-listed [] seat among = absurd among
-listed (first ∷ seats) seat (inl is) =
-    rw (ap (λ (s : Seat). eq_by_cmp nat_cmp seat.0 s.0) is ∙ tied nat_cmp_total nat_cmp-IsAntisymmetric seat.0) refl
-listed (first ∷ seats) seat (inr among) = behind (eq_by_cmp nat_cmp seat.0 first.0) (listed seats seat among)
-  where
-    behind : (b : Bool) → list_any (eq_by_cmp nat_cmp seat.0) (sessions_of seats) ≡ true
-        → b || list_any (eq_by_cmp nat_cmp seat.0) (sessions_of seats) ≡ true
-    behind true is = refl
-    behind false is = is
+nobody_sits : {P : Type 0} (id : ℕ) (s : Sitting) → get no_tables.sittings id ≡ Some s → P
+nobody_sits id s there = absurd (none_some s (sym (finite.get-empty nat_cmp id) ∙ there))
 
-nobody_sits : {P : Type 0} (m : SittingsView) (id : ℕ) (s : Sitting) → m ≡ finite.empty → get m id ≡ Some s → P
-nobody_sits m id s none there =
-    absurd (none_some s (sym (finite.get-empty nat_cmp id) ∙ ap (λ (t : SittingsView). get t id) (sym none) ∙ there))
+-- behind no sittings, no other session has one
+pub is_listed : (sessions : List ℕ) (id : ℕ) (s : Sitting) → get (tables_of sessions).sittings id ≡ Some s
+    → list_any (eq_by_cmp nat_cmp id) sessions ≡ true
+is_listed sessions = each_seat (λ id s. Listed id sessions) sessions finite.empty (λ id s there. nobody_sits id s there) (λ id listed. listed)
 
--- behind no sittings, each has its session among those of the seats, with the password of its seat
-pub is_listed : (seats : List Seat) (id : ℕ) (s : Sitting) → get (tables_of seats).sittings id ≡ Some s
-    → list_any (eq_by_cmp nat_cmp id) (sessions_of seats) ≡ true
-is_listed seats =
-    each_seat (λ id s. list_any (eq_by_cmp nat_cmp id) (sessions_of seats) ≡ true) seats finite.empty
-    (λ id s there. nobody_sits finite.empty id s refl there) (listed seats)
-
-pub is_own : (seats : List Seat) (id : ℕ) (s : Sitting) → get (tables_of seats).sittings id ≡ Some s → Among (id, s.password) seats
-is_own seats =
-    each_seat (λ id s. Among (id, s.password) seats) seats finite.empty (λ id s there. nobody_sits finite.empty id s refl there) (λ seat among. among)
-
-pub seats_bare : (seats : List Seat) → IsBare (tables_of seats)
-seats_bare seats = record {
+pub seats_bare : (sessions : List ℕ) → IsBare (tables_of sessions)
+seats_bare sessions = record {
   streams = refl;
   watches = refl;
   unsent = refl;
-  apart = each_seat (λ id s. IsApart s) seats finite.empty (λ id s there. nobody_sits finite.empty id s refl there)
-      (λ seat among. record { free = refl; marked = refl });
+  apart = each_seat (λ id s. IsApart s) sessions finite.empty (λ id s there. nobody_sits id s there)
+      (λ id listed. record { free = refl; marked = refl });
 }

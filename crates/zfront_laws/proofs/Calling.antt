@@ -1,69 +1,89 @@
--- A step where calls are made, where a late one is heard of, and where watched nodes are looked at.
-use Rattle.std.proofs.Common.{◌≡◌, Bool, true, false, List, Option, None, Some, ap, refl, sym, subst}
-use Rattle.std.specs.Prelude.{◌&&◌, is_none, is_some}
+-- A step at which calls are made, and behind them sessions are swept and watched nodes looked at.
+use Rattle.std.proofs.Common.{◌≡◌, ◌∙◌, ℕ, ◌≤◌, Bool, true, false, List, [], ◌++◌, refl, sym, ap, subst, arith}
+use Rattle.std.specs.FinMap.{contains_key}
 use Rattle.std.specs.List.{list_any}
 use Rattle.zcalls.specs.declared.call.Call.{Call}
 use Rattle.zcalls.specs.declared.reply.Reply.{Reply}
-use Rattle.zwatches.specs.declared.place.Place.{Place}
-use Rattle.ztables.specs.Sweeping.{gone}
-use Rattle.ztables.specs.Telling.{told_all}
-use Rattle.zserving.specs.Looking.{looks_at, seen}
-use Rattle.zserving.specs.Replying.{absorbed}
-use Rattle.zalone.specs.Alone.{AloneView, Settles}
-use Rattle.zfront.specs.Front.{FrontView, Asks, heard, HearsIf, LooksBy, LooksIf, Looks, IsReady, Tidies, tidied, takes_nodes}
-use Rattle.zfront_laws.proofs.Since as log
-use Rattle.zfront_laws.proofs.Lighter.{Lighter, lighter, unmoved, absorbs, sweeps_all, tells_all}
-use Rattle.zfront_laws.proofs.Taking.{asks_all, settles}
-use Rattle.zfront_laws.proofs.Steps.{Step, steps, both, same, same_client, free_to_look}
+use Rattle.zpieces.specs.Streams.{held_of}
+use Rattle.zlogs.specs.Logs.{tree_after}
+use Rattle.zlogs.proofs.Lives.{calls_zipped, leads_by, trees_can_start_again}
+use Rattle.ztables.specs.Tables.{TablesView}
+use Rattle.zserving.specs.Looking.{seen}
+use Rattle.zfront.specs.Front.{FrontView, with_tables, asked, replies_to, updates_among, left_of, gone_from, swept, may_end, took_unnamed}
+use Rattle.zfront.specs.Front.{looks, looked, LooksIf, TidiesIf, Tidies}
+use Rattle.zfront_laws.specs.Logs.{done_by}
+use Rattle.zfront_laws.specs.Making.{updates_in}
+use Rattle.zfront_laws.proofs.Changes.{sweeps_all, tells_all}
+use Rattle.zfront_laws.proofs.Lighter.{Lighter, carries_lighter, lighter, unmoved}
+use Rattle.zfront_laws.proofs.Living.{swept_lives}
+use Rattle.zfront_laws.proofs.Rising.{sessions_last}
+use Rattle.zfront_laws.proofs.Seated.{Has}
+use Rattle.zfront_laws.proofs.Steps.{Fine, Goes}
 
-pub asks : (old : FrontView) (calls : List Call) (new : FrontView) (replies : List Reply) → old.late ≡ None
-    → Asks old calls new replies → Step old new
-asks old calls new replies free has =
-    steps old new (log.asks old calls new replies free (ap (λ (v : FrontView). v.late) has.rest) has.asks)
-    (asks_all calls old.asker new.asker replies has.asks)
-    (subst (λ (v : FrontView). Lighter old.tables v.tables) (sym has.rest) (unmoved old.tables))
+-- what is left to be taken of calls
+left : (calls : List Call) (v : FrontView) → v.is_kept ≡ true → v.made ++ updates_in (done_by calls v) ≡ v.made ++ left_of v.is_kept calls
+left calls v kept =
+    ap (λ cs. v.made ++ updates_among cs) (calls_zipped v.tree calls) ∙ sym (ap (λ b. v.made ++ left_of b calls) kept)
 
--- sessions that ended are swept
-pub tidies_up : (took : Bool) (v : FrontView) → Step v (tidied took v)
-tidies_up took v = same_client v (tidied took v) (tidied took v) refl refl refl (sweeps_all (gone v.asker.known.sessions v.tables.sittings) v.tables)
+-- calls are made, and the tables are others
+pub made : (calls : List Call) (t : TablesView) (v : FrontView) → held_of t.streams ≤ held_of v.tables.streams
+    → (Fine v → Fine (with_tables t (asked calls v))) → Goes [] (done_by calls v) v (with_tables t (asked calls v))
+made calls t v few seats = record {
+  leads = leads_by v.tree calls;
+  few = λ little. omega (arith, few, little);
+  seats = seats;
+  alike = (refl, refl, refl);
+  made = left calls v;
+}
 
--- what is heard of a call
-hears_of : (call : Call) (told : Option Reply) (old : FrontView) (asker : AloneView) → Settles old.asker asker told
-    → Step old (heard call told (record old { asker = asker }))
-hears_of call None old asker settled =
-    let after = record old { asker = asker } in
-    steps old after (log.settles old after None (λ none. refl) settled) (settles old.asker asker None settled) (unmoved old.tables)
-hears_of call (Some reply) old asker settled =
-    let t = absorbed call reply old.tables in
-    let middle = record old { asker = asker; tables = t; late = None } in
-    let after = tidied (takes_nodes reply) middle in
-    steps old after (log.settles old after (Some reply) (λ none. absurd (cc none)) settled) (settles old.asker asker (Some reply) settled)
-    (lighter old.tables t after.tables (absorbs call reply old.tables) (sweeps_all (gone asker.known.sessions t.sittings) t))
+-- what becomes of tables where sessions may have ended
+record Tidied (ends : Bool) (old new : FrontView) : Type 0 where
+  rows : TablesView
+  becomes : new ≡ with_tables rows old
+  light : Lighter old.tables rows
+  lives : ends ≡ true → (id : ℕ) → Has rows.sittings id → contains_key old.tree.sessions id ≡ true
 
-pub hears_if : (late : Option Call) (old new : FrontView) → HearsIf late old new → Step old new
-hears_if None old new is = same old new is
-hears_if (Some call) old new has =
-    let after = heard call has.1 (record old { asker = has.0 }) in
-    both old after new (hears_of call has.1 old has.0 has.2) (same after new has.4)
+looks_if : (must : Bool) (old new : FrontView) → LooksIf must (swept old) new → Tidied true old new
+looks_if false old new is = record {
+  rows = (swept old).tables;
+  becomes = is;
+  light = sweeps_all Lighter carries_lighter (gone_from old) old.tables;
+  lives = λ ends. swept_lives old.tree.sessions old.tables;
+}
+looks_if true old new has =
+    let middle = swept old in
+    let tells = tells_all Lighter carries_lighter (seen middle.tree.zxid has.0 (looks middle.tree has.0)) middle.tables in
+    record {
+      rows = (looked has.0 middle).tables;
+      becomes = has.2;
+      light = lighter old.tables middle.tables (looked has.0 middle).tables (sweeps_all Lighter carries_lighter (gone_from old) old.tables) tells;
+      lives = λ ends id sits. swept_lives old.tree.sessions old.tables id (tells.1.1 id sits);
+    }
 
-looks_by : (places : List Place) (calls : List Call) (old new : FrontView) → old.late ≡ None → LooksBy places calls old new → Step old new
-looks_by places calls old new free has =
-    let events = seen has.middle.asker.known.zxid places has.replies in
-    both old has.middle new (asks old calls has.middle has.replies free has.asks)
-    (same_client has.middle new (record has.middle { tables = told_all events has.middle.tables; must_look = is_some has.middle.late }) has.told refl
-    refl (tells_all events has.middle.tables))
+tidies_if : (ends : Bool) (replies : List Reply) (old new : FrontView) → TidiesIf ends replies old new → Tidied ends old new
+tidies_if false replies old new is =
+    record { rows = old.tables; becomes = is; light = unmoved old.tables; lives = λ ends. absurd (cc ends) }
+tidies_if true replies old new has = looks_if (took_unnamed replies old) old new has
 
-looks_if : (must : Bool) (old new : FrontView) → (must ≡ true → old.late ≡ None) → LooksIf must old new → Step old new
-looks_if false old new free is = same old new is
-looks_if true old new free has = looks_by has.0 (looks_at has.0) old new (free refl) has.2
+-- so it is behind any calls
+pub makes : (calls : List Call) (t : TablesView) (old new : FrontView) → Lighter old.tables t
+    → Tidies calls (replies_to calls old) (with_tables t (asked calls old)) new → Goes [] (done_by calls old) old new
+makes calls t old new light has = subst (Goes [] (done_by calls old) old) (sym done.becomes) (made calls done.rows old all.0 seats)
+  where
+    done : Tidied (list_any may_end calls) (with_tables t (asked calls old)) new
+    done = tidies_if (list_any may_end calls) (replies_to calls old) (with_tables t (asked calls old)) new has
 
-pub looks : (old new : FrontView) → Looks old new → Step old new
-looks old new has = looks_if (old.must_look && is_none old.late) old new (free_to_look old.must_look old.late) has
+    all : Lighter old.tables done.rows
+    all = lighter old.tables t done.rows light done.light
 
-pub is_ready : (old new : FrontView) → IsReady old new → Step old new
-is_ready old new has = both old has.0 new (hears_if old.late old has.0 has.1) (looks has.0 new has.2)
+    alive : Fine old → (id : ℕ) → Has done.rows.sittings id → (ends : Bool) → list_any may_end calls ≡ ends
+        → contains_key (tree_after old.tree calls).sessions id ≡ true
+    alive fine id sits true ends = done.lives ends id sits
+    alive fine id sits false ends = sessions_last calls old.tree id ends (fine.alive id (all.1.1 id sits))
 
-pub tidies : (replies : List Reply) (old new : FrontView) → Tidies replies old new → Step old new
-tidies replies old new has =
-    let took = list_any takes_nodes replies in
-    both old (tidied took old) new (tidies_up took old) (looks (tidied took old) new has)
+    seats : Fine old → Fine (with_tables done.rows (asked calls old))
+    seats fine = record {
+      seated = all.1.0 fine.seated;
+      alive = λ id sits. alive fine id sits (list_any may_end calls) refl;
+      can = trees_can_start_again old.tree calls fine.can;
+    }

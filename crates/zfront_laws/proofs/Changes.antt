@@ -8,7 +8,6 @@ use Rattle.zcalls.specs.declared.call.Update.{Update as Act}
 use Rattle.zcalls.specs.declared.reply.Reply.{Reply}
 use Rattle.zevents.specs.declared.event.Event.{Event}
 use Rattle.zevents.specs.Events.{events_of}
-use Rattle.zknown.specs.Known.{KnownView}
 use Rattle.zanswering.specs.declared.answer.Answer.{Answer}
 use Rattle.zpieces.specs.Outbox.{PieceView}
 use Rattle.zsittings.specs.Sittings.{all_rested, touched, with_changed}
@@ -68,12 +67,12 @@ module _ (R : TablesView → TablesView → Type 0) (carry : Carries R) where
       carry.both t (absorbed call reply t) (absorbed_all calls replies (absorbed call reply t)) (absorbs call reply t)
       (absorbs_all calls replies (absorbed call reply t))
 
-  pub replies_to : (known : KnownView) (c : ℕ) (xid : ℤ) (answer : Answer) (t : TablesView) → R t (replied known c xid answer t)
-  replies_to known c xid answer t =
-      elim (ends_connection answer.code) as (λ b. R t (if b then closed c (sent c (answer_frame known xid answer) t)
-      else sent c (answer_frame known xid answer) t)) [
-        | true ↦ says c (answer_frame known xid answer) t
-        | false ↦ sends c (answer_frame known xid answer) t
+  pub replies_to : (zxid : ℕ) (c : ℕ) (xid : ℤ) (answer : Answer) (t : TablesView) → R t (replied zxid c xid answer t)
+  replies_to zxid c xid answer t =
+      elim (ends_connection answer.code) as (λ b. R t (if b then closed c (sent c (answer_frame zxid xid answer) t)
+      else sent c (answer_frame zxid xid answer) t)) [
+        | true ↦ says c (answer_frame zxid xid answer) t
+        | false ↦ sends c (answer_frame zxid xid answer) t
       ]
 
   pub sweeps_all : (sessions : List ℕ) (t : TablesView) → R t (swept_all sessions t)

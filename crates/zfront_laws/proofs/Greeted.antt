@@ -1,31 +1,38 @@
 -- What a greeting does: its own connection may get a session, and the others are as they were.
-use Rattle.std.proofs.Common.{◌≡◌, ◌≢◌, inr, ◌∙◌, ℕ, Bool, true, false, List, [], ◌∷◌, ◌++◌, drop, Option, None, Some, Ok, refl, sym, ap, subst}
-use Rattle.std.specs.Prelude.{ℤ, pos, negsuc, nat_eq, if◌then◌else◌}
+use Rattle.std.proofs.Common.{◌≡◌, ◌≢◌, inl, inr, ◌∙◌, ℕ, ℤ, Bool, true, false, List, [], ◌∷◌, ◌++◌, drop, Option, None, Some, Result, Ok}
+use Rattle.std.proofs.Common.{Err, refl, sym, ap, subst}
+use Rattle.std.specs.Prelude.{pos, negsuc, nat_eq, if◌then◌else◌}
+use Rattle.std.proofs.lemmas.Bool.Decides.{Decides-int_eq}
 use Rattle.std.specs.Cmp.{unsigned_Decides}
 use Rattle.std.specs.Cmp.Lexicographic.{pointwise_decides}
-use lib.Pointwise.{pointwise}
-use Rattle.ztree.specs.declared.session.Session.{Session}
 use Rattle.std.specs.FinMap.{get}
 use Rattle.std.specs.Option.{option_map_or}
-use Rattle.ztree.proofs.Maps.{same_some}
+use Rattle.std.specs.Ordering.{int_eq}
+use lib.Pointwise.{pointwise}
+use Rattle.ztree.proofs.Maps.{is_there}
+use Rattle.ztree.specs.declared.session.Session.{Session}
 use Rattle.zforms.specs.Readers.{whole}
+use Rattle.zforms.specs.declared.fault.Fault.{Fault}
+use Rattle.zcalls.specs.declared.reply.Reply.{Reply}
+use Rattle.zcalls.specs.declared.reply.Reply.TheVariants as reply
 use Rattle.zjute.specs.Connecting.{connect_request}
 use Rattle.zjute.specs.declared.connecting.ConnectRequest.{ConnectRequest}
 use Rattle.zasking.specs.Timeouts.{millis_told}
+use Rattle.zpasswords.specs.Passwords.{password_of}
 use Rattle.zpieces.specs.declared.phase.Phase.{Phase}
 use Rattle.zpieces.specs.declared.phase.Phase.TheVariants.{Silent, Speaking, Closing}
 use Rattle.zpieces.specs.Streams.{phase_of, with_phase}
-use Rattle.zsittings.specs.declared.sitting.Sitting.{Sitting}
-use Rattle.zsittings.specs.Sittings.{SittingsView, passes}
-use Rattle.zsittings.specs.Sittings as seats
+use Rattle.zsittings.specs.Sittings.{SittingsView}
+use Rattle.zworld_model.specs.PlainTree.{serve}
 use Rattle.ztables.proofs.Closed.{nothing_behind}
-use Rattle.ztables.specs.Tables.{TablesView, may_send, is_open, piece, sent, with_piece, closed, moved, taken_up}
-use Rattle.zserving.specs.Greeting.{session_told, turned_away, given, came_back, returned}
+use Rattle.ztables.specs.Tables.{TablesView, may_send, is_open, piece, sent, with_piece, closed, moved, sitting, taken_up}
+use Rattle.zserving.specs.Greeting.{session_told, turned_away, given, came_back, is_ahead}
 use Rattle.zfront.specs.Front.{FrontView, with_tables}
-use Rattle.zfront_laws.specs.Given.{Gains, HasPassword}
+use Rattle.zfront.specs.Greeting.{opening, opened, with_session, returned, greeted_by, greeted}
+use Rattle.zfront_laws.specs.Given.{Gains}
 use Rattle.zfront_laws.proofs.Changes as changes
-use Rattle.zfront_laws.proofs.Quiet.{Quiet, StaysOpen, Keys, carries_quiet, moves_quiet, changed_keys, row_elsewhere, was_in, keys_both}
-use Rattle.zfront_laws.proofs.Seated.{Has, moved_has, phase_here, seat_here, passes_has}
+use Rattle.zfront_laws.proofs.Quiet.{Quiet, StaysOpen, carries_quiet, moves_quiet, row_elsewhere, was_in}
+use Rattle.zfront_laws.proofs.Seated.{phase_here}
 
 -- a connection neither waits for its greeting nor speaks
 abbrev pub IsShut : TablesView → ℕ → Type 0
@@ -47,8 +54,8 @@ shuts c t = by (is_open u c) refl (nothing_behind c [] t)
     by false is same = is
     by true is same = absurd (one_more u.unsent (piece c []) (ap (λ (v : TablesView). v.unsent) same))
 
-pub shut_silent : (t : TablesView) (c : ℕ) (password : List ℕ) → IsShut t c → phase_of t.streams c ≡ Some (Silent password) → ⊥
-shut_silent t c password shut is =
+pub shut_silent : (t : TablesView) (c : ℕ) → IsShut t c → phase_of t.streams c ≡ Some Silent → ⊥
+shut_silent t c shut is =
     let clash : true ≡ false = sym (ap may_send is) ∙ shut in
     cc
 
@@ -58,163 +65,119 @@ shut_speaks t c session shut is =
     cc
 
 abbrev pub NotSilent : ℕ → TablesView → Type 0
-NotSilent c t = (password : List ℕ) → phase_of t.streams c ≡ Some (Silent password) → ⊥
+NotSilent c t = phase_of t.streams c ≡ Some Silent → ⊥
 
 pub speaks_on : (session : ℕ) → Speaking session ≡ Closing → ⊥
 speaks_on session is = cc
 
-pub silent_on : (password : List ℕ) → Silent password ≡ Closing → ⊥
-silent_on password is = cc
+pub silent_on : Silent ≡ Closing → ⊥
+silent_on is = cc
+
+not_silent : (session : ℕ) → Speaking session ≡ Silent → ⊥
+not_silent session is = cc
+
+same_session : (session other : ℕ) → Speaking session ≡ Speaking other → session ≡ other
+same_session session other is = cc
 
 -- a frame gives its connection a session
-abbrev pub GainsBy : List ℕ → ℕ → List ℕ → FrontView → FrontView → Type 0
-GainsBy frame session own old new =
-    (greeting : ConnectRequest) × (password : List ℕ) × (whole connect_request frame ≡ Ok greeting) × Gains session greeting own password old new
-    × HasPassword new.tables.sittings session password
+abbrev pub GainsBy : List ℕ → ℕ → FrontView → Type 0
+GainsBy frame session v = (greeting : ConnectRequest) × (whole connect_request frame ≡ Ok greeting) × Gains session greeting v
 
 -- what becomes of a greeting
-pub record Becomes (frame : List ℕ) (c : ℕ) (own : List ℕ) (old new : FrontView) : Type 0 where
-  pub others : (d : ℕ) → d ≢ c → StaysOpen old.tables.streams new.tables.streams d
-  pub keys : (d session : ℕ) → d ≢ c → phase_of new.tables.streams d ≡ Some (Speaking session) → (s : Sitting)
-      → get new.tables.sittings session ≡ Some s
-      → HasPassword old.tables.sittings session s.password
-  pub heard : NotSilent c new.tables
-  pub gains : (session : ℕ) → phase_of new.tables.streams c ≡ Some (Speaking session) → GainsBy frame session own old new
+pub record Becomes (frame : List ℕ) (c : ℕ) (old : FrontView) (new : TablesView) : Type 0 where
+  pub others : (d : ℕ) → d ≢ c → StaysOpen old.tables.streams new.streams d
+  pub heard : NotSilent c new
+  pub gains : (session : ℕ) → phase_of new.streams c ≡ Some (Speaking session) → GainsBy frame session old
 
 -- its connection is shut
-pub shut_becomes : (frame : List ℕ) (c : ℕ) (own : List ℕ) (old new : FrontView) → Quiet old.tables new.tables
-    → IsShut new.tables c → Becomes frame c own old new
-shut_becomes frame c own old new calm shut = record {
-  others = λ d other. calm.streams d;
-  keys = λ d session other speaks s is. calm.keys session s is;
-  heard = λ password. shut_silent new.tables c password shut;
-  gains = λ session speaks. absurd (shut_speaks new.tables c session shut speaks);
+shut_becomes : (frame : List ℕ) (c : ℕ) (old : FrontView) (new : TablesView) → Quiet old.tables new → IsShut new c → Becomes frame c old new
+shut_becomes frame c old new calm shut = record {
+  others = λ d other. calm d;
+  heard = shut_silent new c shut;
+  gains = λ session speaks. absurd (shut_speaks new c session shut speaks);
 }
 
-pub closes : (frame : List ℕ) (c : ℕ) (own : List ℕ) (old new : FrontView) → new ≡ with_tables (closed c old.tables) old → Becomes frame c own old new
-closes frame c own old new is =
-    subst (Becomes frame c own old) (sym is)
-    (shut_becomes frame c own old (with_tables (closed c old.tables) old) (carries_quiet.closes c old.tables) (shuts c old.tables))
+closes : (frame : List ℕ) (c : ℕ) (v : FrontView) → Becomes frame c v (closed c v.tables)
+closes frame c v = shut_becomes frame c v (closed c v.tables) (carries_quiet.closes c v.tables) (shuts c v.tables)
+
+turns_away : (frame : List ℕ) (greeting : ConnectRequest) (c : ℕ) (v : FrontView) → Becomes frame c v (turned_away greeting c v.tables)
+turns_away frame greeting c v = shut_becomes frame c v (turned_away greeting c v.tables) (changes.says Quiet carries_quiet c _ v.tables) (shuts c _)
+
+-- its connection speaks for a session now, which it is told
+module _ (frame : List ℕ) (session c : ℕ) (bytes : List ℕ) (v : FrontView) (u : TablesView) (m : SittingsView) where
+  abbrev speaking : TablesView
+  speaking = record u { streams = with_phase u.streams c (Speaking session); sittings = m }
+
+  last : Quiet speaking (sent c bytes speaking)
+  last = changes.sends Quiet carries_quiet c bytes speaking
+
+  speaks_here : (p : Phase) → (p ≡ Closing → ⊥) → phase_of (sent c bytes speaking).streams c ≡ Some p → Speaking session ≡ p
+  speaks_here p going is =
+      (phase_here (λ s. record s { phase = Speaking session }) u.streams c p
+      (was_in speaking.streams (sent c bytes speaking).streams c p (last c) going is)).2
+
+  speaks : Quiet v.tables u → GainsBy frame session v → Becomes frame c v (sent c bytes speaking)
+  speaks first gains = record {
+    others = λ d other row there going.
+        let before = last d row there going in
+        first d row (sym (row_elsewhere (λ s. record s { phase = Speaking session }) u.streams c d other) ∙ before) going;
+    heard = λ silent. not_silent session (speaks_here Silent silent_on silent);
+    gains = λ other has.
+        let is = same_session session other (speaks_here (Speaking other) (speaks_on other) has) in
+        subst (λ n. GainsBy frame n v) is gains;
+  }
 
 -- ---- it comes back
 
--- the rows of a connection that speaks now, and of the others
-pub speaks_elsewhere : (session c d : ℕ) (t : TablesView) (m : SittingsView) → d ≢ c
-    → StaysOpen t.streams (record t { streams = with_phase t.streams c (Speaking session); sittings = m }).streams d
-speaks_elsewhere session c d t m other row is going = sym (row_elsewhere (λ s. record s { phase = Speaking session }) t.streams c d other) ∙ is
-
-pub speaks_here : (session c : ℕ) (t : TablesView) (p : Phase) → phase_of (with_phase t.streams c (Speaking session)) c ≡ Some p
-    → Speaking session ≡ p
-speaks_here session c t p is = (phase_here (λ s. record s { phase = Speaking session }) t.streams c p is).2
-
-pub not_silent : (session : ℕ) (password : List ℕ) → Speaking session ≡ Silent password → ⊥
-not_silent session password is = cc
-
-pub same_session : (session other : ℕ) → Speaking session ≡ Speaking other → session ≡ other
-same_session session other is = cc
-
--- the sitting of a session that is taken up has the password that was given
-took_password : (session c : ℕ) (given : List ℕ) (t : TablesView) → passes t.sittings session given ≡ true → Has (moved session t).sittings session
-    → ((s : Sitting) × (get t.sittings session ≡ Some s) × (given ≡ s.password)) → HasPassword (taken_up session c t).sittings session given
-took_password session c given t is has was =
-    let u = moved session t in
-    let key = (moves_quiet session t).keys session has.0 has.1 in
-    let same : key.0 ≡ was.0 = same_some key.0 was.0 (sym key.1 ∙ was.1) in (
-      seats.taken_up c has.0,
-      seat_here (seats.taken_up c) u.sittings session has.0 has.1,
-      sym key.2 ∙ ap (λ (s : Sitting). s.password) same ∙ sym was.2,
-    )
-
--- a password that passes is the whole one
-whole_password : (m : SittingsView) (id : ℕ) (given : List ℕ) → passes m id given ≡ true → (s : Sitting) × (get m id ≡ Some s) × (given ≡ s.password)
-whole_password m id given is = each (get m id) refl is
+returns : (frame : List ℕ) (greeting : ConnectRequest) (id : ℤ) (c : ℕ) (v : FrontView) → whole connect_request frame ≡ Ok greeting
+    → greeting.session_id ≡ id → Becomes frame c v (returned greeting id c v)
+returns frame greeting (negsuc n) c v spelled names = turns_away frame greeting c v
+returns frame greeting (pos session) c v spelled names = by (get v.tree.sessions session) refl
   where
-    each : (o : Option Sitting) → get m id ≡ o → option_map_or (λ (s : Sitting). pointwise nat_eq given s.password) o false ≡ true
-        → (s : Sitting) × (get m id ≡ Some s) × (given ≡ s.password)
-    each None found none = cc
-    each (Some s) found passed = (s, found, (pointwise_decides unsigned_Decides given s.password).0 passed)
+    password : List ℕ
+    password = password_of v.secret session
 
-takes_up : (frame : List ℕ) (greeting : ConnectRequest) (session c : ℕ) (own bytes : List ℕ) (old new : FrontView)
-    → whole connect_request frame ≡ Ok greeting
-    → greeting.session_id ≡ pos session → passes old.tables.sittings session (given greeting) ≡ true
-    → new ≡ with_tables (sent c bytes (taken_up session c old.tables)) old → Becomes frame c own old new
-takes_up frame greeting session c own bytes old new spelled names passed is = subst (Becomes frame c own old) (sym is) (record {
-  others = others;
-  keys = λ d other away speaks s there. keys other s there;
-  heard = λ password silent. not_silent session password (speaks_here session c u (Silent password)
-      (before (Silent password) (silent_on password) silent));
-  gains = gains;
-})
+    there_by : (s : Session) → get v.tree.sessions session ≡ Some s → (b : Bool) → pointwise nat_eq (given greeting) password ≡ b
+        → Becomes frame c v (if b then session_told greeting session (millis_told v.clock.tick s.timeout) password c (taken_up session c v.tables)
+        else turned_away greeting c v.tables)
+    there_by s there true passes =
+        let u = moved session v.tables in
+        let whole_password = (pointwise_decides unsigned_Decides (given greeting) password).0 passes in
+        speaks frame session c _ v u (taken_up session c v.tables).sittings (moves_quiet session v.tables)
+        (greeting, spelled, inr (names, is_there (get v.tree.sessions session) s there, whole_password))
+    there_by s there false fails = turns_away frame greeting c v
+
+    by : (o : Option Session) → get v.tree.sessions session ≡ o → Becomes frame c v
+        (option_map_or (λ s. came_back v.clock.tick greeting session s.timeout password c v.tables) o (turned_away greeting c v.tables))
+    by None is = turns_away frame greeting c v
+    by (Some s) is = there_by s is (pointwise nat_eq (given greeting) password) refl
+
+-- ---- it opens a session
+
+opens : (frame : List ℕ) (greeting : ConnectRequest) (c : ℕ) (v : FrontView) → whole connect_request frame ≡ Ok greeting
+    → greeting.session_id ≡ pos 0 → Becomes frame c v (with_session greeting c v).tables
+opens frame greeting c v spelled asks = by (serve v.tree 0 (opening v.clock.tick greeting)).1 refl
   where
-    t : TablesView
-    t = old.tables
+    by : (told : Reply) → (serve v.tree 0 (opening v.clock.tick greeting)).1 ≡ told
+        → Becomes frame c v (opened v.clock.tick v.secret greeting c (told ∷ []) v.tables)
+    by (reply.Opened session ticks) is =
+        speaks frame session c _ v v.tables (sitting session c v.tables).sittings (carries_quiet.none v.tables)
+        (greeting, spelled, inl (asks, ticks, is))
+    by other is = closes frame c v
 
-    u : TablesView
-    u = moved session t
+-- ---- any greeting
 
-    like : FrontView
-    like = with_tables (sent c bytes (taken_up session c t)) old
-
-    first : Quiet t u
-    first = moves_quiet session t
-
-    last : Quiet (taken_up session c t) like.tables
-    last = changes.sends Quiet carries_quiet c bytes (taken_up session c t)
-
-    before : (p : Phase) → (p ≡ Closing → ⊥) → phase_of like.tables.streams c ≡ Some p → phase_of (taken_up session c t).streams c ≡ Some p
-    before p going has = was_in (taken_up session c t).streams like.tables.streams c p (last.streams c) going has
-
-    others : (d : ℕ) → d ≢ c → StaysOpen t.streams like.tables.streams d
-    others d away row there going =
-        first.streams d row (speaks_elsewhere session c d u (taken_up session c t).sittings away row (last.streams d row there going) going) going
-
-    keys : Keys t.sittings like.tables.sittings
-    keys =
-        keys_both t.sittings u.sittings like.tables.sittings first.keys
-        (keys_both u.sittings (taken_up session c t).sittings like.tables.sittings
-        (changed_keys (seats.taken_up c) (λ s. refl) u.sittings session) last.keys)
-
-    kept : HasPassword like.tables.sittings session (given greeting)
-    kept =
-        let has = moved_has session t (passes_has t.sittings session (given greeting) passed) in
-        let there = took_password session c (given greeting) t passed has (whole_password t.sittings session (given greeting) passed) in
-        elim (is_open (taken_up session c t) c) as
-        (λ b. HasPassword (if b then with_piece (piece c bytes) (taken_up session c t) else taken_up session c t).sittings
-        session (given greeting)) [
-          | true ↦ there
-          | false ↦ there
-        ]
-
-    gains : (other : ℕ) → phase_of like.tables.streams c ≡ Some (Speaking other) → GainsBy frame other own old like
-    gains other speaks =
-        let is : session ≡ other = same_session session other (speaks_here session c u (Speaking other)
-        (before (Speaking other) (speaks_on other) speaks)) in
-        subst (λ n. GainsBy frame n own old like) is (greeting, given greeting, spelled, inr (names, refl), kept)
-
-turns_away : (frame : List ℕ) (greeting : ConnectRequest) (c : ℕ) (own : List ℕ) (old new : FrontView)
-    → new ≡ with_tables (turned_away greeting c old.tables) old
-    → Becomes frame c own old new
-turns_away frame greeting c own old new is =
-    subst (Becomes frame c own old) (sym is)
-    (shut_becomes frame c own old (with_tables (turned_away greeting c old.tables) old) (changes.says Quiet carries_quiet c _ old.tables) (shuts c _))
-
-pub returns : (frame : List ℕ) (greeting : ConnectRequest) (id : ℤ) (c : ℕ) (own : List ℕ) (old new : FrontView)
-    → whole connect_request frame ≡ Ok greeting
-    → greeting.session_id ≡ id → new ≡ with_tables (returned old.clock.tick old.asker.known greeting id c old.tables) old
-    → Becomes frame c own old new
-returns frame greeting (negsuc n) c own old new spelled names is = turns_away frame greeting c own old new is
-returns frame greeting (pos session) c own old new spelled names is = known (get old.asker.known.sessions session) is
+greets_by : (read : Result ConnectRequest Fault) (frame : List ℕ) (c : ℕ) (v : FrontView) → whole connect_request frame ≡ read
+    → Becomes frame c v (greeted_by read c v).tables
+greets_by (Err fault) frame c v spelled = closes frame c v
+greets_by (Ok greeting) frame c v spelled = by (is_ahead v.tree.zxid greeting) (int_eq greeting.session_id (pos 0)) refl
   where
-    came : (timeout : ℤ) (b : Bool) → passes old.tables.sittings session (given greeting) ≡ b
-        → new ≡ with_tables (if b then session_told greeting session timeout (given greeting) c (taken_up session c old.tables)
-        else turned_away greeting c old.tables) old
-        → Becomes frame c own old new
-    came timeout true passed so = takes_up frame greeting session c own _ old new spelled names passed so
-    came timeout false passed so = turns_away frame greeting c own old new so
+    by : (ahead is_new : Bool) → int_eq greeting.session_id (pos 0) ≡ is_new → Becomes frame c v
+        (if ahead then with_tables (closed c v.tables) v else if is_new then with_session greeting c v
+        else with_tables (returned greeting greeting.session_id c v) v).tables
+    by true is_new is = closes frame c v
+    by false true is = opens frame greeting c v spelled ((Decides-int_eq greeting.session_id (pos 0)).0 is)
+    by false false is = returns frame greeting greeting.session_id c v spelled refl
 
-    known : (o : Option Session)
-        → new ≡ with_tables (option_map_or (λ s. came_back greeting session (millis_told old.clock.tick s.timeout) c old.tables)
-        o (turned_away greeting c old.tables)) old
-        → Becomes frame c own old new
-    known None so = turns_away frame greeting c own old new so
-    known (Some s) so = came (millis_told old.clock.tick s.timeout) (passes old.tables.sittings session (given greeting)) refl so
+pub greets : (frame : List ℕ) (c : ℕ) (v : FrontView) → Becomes frame c v (greeted frame c v).tables
+greets frame c v = greets_by (whole connect_request frame) frame c v refl

@@ -12,17 +12,17 @@ use Rattle.zcalls.specs.declared.call.Update.{Update}
 use Rattle.zcalls.specs.declared.call.Update.TheVariants as act
 use Rattle.zcalls.specs.declared.reply.Reply.{Reply}
 use Rattle.zcalls.specs.declared.reply.Reply.TheVariants as reply
+use Rattle.zpieces.specs.declared.phase.Phase.{Phase}
 use Rattle.zpieces.specs.declared.phase.Phase.TheVariants.{Silent, Speaking}
 use Rattle.zpieces.specs.Streams.{StreamView, with_bytes, opened, phase_of}
 use Rattle.zsittings.specs.declared.sitting.Sitting.{Sitting}
-use Rattle.zsittings.specs.Sittings.{SittingsView, all_rested, left, passes, rested, touched, with_changed, with_ephemeral}
-use Rattle.zsittings.specs.Sittings as seats
+use Rattle.zsittings.specs.Sittings.{SittingsView, all_rested, left, rested, touched, with_changed, with_ephemeral}
 use Rattle.zsittings.proofs.Changed.{each_rests}
-use Rattle.ztables.specs.Tables.{TablesView, is_open, session_in, without_seat, closing, closed, ended, connection_of, moved, taken_up}
+use Rattle.ztables.specs.Tables.{TablesView, is_open, session_in, without_seat, closing, closed, ended, connection_of, moved}
 use Rattle.ztables.specs.Sweeping.{owner_in, made_by, made_by_parts, noted, swept}
 use Rattle.zfront_laws.specs.Seats.{IsSeated}
 use Rattle.zfront_laws.proofs.Seated.{Has, connection_in, same_number, phase_elsewhere, phase_here, seat_elsewhere}
-use Rattle.zfront_laws.proofs.Seated.{seat_here, closes, ends, moves, sweeps, takes_up}
+use Rattle.zfront_laws.proofs.Seated.{seat_here, closes, ends, sweeps}
 
 abbrev pub Kept : TablesView → TablesView → Type 0
 Kept old new = (IsSeated old → IsSeated new) × ((id : ℕ) → Has new.sittings id → Has old.sittings id)
@@ -76,20 +76,11 @@ moved_ids session t id has = each (connection_of t.sittings session) has
     each None there = there
     each (Some c) there = closed_ids c t id there
 
-pub moves_kept : (session : ℕ) (t : TablesView) → Kept t (moved session t)
-moves_kept session t = (moves session t, moved_ids session t)
-
 pub sweeps_kept : (session : ℕ) (t : TablesView) → Kept t (swept session t)
 sweeps_kept session t = (
   sweeps session t,
   λ id has.
       moved_ids session t id (has.0, (get-removed nat_cmp_total nat_cmp-IsAntisymmetric (moved session t).sittings session id has.0 has.1).1),
-)
-
-pub takes_up_kept : (session c : ℕ) (given : List ℕ) (t : TablesView) → passes t.sittings session given ≡ true → Kept t (taken_up session c t)
-takes_up_kept session c given t is = (
-  takes_up session c given t is,
-  λ id has. moved_ids session t id (changed_ids (seats.taken_up c) (moved session t).sittings session id has),
 )
 
 -- streams with other bytes, and one more that is silent
@@ -111,22 +102,24 @@ bytes_kept c bytes t = (λ seated d session speaks. seated d session (spoke d se
     spoke : (d session : ℕ) → phase_of (with_bytes t.streams c bytes) d ≡ Some (Speaking session) → phase_of t.streams d ≡ Some (Speaking session)
     spoke d session has = near d session (same_number d c) has
 
-silent_phase : (password : List ℕ) (session : ℕ) → Some (Silent password) ≡ Some (Speaking session) → ⊥
-silent_phase password session is = cc
+silent_phase : (session : ℕ) → Some Silent ≡ Some (Speaking session) → ⊥
+silent_phase session is = cc
 
-pub opens_kept : (c : ℕ) (password : List ℕ) (t : TablesView) → Kept t (record t { streams = insert t.streams c (opened password) })
-opens_kept c password t = (λ seated d session speaks. seated d session (near d session (same_number d c) speaks), λ id has. has)
+pub opens_kept : (c : ℕ) (t : TablesView) → Kept t (record t { streams = insert t.streams c opened })
+opens_kept c t = (λ seated d session speaks. seated d session (near d session (same_number d c) speaks), λ id has. has)
   where
-    near : (d session : ℕ) → (d ≡ c) ⊎ (d ≢ c) → phase_of (insert t.streams c (opened password)) d ≡ Some (Speaking session)
+    phase : Option StreamView → Option Phase
+    phase o = option_map (λ s. s.phase) o
+
+    near : (d session : ℕ) → (d ≡ c) ⊎ (d ≢ c) → phase_of (insert t.streams c opened) d ≡ Some (Speaking session)
         → phase_of t.streams d ≡ Some (Speaking session)
     near d session (inl same) has =
-        absurd (silent_phase password session (
-        sym (ap (option_map (λ (s : StreamView). s.phase)) (get-insert-here nat_cmp_total nat_cmp-IsAntisymmetric t.streams c (opened password)))
-        ∙ ap (phase_of (insert t.streams c (opened password))) (sym same) ∙ has
+        absurd (silent_phase session (
+        sym (ap phase (get-insert-here nat_cmp_total nat_cmp-IsAntisymmetric t.streams c opened))
+        ∙ ap (phase_of (insert t.streams c opened)) (sym same) ∙ has
         ))
     near d session (inr other) has =
-        sym (ap (option_map (λ (s : StreamView). s.phase)) (get-insert-elsewhere nat_cmp_total nat_cmp-IsAntisymmetric
-        t.streams c (opened password) d other)) ∙ has
+        sym (ap phase (get-insert-elsewhere nat_cmp_total nat_cmp-IsAntisymmetric t.streams c opened d other)) ∙ has
 
 -- sittings with the same connections
 abbrev pub Alike : SittingsView → SittingsView → Type 0

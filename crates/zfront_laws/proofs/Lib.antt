@@ -1,32 +1,23 @@
 pub mod Held
 pub mod Seated
 pub mod Kept
-mod Changes
+pub mod Changes
 pub mod Lighter
 pub mod Wishes
-pub mod GoingOn
+mod Working
 pub mod Rising
-pub mod Taking
-pub mod Since
+mod Living
 pub mod Steps
 pub mod Calling
 pub mod Serving
 pub mod Coming
-mod Working
-mod Quiet
-mod Greeted
-mod Welcomed
-mod Living
 pub mod Bare
 pub mod Restored
 pub mod Inputs
-pub mod Made
-pub mod Ordered
-pub mod Late
 pub mod Sessions
+mod Quiet
+mod Greeted
 mod Handled
 mod Given
 mod Heard
 mod Got
-mod Acting
-mod Lives

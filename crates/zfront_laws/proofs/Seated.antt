@@ -1,10 +1,9 @@
 -- Each connection that speaks for a session has its seat, whatever single change the tables take.
 use Rattle.std.proofs.Common.{◌≡◌, ◌≢◌, ◌⊎◌, inl, inr, ◌∙◌, ℕ, Bool, true, false, List, [], ◌∷◌, Option, None, Some, refl, sym, ap, subst}
-use Rattle.std.specs.Prelude.{if◌then◌else◌, nat_eq}
+use Rattle.std.specs.Prelude.{if◌then◌else◌, unwrap_or}
 use Rattle.std.specs.Cmp.{nat_cmp_total}
 use Rattle.std.specs.FinMap.{get, insert, remove, nat_cmp-IsAntisymmetric}
 use Rattle.std.specs.Option.{option_map, option_map_or, option_and_then}
-use lib.Pointwise.{pointwise}
 use Rattle.ztree.proofs.Maps.{same_some, none_some, same_or_other, get-insert-here, get-insert-elsewhere, get-remove-here, get-remove-elsewhere}
 use Rattle.zevents.specs.declared.event.Event.{Event}
 use Rattle.zpieces.specs.declared.phase.Phase.{Phase}
@@ -12,7 +11,7 @@ use Rattle.zpieces.specs.declared.phase.Phase.TheVariants.{Silent, Speaking, Clo
 use Rattle.zpieces.specs.Streams.{StreamView, StreamRows, changed, empty_in, phase_of, with_phase}
 use Rattle.zpieces.specs.Streams as stream
 use Rattle.zsittings.specs.declared.sitting.Sitting.{Sitting}
-use Rattle.zsittings.specs.Sittings.{SittingsView, left, new_sitting, passes, with_changed}
+use Rattle.zsittings.specs.Sittings.{SittingsView, left, new_sitting, restored_sitting, with_changed, with_seat}
 use Rattle.zsittings.specs.Sittings as seats
 use Rattle.zwatches.specs.Events as watches
 use Rattle.ztables.specs.Tables.{TablesView, may_send, is_open, session_in, without_seat, closing, closed, ended, sent}
@@ -70,42 +69,17 @@ seat_here to m id s is =
 abbrev pub connection_in : Option Sitting → Option ℕ
 connection_in o = option_and_then (λ s. s.connection) o
 
--- a session that has a sitting keeps it
+-- a session has a sitting
 abbrev pub Has : SittingsView → ℕ → Type 0
 Has m id = (s : Sitting) × (get m id ≡ Some s)
 
-changed_has : (to : Sitting → Sitting) (m : SittingsView) (id other : ℕ) → Has m other → Has (with_changed to m id) other
-changed_has to m id other has = each (same_number other id)
+-- who speaks has a sitting
+pub has_seat : (t : TablesView) (c session : ℕ) → IsSeated t → phase_of t.streams c ≡ Some (Speaking session) → Has t.sittings session
+has_seat t c session seated speaks = each (get t.sittings session) refl (seated c session speaks)
   where
-    each : (other ≡ id) ⊎ (other ≢ id) → Has (with_changed to m id) other
-    each (inl is) =
-        (to has.0, ap (get (with_changed to m id)) is ∙ seat_here to m id has.0 (ap (get m) (sym is) ∙ has.1))
-    each (inr apart) = (has.0, seat_elsewhere to m id other apart ∙ has.1)
-
-closed_has : (c session : ℕ) (t : TablesView) → Has t.sittings session → Has (closed c t).sittings session
-closed_has c session t has = each (is_open t c)
-  where
-    of : (o : Option ℕ) → Has (without_seat o t) session
-    of None = has
-    of (Some mine) = changed_has left t.sittings mine session has
-
-    each : (b : Bool) → Has (if b then closing c t else t).sittings session
-    each true = of (session_in (phase_of t.streams c))
-    each false = has
-
-pub moved_has : (session : ℕ) (t : TablesView) → Has t.sittings session → Has (moved session t).sittings session
-moved_has session t has = each (connection_of t.sittings session)
-  where
-    each : (o : Option ℕ) → Has (option_map_or (λ c. closed c t) o t).sittings session
-    each None = has
-    each (Some c) = closed_has c session t has
-
-pub passes_has : (m : SittingsView) (id : ℕ) (given : List ℕ) → passes m id given ≡ true → Has m id
-passes_has m id given is = each (get m id) refl is
-  where
-    each : (o : Option Sitting) → get m id ≡ o → option_map_or (λ s. pointwise nat_eq given s.password) o false ≡ true → Has m id
-    each None found none = cc
-    each (Some s) found passed = (s, found)
+    each : (o : Option Sitting) → get t.sittings session ≡ o → connection_in o ≡ Some c → Has t.sittings session
+    each None found has = absurd (none_some c has)
+    each (Some s) found has = (s, found)
 
 -- no two speak for one session
 pub one_speaks : OneSpeaks
@@ -128,7 +102,7 @@ parts c t seated d session other speaks = each (phase_of t.streams c) refl
   where
     each : (p : Option Phase) → phase_of t.streams c ≡ p → connection_of (without_seat (session_in p) t) session ≡ Some d
     each None is = seated d session speaks
-    each (Some (Silent password)) is = seated d session speaks
+    each (Some Silent) is = seated d session speaks
     each (Some (Speaking mine)) is = left_seat c d mine session t seated other is speaks
     each (Some Closing) is = seated d session speaks
 
@@ -248,24 +222,25 @@ takes_seat session c t m here elsewhere free seated d other speaks = near (same_
         ap (connection_of m) (sym (same_session session other row.2)) ∙ here ∙ ap (λ n. Some n) (sym same)
     near (inr away) = far (sym (phase_elsewhere same_rows t.streams c d away) ∙ speaks) (same_number other session)
 
-pub takes_up : (session c : ℕ) (given : List ℕ) (t : TablesView) → passes t.sittings session given ≡ true → IsSeated t
-    → IsSeated (taken_up session c t)
-takes_up session c given t is seated =
+-- where a sitting is put, its session has the connection that stands in it
+module _ (m : SittingsView) (session : ℕ) (s : Sitting) where
+  put_here : connection_of (insert m session s) session ≡ s.connection
+  put_here = ap connection_in (get-insert-here nat_cmp_total nat_cmp-IsAntisymmetric m session s)
+
+  put_elsewhere : (other : ℕ) → other ≢ session → connection_of (insert m session s) other ≡ connection_of m other
+  put_elsewhere other apart = ap connection_in (get-insert-elsewhere nat_cmp_total nat_cmp-IsAntisymmetric m session s other apart)
+
+pub takes_up : (session c : ℕ) (t : TablesView) → IsSeated t → IsSeated (taken_up session c t)
+takes_up session c t seated =
     let u = moved session t in
-    let has = moved_has session t (passes_has t.sittings session given is) in
-    takes_seat session c u (with_changed (seats.taken_up c) u.sittings session)
-    (ap connection_in (seat_here (seats.taken_up c) u.sittings session has.0 has.1))
-    (λ other apart. ap connection_in (seat_elsewhere (seats.taken_up c) u.sittings session other apart))
+    let s = seats.taken_up c (unwrap_or (get u.sittings session) restored_sitting) in
+    takes_seat session c u (with_seat u.sittings session c) (put_here u.sittings session s) (put_elsewhere u.sittings session s)
     (nobody session t seated) (moves session t seated)
 
-pub opens : (session c : ℕ) (password : List ℕ) (t : TablesView) → connection_of t.sittings session ≡ None → IsSeated t
-    → IsSeated (sitting session password c t)
-opens session c password t none seated =
-    takes_seat session c t (insert t.sittings session (new_sitting password c))
-    (ap connection_in (get-insert-here nat_cmp_total nat_cmp-IsAntisymmetric t.sittings session (new_sitting password c)))
-    (λ other apart. ap connection_in (get-insert-elsewhere nat_cmp_total nat_cmp-IsAntisymmetric t.sittings session
-    (new_sitting password c) other apart))
-    (λ d speaks. none_some d (sym none ∙ seated d session speaks)) seated
+pub opens : (session c : ℕ) (t : TablesView) → connection_of t.sittings session ≡ None → IsSeated t → IsSeated (sitting session c t)
+opens session c t none seated =
+    takes_seat session c t (insert t.sittings session (new_sitting c)) (put_here t.sittings session (new_sitting c))
+    (put_elsewhere t.sittings session (new_sitting c)) (λ d speaks. none_some d (sym none ∙ seated d session speaks)) seated
 
 pub seats_are_kept : SeatsAreKept
 seats_are_kept = record {

@@ -1,8 +1,14 @@
 -- A step at greetings and at requests.
-use Rattle.std.proofs.Common.{None, Option, Some, ◌≡◌, ◌≢◌, ◌⊎◌, inl, inr, ◌∙◌, ◌+◌, ◌≤◌, ap, sym, subst, arith, ℕ}
-use Rattle.std.proofs.Common.{Bool, true, false, List, [], ◌∷◌, Result, Ok, Err, refl}
-use Rattle.std.specs.Prelude.{is_some, pos}
+use Rattle.std.proofs.Common.{◌≡◌, ◌≢◌, ◌⊎◌, inl, inr, ◌∙◌, ℕ, ℤ, ◌+◌, ◌≤◌, Bool, true, false, List, [], ◌∷◌, Option, None, Some, Result}
+use Rattle.std.proofs.Common.{Ok, Err, refl, ap, arith}
+use Rattle.std.specs.Prelude.{pos, negsuc, nat_eq, unwrap_or, if◌then◌else◌}
+use Rattle.std.specs.Cmp.{nat_cmp_total}
+use Rattle.std.specs.FinMap.{get, insert, contains_key, nat_cmp-IsAntisymmetric}
+use Rattle.std.specs.Option.{option_map_or}
 use Rattle.std.specs.Ordering.{int_eq}
+use lib.Pointwise.{pointwise}
+use Rattle.ztree.proofs.Maps.{get-inserted, is_there}
+use Rattle.ztree.specs.declared.session.Session.{Session}
 use Rattle.zforms.specs.Readers.{whole}
 use Rattle.zforms.specs.declared.fault.Fault.{Fault}
 use Rattle.zcalls.specs.declared.call.Call.{Call}
@@ -14,157 +20,212 @@ use Rattle.zjute.specs.declared.connecting.ConnectRequest.{ConnectRequest}
 use Rattle.zjute.specs.declared.request.Request.{Request}
 use Rattle.zasking.specs.Asking.{Meaning}
 use Rattle.zasking.specs.Requests.{calls_in}
+use Rattle.zasking.specs.Timeouts.{millis_told, ticks_asked}
 use Rattle.zasking.specs.declared.fault.Unasked.TheVariants.{Refused, Memory}
 use Rattle.zanswering.specs.Answers.{failed}
-use Rattle.zpieces.specs.Streams.{held_of}
-use Rattle.zturns.specs.Turns.{Log}
-use Rattle.zsittings.specs.declared.sitting.Sitting.{Sitting}
-use Rattle.zsittings.specs.Sittings.{SittingsView, new_sitting}
 use Rattle.zanswering.specs.Stats.{long_of}
-use Rattle.zasking.specs.Timeouts.{millis_told, ticks_asked}
+use Rattle.zpasswords.specs.Passwords.{password_of}
+use Rattle.zpieces.specs.Streams.{held_of}
+use Rattle.zpieces.specs.declared.phase.Phase.TheVariants.{Speaking}
+use Rattle.zsittings.specs.declared.sitting.Sitting.{Sitting}
+use Rattle.zsittings.specs.Sittings.{SittingsView, new_sitting, restored_sitting}
+use Rattle.zsittings.specs.Sittings as sittings
+use Rattle.zworld_model.specs.PlainTree.{serve}
+use Rattle.zlogs.proofs.Lives.{trees_can_start_again}
+use Rattle.ztables.specs.Tables.{TablesView, closed, connection_of, moved, sitting, taken_up, sent}
 use Rattle.zserving.specs.Frames.{response_frame}
-use Rattle.ztree.proofs.Maps.{get-inserted}
-use Rattle.ztree.specs.Tree.{Tree}
-use Rattle.std.specs.Cmp.{nat_cmp_total}
-use Rattle.std.specs.FinMap.{get, insert, nat_cmp-IsAntisymmetric}
-use Rattle.ztables.specs.Tables.{TablesView, closed, connection_of, sitting}
-use Rattle.zserving.specs.Answering.{answered}
-use Rattle.zserving.specs.Greeting.{is_ahead, returned}
+use Rattle.zserving.specs.Greeting.{came_back, given, is_ahead, session_told, turned_away}
 use Rattle.zserving.specs.Replying.{replied}
-use Rattle.zfront.specs.Front.{Asks, FrontView, with_tables}
-use Rattle.zfront.specs.Greeting.{opening, opened, Opens, GreetsIf, GreetsUnless, GreetsBy, Greets}
-use Rattle.zfront.specs.Requests.{touched_by, EndsIf, Makes, Acts, Requests, Serves}
-use Rattle.zfront_laws.proofs.Since.{GoesOnSince, IsSince}
+use Rattle.zfront.specs.Front.{FrontView, with_tables, asked}
+use Rattle.zfront.specs.Greeting.{opening, opened, with_session, returned, greeted_by, greeted}
+use Rattle.zfront.specs.Requests.{touched_by, with_answer, Acts, Requests, Serves}
+use Rattle.zfront_laws.specs.Logs.{done_by, greeting_calls, meant, request_calls}
 use Rattle.zfront_laws.specs.Seats.{IsSeated}
+use Rattle.zfront_laws.proofs.Calling.{made, makes}
+use Rattle.zfront_laws.proofs.Changes.{replies_to, says, sends}
+use Rattle.zfront_laws.proofs.Kept.{closes_kept, touched_kept}
+use Rattle.zfront_laws.proofs.Lighter.{Lighter, as_many, carries_lighter, closes, moves, phase_lighter}
+use Rattle.zfront_laws.proofs.Rising.{new_id, sessions_last, step_adds}
 use Rattle.zfront_laws.proofs.Seated.{Has, connection_in}
 use Rattle.zfront_laws.proofs.Seated as seat
-use Rattle.zfront_laws.proofs.Kept.{closes_kept, touched_kept}
-use Rattle.zfront_laws.proofs.Rising.{new_id, zxid_rises}
-use Rattle.zfront_laws.proofs.GoingOn as log
-use Rattle.zfront_laws.proofs.Lighter.{Lighter, as_many, carries_lighter, closes, replies_to}
-use Rattle.zfront_laws.proofs.Lighter as tables
-use Rattle.zfront_laws.proofs.Wishes.{answers}
-use Rattle.zfront_laws.proofs.Steps.{Step, Fine, both, making_both, makes_none, retabled}
-use Rattle.zfront_laws.proofs.Calling.{asks, tidies}
+use Rattle.zfront_laws.proofs.Steps.{Fine, Goes, below, both, retabled, tables_change}
+use Rattle.zfront_laws.proofs.Working as working
 
-ends_if : (late : Bool) (c : ℕ) (asked : Request) (calls : List Call) (replies : List Reply) (old new : FrontView)
-    → EndsIf late c asked calls replies old new → Step old new
-ends_if true c asked calls replies old new is = retabled (closed c old.tables) old new is (closes c old.tables)
-ends_if false c asked calls replies old new has =
-    let t = answered old.clock old.asker.known c asked calls replies old.tables in
-    both old (with_tables t old) new
-    (retabled t old (with_tables t old) refl (answers Lighter carries_lighter old.clock old.asker.known c asked calls replies old.tables))
-    (tidies replies (with_tables t old) new has)
+-- ---- requests
 
-makes : (calls : List Call) (c : ℕ) (asked : Request) (old new : FrontView) → old.late ≡ None → Makes calls c asked old new → Step old new
-makes calls c asked old new free has =
-    both old has.0 new (asks old calls has.0 has.1 free has.2) (ends_if (is_some has.0.late) c asked calls has.1 has.0 new has.3)
+acts : (meaning : Meaning (List Call)) (c : ℕ) (r : Request) (old new : FrontView) → Acts meaning c r old new
+    → Goes [] (done_by (meant meaning) old) old new
+acts (Err (Refused code)) c r old new is =
+    retabled (replied old.tree.zxid c r.xid (failed code) old.tables) old new is
+    (replies_to Lighter carries_lighter old.tree.zxid c r.xid (failed code) old.tables)
+acts (Err Memory) c r old new is = absurd is
+acts (Ok calls) c r old new has =
+    makes calls (with_answer calls c r old).tables old new (working.answered_by Lighter carries_lighter calls c r old) has
 
-acts : (meaning : Meaning (List Call)) (c : ℕ) (asked : Request) (old new : FrontView) → old.late ≡ None → Acts meaning c asked old new → Step old new
-acts (Err (Refused code)) c asked old new free is =
-    retabled (replied old.asker.known c asked.xid (failed code) old.tables) old new is
-    (replies_to old.asker.known c asked.xid (failed code) old.tables)
-acts (Err Memory) c asked old new free is = absurd is
-acts (Ok calls) c asked old new free has = makes calls c asked old new free has
+requests : (read : Result Request Fault) (session c : ℕ) (old new : FrontView) → Requests read session c old new
+    → Goes [] (done_by (request_calls read session old) old) old new
+requests (Err fault) session c old new is = retabled (closed c old.tables) old new is (closes c old.tables)
+requests (Ok r) session c old new has =
+    let middle = touched_by session old in
+    both (retabled middle.tables old middle refl (as_many (held_of old.tables.streams), touched_kept session old.tables))
+    (acts (calls_in old.clock.tick session r.asked) c r middle new has)
 
-requests : (read : Result Request Fault) (session c : ℕ) (old new : FrontView) → old.late ≡ None → Requests read session c old new → Step old new
-requests (Err fault) session c old new free is = retabled (closed c old.tables) old new is (closes c old.tables)
-requests (Ok asked) session c old new free has =
-    both old (touched_by session old) new
-    (retabled (touched_by session old).tables old (touched_by session old) refl
-    (as_many (held_of old.tables.streams), touched_kept session old.tables))
-    (acts (calls_in old.clock.tick session asked.asked) c asked (touched_by session old) new free has)
+pub serves : (bytes : List ℕ) (session c : ℕ) (old new : FrontView) → Serves bytes session c old new
+    → Goes [] (done_by (request_calls (whole request bytes) session old) old) old new
+serves bytes session c old new has = requests (whole request bytes) session c old new has
 
-pub serves : (bytes : List ℕ) (session c : ℕ) (old new : FrontView) → old.late ≡ None → Serves bytes session c old new → Step old new
-serves bytes session c old new free has = requests (whole request bytes) session c old new free has
+-- ---- a client comes back
 
--- a session that opens is a new one, so nobody speaks for it yet
+-- who sits where a sitting is put
+sits : (m n : SittingsView) (session : ℕ) (s : Sitting) → ((id : ℕ) → Has n id → Has m id) → (id : ℕ) → Has (insert n session s) id
+    → (id ≡ session) ⊎ Has m id
+sits m n session s kept id has = by (get-inserted nat_cmp_total nat_cmp-IsAntisymmetric n session s id has.0 has.1)
+  where
+    by : ((id ≡ session) × (s ≡ has.0)) ⊎ ((id ≢ session) × (get n id ≡ Some has.0)) → (id ≡ session) ⊎ Has m id
+    by (inl same) = inl same.0
+    by (inr old) = inr (kept id (has.0, old.1))
+
+turns_away : (greeting : ConnectRequest) (c : ℕ) (v : FrontView) → Goes [] [] v (with_tables (turned_away greeting c v.tables) v)
+turns_away greeting c v =
+    retabled (turned_away greeting c v.tables) v (with_tables (turned_away greeting c v.tables) v) refl (says Lighter carries_lighter c _ v.tables)
+
+takes_up : (session c : ℕ) (v : FrontView) → contains_key v.tree.sessions session ≡ true → Goes [] [] v (with_tables (taken_up session c v.tables) v)
+takes_up session c v there = tables_change (taken_up session c t) v
+    (λ few. omega (arith, few, moving.0, phase_lighter u.streams c (Speaking session))) seats
+  where
+    t : TablesView
+    t = v.tables
+
+    u : TablesView
+    u = moved session t
+
+    moving : Lighter t u
+    moving = moves session t
+
+    alive : Fine v → (id : ℕ) → (id ≡ session) ⊎ Has t.sittings id → contains_key v.tree.sessions id ≡ true
+    alive fine id (inl is) = ap (contains_key v.tree.sessions) is ∙ there
+    alive fine id (inr has) = fine.alive id has
+
+    s : Sitting
+    s = sittings.taken_up c (unwrap_or (get u.sittings session) restored_sitting)
+
+    seats : Fine v → Fine (with_tables (taken_up session c t) v)
+    seats fine = record {
+      seated = seat.takes_up session c t fine.seated;
+      alive = λ id has. alive fine id (sits t.sittings u.sittings session s moving.1.1 id has);
+      can = fine.can;
+    }
+
+comes_back : (greeting : ConnectRequest) (session ticks : ℕ) (c : ℕ) (v : FrontView) → contains_key v.tree.sessions session ≡ true
+    → Goes [] [] v (with_tables (came_back v.clock.tick greeting session ticks (password_of v.secret session) c v.tables) v)
+comes_back greeting session ticks c v there =
+    let password = password_of v.secret session in
+    let timeout = millis_told v.clock.tick ticks in
+    let bytes = response_frame greeting timeout (long_of session) password in
+    let middle = with_tables (taken_up session c v.tables) v in
+    elim (pointwise nat_eq (given greeting) password) as
+    (λ b. Goes [] [] v (with_tables (if b then session_told greeting session timeout password c (taken_up session c v.tables)
+    else turned_away greeting c v.tables) v)) [
+      | true ↦ both (takes_up session c v there)
+          (retabled (sent c bytes middle.tables) middle (with_tables (sent c bytes middle.tables) middle) refl
+          (sends Lighter carries_lighter c bytes middle.tables))
+      | false ↦ turns_away greeting c v
+    ]
+
+returns : (greeting : ConnectRequest) (id : ℤ) (c : ℕ) (v : FrontView) → Goes [] [] v (with_tables (returned greeting id c v) v)
+returns greeting (negsuc n) c v = turns_away greeting c v
+returns greeting (pos session) c v = by (get v.tree.sessions session) refl
+  where
+    by : (o : Option Session) → get v.tree.sessions session ≡ o → Goes [] [] v
+        (with_tables (option_map_or (λ s. came_back v.clock.tick greeting session s.timeout (password_of v.secret session) c v.tables)
+        o (turned_away greeting c v.tables)) v)
+    by None is = turns_away greeting c v
+    by (Some s) is = comes_back greeting session s.timeout c v (is_there (get v.tree.sessions session) s is)
+
+-- ---- a session is opened
+
+-- a new one, so nobody sits there yet
 no_sitting : (m : SittingsView) (id bound : ℕ) → id ≡ bound + 1 → ((other : ℕ) → Has m other → other ≤ bound) → connection_of m id ≡ None
-no_sitting m id bound is below = by (get m id) refl
+no_sitting m id bound is low = by (get m id) refl
   where
     by : (o : Option Sitting) → get m id ≡ o → connection_of m id ≡ None
     by None none = ap connection_in none
-    by (Some s) there = absurd (omega (arith, is, below id (s, there)))
+    by (Some s) there = absurd (omega (arith, is, low id (s, there)))
 
-closes_fine : (c bound : ℕ) (v : FrontView) → IsSeated v.tables → ((id : ℕ) → Has v.tables.sittings id → id ≤ bound) → bound ≤ v.asker.known.zxid
-    → Fine (with_tables (closed c v.tables) v)
-closes_fine c bound v seated below more =
-    let kept = closes_kept c v.tables in
-    record { seated = kept.0 seated; below = λ id has. omega (arith, more, below id (kept.1 id has)) }
+module _ (greeting : ConnectRequest) (c : ℕ) (v : FrontView) where
+  abbrev ticks_wanted : ℕ
+  ticks_wanted = ticks_asked v.clock.tick greeting.timeout
 
-sits : (m : SittingsView) (session other : ℕ) (s : Sitting) (bound n : ℕ) → ((id : ℕ) → Has m id → id ≤ bound) → bound ≤ n → session ≤ n
-    → Has (insert m session s) other → other ≤ n
-sits m session other s bound n below more few has = by (get-inserted nat_cmp_total nat_cmp-IsAntisymmetric m session s other has.0 has.1)
+  abbrev the_call : Call
+  the_call = opening v.clock.tick greeting
+
+  abbrev the_tables : List Reply → TablesView
+  the_tables replies = opened v.clock.tick v.secret greeting c replies v.tables
+
+  lasts : (id : ℕ) → Fine v → Has v.tables.sittings id → contains_key (serve v.tree 0 the_call).0.sessions id ≡ true
+  lasts id fine has = sessions_last (the_call ∷ []) v.tree id refl (fine.alive id has)
+
+  opens_to : (t : TablesView) → held_of t.streams ≤ held_of v.tables.streams → (Fine v → IsSeated t)
+      → ((id : ℕ) → Fine v → Has t.sittings id → contains_key (serve v.tree 0 the_call).0.sessions id ≡ true)
+      → Goes [] (done_by (the_call ∷ []) v) v (with_tables t (asked (the_call ∷ []) v))
+  opens_to t few seated alive = made (the_call ∷ []) t v few (λ fine. record {
+    seated = seated fine;
+    alive = λ id has. alive id fine has;
+    can = trees_can_start_again v.tree (the_call ∷ []) fine.can;
+  })
+
+  shuts : Goes [] (done_by (the_call ∷ []) v) v (with_tables (closed c v.tables) (asked (the_call ∷ []) v))
+  shuts =
+      let kept = closes_kept c v.tables in
+      opens_to (closed c v.tables) (closes c v.tables).0 (λ fine. kept.0 fine.seated) (λ id fine has. lasts id fine (kept.1 id has))
+
+  welcomes : (session ticks : ℕ) → (serve v.tree 0 the_call).1 ≡ Opened session ticks
+      → Goes [] (done_by (the_call ∷ []) v) v (with_tables (the_tables (Opened session ticks ∷ [])) (asked (the_call ∷ []) v))
+  welcomes session ticks is = opens_to (sent c bytes u) (omega (arith, telling.0, phase_lighter t.streams c (Speaking session))) seated
+      (λ id fine has. alive id fine (sits t.sittings t.sittings session (new_sitting c) (λ n there. there) id (telling.1.1 id has)))
+    where
+      t : TablesView
+      t = v.tables
+
+      u : TablesView
+      u = sitting session c t
+
+      bytes : List ℕ
+      bytes = response_frame greeting (millis_told v.clock.tick ticks) (long_of session) (password_of v.secret session)
+
+      telling : Lighter u (sent c bytes u)
+      telling = sends Lighter carries_lighter c bytes u
+
+      seated : Fine v → IsSeated (sent c bytes u)
+      seated fine =
+          telling.1.0 (seat.opens session c t (no_sitting t.sittings session v.tree.zxid (new_id v.tree ticks_wanted session ticks is).0
+          (below v fine)) fine.seated)
+
+      alive : (id : ℕ) → Fine v → (id ≡ session) ⊎ Has t.sittings id → contains_key (serve v.tree 0 the_call).0.sessions id ≡ true
+      alive id fine (inl same) =
+          ap (contains_key (serve v.tree 0 the_call).0.sessions) same ∙ step_adds v.tree ticks_wanted session ticks is
+      alive id fine (inr has) = lasts id fine has
+
+  opens : Goes [] (done_by (the_call ∷ []) v) v (with_session greeting c v)
+  opens = by (serve v.tree 0 the_call).1 refl
+    where
+      by : (reply : Reply) → (serve v.tree 0 the_call).1 ≡ reply
+          → Goes [] (done_by (the_call ∷ []) v) v (with_tables (the_tables (reply ∷ [])) (asked (the_call ∷ []) v))
+      by (Opened session ticks) is = welcomes session ticks is
+      by other is = shuts
+
+-- ---- any greeting
+
+greets_by : (read : Result ConnectRequest Fault) (c : ℕ) (v : FrontView) → Goes [] (done_by (greeting_calls read v) v) v (greeted_by read c v)
+greets_by (Err fault) c v = retabled (closed c v.tables) v (with_tables (closed c v.tables) v) refl (closes c v.tables)
+greets_by (Ok greeting) c v = by (is_ahead v.tree.zxid greeting) (int_eq greeting.session_id (pos 0))
   where
-    by : ((other ≡ session) × (s ≡ has.0)) ⊎ ((other ≢ session) × (get m other ≡ Some has.0)) → other ≤ n
-    by (inl same) = omega (arith, same.0, few)
-    by (inr old) = omega (arith, more, below other (has.0, old.1))
+    by : (ahead is_new : Bool) → Goes [] (done_by (if ahead then [] else if is_new then opening v.clock.tick greeting ∷ [] else []) v) v
+        (if ahead then with_tables (closed c v.tables) v else if is_new then with_session greeting c v
+        else with_tables (returned greeting greeting.session_id c v) v)
+    by true is_new = retabled (closed c v.tables) v (with_tables (closed c v.tables) v) refl (closes c v.tables)
+    by false true = opens greeting c v
+    by false false = returns greeting greeting.session_id c v
 
-seated_by : (tick : ℕ) (greeting : ConnectRequest) (password : List ℕ) (c bound : ℕ) (replies : List Reply) (v : FrontView) → IsSeated v.tables
-    → ((id : ℕ) → Has v.tables.sittings id → id ≤ bound) → bound ≤ v.asker.known.zxid
-    → ((id ticks : ℕ) (rest : List Reply) → replies ≡ Opened id ticks ∷ rest → (id ≡ bound + 1) × (id ≤ v.asker.known.zxid))
-    → Fine (with_tables (opened tick greeting password c replies v.tables) v)
-seated_by tick greeting password c bound (Opened session ticks ∷ replies) v seated below more fresh =
-    let id = fresh session ticks replies refl in
-    let t = v.tables in
-    let u = sitting session password c t in
-    let told = (tables.sends c (response_frame greeting (millis_told tick ticks) (long_of session) password) u).1 in
-    record {
-      seated = told.0 (seat.opens session c password t (no_sitting t.sittings session bound id.0 below) seated);
-      below = λ other has. sits t.sittings session other (new_sitting password c) bound v.asker.known.zxid below more id.1 (told.1 other has);
-    }
-seated_by tick greeting password c bound [] v seated below more fresh = closes_fine c bound v seated below more
-seated_by tick greeting password c bound (other ∷ replies) v seated below more fresh = closes_fine c bound v seated below more
-
-opened_fine : (from : Tree) (greeting : ConnectRequest) (password : List ℕ) (c : ℕ) (old middle : FrontView)
-    (replies : List Reply) (told : Log) (waiting : Option Call)
-    → old.late ≡ None → Asks old (opening old.clock.tick greeting ∷ []) middle replies → GoesOnSince old middle
-    → IsSince from old told waiting → Fine old
-    → Fine (with_tables (opened middle.clock.tick greeting password c replies middle.tables) middle)
-opened_fine from greeting password c old middle replies told (Some call) free asked goes is fine =
-    let clash : None ≡ Some call = sym free ∙ is.late call refl in
-    absurd (cc clash)
-opened_fine from greeting password c old middle replies told None free asked goes is fine =
-    let next = goes from told None is in
-    let same : middle.tables ≡ old.tables = ap (λ (v : FrontView). v.tables) asked.rest in
-    seated_by middle.clock.tick greeting password c old.asker.known.zxid replies middle (subst IsSeated (sym same) fine.seated)
-    (subst (λ (t : TablesView). (id : ℕ) → Has t.sittings id → id ≤ old.asker.known.zxid) (sym same) fine.below)
-    (zxid_rises from old middle told next.0 None next.1 is next.2)
-    (λ id ticks rest are.
-    new_id from old middle (ticks_asked old.clock.tick greeting.timeout) told id ticks rest is.told
-    (subst (λ all. Asks old (opening old.clock.tick greeting ∷ []) middle all) are asked))
-
-opens : (greeting : ConnectRequest) (password : List ℕ) (c : ℕ) (old new : FrontView) → old.late ≡ None
-    → Opens greeting password c old new → Step old new
-opens greeting password c old new free has =
-    let middle = has.0 in
-    let first = asks old (opening old.clock.tick greeting ∷ []) middle has.1 free has.2 in
-    let t = opened middle.clock.tick greeting password c has.1 middle.tables in
-    let like = with_tables t middle in
-    let step : Step old like = record {
-      goes = log.both old middle like first.goes (log.same middle like refl refl);
-      few = omega (arith, first.few, tables.opens middle.clock.tick greeting password c has.1 middle.tables);
-      seats = λ from told waiting is fine. opened_fine from greeting password c old middle has.1 told waiting free has.2 first.making.1 is fine;
-      making = making_both old middle like first.making (makes_none middle like refl refl);
-    } in
-    subst (λ (v : FrontView). Step old v) (sym has.3) step
-
-greets_if : (is_new : Bool) (greeting : ConnectRequest) (password : List ℕ) (c : ℕ) (old new : FrontView) → old.late ≡ None
-    → GreetsIf is_new greeting password c old new → Step old new
-greets_if true greeting password c old new free has = opens greeting password c old new free has
-greets_if false greeting password c old new free is =
-    retabled (returned old.clock.tick old.asker.known greeting greeting.session_id c old.tables) old new is
-    (tables.returns old.clock.tick old.asker.known greeting greeting.session_id c old.tables)
-
-greets_unless : (ahead : Bool) (greeting : ConnectRequest) (password : List ℕ) (c : ℕ) (old new : FrontView) → old.late ≡ None
-    → GreetsUnless ahead greeting password c old new → Step old new
-greets_unless true greeting password c old new free is = retabled (closed c old.tables) old new is (closes c old.tables)
-greets_unless false greeting password c old new free has = greets_if (int_eq greeting.session_id (pos 0)) greeting password c old new free has
-
-greets_by : (read : Result ConnectRequest Fault) (password : List ℕ) (c : ℕ) (old new : FrontView) → old.late ≡ None
-    → GreetsBy read password c old new → Step old new
-greets_by (Err fault) password c old new free is = retabled (closed c old.tables) old new is (closes c old.tables)
-greets_by (Ok greeting) password c old new free has = greets_unless (is_ahead old.asker.known greeting) greeting password c old new free has
-
-pub greets : (bytes password : List ℕ) (c : ℕ) (old new : FrontView) → old.late ≡ None → Greets bytes password c old new → Step old new
-greets bytes password c old new free has = greets_by (whole connect_request bytes) password c old new free has
+pub greets : (bytes : List ℕ) (c : ℕ) (v : FrontView) → Goes [] (done_by (greeting_calls (whole connect_request bytes) v) v) v (greeted bytes c v)
+greets bytes c v = greets_by (whole connect_request bytes) c v

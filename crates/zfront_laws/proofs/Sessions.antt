@@ -20,24 +20,24 @@ use Rattle.zfront_laws.specs.Laws.{NoRequestMakesNoCall, RequestsAreForTheirSess
 pub no_request_makes_no_call : NoRequestMakesNoCall
 no_request_makes_no_call bytes session c fault old new no_request has =
     let is : new ≡ with_tables (closed c old.tables) old = subst (λ read. Requests read session c old new) no_request has in
-    (is, ap (λ (v : FrontView). v.asker) is)
+    (is, ap (λ (v : FrontView). v.tree) is)
 
 -- what a frame does that was read so
 abbrev Outcome : Result Request Fault → ℕ → ℕ → FrontView → FrontView → Type 0
 Outcome read session c old new =
-    (new.asker ≡ old.asker)
+    (new.tree ≡ old.tree)
     ⊎ ((asked : Request) × (calls : List Call) × (read ≡ Ok asked) × AllByRecursion (CallIsFor session) calls
     × Makes calls c asked (touched_by session old) new)
 
 acted : (meaning : Meaning (List Call)) (session c : ℕ) (asked : Request) (old new : FrontView)
     → ((calls : List Call) → meaning ≡ Ok calls → AllByRecursion (CallIsFor session) calls) → Acts meaning c asked (touched_by session old) new
     → Outcome (Ok asked) session c old new
-acted (Err (Refused code)) session c asked old new for_it is = inl (ap (λ (v : FrontView). v.asker) is)
+acted (Err (Refused code)) session c asked old new for_it is = inl (ap (λ (v : FrontView). v.tree) is)
 acted (Err Memory) session c asked old new for_it is = absurd is
 acted (Ok calls) session c asked old new for_it has = inr (asked, calls, refl, for_it calls refl, has)
 
 by_reading : (read : Result Request Fault) (session c : ℕ) (old new : FrontView) → Requests read session c old new → Outcome read session c old new
-by_reading (Err fault) session c old new is = inl (ap (λ (v : FrontView). v.asker) is)
+by_reading (Err fault) session c old new is = inl (ap (λ (v : FrontView). v.tree) is)
 by_reading (Ok asked) session c old new has =
     acted (calls_in old.clock.tick session asked.asked) session c asked old new
     (calls_are_for_their_session old.clock.tick session asked.asked) has

@@ -1,103 +1,117 @@
--- Steps of a server: the log of its calls goes on, its streams hold no more, seats are kept, and
--- nothing is taken of what was made.
-use Rattle.std.proofs.Common.{◌≡◌, ℕ, ◌≤◌, ◌++◌, arith, Bool, true, false, Option, None, Some, refl, sym, subst}
-use Rattle.std.specs.Prelude.{◌&&◌, is_none, is_some}
-use Rattle.ztree.specs.Tree.{Tree}
+-- What a server's steps keep: the log goes on, few bytes are kept, seats are in order, and what was
+-- made is left until it is taken.
+use Rattle.std.proofs.Common.{◌≡◌, ◌∙◌, ℕ, ◌≤◌, true, List, [], ◌∷◌, ◌++◌, refl, sym, ap, subst, arith, append_assoc}
+use Rattle.std.proofs.lemmas.List.{append-nil, map-append}
+use Rattle.std.specs.FinMap.{contains_key, get}
+use Rattle.ztree.proofs.Maps.{has_some}
 use Rattle.zcalls.specs.declared.call.Call.{Call}
+use Rattle.zcalls.specs.declared.call.Call.TheVariants as call
+use Rattle.zcalls.specs.declared.call.Update.{Update}
+use Rattle.zcalls.specs.declared.reply.Reply.{Reply}
 use Rattle.zpieces.specs.Streams.{held_of}
+use Rattle.zworld_model.specs.FromTree.{CanStart}
+use Rattle.zlogs.specs.Logs.{Log, Leads, calls_of}
+use Rattle.zlogs.proofs.Lives.{leads_more, leads_nowhere}
 use Rattle.ztables.specs.Tables.{TablesView}
-use Rattle.zfront.specs.Front.{FrontView, with_tables}
-use Rattle.zturns.specs.Turns.{Log}
-use Rattle.zalone.proofs.Earlier.{left_by}
-use Rattle.zfront_laws.specs.Runs.{GoesOn, IsLog}
+use Rattle.zfront.specs.declared.limits.TheConstants.{MAX_KEPT}
+use Rattle.zfront.specs.Front.{FrontView, with_tables, updates_among}
+use Rattle.zfront.specs.Restoring.{all_taken}
+use Rattle.zfront_laws.specs.Making.{updates_in}
+use Rattle.zfront_laws.specs.Runs.{KeepsFew}
 use Rattle.zfront_laws.specs.Seats.{IsSeated}
 use Rattle.zfront_laws.proofs.Seated.{Has}
 use Rattle.zfront_laws.proofs.Kept.{Kept}
-use Rattle.zfront_laws.proofs.Rising.{zxid_rises}
-use Rattle.zfront_laws.proofs.GoingOn as log
 use Rattle.zfront_laws.proofs.Lighter.{Lighter, unmoved}
-use Rattle.zfront_laws.proofs.Since as since
-use Rattle.zfront_laws.proofs.Since.{GoesOnSince, IsSince, Making, goes_on}
-use Rattle.zfront_laws.proofs.Taking.{SameTaking, same_asker, taking_both}
 
--- each connection that speaks for a session has its seat, and no session is newer than the tree
+-- each connection that speaks for a session has its seat, each session with a sitting is one of the
+-- tree, and a service can begin with this tree
 pub record Fine (v : FrontView) : Type 0 where
   pub seated : IsSeated v.tables
-  pub below : (id : ℕ) → Has v.tables.sittings id → id ≤ v.asker.known.zxid
+  pub alive : (id : ℕ) → Has v.tables.sittings id → contains_key v.tree.sessions id ≡ true
+  pub can : CanStart v.tree
 
--- it stays so, where the server has a log
-abbrev pub Seats : FrontView → FrontView → Type 0
-Seats old new = (t : Tree) (log : Log) (waiting : Option Call) → IsSince t old log waiting → Fine old → Fine new
+-- so no session with a sitting is newer than the tree
+pub below : (v : FrontView) → Fine v → (id : ℕ) → Has v.tables.sittings id → id ≤ v.tree.zxid
+below v fine id has =
+    let s = has_some (get v.tree.sessions id) (fine.alive id has) in
+    (fine.can.granted id s.0 s.1).before
 
-pub seats_both : (old middle new : FrontView) → GoesOnSince old middle → Seats old middle → Seats middle new → Seats old new
-seats_both old middle new goes one two t log waiting has fine =
-    let next = goes t log waiting has in
-    two t (log ++ next.0) next.1 next.2 (one t log waiting has fine)
+-- the same tree, and tables whose seats are kept
+pub seats_kept : (t : TablesView) (v : FrontView) → Kept v.tables t → Fine v → Fine (with_tables t v)
+seats_kept t v kept fine = record { seated = kept.0 fine.seated; alive = λ id has. fine.alive id (kept.1 id has); can = fine.can }
 
-pub seats_kept : (old new : FrontView) → GoesOnSince old new → Kept old.tables new.tables → Seats old new
-seats_kept old new goes kept t log waiting has fine =
-    let next = goes t log waiting has in
-    let more = zxid_rises t old new log next.0 waiting next.1 has next.2 in
-    record { seated = kept.0 fine.seated; below = λ id there. omega (arith, more, fine.below id (kept.1 id there)) }
+-- the secret, the clock and whether updates are kept stay
+abbrev pub Alike : FrontView → FrontView → Type 0
+Alike old new = (new.secret ≡ old.secret) × (new.clock ≡ old.clock) × (new.is_kept ≡ old.is_kept)
 
--- where the log is behind an earlier one
-pub seats_on : (old new : FrontView) → Seats old new → (log : Log) (waiting : Option Call) → IsLog old log waiting → Fine old → Fine new
-seats_on old new seats log waiting is fine =
-    let h = is.told in
-    seats (left_by h.earlier) h.since waiting (record { told = h.told; late = is.late }) fine
+-- a step with this log, at which these updates are taken
+pub record Goes (took : List Update) (log : Log) (old new : FrontView) : Type 0 where
+  pub leads : Leads old.tree log new.tree
+  pub few : KeepsFew old → KeepsFew new
+  pub seats : Fine old → Fine new
+  pub alike : Alike old new
+  pub made : old.is_kept ≡ true → old.made ++ updates_in log ≡ took ++ new.made
 
-pub record Step (old new : FrontView) : Type 0 where
-  pub goes : GoesOn old new
-  pub few : held_of new.tables.streams ≤ held_of old.tables.streams
-  pub seats : Seats old new
-  pub making : Making old new
+-- ---- one step behind another
 
--- a step by what it does to the log and to the tables
-pub steps : (old new : FrontView) → GoesOnSince old new → SameTaking old.asker new.asker → Lighter old.tables new.tables → Step old new
-steps old new more taking light =
-    record { goes = goes_on old new more; few = light.0; seats = seats_kept old new more light.1; making = (taking, more) }
+among_both : (calls more : List Call) → updates_among (calls ++ more) ≡ updates_among calls ++ updates_among more
+among_both [] more = refl
+among_both (call.Update update ∷ calls) more = ap (λ updates. update ∷ updates) (among_both calls more)
+among_both (call.Query query ∷ calls) more = among_both calls more
 
-pub making_both : (old middle new : FrontView) → Making old middle → Making middle new → Making old new
-making_both old middle new one two =
-    (taking_both old.asker middle.asker new.asker one.0 two.0, since.both old middle new one.1 two.1)
+pub updates_both : (log more : Log) → updates_in (log ++ more) ≡ updates_in log ++ updates_in more
+updates_both log more =
+    ap updates_among (map-append (λ (told : Call × Reply). told.0) log more) ∙ among_both (calls_of log) (calls_of more)
 
--- one step behind another
-pub both : (old middle new : FrontView) → Step old middle → Step middle new → Step old new
-both old middle new one two = record {
-  goes = log.both old middle new one.goes two.goes;
-  few = omega (arith, one.few, two.few);
-  seats = seats_both old middle new one.making.1 one.seats two.seats;
-  making = making_both old middle new one.making two.making;
+all_made : (left one two took rest middle last : List Update) → left ++ one ≡ took ++ middle → middle ++ two ≡ rest ++ last
+    → left ++ (one ++ two) ≡ (took ++ rest) ++ last
+all_made left one two took rest middle last first second =
+    sym (append_assoc left one two) ∙ ap (λ made. made ++ two) first ∙ append_assoc took middle two ∙ ap (λ made. took ++ made) second
+    ∙ sym (append_assoc took rest last)
+
+pub both : {took rest : List Update} {log more : Log} {old middle new : FrontView} → Goes took log old middle → Goes rest more middle new
+    → Goes (took ++ rest) (log ++ more) old new
+both {took} {rest} {log} {more} {old} {middle} {new} one two = record {
+  leads = leads_more old.tree middle.tree new.tree log more one.leads two.leads;
+  few = λ few. two.few (one.few few);
+  seats = λ fine. two.seats (one.seats fine);
+  alike = (two.alike.0 ∙ one.alike.0, two.alike.1 ∙ one.alike.1, two.alike.2 ∙ one.alike.2);
+  made = λ kept.
+      ap (λ updates. old.made ++ updates) (updates_both log more)
+      ∙ all_made old.made (updates_in log) (updates_in more) took rest middle.made new.made (one.made kept) (two.made (one.alike.2 ∙ kept));
 }
 
--- what a server became
-pub becomes : (old new like : FrontView) → new ≡ like → GoesOnSince old like → SameTaking old.asker like.asker
-    → Lighter old.tables like.tables → Step old new
-becomes old new like is goes taking light = subst (λ (v : FrontView). Step old v) (sym is) (steps old like goes taking light)
+-- behind a step no more calls are made
+pub then_none : {log : Log} {old middle new : FrontView} → Goes [] log old middle → Goes [] [] middle new → Goes [] log old new
+then_none {log} {old} {middle} {new} one two = subst (λ l. Goes [] l old new) (append-nil log) (both one two)
 
--- nothing is made, and nothing taken
-pub makes_none : (old new : FrontView) → new.asker ≡ old.asker → new.late ≡ old.late → Making old new
-makes_none old new asker late = (same_asker old.asker new.asker asker, since.same old new asker late)
+-- ---- steps without calls
 
--- nothing happens to its client
-pub same_client : (old new like : FrontView) → new ≡ like → like.asker ≡ old.asker → like.late ≡ old.late → Lighter old.tables like.tables
-    → Step old new
-same_client old new like is kept late light = becomes old new like is (since.same old like kept late) (same_asker old.asker like.asker kept) light
+-- the tables are others
+pub tables_change : (t : TablesView) (v : FrontView) → (KeepsFew v → held_of t.streams ≤ MAX_KEPT) → (Fine v → Fine (with_tables t v))
+    → Goes [] [] v (with_tables t v)
+tables_change t v few seats = record {
+  leads = leads_nowhere v.tree;
+  few = few;
+  seats = seats;
+  alike = (refl, refl, refl);
+  made = λ keeps. append-nil v.made;
+}
+
+pub retabled : (t : TablesView) (old new : FrontView) → new ≡ with_tables t old → Lighter old.tables t → Goes [] [] old new
+retabled t old new is light =
+    subst (Goes [] [] old) (sym is) (tables_change t old (λ few. omega (arith, light.0, few)) (seats_kept t old light.1))
 
 -- nothing at all
-pub same : (old new : FrontView) → new ≡ old → Step old new
-same old new is = same_client old new old is refl refl (unmoved old.tables)
+pub same : (old new : FrontView) → new ≡ old → Goes [] [] old new
+same old new is = retabled old.tables old new is (unmoved old.tables)
 
--- nothing but that the tables are others
-pub retabled : (t : TablesView) (old new : FrontView) → new ≡ with_tables t old → Lighter old.tables t → Step old new
-retabled t old new is light = same_client old new (with_tables t old) is refl refl light
-
--- no call is late
-pub none_late : (late : Option Call) → is_some late ≡ false → late ≡ None
-none_late None is = refl
-none_late (Some call) is = absurd (cc is)
-
-pub free_to_look : (must : Bool) (late : Option Call) → must && is_none late ≡ true → late ≡ None
-free_to_look must None is = refl
-free_to_look true (Some call) is = absurd (cc is)
-free_to_look false (Some call) is = absurd (cc is)
+-- what was made is taken
+pub takes : (old new : FrontView) → new ≡ all_taken old → Goes old.made [] old new
+takes old new is = subst (Goes old.made [] old) (sym is) (record {
+  leads = leads_nowhere old.tree;
+  few = λ few. few;
+  seats = λ fine. record { seated = fine.seated; alive = fine.alive; can = fine.can };
+  alike = (refl, refl, refl);
+  made = λ keeps. refl;
+})

@@ -15,8 +15,8 @@ use Rattle.zjute.specs.declared.request.Asked.{Asked}
 use Rattle.zjute.specs.declared.request.Asked.TheVariants as asked
 use Rattle.zjute.specs.declared.request.Look.{Look}
 use Rattle.zjute.specs.declared.request.Request.{Request}
-use Rattle.zknown.specs.Known.{KnownView}
 use Rattle.zanswering.specs.declared.clock.Clock.{Clock}
+use Rattle.zanswering.specs.declared.clock.Now.{Now}
 use Rattle.zjute.specs.declared.request.SetWatches.{SetWatches}
 use Rattle.zevents.specs.declared.event.Event.{Event}
 use Rattle.zevents.specs.Events.{event}
@@ -131,14 +131,14 @@ module _ (R : TablesView → TablesView → Type 0) (carry : Carries R) where
       by false is = rw is (carry.watches (insert t.watches (watch path kind c)) t)
 
   -- a request is answered
-  pub answers : (clock : Clock) (known : KnownView) (c : ℕ) (request : Request) (calls : List Call) (replies : List Reply) (t : TablesView)
-      → R t (answered clock known c request calls replies t)
-  answers clock known c request calls replies t =
+  pub answers : (clock : Clock) (now : Now) (c : ℕ) (request : Request) (calls : List Call) (replies : List Reply) (t : TablesView)
+      → R t (answered clock now c request calls replies t)
+  answers clock now c request calls replies t =
       let absorbing = absorbed_all calls replies t in
       let wanted = wishes request.asked calls replies in
       let granting = granted_all c wanted absorbing in
-      let answer = answer_unless (some_lacked c wanted absorbing) clock known request.asked calls replies in
-      carry.both t absorbing (replied known c request.xid answer granting) (absorbs_all R carry calls replies t)
-      (carry.both absorbing granting (replied known c request.xid answer granting)
+      let answer = answer_unless (some_lacked c wanted absorbing) clock now request.asked calls replies in
+      carry.both t absorbing (replied now.zxid c request.xid answer granting) (absorbs_all R carry calls replies t)
+      (carry.both absorbing granting (replied now.zxid c request.xid answer granting)
       (wished R carry.none carry.both c (waits c) (λ e u. sends R carry c (event_frame e) u) request.asked calls replies absorbing)
-      (replies_to R carry known c request.xid answer granting))
+      (replies_to R carry now.zxid c request.xid answer granting))

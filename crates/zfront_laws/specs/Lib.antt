@@ -1,6 +1,6 @@
 pub mod Runs
+pub mod Logs
 pub mod Laws
 pub mod Seats
 pub mod Given
 pub mod Making
-pub mod Orders

@@ -1,6 +1,7 @@
 -- A watch that an update's event fires has a change: what it waits for differs from when it was set.
 use Rattle.std.proofs.Common.{◌≡◌, ◌∙◌, ◌+◌, ◌<◌, ℕ, Bool, true, false, List, Option, Some, None, refl, sym, ap, subst}
 use Rattle.std.proofs.Common.{inl, inr, arith, if◌then◌else◌}
+use mathlib.Core.Bool.{true≢false}
 use Rattle.std.specs.Prelude.{◌⊎◌, ◌||◌, is_some}
 use Rattle.std.specs.Option.{option_map}
 use Rattle.std.specs.FinMap as finite
@@ -88,9 +89,6 @@ same_read : {X : Type 0} (f : Node → X) (o : Option Node) (n : Node) → Some 
 same_read f None n is = absurd (none_some (f n) (sym is))
 same_read f (Some m) n is = (m, refl, sym (same_some (f n) (f m) is))
 
-clash : true ≡ false → ⊥
-clash is = cc
-
 late_and_early : (a b c z : ℕ) → a ≡ z + 1 → a ≡ b → b < c → c ≡ z + 1 → ⊥
 late_and_early a b c z late same early next = absurd (omega (arith, late, same, early, next))
 
@@ -100,7 +98,7 @@ OfMulti u = (parts : List Part) × (u ≡ act.Multi parts)
 
 no_creation : {P : Type 0} (path : Path) (e : Event) (k : EventKind) (at : Path) → tells_creation k ≡ false → event k at ≡ e
     → tells_creation e.kind ≡ true → P
-no_creation path e k at none is does = absurd (clash (sym does ∙ ap (λ (e : Event). tells_creation e.kind) (sym is) ∙ none))
+no_creation path e k at none is does = absurd (true≢false (sym does ∙ ap (λ (e : Event). tells_creation e.kind) (sym is) ∙ none))
 
 -- only a create and a multi tell of a new node
 creates : (u : Act) (told : Reply) (path : Path) → Tells tells_creation path (events_of u told)
@@ -153,7 +151,7 @@ module _ (s : Scene) (u : Act) (path : Path) (before : Nodes) where
       let made : has_node now path ≡ true =
       subst (λ (v : Act). has_node (step t 0 v).0.nodes path ≡ true) (sym is)
       (create_leaves t create path (subst (λ (v : Act). Tells tells_creation path (events_of v (step t 0 v).1)) is tells)) in
-      clash (sym made ∙ sym (there_data now path) ∙ ap is_some still ∙ there_data before path ∙ none)
+      true≢false (sym made ∙ sym (there_data now path) ∙ ap is_some still ∙ there_data before path ∙ none)
 
   missing_changed : has_node before path ≡ false → Tells tells_creation path es → ((data_at now path ≡ data_at before path → ⊥)) ⊎ OfMulti u
   missing_changed none tells = by (creates u (step t 0 u).1 path tells)
@@ -177,7 +175,7 @@ module _ (s : Scene) (u : Act) (path : Path) (before : Nodes) where
 pub gone_changed : (before left : Nodes) (path : Path) (of : Kind) → has_node before path ≡ is_of_node of → finite.get left path ≡ None
     → tells_of of kind.NodeDeleted ≡ true → IsSameAt of path before left → ⊥
 gone_changed before left path Data right none tells same =
-    clash (sym right ∙ sym (there_data before path) ∙ ap is_some (sym same) ∙ there_data left path ∙ ap is_some none)
-gone_changed before left path Missing right none tells same = clash (sym tells)
+    true≢false (sym right ∙ sym (there_data before path) ∙ ap is_some (sym same) ∙ there_data left path ∙ ap is_some none)
+gone_changed before left path Missing right none tells same = true≢false (sym tells)
 gone_changed before left path Children right none tells same =
-    clash (sym right ∙ sym (there_children before path) ∙ ap is_some (sym same) ∙ there_children left path ∙ ap is_some none)
+    true≢false (sym right ∙ sym (there_children before path) ∙ ap is_some (sym same) ∙ there_children left path ∙ ap is_some none)

@@ -1,6 +1,7 @@
 -- The wishes of a request are granted, and it is answered.
 use Rattle.std.proofs.Common.{◌≡◌, ◌∙◌, ℕ, Bool, true, false, List, [], ◌∷◌, ◌++◌, length, take, drop, Option, Some}
 use Rattle.std.proofs.Common.{None, refl, sym, ap, subst, inl, inr}
+use mathlib.Core.Bool.{true≢false}
 use Rattle.std.specs.Prelude.{◌⊎◌, ℤ, int_lt, is_some, ◌&&◌, not, if◌then◌else◌}
 use Rattle.std.specs.FinMap as finite
 use Rattle.std.specs.FinSet.{contains, insert}
@@ -33,26 +34,22 @@ use Rattle.zwatches.specs.Places.{is_of_node}
 use Rattle.zwatches.proofs.Order.{watches_total, same_watch}
 use Rattle.ztables.specs.Tables.{TablesView, sent}
 use Rattle.ztables.specs.Telling.{event_frame}
-use Rattle.zserving.specs.Answering.{answer_unless, granted_and_answered}
+use Rattle.zserving.specs.Answering.{answer_unless, granted_and_answered, now_of}
 use Rattle.zserving.specs.Watching.{waiting, granted, granted_all, some_lacked}
 use Rattle.zserving.specs.Wishes.{query_wish, first_wish, look_wish, wish_again, call_again, wishes_again, all_again, wishes}
 use Rattle.zfront.specs.Front.{FrontView, with_tables}
-use Rattle.zfront_watches.specs.Watching.{Scene, Happening, Set, Missed, tree_of, after, Happens, IsSameAt, set_now, tells_node}
+use Rattle.zfront_watches.specs.Watching.{Scene, Set, Missed, tree_of, after, IsSameAt, set_now, tells_node}
 use Rattle.zfront_watches.proofs.Holding.{Pending}
 use Rattle.zfront_watches.proofs.Owners.{OwnersAre}
-use Rattle.zfront_watches.proofs.Marks.{Known, Marked}
-use Rattle.zfront_watches.proofs.Reaching.{AtIf, CallNames, Arrives, all_told, behind, replies, sends}
+use Rattle.zfront_watches.proofs.Marks.{Marked}
+use Rattle.zfront_watches.proofs.Reaching.{At, Reaches, all_told, once, replies, sends_as, stays, still}
 use Rattle.zfront_watches.proofs.Standing.{In, insert_leaves}
-use Rattle.zfront_watches.proofs.Scenes.{happens_both}
 use Rattle.zfront_watches.proofs.Wishing.{AreOf, left, taken}
 
 same_itself : (kind : Kind) (path : Path) (nodes : Nodes) → IsSameAt kind path nodes nodes
 same_itself Data path nodes = refl
 same_itself Missing path nodes = refl
 same_itself Children path nodes = refl
-
-clash : true ≡ false → ⊥
-clash is = cc
 
 module _ (s : Scene) (c : ℕ) (kind : Kind) (path : Path) where
   abbrev mine : Watch
@@ -78,7 +75,7 @@ module _ (s : Scene) (c : ℕ) (kind : Kind) (path : Path) where
       same is = tied_same watches_total same_watch w mine is
 
       other : eq_by_cmp watch_cmp w mine ≡ false → (eq_by_cmp watch_cmp w mine ≡ true) ⊎ In t w → In t w
-      other is (inl ties) = absurd (clash (sym ties ∙ is))
+      other is (inl ties) = absurd (true≢false (sym ties ∙ is))
       other is (inr stood) = stood
 
       by : (a : Bool) → eq_by_cmp watch_cmp w mine ≡ a → (b : Bool) → contains t.watches mine ≡ b
@@ -93,74 +90,49 @@ module _ (s : Scene) (c : ℕ) (kind : Kind) (path : Path) where
     | false ↦ refl
   ]
 
-  waits : (must : Bool) (v : FrontView) → AtIf must v s → has_node (tree_of s).nodes path ≡ is_of_node kind
-      → AtIf must (with_tables (waiting c kind path v.tables) v) (after (Set c kind path) s)
-  waits must v there may = record {
+  waits : (v : FrontView) → At v s → has_node (tree_of s).nodes path ≡ is_of_node kind
+      → At (with_tables (waiting c kind path v.tables) v) (after (Set c kind path) s)
+  waits v there may = record {
     tables = ap (waiting c kind path) there.tables;
-    waiting = there.waiting;
-    log = record { told = there.log.told; late = there.log.late };
+    tree = there.tree;
     holds = record {
       right = λ w stands. set_case (λ nodes. has_node nodes w.path ≡ is_of_node w.kind) w
           (λ same. subst (λ (x : Watch). has_node (tree_of s).nodes x.path ≡ is_of_node x.kind) (sym same) may)
           (λ stood. there.holds.right w stood) stands;
-      seen = λ w stands. set_case (λ nodes. Pending must (tree_of s) nodes w.kind w.path) w
+      seen = λ w stands. set_case (λ nodes. Pending false (tree_of s) nodes w.kind w.path) w
           (λ same. inl (same_itself w.kind w.path (tree_of s).nodes))
           (λ stood. there.holds.seen w stood) stands;
       owners = subst (λ m. OwnersAre (Marked m) (tree_of s).nodes) (sym sittings_stay) there.holds.owners;
     };
-    late = λ call is. subst (λ m. CallNames (Known m) call) (sym sittings_stay) (there.late call is);
-    free = there.free;
   }
 
--- wishes are granted at a scene, and no call is made
-pub record Grant (t : TablesView) (must : Bool) (v : FrontView) (s : Scene) : Type 0 where
-  pub happenings : List Happening
-  pub scene : Scene
-  pub happens : Happens happenings s scene
-  pub same : scene.log ≡ s.log
-  pub there : AtIf must (with_tables t v) scene
-
--- so it may be where these nodes are
+-- wishes may be granted where these nodes are, and no call is made
 abbrev pub Grants : (TablesView → TablesView) → Nodes → Type 0
-Grants grant nodes = (must : Bool) (v : FrontView) (s : Scene) → (tree_of s).nodes ≡ nodes → AtIf must v s → Grant (grant v.tables) must v s
+Grants grant nodes = (v : FrontView) (s : Scene) → v.tree.nodes ≡ nodes → At v s → Reaches (with_tables (grant v.tables) v) s []
 
 grants_nothing : (nodes : Nodes) → Grants (λ t. t) nodes
-grants_nothing nodes must v s is there = record { happenings = []; scene = s; happens = refl; same = refl; there = there }
+grants_nothing nodes v s is there = stays false v s there
+
+has_here : (v : FrontView) (s : Scene) (nodes : Nodes) (path : Path) (b : Bool) → v.tree.nodes ≡ nodes → At v s → has_node nodes path ≡ b
+    → has_node (tree_of s).nodes path ≡ b
+has_here v s nodes path b is there may = ap (λ (t : Tree). has_node t.nodes path) there.tree ∙ ap (λ ns. has_node ns path) is ∙ may
 
 grants_watch : (c : ℕ) (kind : Kind) (path : Path) (nodes : Nodes) → has_node nodes path ≡ is_of_node kind → Grants (waiting c kind path) nodes
-grants_watch c kind path nodes may must v s is there =
-    let here = ap (λ ns. has_node ns path) is ∙ may in
-    record {
-      happenings = Set c kind path ∷ [];
-      scene = after (Set c kind path) s;
-      happens = (here, refl);
-      same = refl;
-      there = waits s c kind path must v there here;
-    }
+grants_watch c kind path nodes may v s is there =
+    let here = has_here v s nodes path (is_of_node kind) is there may in
+    once false (with_tables (waiting c kind path v.tables) v) s (Set c kind path) (after (Set c kind path) s) (here, refl) refl
+    (waits s c kind path v there here)
 
 grants_event : (c : ℕ) (k : EventKind) (path : Path) (nodes : Nodes) → has_node nodes path ≡ tells_node k
     → Grants (sent c (event_frame (event k path))) nodes
-grants_event c k path nodes may must v s is there =
-    record {
-      happenings = Missed c (event k path) ∷ [];
-      scene = after (Missed c (event k path)) s;
-      happens = (ap (λ ns. has_node ns path) is ∙ may, refl);
-      same = refl;
-      there = sends must v s c (event_frame (event k path)) there;
-    }
+grants_event c k path nodes may v s is there =
+    sends_as false v s c (event_frame (event k path)) (Missed c (event k path)) (has_here v s nodes path (tells_node k) is there may) refl there
 
 grants_both : (first second : TablesView → TablesView) (nodes : Nodes) → Grants first nodes → Grants second nodes
     → Grants (λ t. second (first t)) nodes
-grants_both first second nodes one two must v s is there =
-    let a = one must v s is there in
-    let b = two must (with_tables (first v.tables) v) a.scene (ap (λ log. (tree_of (record s { log = log })).nodes) a.same ∙ is) a.there in
-    record {
-      happenings = a.happenings ++ b.happenings;
-      scene = b.scene;
-      happens = happens_both a.happenings b.happenings s a.scene b.scene a.happens b.happens;
-      same = b.same ∙ a.same;
-      there = b.there;
-    }
+grants_both first second nodes one two v s is there =
+    let u = with_tables (first v.tables) v in
+    still false false u (with_tables (second (first v.tables)) v) s [] (one v s is there) (λ next here. two u next is here)
 
 -- what is granted behind other wishes
 module _ {W : Type 0} (one : W → TablesView → TablesView) (all : List W → TablesView → TablesView) (first : (t : TablesView) → all [] t ≡ t)
@@ -170,8 +142,8 @@ module _ {W : Type 0} (one : W → TablesView → TablesView) (all : List W → 
   appended (x ∷ xs) ys t = ap (all ys) (next x xs t) ∙ appended xs ys (one x t) ∙ sym (next x (xs ++ ys) t)
 
   grants_append : (xs ys : List W) (nodes : Nodes) → Grants (all xs) nodes → Grants (all ys) nodes → Grants (all (xs ++ ys)) nodes
-  grants_append xs ys nodes a b must v s is there =
-      subst (λ t. Grant t must v s) (appended xs ys v.tables) (grants_both (all xs) (all ys) nodes a b must v s is there)
+  grants_append xs ys nodes a b v s is there =
+      subst (λ t. Reaches (with_tables t v) s []) (appended xs ys v.tables) (grants_both (all xs) (all ys) nodes a b v s is there)
 
 -- the watch of a query
 query_grants : (c : ℕ) (t : Tree) (q : Question) → Grants (granted_all c (query_wish q (query_reply t q))) t.nodes
@@ -294,14 +266,12 @@ pub no_wish_grants : (c : ℕ) (asks : Asked) (calls : List Call) (replies : Lis
     → Grants (granted_all c (wishes asks calls replies)) nodes
 no_wish_grants c asks calls replies nodes none = rw none (grants_nothing nodes)
 
--- where no look is due, the wishes of a request are granted, and it is answered
-pub granted_answers : (v : FrontView) (s : Scene) (c : ℕ) (request : Request) (calls : List Call) (told : List Reply) → AtIf false v s
-    → Grants (granted_all c (wishes request.asked calls told)) (tree_of s).nodes
-    → Arrives false (with_tables (granted_and_answered v.clock v.asker.known c request calls told v.tables) v) s
+-- the wishes of a request are granted, and it is answered
+pub granted_answers : (v : FrontView) (s : Scene) (c : ℕ) (request : Request) (calls : List Call) (told : List Reply) → At v s
+    → Grants (granted_all c (wishes request.asked calls told)) v.tree.nodes
+    → Reaches (with_tables (granted_and_answered v.clock (now_of v.tree) c request calls told v.tables) v) s []
 granted_answers v s c request calls told there grants =
-    let t = granted_all c (wishes request.asked calls told) v.tables in
-    let answer = answer_unless (some_lacked c (wishes request.asked calls told) v.tables) v.clock v.asker.known request.asked calls told in
-    let did = grants false v s refl there in
-    behind false false (with_tables t v) (with_tables (granted_and_answered v.clock v.asker.known c request calls told v.tables) v) s
-    (record { happenings = did.happenings; scene = did.scene; happens = did.happens; there = did.there })
-    (λ next here. replies false (with_tables t v) next c request.xid answer here (inl (all_told (with_tables t v) next c here)))
+    let u = with_tables (granted_all c (wishes request.asked calls told) v.tables) v in
+    let answer = answer_unless (some_lacked c (wishes request.asked calls told) v.tables) v.clock (now_of v.tree) request.asked calls told in
+    still false false u (with_tables (granted_and_answered v.clock (now_of v.tree) c request calls told v.tables) v) s [] (grants v s refl there)
+    (λ next here. replies false u next c request.xid answer here (inl (all_told u next c here)))

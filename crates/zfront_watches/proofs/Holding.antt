@@ -60,7 +60,7 @@ pub record Holds (must : Bool) (t : Tree) (set_at : Watch → Nodes) (tables : T
 -- where no look is due, nothing has changed
 pub settled : (t : Tree) (before : Nodes) (kind : Kind) (path : Path) → Pending false t before kind path → IsSameAt kind path before t.nodes
 settled t before kind path (inl same) = same
-settled t before kind path (inr late) = absurd (cc (late.0))
+settled t before kind path (inr due) = absurd (cc (due.0))
 
 -- a node by what is read of it
 pub there_data : (nodes : Nodes) (path : Path) → is_some (data_at nodes path) ≡ has_node nodes path
@@ -217,24 +217,15 @@ update_holds t set_at tables u stays names holds = record {
     left : (w : Watch) → In (told_all es middle) w → In tables w × Unfired w es
     left w stands = told_all_leaves es middle w stands
 
--- the nodes, and where a look is due the zxid, are the same
-pub still_holds : (must : Bool) (t u : Tree) (set_at : Watch → Nodes) (tables : TablesView) → u.nodes ≡ t.nodes → (must ≡ true → u.zxid ≡ t.zxid)
-    → Holds must t set_at tables → Holds must u set_at tables
-still_holds must t u set_at tables nodes zxid holds = record {
+-- the nodes are the same
+pub still_holds : (t u : Tree) (set_at : Watch → Nodes) (tables : TablesView) → u.nodes ≡ t.nodes → Holds false t set_at tables
+    → Holds false u set_at tables
+still_holds t u set_at tables nodes holds = record {
   right = holds.right;
-  seen = λ w stands. each (set_at w) w.kind w.path (holds.seen w stands);
+  seen = λ w stands.
+      inl (subst (IsSameAt w.kind w.path (set_at w)) (sym nodes) (settled t (set_at w) w.kind w.path (holds.seen w stands)));
   owners = subst (OwnersAre (Marked tables.sittings)) (sym nodes) holds.owners;
 }
-  where
-    went : (kind : Kind) (path : Path) → u.zxid ≡ t.zxid → WentAway kind path t → WentAway kind path u
-    went Data path same away = ap (λ ns. data_at ns path) nodes ∙ away
-    went Missing path same away = away
-    went Children path same (inl away) = inl (ap (λ ns. children_at ns path) nodes ∙ away)
-    went Children path same (inr away) = inr (ap (λ ns. children_at ns path) nodes ∙ away ∙ ap (λ z. Some z) (sym same))
-
-    each : (before : Nodes) (kind : Kind) (path : Path) → Pending must t before kind path → Pending must u before kind path
-    each before kind path (inl same) = inl (subst (IsSameAt kind path before) (sym nodes) same)
-    each before kind path (inr (due, away)) = inr (due, went kind path (zxid due) away)
 
 -- what a close or a tick took away waits for a look
 lost : (zxid : ℕ) (before a b : Nodes) (u : Tree) (kind : Kind) (path : Path) → u.nodes ≡ b → u.zxid ≡ zxid → Loses zxid a b path

@@ -13,10 +13,9 @@ mod Wishing
 mod Sorting
 mod Granting
 mod Looking
-mod Calling
+mod Tidying
 mod Updating
 mod Requesting
-mod Hearing
 mod Greeting
 mod Ticking
 mod Coming

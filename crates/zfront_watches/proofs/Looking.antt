@@ -1,6 +1,7 @@
 -- What a look sees, and that no watch that stands behind it waits in vain.
-use Rattle.std.proofs.Common.{◌≡◌, ◌∙◌, ◌≤◌, ℕ, suc, Bool, true, false, List, [], ◌∷◌, ◌++◌, length, Option, Some, None}
+use Rattle.std.proofs.Common.{◌≡◌, ◌∙◌, ℕ, Bool, true, false, List, [], ◌∷◌, ◌++◌, Option, Some, None}
 use Rattle.std.proofs.Common.{refl, sym, ap, subst, inl, inr, arith}
+use mathlib.Core.Bool.{true≢false}
 use Rattle.std.specs.Prelude.{◌⊎◌, ◌||◌, ◌==◌, if◌then◌else◌}
 use Rattle.std.proofs.lemmas.Bool.Decides.{nat_tests}
 use Rattle.std.specs.List.{list_any}
@@ -14,7 +15,6 @@ use Rattle.ztree.specs.Tree.{Tree, Path, stat_of}
 use Rattle.ztree.proofs.Maps.{tied_same, none_some, same_some}
 use Rattle.zcalls.specs.Lists.{Among}
 use Rattle.zcalls.specs.declared.call.Query.TheVariants.{Exists}
-use Rattle.zcalls.specs.declared.reply.Reply.{Reply}
 use Rattle.zcalls.specs.declared.reply.Reply.TheVariants as reply
 use Rattle.zcalls.specs.Step.{query_reply, on_node}
 use Rattle.zjute.specs.declared.event.EventKind.TheVariants.{NodeDeleted, NodeChildrenChanged}
@@ -30,18 +30,10 @@ use Rattle.zwatches.specs.Places.{is_of_node, node_places}
 use Rattle.zwatches.specs.Events.{Lists, fires}
 use Rattle.zwatches.proofs.Order.{places_total, same_place}
 use Rattle.zwatches.proofs.Worked.{has_each_node}
-use Rattle.zserving.specs.Looking.{looks_at, seen, seen_at, node_seen, children_seen}
+use Rattle.zserving.specs.Looking.{seen, seen_at, node_seen, children_seen}
+use Rattle.zfront.specs.Front.{looks}
 use Rattle.zfront_watches.proofs.Holding.{WentAway}
 use Rattle.zfront_watches.proofs.Standing.{Unfired, fires_data, fires_children}
-use Rattle.zfront_watches.proofs.Wishing.{AreOf, AreQueries}
-
-pub looks_are_queries : (places : List Place) → AreQueries (looks_at places)
-looks_are_queries [] = tt
-looks_are_queries (p ∷ places) = (tt, looks_are_queries places)
-
-pub as_many_looks : (places : List Place) → length (looks_at places) ≡ length places
-as_many_looks [] = refl
-as_many_looks (p ∷ places) = ap suc (as_many_looks places)
 
 -- ---- the cause of what is told
 
@@ -90,16 +82,15 @@ place_caused t p e among = by (finite.get t.nodes p.path) refl among
     by None is (inr none) = absurd none
     by (Some n) is among = node_caused t p p.kind n (stat_of t.nodes p.path n) e is refl among
 
-pub seen_caused : (t : Tree) (places : List Place) (replies : List Reply) (e : Event) → AreOf t (looks_at places) replies
-    → Among e (seen t.zxid places replies)
-    → IsSeenIn t e
-seen_caused t [] replies e all none = absurd none
-seen_caused t (p ∷ places) [] e all none = absurd none
-seen_caused t (p ∷ places) (told ∷ replies) e all among =
-    by (among_append e (seen_at t.zxid p told) (seen t.zxid places replies) among) (λ there. seen_caused t places replies e all.1 there)
+pub seen_caused : (t : Tree) (places : List Place) (e : Event) → Among e (seen t.zxid places (looks t places)) → IsSeenIn t e
+seen_caused t [] e none = absurd none
+seen_caused t (p ∷ places) e among =
+    by (among_append e (seen_at t.zxid p (query_reply t (Exists p.path))) (seen t.zxid places (looks t places)) among)
+    (λ there. seen_caused t places e there)
   where
-    by : Among e (seen_at t.zxid p told) ⊎ Among e (seen t.zxid places replies) → (Among e (seen t.zxid places replies) → IsSeenIn t e) → IsSeenIn t e
-    by (inl here) rest = place_caused t p e (subst (λ told. Among e (seen_at t.zxid p told)) all.0 here)
+    by : Among e (seen_at t.zxid p (query_reply t (Exists p.path))) ⊎ Among e (seen t.zxid places (looks t places))
+        → (Among e (seen t.zxid places (looks t places)) → IsSeenIn t e) → IsSeenIn t e
+    by (inl here) rest = place_caused t p e here
     by (inr there) rest = rest there
 
 -- ---- no watch waits in vain
@@ -109,9 +100,6 @@ unfired_append w [] more all = (tt, all)
 unfired_append w (e ∷ es) more all =
     let rest = unfired_append w es more all.1 in
     ((all.0, rest.0), rest.1)
-
-clash : true ≡ false → ⊥
-clash is = cc
 
 -- the watch of a node fires where the node is gone
 deleted_fires : (w : Watch) (k : Kind) → w.kind ≡ k → is_of_node k ≡ true → fires NodeDeleted w.path w ≡ true
@@ -132,7 +120,7 @@ settled_there t p w n Children is at there unfired (inr last) =
     let z : n.pzxid ≡ t.zxid = same_some n.pzxid t.zxid (sym (ap (option_map (λ (m : Node). m.pzxid)) there) ∙ last) in
     let told : Unfired w (event NodeChildrenChanged p.path ∷ []) =
     subst (λ b. Unfired w (if b then event NodeChildrenChanged p.path ∷ [] else [])) (level n.pzxid t.zxid z) unfired in
-    clash (sym (fires_children w NodeChildrenChanged is refl) ∙ ap (λ (q : Place). fires NodeChildrenChanged q.path w) at ∙ told.0)
+    true≢false (sym (fires_children w NodeChildrenChanged is refl) ∙ ap (λ (q : Place). fires NodeChildrenChanged q.path w) at ∙ told.0)
 
 look_settles : (t : Tree) (p : Place) (w : Watch) → place_of w ≡ p → is_of_node w.kind ≡ true
     → Unfired w (seen_at t.zxid p (query_reply t (Exists p.path)))
@@ -143,27 +131,23 @@ look_settles t p w at of_node unfired away = by (finite.get t.nodes p.path) refl
     by : (o : Option Node) → finite.get t.nodes p.path ≡ o
         → Unfired w (seen_at t.zxid p (on_node o (λ n. reply.Exists (stat_of t.nodes p.path n)))) → ⊥
     by None is told =
-        clash (sym (deleted_fires w w.kind refl of_node) ∙ ap (λ (q : Place). fires NodeDeleted q.path w) at ∙ told.0)
+        true≢false (sym (deleted_fires w w.kind refl of_node) ∙ ap (λ (q : Place). fires NodeDeleted q.path w) at ∙ told.0)
     by (Some n) is told =
         settled_there t p w n w.kind refl at (ap (λ (q : Place). finite.get t.nodes q.path) at ∙ is)
         (subst (λ k. Unfired w (node_seen t.zxid k p (stat_of t.nodes p.path n))) (ap (λ (q : Place). q.kind) (sym at)) told) away
 
-looks_settle : (t : Tree) (places : List Place) (replies : List Reply) (w : Watch) → AreOf t (looks_at places) replies
-    → length places ≤ length replies
-    → list_any (eq_by_cmp place_cmp (place_of w)) places ≡ true → is_of_node w.kind ≡ true → Unfired w (seen t.zxid places replies)
+looks_settle : (t : Tree) (places : List Place) (w : Watch) → list_any (eq_by_cmp place_cmp (place_of w)) places ≡ true
+    → is_of_node w.kind ≡ true → Unfired w (seen t.zxid places (looks t places))
     → WentAway w.kind w.path t → ⊥
-looks_settle t [] replies w all enough among of_node unfired away = clash (sym among)
-looks_settle t (p ∷ places) [] w all enough among of_node unfired away = absurd (omega (arith, enough))
-looks_settle t (p ∷ places) (told ∷ replies) w all enough among of_node unfired away =
-    by (eq_by_cmp place_cmp (place_of w) p) refl (λ rest. looks_settle t places replies w all.1 (omega (arith, enough)) rest of_node parts.1 away)
+looks_settle t [] w among of_node unfired away = true≢false (sym among)
+looks_settle t (p ∷ places) w among of_node unfired away =
+    by (eq_by_cmp place_cmp (place_of w) p) refl (λ rest. looks_settle t places w rest of_node parts.1 away)
   where
-    parts : Unfired w (seen_at t.zxid p told) × Unfired w (seen t.zxid places replies)
-    parts = unfired_append w (seen_at t.zxid p told) (seen t.zxid places replies) unfired
+    parts : Unfired w (seen_at t.zxid p (query_reply t (Exists p.path))) × Unfired w (seen t.zxid places (looks t places))
+    parts = unfired_append w (seen_at t.zxid p (query_reply t (Exists p.path))) (seen t.zxid places (looks t places)) unfired
 
     by : (b : Bool) → eq_by_cmp place_cmp (place_of w) p ≡ b → (list_any (eq_by_cmp place_cmp (place_of w)) places ≡ true → ⊥) → ⊥
-    by true is rest =
-        look_settles t p w (tied_same places_total same_place (place_of w) p is) of_node
-        (subst (λ told. Unfired w (seen_at t.zxid p told)) all.0 parts.0) away
+    by true is rest = look_settles t p w (tied_same places_total same_place (place_of w) p is) of_node parts.0 away
     by false is rest = rest (sym (ap (λ b. b || list_any (eq_by_cmp place_cmp (place_of w)) places) is) ∙ among)
 
 -- each watch of a node is at one of the places
@@ -175,15 +159,14 @@ watched table places w lists stands of_node =
     ∙ (has_each_node table (place_of w)).1 (w, (stands, of_node, refl))
 
 none_missing : (t : Tree) (path : Path) (k : Kind) → is_of_node k ≡ false → WentAway k path t → ⊥
-none_missing t path Data is away = clash is
+none_missing t path Data is away = true≢false is
 none_missing t path Missing is away = away
-none_missing t path Children is away = clash is
+none_missing t path Children is away = true≢false is
 
-pub none_in_vain : (t : Tree) (table : Watches) (places : List Place) (replies : List Reply) (w : Watch) → Lists places (node_places table)
-    → AreOf t (looks_at places) replies → length places ≤ length replies → contains table w ≡ true → Unfired w (seen t.zxid places replies)
-    → WentAway w.kind w.path t → ⊥
-none_in_vain t table places replies w lists all enough stands unfired away = by (is_of_node w.kind) refl
+pub none_in_vain : (t : Tree) (table : Watches) (places : List Place) (w : Watch) → Lists places (node_places table)
+    → contains table w ≡ true → Unfired w (seen t.zxid places (looks t places)) → WentAway w.kind w.path t → ⊥
+none_in_vain t table places w lists stands unfired away = by (is_of_node w.kind) refl
   where
     by : (b : Bool) → is_of_node w.kind ≡ b → ⊥
-    by true is = looks_settle t places replies w all enough (watched table places w lists stands is) is unfired away
+    by true is = looks_settle t places w (watched table places w lists stands is) is unfired away
     by false is = none_missing t w.path w.kind is away

@@ -1,6 +1,8 @@
 -- Which sessions are known to have made an ephemeral node, and which are there.
 use Rattle.std.proofs.Common.{◌≡◌, ◌≢◌, ◌∙◌, ℕ, Bool, true, false, List, [], ◌∷◌, Option, Some, None, refl, sym, ap, inl, inr}
-use Rattle.std.specs.Prelude.{◌⊎◌, ◌||◌, not, is_some, if◌then◌else◌}
+use Rattle.std.proofs.Math.Bool.{or-true}
+use mathlib.Core.Bool.{true≢false}
+use Rattle.std.specs.Prelude.{◌⊎◌, ◌||◌, not, is_some, unwrap_or, if◌then◌else◌}
 use Rattle.std.specs.List.{AllByRecursion, list_any, filter}
 use Rattle.std.specs.Option.{option_map, option_map_or}
 use Rattle.std.specs.Ordering.{eq_by_cmp, nat_cmp}
@@ -8,17 +10,17 @@ use Rattle.std.specs.Cmp.{nat_cmp_total}
 use Rattle.std.specs.FinMap as finite
 use Rattle.std.specs.FinMap.{nat_cmp-IsAntisymmetric}
 use Rattle.ztree.specs.Tree.{Sessions}
-use Rattle.ztree.proofs.Maps.{get-remove-elsewhere, tied_same}
+use Rattle.ztree.proofs.Maps.{get-insert-here, get-insert-elsewhere, get-remove-elsewhere, tied_same}
 use Rattle.zcalls.specs.declared.call.Lifetime.{Lifetime}
 use Rattle.zcalls.specs.declared.call.Lifetime.TheVariants.{Persistent, WithTtl, Ephemeral}
 use Rattle.zcalls.specs.declared.call.Part.{Part}
 use Rattle.zcalls.specs.declared.call.Part.TheVariants as part
 use Rattle.zcalls.specs.Part.{owner_of}
 use Rattle.zsittings.specs.declared.sitting.Sitting.{Sitting}
-use Rattle.zsittings.specs.Sittings.{SittingsView, with_changed, with_ephemeral, left, touched, rested, all_rested}
+use Rattle.zsittings.specs.Sittings.{SittingsView, with_changed, with_ephemeral, left, touched, rested, restored_sitting, all_rested}
 use Rattle.zsittings.specs.Sittings as seats
 use Rattle.zsittings.proofs.Changed.{each_rests}
-use Rattle.ztables.specs.Tables.{TablesView, is_open, session_in, without_seat, closing, closed, connection_of, moved, taken_up}
+use Rattle.ztables.specs.Tables.{TablesView, is_open, session_in, without_seat, closing, closed, moved, taken_up}
 use Rattle.ztables.specs.Sweeping.{owner_in, made_by, made_by_parts, is_gone, gone, made_one, some_made_one}
 use Rattle.zpieces.specs.Streams.{phase_of}
 use Rattle.zfront_laws.proofs.Seated.{Has, same_number, seat_here, seat_elsewhere}
@@ -95,14 +97,36 @@ closed_keeps c t = elim (is_open t c) as (λ b. Keeps t.sittings (if b then clos
   | false ↦ unchanged t.sittings
 ]
 
-pub moved_keeps : (session : ℕ) (t : TablesView) → Keeps t.sittings (moved session t).sittings
-moved_keeps session t = elim (connection_of t.sittings session) as (λ o. Keeps t.sittings (option_map_or (λ c. closed c t) o t).sittings) [
-  | None ↦ unchanged t.sittings
-  | Some c ↦ closed_keeps c t
-]
+-- a sitting is put, in the place of one or beside the others
+module _ (m : SittingsView) (key : ℕ) (s : Sitting) (keeps_mark : made_one m key ≡ true → s.made_ephemeral ≡ true) where
+  put_keeps : Keeps m (finite.insert m key s)
+  put_keeps = record { has = λ id there. near id (same_number id key) there; marks = λ id is. still id (same_number id key) is }
+    where
+      here : finite.get (finite.insert m key s) key ≡ Some s
+      here = get-insert-here nat_cmp_total nat_cmp-IsAntisymmetric m key s
+
+      near : (id : ℕ) → (id ≡ key) ⊎ (id ≢ key) → Has m id → Has (finite.insert m key s) id
+      near id (inl same) has = (s, ap (finite.get (finite.insert m key s)) same ∙ here)
+      near id (inr apart) has = (has.0, get-insert-elsewhere nat_cmp_total nat_cmp-IsAntisymmetric m key s id apart ∙ has.1)
+
+      still : (id : ℕ) → (id ≡ key) ⊎ (id ≢ key) → made_one m id ≡ true → made_one (finite.insert m key s) id ≡ true
+      still id (inl same) is =
+          marked_in (finite.insert m key s) id s (ap (finite.get (finite.insert m key s)) same ∙ here) ∙ keeps_mark (ap (made_one m) (sym same) ∙ is)
+      still id (inr apart) is =
+          ap (λ o. option_map_or (λ (s : Sitting). s.made_ephemeral) o false)
+          (get-insert-elsewhere nat_cmp_total nat_cmp-IsAntisymmetric m key s id apart)
+          ∙ is
+
+-- a session that is taken up counts as one that made a node, where it isn't known
+taken_mark : (o : Option Sitting) → option_map_or (λ (s : Sitting). s.made_ephemeral) o false ≡ true
+    → (unwrap_or o restored_sitting).made_ephemeral ≡ true
+taken_mark None is = refl
+taken_mark (Some s) is = is
 
 pub seated_keeps : (session c : ℕ) (t : TablesView) → Keeps (moved session t).sittings (taken_up session c t).sittings
-seated_keeps session c t = changed (seats.taken_up c) (λ s is. is) (moved session t).sittings session
+seated_keeps session c t =
+    let m = (moved session t).sittings in
+    put_keeps m session (seats.taken_up c (unwrap_or (finite.get m session) restored_sitting)) (taken_mark (finite.get m session))
 
 pub touched_keeps : (session : ℕ) (m : SittingsView) → Keeps m (with_changed touched m session)
 touched_keeps session m = changed touched (λ s is. is) m session
@@ -170,12 +194,9 @@ removed_mark m session id apart =
     ap (λ o. option_map_or (λ (s : Sitting). s.made_ephemeral) o false)
     (get-remove-elsewhere nat_cmp_total nat_cmp-IsAntisymmetric m session id apart)
 
-clash : true ≡ false → ⊥
-clash is = cc
-
 pub apart_from : (sessions : Sessions) (id session : ℕ) → finite.contains_key sessions id ≡ true → is_gone sessions session ≡ true → id ≢ session
 apart_from sessions id session there is same =
-    clash (sym is ∙ ap not (ap (finite.contains_key sessions) (sym same) ∙ there))
+    true≢false (sym is ∙ ap not (ap (finite.contains_key sessions) (sym same) ∙ there))
 
 -- those that are gone
 all_kept : (test : ℕ → Bool) (ids : List ℕ) → AllByRecursion (λ id. test id ≡ true) (filter test ids)
@@ -191,12 +212,8 @@ pub all_gone : (sessions : Sessions) (m : SittingsView) → AllByRecursion (λ i
 all_gone sessions m = all_kept (is_gone sessions) (finite.keys m)
 
 -- one of them made an ephemeral node
-or_true : (b : Bool) → (b || true) ≡ true
-or_true true = refl
-or_true false = refl
-
 any_more : (p : ℕ → Bool) (first : ℕ) (ids : List ℕ) (b : Bool) → list_any p ids ≡ true → list_any p (if b then first ∷ ids else ids) ≡ true
-any_more p first ids true is = ap (λ b. p first || b) is ∙ or_true (p first)
+any_more p first ids true is = ap (λ b. p first || b) is ∙ or-true (p first)
 any_more p first ids false is = is
 
 any_kept : (test p : ℕ → Bool) (id : ℕ) (ids : List ℕ) → test id ≡ true → p id ≡ true → list_any (eq_by_cmp nat_cmp id) ids ≡ true
@@ -210,7 +227,7 @@ any_kept test p id (first ∷ ids) passes has among =
         → list_any p (if b then first ∷ filter test ids else filter test ids) ≡ true
     by true ties true is rest = ap (λ b. b || list_any p (filter test ids))
         (ap p (sym (tied_same nat_cmp_total nat_cmp-IsAntisymmetric id first ties)) ∙ has)
-    by true ties false is rest = absurd (clash (sym passes ∙ ap test (tied_same nat_cmp_total nat_cmp-IsAntisymmetric id first ties) ∙ is))
+    by true ties false is rest = absurd (true≢false (sym passes ∙ ap test (tied_same nat_cmp_total nat_cmp-IsAntisymmetric id first ties) ∙ is))
     by false ties b is rest = any_more p first (filter test ids) b (rest (sym (ap (λ b. b || list_any (eq_by_cmp nat_cmp id) ids) ties) ∙ among))
 
 pub gone_made : (sessions : Sessions) (m : SittingsView) (id : ℕ) → finite.get sessions id ≡ None → made_one m id ≡ true

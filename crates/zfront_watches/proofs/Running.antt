@@ -1,151 +1,158 @@
--- A server at a scene, at any inputs.
-use Rattle.std.proofs.Common.{◌≡◌, ◌∙◌, ℕ, true, false, List, [], ◌∷◌, None, refl, sym, ap, subst, inl, inr, drop}
+-- A server at a scene, at any steps.
+use Rattle.std.proofs.Common.{◌≡◌, ◌∙◌, ℕ, Bool, true, false, List, [], ◌∷◌, ◌++◌, refl, sym, ap, subst, inl, inr, drop, append_assoc}
 use Rattle.std.specs.FinMap as finite
 use Rattle.std.specs.FinSet as sets
-use Rattle.std.specs.FinMap.{contains_key}
 use Rattle.std.specs.FinSet.{contains}
 use Rattle.std.specs.Option.{option_map_or}
+use Rattle.std.proofs.lemmas.List.{append-nil}
 use Rattle.ztree.specs.Lawful.{IsOwner}
 use Rattle.ztree.specs.Tree.{Tree}
-use Rattle.ztree.proofs.Maps.{none_some}
+use Rattle.zworld_model.specs.FromTree.{CanStart}
 use Rattle.zanswering.specs.declared.clock.Clock.{Clock}
-use Rattle.zturns.specs.Turns.{Log}
-use Rattle.zalone.specs.Told.{Leaves}
-use Rattle.zalone.specs.Laws.{RepliesAreTheTrees}
+use Rattle.zlogs.specs.Logs.{Log, Leaves}
+use Rattle.zpieces.specs.Inputs.InputView.{Opened, Came, Ended, Tick}
 use Rattle.zpieces.specs.Streams as streams
+use Rattle.zpieces.specs.Streams.{phase_of}
 use Rattle.zwatches.specs.declared.watch.Watch.{Watch}
 use Rattle.zwatches.specs.Watches.{Watches, watch_cmp}
 use Rattle.zsittings.specs.declared.sitting.Sitting.{Sitting}
 use Rattle.ztables.specs.Sweeping.{made_one}
-use Rattle.ztables.specs.Tables.{TablesView}
+use Rattle.ztables.specs.Tables.{TablesView, session_in}
 use Rattle.ztables.specs.Tables as tables
-use Rattle.zfront.specs.Front.{FrontView, with_tables}
-use Rattle.zfront.specs.Restoring.{Seat, IsRestored, all_taken}
-use Rattle.zfront_laws.specs.Runs.{KeepsFew, Does, Runs}
-use Rattle.zfront_laws.specs.Runs as run
+use Rattle.zfront.specs.Front.{FrontView}
+use Rattle.zfront.specs.Inputs as inputs
+use Rattle.zfront.specs.Inputs.{without_first}
+use Rattle.zfront.specs.Restoring.{all_taken, beginning}
+use Rattle.zfront_laws.specs.Logs.{step_log, run_log}
+use Rattle.zfront_laws.specs.Runs.{Step, Takes, Sent, Took, KeepsFew, Does, Runs}
 use Rattle.zfront_laws.proofs.Bare.{IsBare}
-use Rattle.zfront_laws.proofs.GoingOn.{taken}
-use Rattle.zfront_laws.proofs.Inputs.{goes_with_few}
-use Rattle.zfront_laws.proofs.Restored.{is_bare, is_few, is_fine, is_quiet, sits}
+use Rattle.zfront_laws.proofs.Inputs.{goes, every_front_is_one_tree}
+use Rattle.zfront_laws.proofs.Restored.{is_bare, is_few, is_fine, sits}
 use Rattle.zfront_laws.proofs.Seated.{Has}
-use Rattle.zfront_laws.proofs.Steps.{Fine, seats_on}
+use Rattle.zfront_laws.proofs.Steps.{Fine}
 use Rattle.zfront_watches.specs.Watching.{Scene, tree_of}
 use Rattle.zfront_watches.specs.Laws.{Brings, BringsAll, EveryWatchIsTold, opening_scene}
 use Rattle.zfront_watches.proofs.Coming.{comes}
 use Rattle.zfront_watches.proofs.Holding.{settled}
 use Rattle.zfront_watches.proofs.Marks.{Marked, unchanged, without_seat_keeps}
-use Rattle.zfront_watches.proofs.Scenes.{is_lawful}
-use Rattle.zfront_watches.proofs.Standing.{without_fewer}
 use Rattle.zfront_watches.proofs.Owners.{OwnersAre}
-use Rattle.zfront_watches.proofs.Reaching.{At, AtIf, shuts}
-use Rattle.zfront_watches.proofs.Ticking.{ticks, hears}
-use Rattle.ztables.specs.Tables.{session_in}
-use Rattle.zpieces.specs.Streams.{phase_of}
+use Rattle.zfront_watches.proofs.Reaching.{At, shuts}
+use Rattle.zfront_watches.proofs.Scenes.{can_start}
+use Rattle.zfront_watches.proofs.Standing.{without_fewer}
+use Rattle.zfront_watches.proofs.Ticking.{ticks}
 
--- an input brings a scene, and the server is there
-abbrev Brought : run.Input → FrontView → Scene → Type 0
-Brought input v s = (t : Scene) × Brings input s t × At v t
+-- a step brings a scene, whose log has these calls more, and the server is there
+abbrev Brought : Step → FrontView → Scene → Log → Type 0
+Brought step v s more = (t : Scene) × Brings step s t × (t.log ≡ s.log ++ more) × At v t
 
-became : (input : run.Input) (v new : FrontView) (s : Scene) → new ≡ v → Brought input v s → Brought input new s
-became input v new s is has = subst (λ (w : FrontView). Brought input w s) (sym is) has
+became : (step : Step) (new like : FrontView) (s : Scene) → new ≡ like → Brought step like s [] → Brought step new s []
+became step new like s is has = subst (λ (v : FrontView). Brought step v s []) (sym is) has
 
-brings : RepliesAreTheTrees → (input : run.Input) (old new : FrontView) (s : Scene) → KeepsFew old → Fine old → At old s
-    → Does input old new → Brought input new s
-brings law (run.Opened c password) old new s few fine there is =
-    let to : TablesView → TablesView = λ t. record t { streams = finite.insert t.streams c (streams.opened password) } in
-    became (run.Opened c password) (with_tables (to old.tables) old) new s is
-    (record s { tables = to s.tables }, refl, shuts old.must_look old s to there (λ w stands. stands) (unchanged s.tables.sittings))
-brings law (run.Came c bytes) old new s few fine there has =
-    let done = comes law bytes c old new s few fine there has in
-    (done.scene, (done.happenings, done.happens), done.there)
-brings law (run.Ended c) old new s few fine there is =
-    became (run.Ended c) (with_tables (tables.ended c old.tables) old) new s is (
+brings : (step : Step) (old new : FrontView) (s : Scene) → KeepsFew old → Fine old → At old s → (does : Does step old new)
+    → Brought step new s (step_log step old new does)
+brings (Takes (Opened c)) old new s few fine there is =
+    let to : TablesView → TablesView = λ t. record t { streams = finite.insert t.streams c streams.opened } in
+    became (Takes (Opened c)) new (inputs.opened c old) s is (
+      record s { tables = to s.tables },
+      refl,
+      sym (append-nil s.log),
+      shuts false old s to there (λ w stands. stands) (unchanged s.tables.sittings),
+    )
+brings (Takes (Came c bytes)) old new s few fine there has =
+    let done = comes bytes c old new s few fine there has in
+    (done.scene, (done.happenings, done.happens), done.log, done.there)
+brings (Takes (Ended c)) old new s few fine there is =
+    became (Takes (Ended c)) new (inputs.ended c old) s is (
       record s { tables = tables.ended c s.tables },
       refl,
-      shuts old.must_look old s (tables.ended c) there (λ w stands. without_fewer s.tables.watches c w stands)
+      sym (append-nil s.log),
+      shuts false old s (tables.ended c) there (λ w stands. without_fewer s.tables.watches c w stands)
           (without_seat_keeps (session_in (phase_of s.tables.streams c)) s.tables),
     )
-brings law run.Tick old new s few fine there has =
-    let done = ticks law old new s there has in
-    (done.scene, (done.happenings, done.happens), done.there)
-brings law (run.Line text) old new s few fine there has =
-    let done = hears law text old new s there has in
-    (done.scene, (done.happenings, done.happens), done.there)
-brings law run.Sent old new s few fine there is =
+brings (Takes Tick) old new s few fine there has =
+    let done = ticks old new s there has in
+    (done.scene, (done.happenings, done.happens), done.log, done.there)
+brings Sent old new s few fine there is =
     let to : TablesView → TablesView = λ t. record t { unsent = drop 1 t.unsent } in
-    became run.Sent (with_tables (to old.tables) old) new s is
-    (record s { tables = to s.tables }, refl, shuts old.must_look old s to there (λ w stands. stands) (unchanged s.tables.sittings))
-brings law run.Took old new s few fine there is =
-    became run.Took (all_taken old) new s is (
+    became Sent new (without_first old) s is (
+      record s { tables = to s.tables },
+      refl,
+      sym (append-nil s.log),
+      shuts false old s to there (λ w stands. stands) (unchanged s.tables.sittings),
+    )
+brings Took old new s few fine there is =
+    became Took new (all_taken old) s is (
       s,
       refl,
-      record {
-        tables = there.tables;
-        waiting = there.waiting;
-        log = taken old s.log there.waiting there.log;
-        holds = there.holds;
-        late = there.late;
-        free = there.free;
-      },
+      sym (append-nil s.log),
+      record { tables = there.tables; tree = there.tree; holds = there.holds },
     )
 
-brings_all : RepliesAreTheTrees → (inputs : List run.Input) (old new : FrontView) (s : Scene) → KeepsFew old → Fine old
-    → At old s → Runs inputs old new
-    → (t : Scene) × BringsAll inputs s t × At new t
-brings_all law [] old new s few fine there is = (s, refl, subst (λ (v : FrontView). At v s) (sym is) there)
-brings_all law (input ∷ inputs) old new s few fine there has =
-    let middle = has.0 in
-    let did = goes_with_few input old middle few has.1 in
-    let first = brings law input old middle s few fine there has.1 in
-    let rest = brings_all law inputs middle new first.0 did.1 (seats_on old middle did.2 s.log there.waiting there.log fine) first.2 has.2 in
-    (rest.0, (first.0, first.1, rest.1), rest.2)
+brings_all : (steps : List Step) (old new : FrontView) (s : Scene) → KeepsFew old → Fine old → At old s → (runs : Runs steps old new)
+    → (t : Scene) × BringsAll steps s t × (t.log ≡ s.log ++ run_log steps old new runs) × At new t
+brings_all [] old new s few fine there is = (s, refl, sym (append-nil s.log), subst (λ (v : FrontView). At v s) (sym is) there)
+brings_all (step ∷ steps) old new s few fine there runs =
+    let middle = runs.0 in
+    let went = goes step old middle few runs.1 in
+    let one = brings step old middle s few fine there runs.1 in
+    let rest = brings_all steps middle new one.0 (went.few few) (went.seats fine) one.3 runs.2 in
+    let more = run_log steps middle new runs.2 in (
+      rest.0,
+      (one.0, one.1, rest.1),
+      rest.2 ∙ ap (λ log. log ++ more) one.2 ∙ append_assoc s.log (step_log step old middle runs.1) more,
+      rest.3,
+    )
 
--- ---- a server that was restored
+-- ---- a server that begins
 
 no_watches : {P : Type 0} (t : TablesView) (w : Watch) → IsBare t → contains t.watches w ≡ true → P
 no_watches t w bare is =
     absurd (cc (sym (sets.contains-empty watch_cmp w) ∙ sym (ap (λ (table : Watches). contains table w) bare.watches) ∙ is))
 
-module _ (last : ℕ) (times : Clock) (tree : Tree) (seats : List Seat) (v : FrontView) (is : IsRestored last times tree seats v) (before : Log)
-    (left : Leaves before tree) where
-  abbrev bare : IsBare v.tables
-  bare = is_bare last times tree seats v is
+module _ (t : Tree) (secret : List ℕ) (times : Clock) (is_kept : Bool) (before : Log) (left : Leaves before t) where
+  abbrev v : FrontView
+  v = beginning t secret times is_kept
+
+  abbrev opens : Scene
+  opens = opening_scene before v.tables
+
+  bare : IsBare v.tables
+  bare = is_bare t secret times is_kept
+
+  can : CanStart t
+  can = subst CanStart left.1 (can_start opens)
 
   -- each owner of a node is a session of the tree, and each of these has a sitting that is marked
-  restored_owners : OwnersAre (Marked v.tables.sittings) (tree_of (opening_scene before v.tables)).nodes
-  restored_owners path n found = by ((is_lawful (opening_scene before v.tables)).owners path n found)
+  owners : OwnersAre (Marked v.tables.sittings) t.nodes
+  owners path n found = by (can.lawful.owners path n found)
     where
       marks : Has v.tables.sittings n.owner → made_one v.tables.sittings n.owner ≡ true
       marks has = ap (λ o. option_map_or (λ (s : Sitting). s.made_ephemeral) o false) has.1 ∙ (bare.apart n.owner has.0 has.1).marked
 
-      by : IsOwner (tree_of (opening_scene before v.tables)).sessions n.owner → Marked v.tables.sittings n.owner
+      by : IsOwner t.sessions n.owner → Marked v.tables.sittings n.owner
       by (inl nobody) = inl nobody
-      by (inr some) =
-          inr (marks (sits last times tree seats v is n.owner (ap (λ (t : Tree). contains_key t.sessions n.owner) (sym left.1) ∙ some)))
+      by (inr some) = inr (marks (sits t secret times is_kept n.owner some))
 
-  restored_at : At v (opening_scene before v.tables)
-  restored_at = record {
+  begins : At v opens
+  begins = record {
     tables = refl;
-    waiting = None;
-    log = is_quiet last times tree seats v is before left;
+    tree = left.1;
     holds = record {
       right = λ w stands. no_watches v.tables w bare stands;
       seen = λ w stands. no_watches v.tables w bare stands;
-      owners = restored_owners;
+      owners = subst (λ (u : Tree). OwnersAre (Marked v.tables.sittings) u.nodes) (sym left.1) owners;
     };
-    late = λ call late. absurd (none_some call (sym is.late ∙ late));
-    free = λ update late. is.must_look;
   }
 
-pub every_watch_is_told : RepliesAreTheTrees → EveryWatchIsTold
-every_watch_is_told law last times tree seats before inputs first v restored left runs =
-    let done = brings_all law inputs first v (opening_scene before first.tables) (is_few last times tree seats first restored)
-    (is_fine last times tree seats first restored) (restored_at last times tree seats first restored before left) runs in
-    let there = done.2 in (
+pub every_watch_is_told : EveryWatchIsTold
+every_watch_is_told t secret times is_kept before steps v left runs =
+    let first = beginning t secret times is_kept in
+    let done = brings_all steps first v (opening_scene before first.tables) (is_few t secret times is_kept)
+    (is_fine t secret times is_kept (can t secret times is_kept before left)) (begins t secret times is_kept before left) runs in (
       done.0,
       done.1,
-      there.tables,
-      (there.waiting, there.log),
-      λ calm w stands.
-          settled (tree_of done.0) (done.0.set_at w) w.kind w.path ((subst (λ must. AtIf must v done.0) calm there).holds.seen w stands),
+      done.3.tables,
+      done.2,
+      subst (λ log. Leaves log v.tree) (sym done.2) (every_front_is_one_tree t secret times is_kept before steps v left runs),
+      λ w stands. settled (tree_of done.0) (done.0.set_at w) w.kind w.path (done.3.holds.seen w stands),
     )

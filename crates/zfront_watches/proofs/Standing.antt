@@ -1,5 +1,7 @@
 -- The watches that stand where events are told: no event told fires them.
 use Rattle.std.proofs.Common.{◌≡◌, ◌∙◌, ℕ, Bool, true, false, List, [], ◌∷◌, refl, sym, ap, inl, inr}
+use Rattle.std.proofs.Math.Bool.{or-true}
+use mathlib.Core.Bool.{true≢false}
 use Rattle.std.specs.Prelude.{◌⊎◌, ◌||◌, ◌&&◌, not, ◌==◌, if◌then◌else◌}
 use Rattle.std.specs.List.{AllByRecursion, list_any}
 use Rattle.std.specs.FinSet.{contains, insert, contains-insert}
@@ -26,7 +28,7 @@ use Rattle.zfront_watches.proofs.Waiting.{tells_creation, tells_loss}
 abbrev pub In : TablesView → Watch → Type 0
 In t w = contains t.watches w ≡ true
 
--- what is sent leaves watches, streams and sittings
+-- what is sent leaves watches and sittings
 pub sent_watches : (c : ℕ) (bytes : List ℕ) (t : TablesView) → (sent c bytes t).watches ≡ t.watches
 sent_watches c bytes t = elim (is_open t c) as (λ b. (if b then with_piece (piece c bytes) t else t).watches ≡ t.watches) [
   | true ↦ refl
@@ -35,12 +37,6 @@ sent_watches c bytes t = elim (is_open t c) as (λ b. (if b then with_piece (pie
 
 pub sent_sittings : (c : ℕ) (bytes : List ℕ) (t : TablesView) → (sent c bytes t).sittings ≡ t.sittings
 sent_sittings c bytes t = elim (is_open t c) as (λ b. (if b then with_piece (piece c bytes) t else t).sittings ≡ t.sittings) [
-  | true ↦ refl
-  | false ↦ refl
-]
-
-pub sent_streams : (c : ℕ) (bytes : List ℕ) (t : TablesView) → (sent c bytes t).streams ≡ t.streams
-sent_streams c bytes t = elim (is_open t c) as (λ b. (if b then with_piece (piece c bytes) t else t).streams ≡ t.streams) [
   | true ↦ refl
   | false ↦ refl
 ]
@@ -78,10 +74,6 @@ told_all_leaves (e ∷ es) t w stands =
     (first.0, (first.1, rest.1))
 
 -- an event at a watch's place fires it
-or_true : (b : Bool) → (b || true) ≡ true
-or_true true = refl
-or_true false = refl
-
 at_place : (w : Watch) (path : Path) (k : Kind) → place_of w ≡ place path k → is_at (place path k) w ≡ true
 at_place w path k is = ap (λ p. eq_by_cmp place_cmp p (place path k)) is ∙ tied places_total same_place (place path k)
 
@@ -98,24 +90,21 @@ fires_data w other is tells = absurd (cc tells)
 
 pub fires_missing : (w : Watch) (k : EventKind) → w.kind ≡ Missing → tells_creation k ≡ true → fires k w.path w ≡ true
 fires_missing w kind.NodeCreated is tells =
-    ap (λ b. is_at (place w.path Data) w || (b || false)) (at_place w w.path Missing (placed w Missing is)) ∙ or_true (is_at (place w.path Data) w)
+    ap (λ b. is_at (place w.path Data) w || (b || false)) (at_place w w.path Missing (placed w Missing is)) ∙ or-true (is_at (place w.path Data) w)
 fires_missing w other is tells = absurd (cc tells)
 
 pub fires_children : (w : Watch) (k : EventKind) → w.kind ≡ Children → tells_loss k ≡ true → fires k w.path w ≡ true
 fires_children w kind.NodeDeleted is tells =
-    ap (λ b. is_at (place w.path Data) w || (b || false)) (at_place w w.path Children (placed w Children is)) ∙ or_true (is_at (place w.path Data) w)
+    ap (λ b. is_at (place w.path Data) w || (b || false)) (at_place w w.path Children (placed w Children is)) ∙ or-true (is_at (place w.path Data) w)
 fires_children w kind.NodeChildrenChanged is tells = ap (λ b. b || false) (at_place w w.path Children (placed w Children is))
 fires_children w other is tells = absurd (cc tells)
-
-clash : true ≡ false → ⊥
-clash is = cc
 
 -- so events that fire none tell nothing of its path
 pub misses : (tells : EventKind → Bool) (w : Watch) → ((k : EventKind) → tells k ≡ true → fires k w.path w ≡ true) → (es : List Event)
     → Unfired w es → Misses tells w.path es
 misses tells w fire [] unfired = tt
 misses tells w fire (e ∷ es) unfired = (
-  λ does same. clash (sym (fire e.kind does) ∙ ap (λ path. fires e.kind path w) (sym same) ∙ unfired.0),
+  λ does same. true≢false (sym (fire e.kind does) ∙ ap (λ path. fires e.kind path w) (sym same) ∙ unfired.0),
   misses tells w fire es unfired.1,
 )
 

@@ -1,6 +1,7 @@
 -- What a close and a tick take away: nodes, and children of others.
 use Rattle.std.proofs.Common.{◌≡◌, ◌≢◌, ◌∙◌, ◌+◌, ◌<◌, ℕ, cond, Bool, true, false, List, [], ◌∷◌, length, Option, Some}
 use Rattle.std.proofs.Common.{None, refl, sym, ap, subst, inl, inr, arith, if◌then◌else◌}
+use Rattle.std.proofs.Math.Bool.{or-true}
 use Rattle.std.specs.Prelude.{◌⊎◌, ◌||◌, nat_lt}
 use Rattle.std.proofs.lemmas.Bool.Decides.{nat_tests}
 use Rattle.std.specs.List.{list_any, AllByRecursion}
@@ -134,10 +135,6 @@ all_gone ids paths t path =
 abbrev pub Owned : Nodes → ℕ → Type 0
 Owned nodes id = (0 < id) × (path : Path) × (n : Node) × (finite.get nodes path ≡ Some n) × (n.owner ≡ id)
 
-or_true : (b : Bool) → (b || true) ≡ true
-or_true true = refl
-or_true false = refl
-
 -- sessions that end leave all nodes, or one of them owned a node
 ended_or_owned : (ids : List ℕ) (t : Tree) → AllByRecursion (λ id. 0 < id) ids
     → ((without_sessions t ids).nodes ≡ t.nodes) ⊎ ((id : ℕ) × (list_any (eq_by_cmp nat_cmp id) ids ≡ true) × Owned t.nodes id)
@@ -154,7 +151,7 @@ ended_or_owned (first ∷ ids) t above = by (ephemerals t.nodes first) refl (end
         → Outcome
     rest same (inl still) = inl (still ∙ same)
     rest same (inr (id, among, owned)) =
-        inr (id, ap (λ b. eq_by_cmp nat_cmp id first || b) among ∙ or_true (eq_by_cmp nat_cmp id first), subst (λ nodes. Owned nodes id) same owned)
+        inr (id, ap (λ b. eq_by_cmp nat_cmp id first || b) among ∙ or-true (eq_by_cmp nat_cmp id first), subst (λ nodes. Owned nodes id) same owned)
 
     by : (paths : List Path) → ephemerals t.nodes first ≡ paths
         → ((without_sessions (without_session t first) ids).nodes ≡ (without_session t first).nodes)

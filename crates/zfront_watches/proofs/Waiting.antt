@@ -1,6 +1,7 @@
 -- What no event of an update tells stays: a path without a node, and a node with its children.
 use Rattle.std.proofs.Common.{◌≡◌, ◌≢◌, ◌∙◌, ◌+◌, ℕ, Bool, true, false, cond, List, [], ◌∷◌, ◌++◌, Option, Some, None}
 use Rattle.std.proofs.Common.{Result, Ok, Err, refl, sym, ap, inl, inr, if◌then◌else◌}
+use mathlib.Core.Bool.{true≢false}
 use Rattle.std.specs.Prelude.{◌⊎◌, is_some}
 use Rattle.std.specs.Option.{option_map, option_map_or}
 use Rattle.std.specs.Ordering.{eq_by_cmp}
@@ -70,9 +71,6 @@ children_beside nodes q f path other = by (finite.get nodes q)
     by None = refl
     by (Some n) = ap (option_map (λ (n : Node). n.pzxid)) (get-insert-other nodes q (f n) path other)
 
-clash : true ≡ false → ⊥
-clash is = cc
-
 -- a node is made where none was
 made : (t : Tree) (at : Path) (new : Node) (f : Node → Node) (path : Path) → has_node t.nodes at ≡ false
     → Leaves t.nodes (with_change_at (finite.insert t.nodes at new) (parent_of at) f) path (with_parent NodeCreated at)
@@ -80,7 +78,7 @@ made t at new f path free = record {
   missing = λ none misses.
       has_node-changed more (parent_of at) f path ∙ ap is_some (get-insert-other t.nodes at new path (λ e. misses.0 refl (sym e))) ∙ none;
   there = λ some misses.
-      let apart : path ≢ at = λ e. clash (sym some ∙ ap (has_node t.nodes) e ∙ free) in (
+      let apart : path ≢ at = λ e. true≢false (sym some ∙ ap (has_node t.nodes) e ∙ free) in (
         has_node-changed more (parent_of at) f path ∙ ap is_some (get-insert-other t.nodes at new path apart) ∙ some,
         children_beside more (parent_of at) f path (λ e. misses.1.0 refl (sym e))
             ∙ ap (option_map (λ (n : Node). n.pzxid)) (get-insert-other t.nodes at new path apart),
@@ -116,7 +114,7 @@ written nodes at old new path is same = near (same_or_other paths_total same_pat
 
     near : (path ≡ at) ⊎ (path ≢ at) → Leaves nodes (finite.insert nodes at new) path (event NodeDataChanged at ∷ [])
     near (inl here) = record {
-      missing = λ none misses. absurd (clash (sym there ∙ ap (has_node nodes) (sym here) ∙ none));
+      missing = λ none misses. absurd (true≢false (sym there ∙ ap (has_node nodes) (sym here) ∙ none));
       there = λ some misses. (
         ap (λ p. has_node (finite.insert nodes at new) p) here ∙ ap is_some (get-insert-here paths_total same_path nodes at new),
         ap (λ p. children_at (finite.insert nodes at new) p) here

@@ -1,12 +1,12 @@
 -- Queries, and that their replies are those of one tree.
-use Rattle.std.proofs.Common.{◌≡◌, ℕ, zero, suc, List, [], ◌∷◌, length, take, drop}
+use Rattle.std.proofs.Common.{◌≡◌, ℕ, zero, suc, List, [], ◌∷◌, take, drop, refl}
 use Rattle.std.specs.List.{AllByRecursion}
 use Rattle.ztree.specs.Tree.{Tree}
 use Rattle.zcalls.specs.declared.call.Call.{Call}
 use Rattle.zcalls.specs.declared.call.Call.TheVariants.{Update, Query}
 use Rattle.zcalls.specs.declared.reply.Reply.{Reply}
 use Rattle.zworld_model.specs.PlainTree.{serve}
-use Rattle.zturns.specs.Turns.{served}
+use Rattle.zlogs.specs.Logs.{served}
 
 -- the calls are queries
 abbrev pub IsQuery : Call → Type 0
@@ -21,18 +21,10 @@ abbrev pub AreOf : Tree → List Call → List Reply → Type 0
 AreOf t (call ∷ calls) (told ∷ replies) = (told ≡ (serve t 0 call).1) × AreOf t calls replies
 AreOf t calls replies = Unit {0}
 
-head_same : {A : Type 0} (x y : A) (xs ys : List A) → x ∷ xs ≡ y ∷ ys → x ≡ y
-head_same x y xs ys is = cc is
-
-tail_same : {A : Type 0} (x y : A) (xs ys : List A) → x ∷ xs ≡ y ∷ ys → xs ≡ ys
-tail_same x y xs ys is = cc is
-
-pub served_are_of : (t : Tree) (calls : List Call) (replies : List Reply) → AreQueries calls → replies ≡ served t (take (length replies) calls)
-    → AreOf t calls replies
-served_are_of t [] replies all is = tt
-served_are_of t (call ∷ calls) [] all is = tt
-served_are_of t (Query query ∷ calls) (told ∷ replies) all is = (head_same _ _ _ _ is, served_are_of t calls replies all.1 (tail_same _ _ _ _ is))
-served_are_of t (Update update ∷ calls) (told ∷ replies) all is = absurd all.0
+pub served_are_of : (t : Tree) (calls : List Call) → AreQueries calls → AreOf t calls (served t calls)
+served_are_of t [] all = tt
+served_are_of t (Query query ∷ calls) all = (refl, served_are_of t calls all.1)
+served_are_of t (Update update ∷ calls) all = absurd all.0
 
 pub taken : (n : ℕ) (t : Tree) (calls : List Call) (replies : List Reply) → AreOf t calls replies → AreOf t (take n calls) (take n replies)
 taken zero t calls replies all = tt

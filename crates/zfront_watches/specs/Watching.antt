@@ -20,17 +20,18 @@ use Rattle.zjute.specs.declared.event.EventKind.TheVariants.{NodeDeleted, NodeCh
 use Rattle.zevents.specs.declared.event.Event.{Event}
 use Rattle.zevents.specs.Events.{events_of}
 use Rattle.zevents.specs.Laws.{data_at, children_at}
-use Rattle.zknown.specs.Known.{known_of}
 use Rattle.zanswering.specs.declared.answer.Answer.{Answer}
 use Rattle.zworld_model.specs.PlainTree.{serve}
-use Rattle.zturns.specs.Turns.{Log, calls_of, tree_after}
+use Rattle.zlogs.specs.Logs.{Log, calls_of, tree_after}
+use Rattle.zpieces.specs.Streams.{phase_of}
+use Rattle.zpieces.specs.declared.phase.Phase.TheVariants.{Silent, Speaking}
 use Rattle.zwatches.specs.declared.kind.Kind.{Kind}
 use Rattle.zwatches.specs.declared.kind.Kind.TheVariants.{Data, Missing, Children}
 use Rattle.zwatches.specs.declared.watch.Watch.{Watch}
 use Rattle.zwatches.specs.Watches.{watch, watch_cmp}
 use Rattle.zwatches.specs.Places.{is_of_node}
 use Rattle.zwatches.specs.Events.{fires}
-use Rattle.ztables.specs.Tables.{TablesView, closed, is_open, operator_sent, sent}
+use Rattle.ztables.specs.Tables.{TablesView, closed, is_open, sent}
 use Rattle.ztables.specs.Telling.{event_frame, told}
 use Rattle.zserving.specs.Frames.{answer_frame, response_frame}
 use Rattle.zserving.specs.Watching.{waiting}
@@ -47,8 +48,7 @@ tree_of s = tree_after opening_tree (calls_of s.log)
 
 -- a call is answered; an event is told to the watches that it fires; a watch is set; a watch that is
 -- set again is told what it missed; a request is answered; a greeting is answered; a word is answered,
--- and its connection closed; a connection is closed; the operator is answered; connections and
--- sessions change otherwise
+-- and its connection closed; a connection is closed; connections and sessions change otherwise
 pub data Happening : Type 0 where
   Served : Call → Reply → Happening
   Fired : Event → Happening
@@ -58,7 +58,6 @@ pub data Happening : Type 0 where
   Greeted : ℕ → ConnectRequest → ℤ → ℤ → List ℕ → Happening
   Said : ℕ → List ℕ → Happening
   Closed : ℕ → Happening
-  Reported : List ℕ → Happening
   Moved : TablesView → Happening
 
 -- a watch is set with the nodes that are there now; one that stands was set before
@@ -72,12 +71,11 @@ after (Served call reply) s = record s { log = s.log ++ (call, reply) ∷ [] }
 after (Fired e) s = record s { tables = told e s.tables }
 after (Set c kind path) s = record s { set_at = set_now (watch path kind c) s; tables = waiting c kind path s.tables }
 after (Missed c e) s = record s { tables = sent c (event_frame e) s.tables }
-after (Answered c xid answer) s = record s { tables = sent c (answer_frame (known_of (tree_of s)) xid answer) s.tables }
+after (Answered c xid answer) s = record s { tables = sent c (answer_frame (tree_of s).zxid xid answer) s.tables }
 after (Greeted c greeting timeout session password) s =
     record s { tables = sent c (response_frame greeting timeout session password) s.tables }
 after (Said c bytes) s = record s { tables = closed c (sent c bytes s.tables) }
 after (Closed c) s = record s { tables = closed c s.tables }
-after (Reported bytes) s = record s { tables = operator_sent bytes s.tables }
 after (Moved t) s = record s { tables = t }
 
 -- the watch stands
@@ -130,10 +128,12 @@ pub record IsMoved (old new : TablesView) : Type 0 where
   pub unsent : new.unsent ≡ old.unsent
   pub opens : (c : ℕ) → is_open old c ≡ true → is_open new c ≡ true
 
--- a session was closed just now: the answer to that shows no node, and its connection is closed
--- behind it
-abbrev pub IsClose : Scene → Type 0
-IsClose s = (log : Log) × (session : ℕ) × (s.log ≡ log ++ (Update (Close session), reply.Closed) ∷ [])
+-- the session of the connection was closed just now: the answer to that shows no node, and the
+-- connection is closed behind it
+abbrev pub IsClose : Scene → ℕ → Type 0
+IsClose s c =
+    (log : Log) × (session : ℕ) × (s.log ≡ log ++ (Update (Close session), reply.Closed) ∷ [])
+    × (phase_of s.tables.streams c ≡ Some (Speaking session))
 
 -- of an event that a watch missed: the node is there, or it is gone
 abbrev pub tells_node : EventKind → Bool
@@ -142,17 +142,17 @@ tells_node other = true
 
 -- when each may happen: a reply is the tree's; an event has its cause, and fires watches that have a
 -- change; a watch is set where its node is, or where it isn't; and a connection is answered only
--- where all its watches were told what changed
+-- where all its watches were told what changed. A word is answered where nothing was read yet, so no
+-- watch of that connection stands
 abbrev pub May : Happening → Scene → Type 0
 May (Served call reply) s = reply ≡ (serve (tree_of s) 0 call).1
 May (Fired e) s = ((IsOfTheLast s e ⊎ IsGone s e) × FiresChanged s e) ⊎ LostChild s e
 May (Set c kind path) s = has_node (tree_of s).nodes path ≡ is_of_node kind
 May (Missed c e) s = has_node (tree_of s).nodes e.path ≡ tells_node e.kind
-May (Answered c xid answer) s = HasToldAll s c ⊎ IsClose s
+May (Answered c xid answer) s = HasToldAll s c ⊎ IsClose s c
 May (Greeted c greeting timeout session password) s = Unit {0}
-May (Said c bytes) s = Unit {0}
+May (Said c bytes) s = phase_of s.tables.streams c ≡ Some Silent
 May (Closed c) s = Unit {0}
-May (Reported bytes) s = Unit {0}
 May (Moved t) s = IsMoved s.tables t
 
 -- things happen, one after the other

@@ -10,11 +10,14 @@ ghost use Rattle.zevents.specs.Laws.{data_at, children_at};
 ghost use Rattle.zwatches.specs.declared.kind.Kind.TheVariants.{Data, Missing, Children};
 ghost use Rattle.zwatches.specs.declared.watch.Watch.{Watch};
 ghost use Rattle.zwatches.specs.Events.{fires};
+ghost use Rattle.zlogs.specs.Logs.{Log};
+ghost use Rattle.zpieces.specs.Inputs.InputView.{Opened};
+ghost use Rattle.zpieces.specs.Streams.{phase_of};
+ghost use Rattle.zpieces.specs.declared.phase.Phase.TheVariants.{Silent, Speaking};
 ghost use Rattle.ztables.specs.Tables.{TablesView, is_open};
-ghost use Rattle.zturns.specs.Turns.{Log};
-ghost use Rattle.zfront_laws.specs.Runs.{Took};
+ghost use Rattle.zfront_laws.specs.Runs.{Sent, Took, Takes};
 ghost use Rattle.zfront_watches.specs.Laws.{Brings, opening_scene};
-ghost use Rattle.zfront_watches.specs.Watching.{Answered, Fired, Missed, Moved, Set};
+ghost use Rattle.zfront_watches.specs.Watching.{Answered, Fired, Missed, Moved, Said, Set};
 ghost use Rattle.zfront_watches.specs.Watching.{IsClose, IsGone, IsOfTheLast, IsSameAt, IsUnchanged, LostChild};
 ghost use Rattle.zfront_watches.specs.Watching.{May, Scene, Stands, tree_of};
 
@@ -41,24 +44,30 @@ pub fn where_watches_are_set()
 {}
 
 /// A connection isn't answered while a watch of it has a change that wasn't told, unless that is
-/// the answer to the end of a session. No event is told without a cause, or to a watch without a
-/// change. No connection shuts unseen.
+/// the answer to the end of its own session. No event is told without a cause, or to a watch
+/// without a change. No connection shuts unseen, and none that has a session is told a word.
 pub fn what_may_not_happen()
     ensures answered { (s : Scene) (w : Watch) (xid : ℤ) (answer : Answer) → Stands s w
-        → w.connection ≡ 1 → (IsUnchanged s w → ⊥) → (IsClose s → ⊥)
+        → w.connection ≡ 1 → (IsUnchanged s w → ⊥) → (IsClose s 1 → ⊥)
         → May (Answered 1 xid answer) s → ⊥ }
     ensures fired { (s : Scene) (e : Event) → (IsOfTheLast s e → ⊥) → (IsGone s e → ⊥)
         → (LostChild s e → ⊥) → May (Fired e) s → ⊥ }
     ensures changed { (s : Scene) (w : Watch) → Stands s w → IsUnchanged s w
         → fires NodeDataChanged [] w ≡ true → (w.kind ≡ Missing → ⊥)
         → May (Fired (event NodeDataChanged [])) s → ⊥ }
+    ensures own { (s : Scene) → phase_of s.tables.streams 1 ≡ Some Silent → IsClose s 1 → ⊥ }
+    ensures said { (s : Scene) (session : ℕ) (bytes : List ℕ)
+        → phase_of s.tables.streams 1 ≡ Some (Speaking session) → May (Said 1 bytes) s → ⊥ }
     ensures moved { (s : Scene) (t : TablesView) → is_open s.tables 1 ≡ true
         → is_open t 1 ≡ false → May (Moved t) s → ⊥ }
 {}
 
 /// A scene opens with the log and the tables that are there. Where updates are taken, it stays.
+/// Where a connection is there, or a piece was sent, no call was made.
 pub fn what_opens()
     ensures log { (log : Log) (t : TablesView) → (opening_scene log t).log ≡ log }
     ensures tables { (log : Log) (t : TablesView) → (opening_scene log t).tables ≡ t }
     ensures taken { (s t : Scene) → Brings Took s t → t ≡ s }
+    ensures there { (s t : Scene) → Brings (Takes (Opened 1)) s t → t.log ≡ s.log }
+    ensures sent { (s t : Scene) → Brings Sent s t → t.log ≡ s.log }
 {}

@@ -2,4 +2,4 @@ use Rattle.zfront_watches.proofs.Running.{every_watch_is_told}
 use Rattle.zfront_watches.proofs.laws.every_watch_is_told.Goals as goal
 
 pub returns : goal.returns
-returns c = every_watch_is_told c.replies_are_the_trees.ensures
+returns c = every_watch_is_told

@@ -1,5 +1,0 @@
-use Rattle.zfront_laws.proofs.Inputs.{every_input_goes_on}
-use Rattle.zfront_laws.proofs.laws.every_input_goes_on.Goals as goal
-
-pub returns : goal.returns
-returns c = every_input_goes_on
