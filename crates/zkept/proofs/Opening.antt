@@ -1,51 +1,51 @@
--- A service that is opened, and what a fault of a commit is.
-use Rattle.std.proofs.Common.{◌≡◌, ℕ, ◌+◌, false, List, [], length, refl, sym, ap, subst, ◌∙◌, arith}
+-- A service that is opened, and what a fault of a put is.
+use Rattle.std.proofs.Common.{◌≡◌, ℕ, List, [], refl, sym, ap, subst}
+use Rattle.ztree.specs.Tree.{Tree}
 use Rattle.zjournal.specs.Device.{LeavesOnly}
+use Rattle.zjournal.specs.Faults.{IsSuch, open_error}
 use Rattle.zjournal.specs.Journal.{IsAtRest, StandsFor}
 use Rattle.zjournal.specs.Journal as journal
 use Rattle.zjournal.specs.Scan.{joined}
+use Rattle.zjournal.specs.declared.device.DeviceError.{DeviceError}
+use Rattle.zjournal.specs.declared.device.DeviceError.TheVariants as device
 use Rattle.zjournal.specs.declared.fault.PutError.{PutError}
 use Rattle.zjournal.specs.declared.fault.PutError.TheVariants as put
 use Rattle.zjournal.proofs.Moments.{joined_runs, weaker}
 use Rattle.zjournal.proofs.Readings.{files_have_one_reading}
-use Rattle.zalone.specs.declared.made.Made.{Made}
 use Rattle.zfront.specs.Front.{FrontView}
+use Rattle.zfront.specs.Inputs.{ServerView}
 use Rattle.zfront.specs.Restoring.{all_taken}
 use Rattle.zkept.specs.declared.kept.Kept.{Kept}
-use Rattle.zkept.specs.declared.fault.CommitFault.TheVariants as commit
-use Rattle.zkept.specs.Restored.{clock_at, IsRestoredFrom}
-use Rattle.zkept.specs.Kept.{IsOpen, IsServing, state_in}
-use Rattle.zkept.specs.Faults.{commit_fault, read_fault, IsLeftBy, IsSuchFile}
+use Rattle.zkept.specs.declared.fault.KeptFault.TheVariants as ending
+use Rattle.zkept.specs.Restored.{clock_at, restored}
+use Rattle.zkept.specs.Kept.{IsOpen, IsServing}
+use Rattle.zkept.specs.Faults.{put_fault, read_fault, IsLeftBy, IsSuchFile}
 use Rattle.zstates.specs.declared.fault.ReadFault.{ReadFault}
 use Rattle.zstates.specs.declared.fault.ReadFault.TheVariants as reading
 use Rattle.zstates.specs.Faults.{IsReadFault}
 use Rattle.zstates.specs.Texts.{IsNoText, IsTextOf}
 
 -- what was read is what is opened
-pub serves : {D : Type 0} (seen : D → List ℕ) (may_leave : D → List ℕ → Type 0) (servers tick now_ms n m : ℕ) (file now text : List ℕ) (kept : Kept D)
-    → n ≡ servers → m ≡ servers → now ≡ file
-    → (read : List (List ℕ)) → StandsFor n read file → text ≡ joined read → IsTextOf (state_in kept) text → kept.state.is_broken ≡ false
-    → IsRestoredFrom servers tick now_ms (state_in kept) kept.front
+pub serves : {D : Type 0} (seen : D → List ℕ) (may_leave : D → List ℕ → Type 0) (secret : List ℕ) (tick now_ms servers m : ℕ) (file now : List ℕ) (t : Tree)
+    (kept : Kept D) → m ≡ servers → now ≡ file → (read : List (List ℕ)) → StandsFor servers read file → IsTextOf t (joined read)
+    → kept.front ≡ restored secret tick now_ms t
     → (batches : List (List ℕ)) → StandsFor m batches now → IsAtRest seen may_leave m batches kept.journal → journal.IsOpen kept.journal
-    → StandsFor servers batches file × IsServing seen may_leave servers batches kept
-serves seen may_leave servers tick now_ms n m file now text kept n_is m_is same read reads text_is keeps whole restored batches stands rest takes =
+    → StandsFor servers batches file × IsServing seen may_leave servers batches t kept
+serves seen may_leave secret tick now_ms servers m file now t kept m_is same read reads keeps front batches stands rest takes =
     let stand : StandsFor servers batches file = subst (λ k. StandsFor k batches file) m_is (subst (StandsFor m batches) same stands) in
-    let one = files_have_one_reading servers file read batches (subst (λ k. StandsFor k read file) n_is reads) stand in (
+    let one = files_have_one_reading servers file read batches reads stand in (
       stand,
       record {
         rest = subst (λ k. IsAtRest seen may_leave k batches kept.journal) m_is rest;
         takes = takes;
-        sound = restored.sound;
-        whole = whole;
-        text = subst (IsTextOf (state_in kept)) (text_is ∙ ap joined one) keeps;
+        sound = ap (λ (v : ServerView). v.is_broken) front;
+        text = subst (IsTextOf t) (ap joined one) keeps;
         has = record {
-          times = clock_at tick now_ms (state_in kept).tree.time;
-          start = state_in kept;
-          first = kept.front.front;
-          restored = restored.restored;
-          keeps = restored.keeps;
-          inputs = [];
-          runs = refl;
+          start = t;
+          secret = secret;
+          times = clock_at tick now_ms t.time;
+          steps = [];
+          runs = ap (λ (v : ServerView). v.front) front;
           all = refl;
         };
       },
@@ -59,6 +59,11 @@ such_read reading.Memory servers n file text n_is read reads text_is such = tt
 such_read reading.NotRecords servers n file text n_is read reads text_is such =
     (read, subst (λ k. StandsFor k read file) n_is reads, subst IsNoText text_is such)
 
+-- a device that fails says nothing of the file
+pub says_nothing : (e : DeviceError) (servers : ℕ) (file : List ℕ) → IsSuch servers file (open_error e)
+says_nothing device.Memory servers file = tt
+says_nothing device.Failed servers file = tt
+
 -- ---- a file that was read is opened
 module _ {D : Type 0} (moment : D → ℕ) (left_since : D → ℕ → List ℕ → Type 0) (old mid new : D) (file : List ℕ)
     (read : LeavesOnly moment left_since old mid (λ c. c ≡ file)) where
@@ -67,29 +72,26 @@ module _ {D : Type 0} (moment : D → ℕ) (left_since : D → ℕ → List ℕ 
       joined_runs moment left_since old mid new P (weaker moment left_since old mid (λ c. c ≡ file) P read (λ c is. subst P (sym is) holds)) run
 
 -- where nothing was made, nothing is taken
-pub none_taken : (v : FrontView) → v.asker.changes.made ≡ [] → v ≡ all_taken v
-none_taken v none i = record v { asker = record v.asker { changes = record { is_kept = v.asker.changes.is_kept; taken = count i; made = none i } } }
-  where
-    count : v.asker.changes.taken ≡ v.asker.changes.taken + length v.asker.changes.made
-    count = omega (arith, ap (λ (made : List Made). length made) none)
+pub none_taken : (v : FrontView) → v.made ≡ [] → v ≡ all_taken v
+none_taken v none i = record v { made = none i }
 
--- what a put tells, as a fault of a commit
+-- what a fault of a put leaves
 pub left_put : {D : Type 0} (old new : Kept D) (e : PutError) → (e ≡ put.NotText → ⊥) → (e ≡ put.Closed → ⊥) → (IsOpen new → ⊥)
-    → IsLeftBy (commit_fault e) old new
+    → IsLeftBy (put_fault e) old new
 left_put old new put.Memory text closed ended = ended
 left_put old new put.Failed text closed ended = ended
 left_put old new put.NotText text closed ended = absurd (text refl)
 left_put old new put.Full text closed ended = ended
 left_put old new put.Closed text closed ended = absurd (closed refl)
 
-pub failed_is : (e : PutError) → commit_fault e ≡ commit.Failed → e ≡ put.Failed
+pub failed_is : (e : PutError) → put_fault e ≡ ending.Failed → e ≡ put.Failed
 failed_is put.Memory is = cc
 failed_is put.Failed is = refl
 failed_is put.NotText is = cc
 failed_is put.Full is = cc
 failed_is put.Closed is = cc
 
-pub full_is : (e : PutError) → commit_fault e ≡ commit.Full → e ≡ put.Full
+pub full_is : (e : PutError) → put_fault e ≡ ending.Full → e ≡ put.Full
 full_is put.Memory is = cc
 full_is put.Failed is = cc
 full_is put.NotText is = cc

@@ -1,5 +1,5 @@
 -- When each fault comes, and what it leaves.
-use Rattle.std.specs.Prelude.{◌≡◌, ◌⊎◌, ◌≤◌, ◌+◌, ◌^◌, ℕ, List, length}
+use Rattle.std.specs.Prelude.{◌≡◌, ◌≤◌, ◌^◌, ℕ, List}
 use Rattle.zjournal.specs.declared.fault.PutError.{PutError}
 use Rattle.zjournal.specs.declared.fault.PutError.TheVariants as put
 use Rattle.zjournal.specs.declared.fault.OpenError.TheVariants as fault
@@ -8,39 +8,43 @@ use Rattle.zjournal.specs.Journal.{StandsFor, size_of}
 use Rattle.zjournal.specs.Scan.{joined}
 use Rattle.zkept.specs.declared.fault.OpenFault.{OpenFault}
 use Rattle.zkept.specs.declared.fault.OpenFault.TheVariants as opening
-use Rattle.zkept.specs.declared.fault.CommitFault.{CommitFault}
-use Rattle.zkept.specs.declared.fault.CommitFault.TheVariants as commit
+use Rattle.zkept.specs.declared.fault.KeptFault.{KeptFault}
+use Rattle.zkept.specs.declared.fault.KeptFault.TheVariants as ending
 use Rattle.zkept.specs.declared.kept.Kept.{Kept}
 use Rattle.zstates.specs.declared.fault.ReadFault.{ReadFault}
 use Rattle.zstates.specs.declared.fault.ReadFault.TheVariants as read
 use Rattle.zstates.specs.Texts.{IsNoText}
-use Rattle.zkept.specs.Making.{made_by}
-use Rattle.zkept.specs.Kept.{IsOpen, front_in}
+use Rattle.zkept.specs.Kept.{IsOpen}
 
--- what a fault of reading, and of a put, is to who opens, and to who commits
+-- what a fault of reading is to who opens, and one of a put to whom the service serves
 abbrev pub read_fault : ReadFault → OpenFault
 read_fault read.Memory = opening.Memory
 read_fault read.NotRecords = opening.NotRecords
 
-abbrev pub commit_fault : PutError → CommitFault
-commit_fault put.Memory = commit.Memory
-commit_fault put.Failed = commit.Failed
-commit_fault put.Full = commit.Full
-commit_fault put.NotText = commit.Ended
-commit_fault put.Closed = commit.Ended
+abbrev pub put_fault : PutError → KeptFault
+put_fault put.Memory = ending.Memory
+put_fault put.Failed = ending.Failed
+put_fault put.Full = ending.Full
+put_fault put.NotText = ending.Ended
+put_fault put.Closed = ending.Ended
 
 -- the service takes nothing more; where it had ended before, it is what it was
-abbrev pub IsLeftBy : {D : Type 0} → CommitFault → Kept D → Kept D → Type 0
-IsLeftBy commit.Memory old new = IsOpen new → ⊥
-IsLeftBy commit.Failed old new = IsOpen new → ⊥
-IsLeftBy commit.Full old new = IsOpen new → ⊥
-IsLeftBy commit.Ended old new = (new ≡ old) × (IsOpen old → ⊥)
+abbrev pub IsLeftBy : {D : Type 0} → KeptFault → Kept D → Kept D → Type 0
+IsLeftBy ending.Memory old new = IsOpen new → ⊥
+IsLeftBy ending.Failed old new = IsOpen new → ⊥
+IsLeftBy ending.Full old new = IsOpen new → ⊥
+IsLeftBy ending.Ended old new = (new ≡ old) × (IsOpen old → ⊥)
 
--- the file has 2 ^ 60 bytes, or 2 ^ 64 changes were made
+-- an input finds no memory, or the service had ended: no input is asked of the disk
+abbrev pub IsOfInput : KeptFault → Type 0
+IsOfInput ending.Memory = Unit {0}
+IsOfInput ending.Failed = ⊥
+IsOfInput ending.Full = ⊥
+IsOfInput ending.Ended = Unit {0}
+
+-- the file has 2 ^ 60 bytes
 abbrev pub IsFull : {D : Type 0} → Kept D → Type 0
-IsFull kept =
-    (2 ^ 60 ≤ size_of kept.journal)
-    ⊎ (2 ^ 64 ≤ (front_in kept).asker.changes.taken + length (made_by (front_in kept)))
+IsFull kept = 2 ^ 60 ≤ size_of kept.journal
 
 -- the fault leaves the file untouched: it is one of the file's content, or of reading it
 abbrev pub IsOfReading : OpenFault → Type 0

@@ -1,59 +1,51 @@
 -- A front whose changes are kept in a journal.
 use Rattle.std.specs.Prelude.{◌≡◌, ◌==◌, ◌&&◌, ◌/◌, nat_le, ℕ, Bool, true, false, List, [], ◌∷◌, ◌++◌, length, Option, None, if◌then◌else◌}
-use Rattle.zalone.specs.declared.made.Made.{Made}
+use Rattle.ztree.specs.Tree.{Tree}
 use Rattle.zjournal.specs.Journal.{IsAtRest, Keeps, device_of, size_of}
 use Rattle.zjournal.specs.Journal as journal
 use Rattle.zjournal.specs.Scan.{joined}
 use Rattle.zpieces.specs.Outbox.{PieceView, first_of}
-use Rattle.zstates.specs.Entries.{entries_text}
-use Rattle.zstates.specs.States.{State}
+use Rattle.zstates.specs.Entries.{Entry, entries_text}
 use Rattle.zstates.specs.Texts.{IsTextOf}
 use Rattle.zfront.specs.Front.{FrontView}
 use Rattle.zfront.specs.Inputs.{without_first}
 use Rattle.zkept.specs.declared.kept.Kept.{Kept}
-use Rattle.zkept.specs.Making.{made_by, entries_made, HasKept}
+use Rattle.zkept.specs.Making.{HasKept}
 
--- the device that holds its file, its front, the state that the file keeps, and whether it takes
--- inputs
+-- the device that holds its file, its front, what that made since it was kept last, and whether it
+-- takes inputs
 abbrev pub disk_of : {D : Type 0} → Kept D → D
 disk_of kept = device_of kept.journal
 
 abbrev pub front_in : {D : Type 0} → Kept D → FrontView
 front_in kept = kept.front.front
 
-abbrev pub state_in : {D : Type 0} → Kept D → State
-state_in kept = kept.state.state
+abbrev pub made_in : {D : Type 0} → Kept D → List Entry
+made_in kept = (front_in kept).made
 
 abbrev pub IsOpen : {D : Type 0} → Kept D → Type 0
 IsOpen kept = kept.is_open ≡ true
 
 -- ---- what is on the disk
 
--- the file keeps these batches, all of it on the disk; their text is that of the state, and this is
--- what the front has kept
-pub record IsServing {D : Type 0} (seen : D → List ℕ) (may_leave : D → List ℕ → Type 0) (servers : ℕ) (batches : List (List ℕ)) (kept : Kept D) : Type 0 where
+-- the file keeps these batches, all of it on the disk; their text is that of this tree, and this is
+-- what is kept of what the front made
+pub record IsServing {D : Type 0} (seen : D → List ℕ) (may_leave : D → List ℕ → Type 0) (servers : ℕ) (batches : List (List ℕ)) (t : Tree) (kept : Kept D) : Type 0 where
   pub rest : IsAtRest seen may_leave servers batches kept.journal
   pub takes : journal.IsOpen kept.journal
   pub sound : kept.front.is_broken ≡ false
-  pub whole : kept.state.is_broken ≡ false
-  pub text : IsTextOf (state_in kept) (joined batches)
-  pub has : HasKept servers (state_in kept) (front_in kept)
+  pub text : IsTextOf t (joined batches)
+  pub has : HasKept t (front_in kept)
 
 -- a service that takes inputs serves some batches
 abbrev pub IsSound : {D : Type 0} → (D → List ℕ) → (D → List ℕ → Type 0) → Kept D → Type 0
-IsSound seen may_leave kept = IsOpen kept → (servers : ℕ) × (batches : List (List ℕ)) × IsServing seen may_leave servers batches kept
+IsSound seen may_leave kept =
+    IsOpen kept → (servers : ℕ) × (batches : List (List ℕ)) × (t : Tree) × IsServing seen may_leave servers batches t kept
 
--- the text of what is left to be kept, and the batches with it. Where nothing is left, no block is
--- written
-abbrev pub batch_of : FrontView → List ℕ
-batch_of v = entries_text (entries_made v)
-
-abbrev pub more_if : List Made → List ℕ → List (List ℕ) → List (List ℕ)
-more_if [] batch batches = batches
-more_if (m ∷ made) batch batches = batches ++ batch ∷ []
-
-abbrev pub with_made : FrontView → List (List ℕ) → List (List ℕ)
-with_made v batches = more_if (made_by v) (batch_of v) batches
+-- the batches with the text of what was made behind them. Where nothing was made, no block is written
+abbrev pub more_if : List Entry → List (List ℕ) → List (List ℕ)
+more_if [] batches = batches
+more_if (entry ∷ made) batches = batches ++ entries_text (entry ∷ made) ∷ []
 
 -- how many bytes the journal had behind its last shortening since the service was opened, or 0
 abbrev pub shortened_size : {D : Type 0} → Kept D → ℕ
@@ -63,9 +55,9 @@ shortened_size kept = kept.shortened
 abbrev pub is_long : {D : Type 0} → ℕ → Kept D → Bool
 is_long least kept = nat_le least (size_of kept.journal) && nat_le (shortened_size kept) (size_of kept.journal / 4)
 
--- the file keeps batches whose text is this state's
-abbrev pub KeepsState : ℕ → State → List ℕ → Type 0
-KeepsState servers s file = (batches : List (List ℕ)) × Keeps servers batches file × IsTextOf s (joined batches)
+-- the file keeps batches whose text is this tree's
+abbrev pub KeepsTree : ℕ → Tree → List ℕ → Type 0
+KeepsTree servers t file = (batches : List (List ℕ)) × Keeps servers batches file × IsTextOf t (joined batches)
 
 -- ---- inputs
 
@@ -77,7 +69,7 @@ IsSameFile old new = new ≡ record old { front = new.front; is_open = new.is_op
 
 -- pieces are handed out: the service is open, and nothing is left to be kept
 abbrev pub tells : {D : Type 0} → Kept D → Bool
-tells kept = kept.is_open && (length (made_by (front_in kept)) == 0)
+tells kept = kept.is_open && (length (made_in kept) == 0)
 
 -- the piece to be sent first
 abbrev pub piece_in : {D : Type 0} → Kept D → Option PieceView

@@ -1,25 +1,20 @@
 -- The lives of a service, each from its opening to its crash or its end. A crash is the moment at
 -- which the power goes, the machine stops or the process is killed.
-use Rattle.std.specs.Prelude.{◌≡◌, ◌⊎◌, ℕ, List, [], ◌∷◌, ◌++◌, map}
-use Rattle.zcalls.specs.declared.call.Update.{Update}
-use Rattle.zturns.specs.Turns.{Log, calls_of, IsOneTrees}
-use Rattle.zalone.specs.Told.{Leaves}
+use Rattle.std.specs.Prelude.{◌≡◌, ◌⊎◌, ℕ, List, [], ◌∷◌, ◌++◌}
+use Rattle.ztree.specs.Tree.{Tree}
+use Rattle.zlogs.specs.Logs.{Log, calls_of, IsOneTreesFrom}
 use Rattle.zjournal.specs.Journal.{StandsFor}
 use Rattle.zjournal.specs.Scan.{joined}
 use Rattle.zstates.specs.Entries.{Entry, calls_again}
-use Rattle.zstates.specs.States.{State, after}
+use Rattle.zstates.specs.States.{after}
 use Rattle.zstates.specs.Texts.{IsTextOf}
 use Rattle.zfront_laws.specs.Making.{updates_in}
 
--- the file keeps this state: it stands for batches whose text does
-pub record FileKeeps (servers : ℕ) (s : State) (file : List ℕ) : Type 0 where
+-- the file keeps this tree: it stands for batches whose text does
+pub record FileKeeps (servers : ℕ) (t : Tree) (file : List ℕ) : Type 0 where
   pub batches : List (List ℕ)
   pub stands : StandsFor servers batches file
-  pub text : IsTextOf s (joined batches)
-
--- the updates of entries
-abbrev pub entry_updates : List Entry → List Update
-entry_updates entries = map (λ (entry : Entry). entry.0) entries
+  pub text : IsTextOf t (joined batches)
 
 -- a life: the calls that it made and may have told of, with their replies; the entries that it kept;
 -- and those of the block that was under way when it ended, if there was one
@@ -28,20 +23,20 @@ pub record Life : Type 0 where
   pub kept : List Entry
   pub under_way : List Entry
 
--- A life that found a file with this state, and left this file. However often it shortened the file
--- meanwhile, the file keeps the state that its changes leave.
-pub record IsLife (servers : ℕ) (found : State) (life : Life) (left : List ℕ) : Type 0 where
-  -- behind any log that leaves the tree that was found, its calls were told by one tree's client
-  pub one_tree : (before : Log) → Leaves before found.tree → IsOneTrees (before ++ life.told)
+-- A life that found a file with this tree, and left this file. However often it shortened the file
+-- meanwhile, the file keeps the tree that its changes leave.
+pub record IsLife (servers : ℕ) (found : Tree) (life : Life) (left : List ℕ) : Type 0 where
+  -- its calls were told by one tree, the one that was found
+  pub one_tree : IsOneTreesFrom found life.told
   -- and its changes were kept, with the block under way or without it
-  pub kept : updates_in life.told ≡ entry_updates life.kept
+  pub kept : updates_in life.told ≡ life.kept
   pub leaves : FileKeeps servers (after found life.kept) left ⊎ FileKeeps servers (after found (life.kept ++ life.under_way)) left
 
 -- lives one after the other, from a first file to a last one
 abbrev pub AreLives : ℕ → List ℕ → List Life → List ℕ → Type 0
 AreLives servers file [] last = last ≡ file
 AreLives servers file (life ∷ lives) last =
-    (found : State) × FileKeeps servers found file × (left : List ℕ) × IsLife servers found life left × AreLives servers left lives last
+    (found : Tree) × FileKeeps servers found file × (left : List ℕ) × IsLife servers found life left × AreLives servers left lives last
 
 -- The log is what each life told, in order. Behind that stand the changes that were under way at its
 -- end, all of them or none, with replies that nobody was told. The entries are those of all changes

@@ -1,19 +1,19 @@
--- A front that is restored from a state that was read.
-use Rattle.std.specs.Prelude.{◌≡◌, ℕ, ◌-◌, ◌*◌, false}
+-- A front that begins with a tree that was read.
+use Rattle.std.specs.Prelude.{ℕ, ◌-◌, ◌*◌, true, false, List}
+use Rattle.ztree.specs.Tree.{Tree}
 use Rattle.zanswering.specs.declared.clock.Clock.{Clock}
-use Rattle.zstates.specs.States.{State}
 use Rattle.zfront.specs.Inputs.{ServerView}
-use Rattle.zfront.specs.Restoring.{IsRestored}
-use Rattle.zfront_laws.specs.Making.{KeepsMade}
+use Rattle.zfront.specs.Restoring.{beginning}
 
 -- the clock of a tree that is at this tick now, in milliseconds since 1970: so times go on. A time
 -- before 1970 is 1970
 abbrev pub clock_at : ℕ → ℕ → ℕ → Clock
 clock_at tick now_ms ticks = record { tick = tick; started = now_ms - ticks * tick }
 
--- a front with this state's tree and passwords, which has memory. What it makes from now on is kept
--- until it is taken
-pub record IsRestoredFrom (servers tick now_ms : ℕ) (s : State) (v : ServerView) : Type 0 where
-  pub restored : IsRestored servers (clock_at tick now_ms s.tree.time) s.tree s.seats v.front
-  pub keeps : KeepsMade v.front
-  pub sound : v.is_broken ≡ false
+-- a front that begins with this tree, and has memory. What it makes is left to be kept until it is
+-- taken
+abbrev pub restored : List ℕ → ℕ → ℕ → Tree → ServerView
+restored secret tick now_ms t = record {
+  front = beginning t secret (clock_at tick now_ms t.time) true;
+  is_broken = false;
+}

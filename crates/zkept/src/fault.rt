@@ -1,4 +1,4 @@
-//! Why a service isn't opened, and why it doesn't keep what was made.
+//! Why a service isn't opened, and why it has ended.
 
 use thiserror::Error;
 use zalloc::Memory;
@@ -14,35 +14,25 @@ pub enum OpenFault {
     /// There is no memory for what the file keeps. The file is untouched.
     #[error("out of memory")]
     Memory,
-    /// The journal doesn't hold changes, or a snapshot and changes behind it. The file is untouched.
+    /// The journal doesn't hold changes, or a snapshot and changes behind it. The file is
+    /// untouched.
     #[error("not a journal of changes")]
     NotRecords,
 }
 
-/// Why an input isn't taken.
+/// Why an input isn't taken, or what was made isn't kept. The service has ended.
 #[derive(Clone, Copy, Debug, PartialEq, Eq, Error)]
-pub enum InputFault {
-    /// Out of memory. The service has ended.
+pub enum KeptFault {
+    /// Out of memory.
     #[error("out of memory")]
     Memory,
-    /// An earlier call failed: nothing more is done.
-    #[error("the service has ended")]
-    Ended,
-}
-
-/// Why what was made isn't kept.
-#[derive(Clone, Copy, Debug, PartialEq, Eq, Error)]
-pub enum CommitFault {
-    /// Out of memory. The service has ended.
-    #[error("out of memory")]
-    Memory,
-    /// The disk failed. Whether the changes are kept, the next opening tells. The service has ended.
+    /// The disk failed. Whether the changes are kept, the next opening tells.
     #[error("the disk failed")]
     Failed,
-    /// The journal is full, or 2 ^ 64 changes were made. The service has ended.
+    /// The journal is full.
     #[error("the journal is full")]
     Full,
-    /// An earlier call failed: nothing more is asked of the file.
+    /// An earlier call failed: nothing more is done, and nothing is asked of the file.
     #[error("the service has ended")]
     Ended,
 }
@@ -72,40 +62,29 @@ impl From<ReadFault> for OpenFault {
     }
 }
 
-impl From<Memory> for InputFault {
-    ghost use Rattle.zkept.specs.declared.fault.InputFault.TheVariants as fault;
+impl From<PutError> for KeptFault {
+    ghost use Rattle.zkept.specs.Faults.{put_fault};
     ghost use Rattle.std.specs.Prelude.{◌≡◌};
 
-    ghost from_gives = { λ _ e. e ≡ fault.Memory };
-
-    fn from(_: Memory) -> Self {
-        InputFault::Memory
-    }
-}
-
-impl From<PutError> for CommitFault {
-    ghost use Rattle.zkept.specs.Faults.{commit_fault};
-    ghost use Rattle.std.specs.Prelude.{◌≡◌};
-
-    ghost from_gives = { λ cause e. e ≡ commit_fault cause };
+    ghost from_gives = { λ cause e. e ≡ put_fault cause };
 
     fn from(cause: PutError) -> Self {
         match cause {
-            PutError::Memory => CommitFault::Memory,
-            PutError::Failed => CommitFault::Failed,
-            PutError::Full => CommitFault::Full,
-            PutError::NotText | PutError::Closed => CommitFault::Ended,
+            PutError::Memory => KeptFault::Memory,
+            PutError::Failed => KeptFault::Failed,
+            PutError::Full => KeptFault::Full,
+            PutError::NotText | PutError::Closed => KeptFault::Ended,
         }
     }
 }
 
-impl From<Memory> for CommitFault {
-    ghost use Rattle.zkept.specs.declared.fault.CommitFault.TheVariants as fault;
+impl From<Memory> for KeptFault {
+    ghost use Rattle.zkept.specs.declared.fault.KeptFault.TheVariants as fault;
     ghost use Rattle.std.specs.Prelude.{◌≡◌};
 
     ghost from_gives = { λ _ e. e ≡ fault.Memory };
 
     fn from(_: Memory) -> Self {
-        CommitFault::Memory
+        KeptFault::Memory
     }
 }

@@ -2,38 +2,41 @@
 
 ghost use Rattle.std.specs.Prelude.{◌≡◌, ◌<◌, ◌≤◌, ◌^◌, ◌++◌, [], ◌∷◌, List, ℕ};
 ghost use Rattle.std.specs.Prelude.{IfErr, IfOk, IsErrOf, IsOk, OnOk};
+ghost use Rattle.ztree.specs.Tree.{Tree};
 ghost use Rattle.zjournal.specs.Blocks.{IsText};
 ghost use Rattle.zjournal.specs.Device.{LeavesOnly, Only};
 ghost use Rattle.zjournal.specs.Journal.{IsAtRest, IsWithOrWithout, StandsFor, device_of, size_of};
 ghost use Rattle.zjournal.specs.Journal as state;
 ghost use Rattle.zjournal.specs.Puts as puts;
-ghost use Rattle.zjournal.specs.Scan.{joined};
 ghost use Rattle.zfront.specs.Restoring.{all_taken};
 ghost use Rattle.zkept.specs.Faults.{disk_failed, IsFull, IsLeftBy, IsOfReading, IsSuchFile};
-ghost use Rattle.zkept.specs.Kept.{batch_of, disk_of, front_in, IsOpen, IsServing, IsSound};
-ghost use Rattle.zkept.specs.Kept.{shortened_size, state_in, with_made};
-ghost use Rattle.zkept.specs.Making.{entries_made, made_by};
-ghost use Rattle.zkept.specs.Restored.{IsRestoredFrom};
+ghost use Rattle.zkept.specs.Kept.{disk_of, front_in, made_in, more_if, shortened_size};
+ghost use Rattle.zkept.specs.Kept.{IsOpen, IsServing, IsSound};
+ghost use Rattle.zkept.specs.Looking.{TellsOfPasswords};
+ghost use Rattle.zkept.specs.Restored.{restored};
+ghost use Rattle.zstates.specs.Entries.{entries_text};
 ghost use Rattle.zstates.specs.States.{after};
 
-use crate::fault::{CommitFault, OpenFault};
-use crate::making::keep;
+use crate::fault::{KeptFault, OpenFault};
+use crate::looking::look;
+use crate::opened::Opened;
 use crate::restored::restored;
+use crate::writing::written;
 use std::alloc::Global;
-use zfront::{Front, ServerId, TickLength};
-use zjournal::{Device, Journal, PutError, read_text};
-use zstates::State;
+use zfront::{Front, Secret, TickLength};
+use zjournal::{Device, Journal, PutError};
+use zprotocol::ServerId;
+use zservice::LocalTree;
+use zstates::Found;
 
 /// A server for ZooKeeper's clients whose changes are kept.
 ///
-/// It hands out pieces only while all that it made is on the disk. After any fault it has ended, and
-/// its file is to be opened again.
+/// It hands out pieces only while all that it made is on the disk. After any fault it has ended,
+/// and its file is to be opened again.
 #[derive(Drop)]
 pub struct Kept<D: Device> {
     pub(crate) alloc: Global,
-    pub(crate) front: Front,
-    // What the file keeps: each change is made in it as well, so that a snapshot can be written.
-    pub(crate) state: State,
+    pub(crate) front: Front<LocalTree>,
     pub(crate) journal: Journal<D>,
     // How many bytes the file had when it was shortened last, and 0 before.
     pub(crate) shortened: usize,
@@ -41,28 +44,31 @@ pub struct Kept<D: Device> {
 }
 
 impl<D: Device> Kept<D> {
-    /// Opens the service of a file that a crash may have left, or of a new one. A fresh chain, the
-    /// servers up to `servers`, begins with the tree that the file keeps. Where reading fails, the
-    /// file stays untouched. Opening may crash, too, and then the file keeps the same. The tree's
-    /// time is `now_ms` now, in milliseconds since 1970. An `Err` hands the device back.
+    /// Opens the service of a file that a crash may have left, or of a new one. Its front begins
+    /// with the tree that the file keeps. Where reading fails, the file stays untouched. Opening
+    /// may crash, too, and then the file keeps the same. The tree's time is `now_ms` now, in
+    /// milliseconds since 1970. An `Err` hands the device back.
     pub fn open(
         alloc: Global,
         device: D,
         servers: ServerId,
+        secret: Secret,
         tick: TickLength,
         now_ms: u64,
-    ) -> Result<Kept<D>, (OpenFault, D)>
+    ) -> Result<Opened<D>, (OpenFault, D)>
         // After a restart, what is read is what is on the disk.
         requires durable { Only (D.seen device) (D.may_leave device) }
-        ensures serving { IfOk result (λ kept. (batches : List (List ℕ))
+        ensures serving { IfOk result (λ opened. (batches : List (List ℕ)) × (t : Tree)
             × StandsFor servers batches (D.seen device)
-            × IsServing D.seen D.may_leave servers batches kept
-            × IsRestoredFrom servers tick now_ms (state_in kept) kept.front) }
-        ensures open { IfOk result IsOpen }
-        ensures sound { IfOk result (IsSound D.seen D.may_leave) }
-        ensures measured { IfOk result (λ kept. shortened_size kept ≡ 0) }
+            × IsServing D.seen D.may_leave servers batches t opened.kept
+            × (opened.kept.front ≡ restored secret tick now_ms t)) }
+        ensures open { IfOk result (λ opened. IsOpen opened.kept) }
+        ensures sound { IfOk result (λ opened. IsSound D.seen D.may_leave opened.kept) }
+        ensures measured { IfOk result (λ opened. shortened_size opened.kept ≡ 0) }
+        ensures passwords { IfOk result (λ opened.
+            TellsOfPasswords servers (D.seen device) opened.had_passwords) }
         ensures any_moment { (batches : List (List ℕ)) → StandsFor servers batches (D.seen device)
-            → IfOk result (λ kept. LeavesOnly D.moment D.left_since device (disk_of kept)
+            → IfOk result (λ opened. LeavesOnly D.moment D.left_since device (disk_of opened.kept)
             (StandsFor servers batches)) }
         ensures any_moment_err { (batches : List (List ℕ))
             → StandsFor servers batches (D.seen device)
@@ -75,34 +81,32 @@ impl<D: Device> Kept<D> {
         ensures failed { IfErr result (λ e. e.0 ≡ disk_failed → D.faults device < D.faults e.1) }
     {
         let mut device = device;
-        let text = match read_text(alloc, &mut device, servers.number()) {
-            Ok(text) => text,
-            Err(e) => return Err((OpenFault::Journal(e), device)),
+        let found = match look(alloc, &mut device, servers) {
+            Ok(found) => found,
+            Err(fault) => return Err((fault, device)),
         };
-        let state = match State::read(alloc, &text) {
-            Ok(state) => state,
-            Err(fault) => return Err((OpenFault::from(fault), device)),
-        };
-        drop(text);
-        let front = match restored(alloc, servers, tick, now_ms, &state) {
+        let Found {
+            tree,
+            had_passwords,
+            ..
+        } = found;
+        let front = match restored(alloc, tree, secret, tick, now_ms) {
             Ok(front) => front,
-            Err(_) => {
-                drop(state);
-                return Err((OpenFault::Memory, device));
-            }
+            Err(_) => return Err((OpenFault::Memory, device)),
         };
         match zjournal::open(alloc, device, servers.number()) {
-            Ok((journal, _)) => Ok(Kept {
-                alloc,
-                front,
-                state,
-                journal,
-                shortened: 0,
-                is_open: true,
+            Ok((journal, _)) => Ok(Opened {
+                kept: Kept {
+                    alloc,
+                    front,
+                    journal,
+                    shortened: 0,
+                    is_open: true,
+                },
+                had_passwords,
             }),
             Err((e, device)) => {
                 drop(front);
-                drop(state);
                 Err((OpenFault::Journal(e), device))
             }
         }
@@ -118,42 +122,37 @@ impl<D: Device> Kept<D> {
     /// Keeps what was made since it was kept last, as one block. At `Ok` the block is on the disk,
     /// and pieces are handed out. Where nothing was made nothing is written. After any fault the
     /// service has ended; a file that is opened again then has these changes, or hasn't.
-    pub fn commit(&mut self) -> Result<(), CommitFault>
+    pub fn commit(&mut self) -> Result<(), KeptFault>
         requires { IsSound D.seen D.may_leave self.old }
-        ensures kept { (servers : ℕ) (batches : List (List ℕ)) → IsOpen self.old
-            → IsServing D.seen D.may_leave servers batches self.old
+        ensures kept { (servers : ℕ) (batches : List (List ℕ)) (t : Tree) → IsOpen self.old
+            → IsServing D.seen D.may_leave servers batches t self.old
             → OnOk result (IsServing D.seen D.may_leave servers
-            (with_made (front_in self.old) batches) self.new) }
+            (more_if (made_in self.old) batches) (after t (made_in self.old)) self.new) }
         ensures taken { OnOk result (front_in self.new ≡ all_taken (front_in self.old)) }
-        ensures state { OnOk result
-            (state_in self.new ≡ after (state_in self.old) (entries_made (front_in self.old))) }
         ensures measured { shortened_size self.new ≡ shortened_size self.old }
-        ensures nothing { made_by (front_in self.old) ≡ [] → IsOpen self.old
+        ensures nothing { made_in self.old ≡ [] → IsOpen self.old
             → IsOk result × (self.new ≡ self.old) }
-        ensures any_moment { (servers : ℕ) (batches : List (List ℕ))
-            → IsServing D.seen D.may_leave servers batches self.old
+        ensures any_moment { (servers : ℕ) (batches : List (List ℕ)) (t : Tree)
+            → IsServing D.seen D.may_leave servers batches t self.old
             → LeavesOnly D.moment D.left_since (disk_of self.old) (disk_of self.new)
-            (IsWithOrWithout servers batches (batch_of (front_in self.old))) }
+            (IsWithOrWithout servers batches (entries_text (made_in self.old))) }
         ensures sound { IsSound D.seen D.may_leave self.new }
         ensures open { OnOk result (IsOpen self.old × IsOpen self.new) }
         ensures left { IfErr result (λ e. IsLeftBy e self.old self.new) }
         ensures ended { (IsOpen self.old → ⊥)
-            → IsErrOf result CommitFault.Ended × (self.new ≡ self.old) }
-        ensures full { IsErrOf result CommitFault.Full → IsFull self.old }
-        ensures failed { IsErrOf result CommitFault.Failed
+            → IsErrOf result KeptFault.Ended × (self.new ≡ self.old) }
+        ensures full { IsErrOf result KeptFault.Full → IsFull self.old }
+        ensures failed { IsErrOf result KeptFault.Failed
             → D.faults (disk_of self.old) < D.faults (disk_of self.new) }
     {
         if !self.is_open {
-            return Err(CommitFault::Ended);
+            return Err(KeptFault::Ended);
         }
         if self.front.made().is_empty() {
             return Ok(());
         }
         self.is_open = false;
-        let Some(made) = self.front.take_made() else {
-            return Err(CommitFault::Full);
-        };
-        let text = keep(self.alloc, &self.front, &mut self.state, made)?;
+        let text = written(self.alloc, self.front.take_made())?;
         put(&mut self.journal, &text)?; // now they are on the disk
         self.is_open = true;
         Ok(())

@@ -3,8 +3,9 @@
 //! `shorten` puts a file with a snapshot alone in the place of one that has become long.
 //!
 //! ```text
-//! let mut kept = Kept::open(alloc, device, ServerId::first(), tick, now_ms)?;
-//! kept.came(connection, bytes)?;
+//! let opened = Kept::open(alloc, device, ServerId::first(), secret, tick, now_ms)?;
+//! let Opened { mut kept, .. } = opened;
+//! kept.take(Input::Came(connection, bytes))?;
 //! kept.commit()?;    // what it made is on the disk
 //! while let Some(piece) = kept.next_piece() { .. }    // and is told
 //! ```
@@ -20,16 +21,20 @@ mod inputs;
 mod kept;
 pub mod laws;
 mod looking;
-mod making;
+mod opened;
 mod pieces;
 mod restored;
 mod rows;
 mod shortening;
 mod stored;
+mod writing;
 
-pub use fault::{CommitFault, InputFault, OpenFault};
+pub use fault::{KeptFault, OpenFault};
 pub use kept::Kept;
 pub use looking::{folder_stat, look};
+pub use opened::Opened;
 pub use stored::Stored;
 pub use zexport::FolderStat;
-pub use zfront::{Password, Piece, ServerId, TickLength};
+pub use zfront::{Input, Piece, Secret, TickLength};
+pub use zprotocol::ServerId;
+pub use zstates::Found;

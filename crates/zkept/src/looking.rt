@@ -1,41 +1,43 @@
 //! What a file keeps, read without a change of the file.
 
-ghost use Rattle.std.specs.Prelude.{◌≡◌, false, IfErr, IfOk};
+ghost use Rattle.std.specs.Prelude.{◌≡◌, ◌<◌, ◌≤◌, false, IfErr, IfOk};
 ghost use Rattle.zjournal.specs.Device.{LeavesOnly, Only};
-ghost use Rattle.zkept.specs.Faults.{IsSuchFile};
+ghost use Rattle.zkept.specs.Faults.{disk_failed, IsSuchFile};
 ghost use Rattle.zkept.specs.Lives.{FileKeeps};
-ghost use Rattle.zkept.specs.Looking.{IsLook, IsStatOf};
+ghost use Rattle.zkept.specs.Looking.{IsLook, IsStatOf, TellsOfPasswords};
 
 use crate::fault::OpenFault;
 use std::alloc::Global;
 use zexport::{FolderStat, counts};
-use zfront::ServerId;
 use zjournal::{Device, OpenError, read_text};
-use zstates::State;
+use zprotocol::ServerId;
+use zstates::{Found, read};
 
-/// Reads the state that a file keeps, and how many bytes of its text are the snapshot with which it
+/// Reads the tree that a file keeps, and how many bytes of its text are the snapshot with which it
 /// begins. The file stays as it is.
-pub fn look<D: Device>(
-    alloc: Global,
-    device: &mut D,
-    servers: ServerId,
-) -> Result<(State, usize), OpenFault>
+pub fn look<D: Device>(alloc: Global, device: &mut D, servers: ServerId) -> Result<Found, OpenFault>
     requires durable { Only (D.seen device.old) (D.may_leave device.old) }
-    ensures keeps { IfOk result (λ read. FileKeeps servers read.0.state (D.seen device.old)) }
-    ensures look { IfOk result (λ read. IsLook servers (D.seen device.old) read.0.state read.1) }
-    ensures whole { IfOk result (λ read. read.0.is_broken ≡ false) }
+    ensures keeps { IfOk result (λ found. FileKeeps servers found.tree.tree (D.seen device.old)) }
+    ensures look { IfOk result (λ found.
+        IsLook servers (D.seen device.old) found.tree.tree found.snapshot) }
+    ensures passwords { IfOk result (λ found.
+        TellsOfPasswords servers (D.seen device.old) found.had_passwords) }
+    ensures whole { IfOk result (λ found. found.tree.is_broken ≡ false) }
     ensures seen { D.seen device.new ≡ D.seen device.old }
     ensures durable { Only (D.seen device.new) (D.may_leave device.new) }
     ensures any_moment { LeavesOnly D.moment D.left_since device.old device.new
         (λ c. c ≡ D.seen device.old) }
     ensures fault { IfErr result (IsSuchFile servers (D.seen device.old)) }
+    ensures failed { IfErr result (λ e. e ≡ disk_failed
+        → D.faults device.old < D.faults device.new) }
+    ensures faults { D.faults device.old ≤ D.faults device.new }
 {
     let text = match read_text(alloc, device, servers.number()) {
         Ok(text) => text,
         Err(e) => return Err(OpenFault::Journal(e)),
     };
-    match State::read_measured(alloc, &text) {
-        Ok(read) => Ok(read),
+    match read(alloc, &text) {
+        Ok(found) => Ok(found),
         Err(fault) => Err(OpenFault::from(fault)),
     }
 }
@@ -51,8 +53,8 @@ pub fn folder_stat<D: Device>(
     ensures seen { D.seen device.new ≡ D.seen device.old }
     ensures fault { IfErr result (IsSuchFile servers (D.seen device.old)) }
 {
-    let (state, snapshot) = look(alloc, device, servers)?;
-    let tree = counts(state.machine()?)?;
+    let found = look(alloc, device, servers)?;
+    let tree = counts(found.tree.machine()?)?;
     let journal = match device.read(alloc) {
         Ok(bytes) => bytes.len() as u64,
         Err(e) => return Err(OpenFault::Journal(OpenError::from(e))),
@@ -60,6 +62,6 @@ pub fn folder_stat<D: Device>(
     Ok(FolderStat {
         tree,
         journal,
-        snapshot: snapshot as u64,
+        snapshot: found.snapshot as u64,
     })
 }

@@ -2,6 +2,7 @@
 
 ghost use Rattle.std.specs.Prelude.{◌≡◌, List, ℕ};
 ghost use Rattle.std.specs.Option.{option_copied};
+ghost use Rattle.ztree.specs.Tree.{Tree};
 ghost use Rattle.zkept.specs.Kept.{IsServing, IsSound, piece_in, tells, without_piece};
 
 use crate::Kept;
@@ -24,9 +25,9 @@ impl<D: Device> Kept<D> {
         requires { IsSound D.seen D.may_leave self.old }
         ensures first { result ≡ piece_in self.old }
         ensures rest { self.new ≡ without_piece self.old }
-        ensures kept { (servers : ℕ) (batches : List (List ℕ))
-            → IsServing D.seen D.may_leave servers batches self.old
-            → IsServing D.seen D.may_leave servers batches self.new }
+        ensures kept { (servers : ℕ) (batches : List (List ℕ)) (t : Tree)
+            → IsServing D.seen D.may_leave servers batches t self.old
+            → IsServing D.seen D.may_leave servers batches t self.new }
         ensures sound { IsSound D.seen D.may_leave self.new }
     {
         if !self.tells() {

@@ -1,12 +1,12 @@
-//! A front that is restored from what its file keeps.
+//! A front that begins with what its file keeps.
 
-ghost use Rattle.std.specs.Prelude.{◌≡◌, false, IfOk};
-ghost use Rattle.zkept.specs.Restored.{clock_at, IsRestoredFrom};
+ghost use Rattle.std.specs.Prelude.{◌≡◌, IfOk};
+ghost use Rattle.zkept.specs.Restored.{clock_at, restored};
 
 use std::alloc::Global;
 use zalloc::Memory;
-use zfront::{Clock, Front, ServerId, TickLength};
-use zstates::State;
+use zfront::{Clock, Front, Secret, TickLength};
+use zservice::{LocalTree, TreeService};
 
 /// Returns the clock of a tree that is at this tick now.
 fn clock_at(tick: TickLength, now_ms: u64, ticks: u64) -> Clock
@@ -19,19 +19,17 @@ fn clock_at(tick: TickLength, now_ms: u64, ticks: u64) -> Clock
     }
 }
 
-/// Returns a front with the tree and the passwords of this state.
+/// Returns a front that begins with this tree.
 pub(crate) fn restored(
     alloc: Global,
-    servers: ServerId,
+    tree: LocalTree,
+    secret: Secret,
     tick: TickLength,
     now_ms: u64,
-    state: &State,
-) -> Result<Front, Memory>
-    requires whole { state.now.is_broken ≡ false }
-    ensures { IfOk result (IsRestoredFrom servers tick now_ms state.now.state) }
+) -> Result<Front<LocalTree>, Memory>
+    ensures { IfOk result (λ front. front ≡ restored secret tick now_ms tree.tree) }
 {
-    let clock = clock_at(tick, now_ms, state.time());
-    let snapshot = state.snapshot()?;
-    let seats = state.seats()?;
-    Front::restored(alloc, servers, clock, &snapshot, &seats)
+    let (_, ticks) = tree.clock()?;
+    let clock = clock_at(tick, now_ms, ticks);
+    Front::new(alloc, tree, secret, clock, true)
 }

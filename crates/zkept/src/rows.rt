@@ -1,25 +1,14 @@
 //! Worked rows: each function's contract has some, and its body does nothing.
 
-ghost use Rattle.std.specs.Prelude.{◌≡◌, [], ◌∷◌, List, ℕ, None, Some};
-ghost use Rattle.std.specs.FinMap.{insert};
+ghost use Rattle.std.specs.Prelude.{◌≡◌, [], ◌∷◌, ◌++◌, List, ℕ};
 ghost use Rattle.zcalls.specs.declared.call.Call.{Call};
 ghost use Rattle.zcalls.specs.declared.call.Call.TheVariants as call;
 ghost use Rattle.zcalls.specs.declared.call.Update.TheVariants.{Tick};
 ghost use Rattle.zcalls.specs.declared.reply.Reply.{Reply};
-ghost use Rattle.zcalls.specs.declared.reply.Reply.TheVariants.{Opened, Pinged};
-ghost use Rattle.zsittings.specs.Sittings.{new_sitting, SittingsView};
-ghost use Rattle.zstates.specs.Entries.{no_password};
+ghost use Rattle.zstates.specs.Entries.{entries_text};
 ghost use Rattle.zkept.specs.Kept.{more_if};
 ghost use Rattle.zkept.specs.Lives.{IsWoven};
-ghost use Rattle.zkept.specs.Making.{password_of};
 ghost use Rattle.zkept.specs.Restored.{clock_at};
-
-/// The password that is kept of an open, by the reply to it.
-pub fn passwords_are_kept()
-    ensures opened { (m : SittingsView) (p : List ℕ)
-        → password_of (insert m 7 (new_sitting p 3)) (Opened 7 10) ≡ p }
-    ensures other { (m : SittingsView) → password_of m Pinged ≡ no_password }
-{}
 
 /// Where a tick has 500 ms, the service began eight seconds ago at tick 16, whenever it was opened.
 pub fn times_go_on()
@@ -28,22 +17,21 @@ pub fn times_go_on()
     ensures early { clock_at 500 1000 16 ≡ record { tick = 500; started = 0 } }
 {}
 
-/// Where nothing was made, no block is written.
+/// Where nothing was made, no block is written; and where something was, one.
 pub fn nothing_is_no_block()
-    ensures { (batch : List ℕ) (batches : List (List ℕ)) → more_if [] batch batches ≡ batches }
+    ensures nothing { (batches : List (List ℕ)) → more_if [] batches ≡ batches }
+    ensures one { (batches : List (List ℕ)) → more_if (Tick ∷ (Tick ∷ [])) batches
+        ≡ batches ++ entries_text (Tick ∷ (Tick ∷ [])) ∷ [] }
 {}
 
 /// What may stand in a log after some lives: a call that was told stands once. A change that was
 /// under way stands once or not at all.
 pub fn what_was_told_stands()
     ensures under_way { (r : Reply)
-        → IsWoven (record { told = []; kept = []; under_way = (Tick, no_password) ∷ [] } ∷ [])
-        ((call.Update Tick, r) ∷ []) ((Tick, no_password) ∷ []) }
-    ensures not_at_all { IsWoven (record {
-      told = [];
-      kept = [];
-      under_way = (Tick, no_password) ∷ [];
-    } ∷ []) [] [] }
+        → IsWoven (record { told = []; kept = []; under_way = Tick ∷ [] } ∷ [])
+        ((call.Update Tick, r) ∷ []) (Tick ∷ []) }
+    ensures not_at_all { IsWoven (record { told = []; kept = []; under_way = Tick ∷ [] } ∷ [])
+        [] [] }
     ensures undone { (c : Call) (r : Reply)
         → IsWoven (record { told = (c, r) ∷ []; kept = []; under_way = [] } ∷ []) [] [] → ⊥ }
     ensures twice { (c : Call) (r : Reply)

@@ -1,7 +1,8 @@
-//! A journal is shortened: a new file with the state alone takes the place of the old one.
+//! A journal is shortened: a new file with the tree alone takes the place of the old one.
 
 ghost use Rattle.std.specs.Prelude.{◌≡◌, ◌<◌, ◌≤◌, ◌^◌, ◌++◌, [], ◌∷◌, List, ℕ};
 ghost use Rattle.std.specs.Prelude.{IfErr, OnOk, OnErr, IsErrOf};
+ghost use Rattle.ztree.specs.Tree.{Tree};
 ghost use Rattle.zjournal.specs.Blocks.{IsText};
 ghost use Rattle.zjournal.specs.Device.{LeavesOnly};
 ghost use Rattle.zjournal.specs.Journal.{IsAtRest, Keeps, device_of, size_of};
@@ -9,20 +10,23 @@ ghost use Rattle.zjournal.specs.Journal as file;
 ghost use Rattle.zjournal.specs.Puts as puts;
 ghost use Rattle.zjournal.specs.Renewal.{IsInRenewal, IsRenewing, renewed_size_of};
 ghost use Rattle.zjournal.specs.Scan.{joined};
-ghost use Rattle.zkept.specs.Kept.{disk_of, front_in, IsOpen, IsServing, IsSound};
-ghost use Rattle.zkept.specs.Kept.{is_long, shortened_size, state_in, KeepsState};
-ghost use Rattle.zkept.specs.Shortening.{IsOldOrState, IsTooLong};
+ghost use Rattle.zfront.specs.Restoring.{all_taken};
+ghost use Rattle.zkept.specs.Kept.{disk_of, front_in, made_in, IsOpen, IsServing, IsSound};
+ghost use Rattle.zkept.specs.Kept.{is_long, shortened_size};
+ghost use Rattle.zkept.specs.Shortening.{IsOldOrTree, IsTooLong, KeepsEither};
+ghost use Rattle.zstates.specs.States.{after};
 ghost use Rattle.zstates.specs.Texts.{IsTextOf, snapshot_text};
 
 use crate::Kept;
-use crate::fault::CommitFault;
+use crate::fault::KeptFault;
 use std::alloc::Global;
 use zjournal::{Device, Journal, PutError};
-use zstates::{Shortening, State};
+use zservice::LocalTree;
+use zstates::Shortening;
 
 impl<D: Device> Kept<D> {
-    /// Returns whether the journal is to be shortened: it has so many bytes, and at least four times
-    /// those that it had behind its last shortening since the service was opened.
+    /// Returns whether the journal is to be shortened: it has so many bytes, and at least four
+    /// times those that it had behind its last shortening since the service was opened.
     pub fn is_long(&self, least: usize) -> bool
         ensures { result ≡ is_long least self.now }
     {
@@ -37,73 +41,73 @@ impl<D: Device> Kept<D> {
         self.journal.size()
     }
 
-    /// Puts a file with the state alone in the place of the one that it keeps, which may have many
-    /// more changes. What is told stays the same, and nothing waits but for the writing. At each
-    /// moment a crash leaves a file with the same state. What was made and isn't kept yet is left to
-    /// the next `commit`. After any fault the service has ended.
-    pub fn shorten(&mut self) -> Result<(), CommitFault>
+    /// Puts a file with the tree alone in the place of the one that it keeps, which may have many
+    /// more changes. What was made and isn't kept yet is kept with it. What is told stays the same,
+    /// and nothing waits but for the writing. At each moment a crash leaves a file with the tree of
+    /// before or with that of now. After any fault the service has ended.
+    pub fn shorten(&mut self) -> Result<(), KeptFault>
         requires { IsSound D.seen D.may_leave self.old }
-        ensures kept { (servers : ℕ) (batches : List (List ℕ)) → IsOpen self.old
-            → IsServing D.seen D.may_leave servers batches self.old
+        ensures kept { (servers : ℕ) (batches : List (List ℕ)) (t : Tree) → IsOpen self.old
+            → IsServing D.seen D.may_leave servers batches t self.old
             → OnOk result ((next : List (List ℕ))
-            × IsServing D.seen D.may_leave servers next self.new
-            × (joined next ≡ snapshot_text (state_in self.old))) }
-        ensures same { OnOk result ((front_in self.new ≡ front_in self.old)
-            × (state_in self.new ≡ state_in self.old)) }
+            × IsServing D.seen D.may_leave servers next (after t (made_in self.old)) self.new
+            × (joined next ≡ snapshot_text (after t (made_in self.old)))) }
+        ensures taken { OnOk result (front_in self.new ≡ all_taken (front_in self.old)) }
         ensures measured { OnOk result (shortened_size self.new ≡ size_of self.new.journal) }
-        ensures any_moment { (servers : ℕ) (batches : List (List ℕ))
-            → IsServing D.seen D.may_leave servers batches self.old
+        ensures any_moment { (servers : ℕ) (batches : List (List ℕ)) (t : Tree)
+            → IsServing D.seen D.may_leave servers batches t self.old
             → LeavesOnly D.moment D.left_since (disk_of self.old) (disk_of self.new)
-            (KeepsState servers (state_in self.old)) }
+            (KeepsEither servers t (after t (made_in self.old))) }
         ensures sound { IsSound D.seen D.may_leave self.new }
         ensures open { OnOk result (IsOpen self.old × IsOpen self.new) }
         ensures left { OnErr result (IsOpen self.new → ⊥) }
         ensures ended { (IsOpen self.old → ⊥)
-            → IsErrOf result CommitFault.Ended × (self.new ≡ self.old) }
-        ensures only { IsErrOf result CommitFault.Ended → IsOpen self.old → ⊥ }
-        ensures full { (servers : ℕ) (batches : List (List ℕ))
-            → IsServing D.seen D.may_leave servers batches self.old
-            → IsErrOf result CommitFault.Full → IsTooLong servers (state_in self.old) }
-        ensures failed { IsErrOf result CommitFault.Failed
+            → IsErrOf result KeptFault.Ended × (self.new ≡ self.old) }
+        ensures only { IsErrOf result KeptFault.Ended → IsOpen self.old → ⊥ }
+        ensures full { (servers : ℕ) (batches : List (List ℕ)) (t : Tree)
+            → IsServing D.seen D.may_leave servers batches t self.old
+            → IsErrOf result KeptFault.Full → IsTooLong servers (after t (made_in self.old)) }
+        ensures failed { IsErrOf result KeptFault.Failed
             → D.faults (disk_of self.old) < D.faults (disk_of self.new) }
     {
         if !self.is_open {
-            return Err(CommitFault::Ended);
+            return Err(KeptFault::Ended);
         }
         self.is_open = false;
-        shorten(self.alloc, &mut self.journal, &self.state)?;
+        shorten(self.alloc, &mut self.journal, self.front.service())?;
+        drop(self.front.take_made());
         self.shortened = self.journal.size();
         self.is_open = true;
         Ok(())
     }
 }
 
-/// Writes the text of the state beside the journal's file, and puts it in its place.
+/// Writes the text of the tree beside the journal's file, and puts it in its place.
 pub(crate) fn shorten<D: Device>(
     alloc: Global,
     journal: &mut Journal<D>,
-    state: &State,
-) -> Result<(), CommitFault>
+    tree: &LocalTree,
+) -> Result<(), KeptFault>
     requires { file.IsSound D.seen D.may_leave journal.old }
     ensures kept { (servers : ℕ) (batches : List (List ℕ)) → file.IsOpen journal.old
         → IsAtRest D.seen D.may_leave servers batches journal.old
         → OnOk result ((next : List (List ℕ))
         × IsAtRest D.seen D.may_leave servers next journal.new
-        × (joined next ≡ snapshot_text state.now.state)
-        × IsTextOf state.now.state (joined next)) }
+        × (joined next ≡ snapshot_text tree.now.tree)
+        × IsTextOf tree.now.tree (joined next)) }
     ensures any_moment { (servers : ℕ) (batches : List (List ℕ))
         → IsAtRest D.seen D.may_leave servers batches journal.old
         → LeavesOnly D.moment D.left_since (device_of journal.old) (device_of journal.new)
-        (IsOldOrState servers batches state.now.state) }
+        (IsOldOrTree servers batches tree.now.tree) }
     ensures open { OnOk result (file.IsOpen journal.old × file.IsOpen journal.new) }
-    ensures only { IsErrOf result CommitFault.Ended → file.IsOpen journal.old → ⊥ }
+    ensures only { IsErrOf result KeptFault.Ended → file.IsOpen journal.old → ⊥ }
     ensures full { (servers : ℕ) (batches : List (List ℕ))
         → IsAtRest D.seen D.may_leave servers batches journal.old
-        → IsErrOf result CommitFault.Full → IsTooLong servers state.now.state }
-    ensures failed { IsErrOf result CommitFault.Failed
+        → IsErrOf result KeptFault.Full → IsTooLong servers tree.now.tree }
+    ensures failed { IsErrOf result KeptFault.Failed
         → D.faults (device_of journal.old) < D.faults (device_of journal.new) }
 {
-    let mut text = Shortening::new(state)?;
+    let mut text = Shortening::new(alloc, tree)?;
     journal.begin_renewal()?;
     while let Some(piece) = text.next_piece()? {
         put_piece(journal, &piece)?;

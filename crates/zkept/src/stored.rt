@@ -1,27 +1,28 @@
-//! A file that no service has open, and the state that it keeps: so its journal is shortened.
+//! A file that no service has open, and the tree that it keeps: so its journal is shortened.
 
 ghost use Rattle.std.specs.Prelude.{◌≡◌, List, ℕ, IfErr, IfOk, OnOk};
 ghost use Rattle.zjournal.specs.Device.{LeavesOnly, Only};
 ghost use Rattle.zjournal.specs.Journal.{StandsFor};
 ghost use Rattle.zjournal.specs.Scan.{joined};
 ghost use Rattle.zkept.specs.Faults.{IsOfReading, IsSuchFile};
-ghost use Rattle.zkept.specs.Kept.{KeepsState};
-ghost use Rattle.zkept.specs.Stored.{bytes_of, file_of, state_of, IsGood, IsStored};
+ghost use Rattle.zkept.specs.Kept.{KeepsTree};
+ghost use Rattle.zkept.specs.Stored.{bytes_of, file_of, tree_of, IsGood, IsStored};
 ghost use Rattle.zstates.specs.Texts.{snapshot_text};
 
-use crate::fault::{CommitFault, OpenFault};
+use crate::fault::{KeptFault, OpenFault};
 use crate::looking::look;
 use crate::shortening::shorten;
 use std::alloc::Global;
-use zfront::ServerId;
 use zjournal::{Device, Journal};
-use zstates::State;
+use zprotocol::ServerId;
+use zservice::LocalTree;
+use zstates::Found;
 
-/// A journal, and the state that it keeps. No front stands over it.
+/// A journal, and the tree that it keeps. No front stands over it.
 #[derive(Drop)]
 pub struct Stored<D: Device> {
     alloc: Global,
-    state: State,
+    tree: LocalTree,
     journal: Journal<D>,
 }
 
@@ -48,18 +49,19 @@ impl<D: Device> Stored<D> {
         ensures fault { IfErr result (λ e. IsSuchFile servers (D.seen device) e.0) }
     {
         let mut device = device;
-        let state = match look(alloc, &mut device, servers) {
-            Ok((state, _)) => state,
+        let found = match look(alloc, &mut device, servers) {
+            Ok(found) => found,
             Err(fault) => return Err((fault, device)),
         };
+        let Found { tree, .. } = found;
         match zjournal::open(alloc, device, servers.number()) {
             Ok((journal, _)) => Ok(Stored {
                 alloc,
-                state,
+                tree,
                 journal,
             }),
             Err((e, device)) => {
-                drop(state);
+                drop(tree);
                 Err((OpenFault::Journal(e), device))
             }
         }
@@ -72,24 +74,24 @@ impl<D: Device> Stored<D> {
         self.journal.size()
     }
 
-    /// Puts a file with the state alone in the place of the one that there is, which may have many
-    /// changes. At each moment a crash leaves a file with the same state. After a fault it is to be
+    /// Puts a file with the tree alone in the place of the one that there is, which may have many
+    /// changes. At each moment a crash leaves a file with the same tree. After a fault it is to be
     /// opened again.
-    pub fn shorten(&mut self) -> Result<(), CommitFault>
+    pub fn shorten(&mut self) -> Result<(), KeptFault>
         requires { IsGood D.seen D.may_leave self.old }
         ensures kept { (servers : ℕ) (batches : List (List ℕ))
             → IsStored D.seen D.may_leave servers batches self.old
             → OnOk result ((next : List (List ℕ))
             × IsStored D.seen D.may_leave servers next self.new
-            × (joined next ≡ snapshot_text (state_of self.old))) }
+            × (joined next ≡ snapshot_text (tree_of self.old))) }
         ensures good { OnOk result (IsGood D.seen D.may_leave self.new) }
-        ensures same { state_of self.new ≡ state_of self.old }
+        ensures same { tree_of self.new ≡ tree_of self.old }
         ensures any_moment { (servers : ℕ) (batches : List (List ℕ))
             → IsStored D.seen D.may_leave servers batches self.old
             → LeavesOnly D.moment D.left_since (file_of self.old) (file_of self.new)
-            (KeepsState servers (state_of self.old)) }
+            (KeepsTree servers (tree_of self.old)) }
     {
-        shorten(self.alloc, &mut self.journal, &self.state)?;
+        shorten(self.alloc, &mut self.journal, &self.tree)?;
         Ok(())
     }
 }

@@ -5,7 +5,7 @@ ghost use Rattle.zjournal.specs.Device.{Only};
 ghost use Rattle.zjournal.specs.Memory.{current_of};
 ghost use Rattle.zjournal.specs.Past.{CanBe};
 
-use crate::states::{Stage, stage_of, worked_text};
+use crate::trees::{Stage, stage_of, worked_text};
 use std::alloc::Global;
 use zalloc::Memory;
 use zjournal::{MemoryFile, OpenError, open, read_text};
@@ -17,7 +17,7 @@ const CHANCE: u64 = 7;
 // No step of a file fails but for want of memory.
 const STEPS: u64 = u64::MAX;
 
-/// Returns a file that keeps the state, all of it on the disk.
+/// Returns a file that keeps the tree, all of it on the disk.
 pub(crate) fn worked_file(alloc: Global) -> Option<MemoryFile>
     ensures { IfSome result (λ file. Only (current_of file).seen.items (CanBe (current_of file))) }
 {

@@ -1,45 +1,41 @@
-//! What stands after a refused allocation where a state is kept: by itself, and in the file of a
+//! What stands after a refused allocation where a tree is kept: by itself, and in the file of a
 //! service. Each story is one call. Where one of its allocations is refused, it is told, and
 //! nothing that was kept is lost. `./test memory` refuses each allocation in turn, one a run.
 #![tactic(auto)]
 
 mod files;
 mod services;
-mod states;
-mod stating;
+mod tree_stories;
+mod trees;
 
-use services::{change_is_kept, service_is_opened, service_is_shortened};
-use stating::{chain_is_begun, entry_is_applied, snapshot_is_written, text_is_read};
+use services::{change_is_kept, change_is_shortened, service_is_opened, service_is_shortened};
 use std::io;
+use tree_stories::{entry_is_applied, snapshot_is_written, text_is_read};
 use ztesting::{tell, tell_end};
 
 fn main(rt: HostRuntime) -> io::Result<()> {
     tell(
         &rt,
-        "a state is read from its text",
+        "a tree is read from its text",
         text_is_read(rt.alloc()),
     )?;
     tell(
         &rt,
-        "a state writes its snapshot",
+        "a tree writes its snapshot",
         snapshot_is_written(rt.alloc()),
     )?;
-    tell(
-        &rt,
-        "a chain begins with a state",
-        chain_is_begun(rt.alloc()),
-    )?;
-    tell(
-        &rt,
-        "a state applies an entry",
-        entry_is_applied(rt.alloc()),
-    )?;
+    tell(&rt, "a tree applies an entry", entry_is_applied(rt.alloc()))?;
     tell(&rt, "a service is opened", service_is_opened(rt.alloc()))?;
     tell(&rt, "a service keeps a change", change_is_kept(rt.alloc()))?;
     tell(
         &rt,
         "a service is shortened",
         service_is_shortened(rt.alloc()),
+    )?;
+    tell(
+        &rt,
+        "a service is shortened with a change",
+        change_is_shortened(rt.alloc()),
     )?;
     tell_end(&rt, rt.alloc())
 }

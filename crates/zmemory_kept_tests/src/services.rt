@@ -4,10 +4,10 @@
 ghost use Rattle.zkept.specs.Kept.{IsSound};
 
 use crate::files::{stage_in, worked_file};
-use crate::states::Stage;
+use crate::trees::Stage;
 use std::alloc::Global;
 use zjournal::{Device, OpenError};
-use zkept::{CommitFault, InputFault, Kept, OpenFault, ServerId, TickLength};
+use zkept::{Input, Kept, KeptFault, OpenFault, Opened, Secret, ServerId, TickLength};
 use ztesting::Ended;
 
 // A tick has so many milliseconds.
@@ -21,8 +21,8 @@ pub(crate) fn service_is_opened(alloc: Global) -> Ended {
     let Some(file) = worked_file(alloc) else {
         return Ended::NotBegun;
     };
-    match Kept::open(alloc, file, ServerId::first(), tick, 0) {
-        Ok(kept) => {
+    match Kept::open(alloc, file, ServerId::first(), secret(), tick, 0) {
+        Ok(Opened { kept, .. }) => {
             let found = stage_in(alloc, &kept.device().current().disk);
             drop(kept);
             Ended::done(found == Stage::Worked)
@@ -33,6 +33,11 @@ pub(crate) fn service_is_opened(alloc: Global) -> Ended {
             Ended::refused(is_memory(fault) && found == Stage::Worked)
         }
     }
+}
+
+// Passwords are derived from this.
+fn secret() -> Secret {
+    Secret::new([7; 32])
 }
 
 // Returns whether memory ran out.
@@ -48,6 +53,8 @@ fn is_memory(fault: OpenFault) -> bool {
 enum Act {
     Ticks,
     Shortens,
+    // A tick that isn't kept yet is kept with the shortening.
+    ShortensATick,
 }
 
 /// Keeps a tick.
@@ -60,6 +67,11 @@ pub(crate) fn service_is_shortened(alloc: Global) -> Ended {
     is_done(alloc, Act::Shortens)
 }
 
+/// Shortens the file behind a tick.
+pub(crate) fn change_is_shortened(alloc: Global) -> Ended {
+    is_done(alloc, Act::ShortensATick)
+}
+
 fn is_done(alloc: Global, act: Act) -> Ended {
     let Some(tick) = TickLength::new(TICK) else {
         return Ended::Wrong;
@@ -67,7 +79,8 @@ fn is_done(alloc: Global, act: Act) -> Ended {
     let Some(file) = worked_file(alloc) else {
         return Ended::NotBegun;
     };
-    let Ok(mut kept) = Kept::open(alloc, file, ServerId::first(), tick, 0) else {
+    let opened = Kept::open(alloc, file, ServerId::first(), secret(), tick, 0);
+    let Ok(Opened { mut kept, .. }) = opened else {
         return Ended::NotBegun;
     };
     let ended = does(&mut kept, act);
@@ -82,12 +95,12 @@ fn is_done(alloc: Global, act: Act) -> Ended {
 
 // Returns whether a file may keep this, behind an act that ended so.
 fn is_left(found: Stage, act: Act, ended: Ended) -> bool {
-    match (act, ended) {
-        (Act::Ticks, Ended::Done) => found == Stage::Ticked,
-        (Act::Ticks, _) => matches!(found, Stage::Worked | Stage::Ticked),
-        (Act::Shortens, Ended::Done) => found == Stage::Short,
-        (Act::Shortens, _) => matches!(found, Stage::Worked | Stage::Short),
-    }
+    let last = match act {
+        Act::Ticks => Stage::Ticked,
+        Act::Shortens => Stage::Short,
+        Act::ShortensATick => Stage::ShortTicked,
+    };
+    found == last || (found == Stage::Worked && !matches!(ended, Ended::Done))
 }
 
 // Where memory runs out, the service has ended.
@@ -96,31 +109,24 @@ fn does<D: Device>(kept: &mut Kept<D>, act: Act) -> Ended
 {
     match did(kept, act) {
         Ok(()) => Ended::Done,
-        Err(CommitFault::Memory) => Ended::refused(did(kept, act) == Err(CommitFault::Ended)),
+        Err(KeptFault::Memory) => Ended::refused(did(kept, act) == Err(KeptFault::Ended)),
         Err(_) => Ended::Wrong,
     }
 }
 
-fn did<D: Device>(kept: &mut Kept<D>, act: Act) -> Result<(), CommitFault>
+fn did<D: Device>(kept: &mut Kept<D>, act: Act) -> Result<(), KeptFault>
     requires { IsSound D.seen D.may_leave kept.old }
     ensures { IsSound D.seen D.may_leave kept.new }
 {
     match act {
         Act::Ticks => {
-            ticks(kept)?;
+            kept.take(Input::Tick)?;
             kept.commit()
         }
         Act::Shortens => kept.shorten(),
-    }
-}
-
-fn ticks<D: Device>(kept: &mut Kept<D>) -> Result<(), CommitFault>
-    requires { IsSound D.seen D.may_leave kept.old }
-    ensures { IsSound D.seen D.may_leave kept.new }
-{
-    match kept.tick() {
-        Ok(()) => Ok(()),
-        Err(InputFault::Memory) => Err(CommitFault::Memory),
-        Err(InputFault::Ended) => Err(CommitFault::Ended),
+        Act::ShortensATick => {
+            kept.take(Input::Tick)?;
+            kept.shorten()
+        }
     }
 }

@@ -1,132 +1,84 @@
--- A text keeps one state, and what is written is read back.
-use Rattle.std.proofs.Common.{◌≡◌, inl, inr, ℕ, List, [], ◌∷◌, ◌++◌, map, Some, refl, sym, ap, subst, ◌∙◌, append_assoc, append-nil}
-use Rattle.std.proofs.lemmas.List.{append_cancel_left}
-use Rattle.std.specs.FinMap.{keys}
-use Rattle.ztree.specs.Tree.{Tree}
+-- A text keeps one tree, and what is written is read back.
+use Rattle.std.proofs.Common.{◌≡◌, ◌⊎◌, inl, inr, ℕ, List, [], ◌∷◌, ◌++◌, map, refl, sym, ap, ◌∙◌, append_assoc, append-nil}
+use Rattle.ztree.specs.Tree.{Tree, opening_tree}
 use Rattle.zops.specs.Machine.{MachineState}
-use Rattle.zrecords.specs.declared.record.Record.{Record}
-use Rattle.zrecords.specs.declared.record.Record.TheVariants.{Password, Row}
-use Rattle.zrecords.proofs.Texts.{texts_apart}
-use Rattle.zsnapshots.proofs.Apart.{in_front}
-use Rattle.zstates.specs.Entries.{AreEntries, Entry, IsEntriesText, entries_of, entries_text, records_of}
-use Rattle.zstates.specs.States.{Seat, State, after, ids_of, opening_state}
-use Rattle.zstates.specs.Texts.{IsFrontOf, IsKeepable, IsTextOf, machine_of, row_bytes, row_record, row_records, seat_record, snapshot_text}
-use Rattle.zstates.specs.support.Reading.{HasNoRow}
+use Rattle.zservice.specs.Machines.{machine_of}
+use Rattle.zsnapshots.proofs.Apart.{rows_apart}
+use Rattle.zstates.specs.Entries.{Entry, entries_text, records_of}
+use Rattle.zstates.specs.States.{after}
+use Rattle.zstates.specs.Texts.{IsKeepable, row_bytes, row_record, snapshot_text}
+use Rattle.zstates.specs.support.Reading.{BeginNoRow}
 use Rattle.zstates.specs.Laws.{NothingIsTheOpening, SnapshotsKeepTheirs, TextsGoOn, TextsTellApart}
-use Rattle.zstates.proofs.EntryTexts.{are_both, entries_come_back, entries_tell_apart, text-entries}
+use Rattle.zstates.proofs.Records.{entries_are_theirs, entries_both, entries_same, rows_end, says_apart, without-rows}
 use Rattle.zstates.proofs.States.{go_on}
-use Rattle.zstates.proofs.Texts.{all_records, entries_text_no_row, fit_all, row_in_front, text_all}
+use Rattle.zstates.proofs.Texts.{IsWhole, whole}
 
--- the rows among records
-abbrev rows_among : List Record → List (List ℕ)
-rows_among [] = []
-rows_among (Row bytes ∷ records) = bytes ∷ rows_among records
-rows_among (r ∷ records) = rows_among records
+entries_no_row : (entries : List Entry) → BeginNoRow (records_of entries)
+entries_no_row [] = tt
+entries_no_row (entry ∷ entries) = tt
 
-rows_among-rows : (rows : List (List ℕ)) (records : List Record) → rows_among (map row_record rows ++ records) ≡ rows ++ rows_among records
-rows_among-rows [] records = refl
-rows_among-rows (row ∷ rows) records = ap (λ (more : List (List ℕ)). row ∷ more) (rows_among-rows rows records)
+-- the tree with which a text begins
+abbrev HasRowsOf : Tree → List (List ℕ) → Type 0
+HasRowsOf start rows = ((start ≡ opening_tree) × (rows ≡ [])) ⊎ (IsKeepable start × (rows ≡ row_bytes start))
 
--- seats of the same sessions with the same records
-same_seats : (xs ys : List Seat) (a b : List Record) → ids_of xs ≡ ids_of ys → map seat_record xs ++ a ≡ map seat_record ys ++ b → (xs ≡ ys) × (a ≡ b)
-same_seats [] [] a b ids same = (refl, same)
-same_seats [] (y ∷ ys) a b ids same = absurd (let clash : [] ≡ y.0 ∷ ids_of ys = ids in cc clash)
-same_seats (x ∷ xs) [] a b ids same = absurd (let clash : x.0 ∷ ids_of xs ≡ [] = ids in cc clash)
-same_seats (x ∷ xs) (y ∷ ys) a b ids same =
-    let both : x.0 ∷ ids_of xs ≡ y.0 ∷ ids_of ys = ids in
-    let id : x.0 ≡ y.0 = cc both in
-    let more : ids_of xs ≡ ids_of ys = cc both in
-    let records : Password x.1 ∷ (map seat_record xs ++ a) ≡ Password y.1 ∷ (map seat_record ys ++ b) = same in
-    let head : Password x.1 ≡ Password y.1 = cc records in
-    let password : x.1 ≡ y.1 = cc head in
-    let rest = same_seats xs ys a b more (cc records) in
-    let pair : x ≡ y = (λ i. (id i, password i)) in
-    ((λ i. pair i ∷ rest.0 i), rest.1)
+some_rows : (t : Tree) → row_bytes t ≡ [] → ⊥
+some_rows t none = cc none
 
-same_entries : (a b : List Entry) → AreEntries a → AreEntries b → records_of a ≡ records_of b → a ≡ b
-same_entries a b first second same =
-    let one : Some a ≡ Some b = sym (entries_come_back a first) ∙ ap entries_of same ∙ entries_come_back b second in
-    cc one
+same_start : (s w : Tree) (rows more : List (List ℕ)) → HasRowsOf s rows → HasRowsOf w more → rows ≡ more → s ≡ w
+same_start s w rows more (inl bare) (inl too) same = bare.0 ∙ sym too.0
+same_start s w rows more (inl bare) (inr kept) same = absurd (some_rows w (sym kept.1 ∙ sym same ∙ bare.1))
+same_start s w rows more (inr kept) (inl bare) same = absurd (some_rows s (sym kept.1 ∙ same ∙ bare.1))
+same_start s w rows more (inr one) (inr two) same =
+    ap (λ (m : MachineState). m.service.plain)
+    (rows_apart (machine_of s) (machine_of w) one.0.readable two.0.readable (sym one.1 ∙ same ∙ two.1))
 
-module _ (s w : State) (a b : List Entry) (keepable : IsKeepable s) (also : IsKeepable w) (are : AreEntries a)
-    (are_too : AreEntries b) (same : snapshot_text s ++ entries_text a ≡ snapshot_text w ++ entries_text b) where
-  records : all_records s a ≡ all_records w b
-  records =
-      texts_apart (all_records s a) (all_records w b) (fit_all s a keepable are) (fit_all w b also are_too) (sym (text_all s a) ∙ same ∙ text_all w b)
-
-  abbrev behind : State → List Entry → List Record
-  behind v entries = map seat_record v.seats ++ records_of entries
-
-  tree_same : s.tree ≡ w.tree
-  tree_same =
-      ap (λ (m : MachineState). m.service.plain)
-      (in_front (machine_of s.tree) (machine_of w.tree) (rows_among (behind s a)) (rows_among (behind w b)) keepable.readable also.readable
-      (sym (rows_among-rows (row_bytes s.tree) (behind s a)) ∙ ap rows_among records ∙ rows_among-rows (row_bytes w.tree) (behind w b))).0
-
-  rest_same : behind s a ≡ behind w b
-  rest_same = append_cancel_left (row_records s.tree) (behind s a) (behind w b) (records
-      ∙ ap (λ (t : Tree). row_records t ++ behind w b) (sym tree_same))
-
-  seats_same : (s.seats ≡ w.seats) × (records_of a ≡ records_of b)
-  seats_same =
-      same_seats s.seats w.seats (records_of a) (records_of b)
-      (keepable.seated ∙ ap (λ (t : Tree). keys t.sessions) tree_same ∙ sym also.seated) rest_same
-
-  pub both_same : (s ≡ w) × (a ≡ b)
-  both_same = ((λ i. record { tree = tree_same i; seats = seats_same.0 i }), same_entries a b are are_too seats_same.1)
-
--- the state after the same entries
-same_after : (s w : State) (a b : List Entry) → s ≡ w → a ≡ b → after s a ≡ after w b
-same_after s w a b first second = λ i. after (first i) (second i)
-
-no_both : (text : List ℕ) (a b : State) (is : IsTextOf a text) (also : IsTextOf b text) → is.front ≡ [] → IsKeepable also.start
-    → also.front ≡ snapshot_text also.start → ⊥
-no_both text a b is also none keepable front =
-    row_in_front also.start text (entries_text also.entries) keepable (also.split ∙ ap (λ (f : List ℕ). f ++ entries_text also.entries) front)
-    (subst HasNoRow (sym (is.split ∙ ap (λ (f : List ℕ). f ++ entries_text is.entries) none)) (entries_text_no_row is.entries is.are))
+both_whole : (text : List ℕ) (a b : Tree) → IsWhole a text → IsWhole b text → a ≡ b
+both_whole text a b one two =
+    let says = says_apart (map row_record one.rows ++ records_of one.entries) (map row_record two.rows ++ records_of two.entries) text
+    one.says two.says in
+    let both = rows_end one.rows two.rows (records_of one.entries) two.entries says (entries_no_row one.entries) in
+    let start = same_start one.start two.start one.rows two.rows one.begins two.begins both.0 in
+    let entries = entries_same one.entries two.entries both.1 in
+    one.leaves ∙ (λ i. after (start i) (entries i)) ∙ sym two.leaves
 
 pub tell_apart : TextsTellApart
-tell_apart text a b is also = by is.begins also.begins
-  where
-    entries_in : (v : State) (t : IsTextOf v text) → t.front ≡ [] → IsEntriesText t.entries text
-    entries_in v t none = record { are = t.are; is = t.split ∙ ap (λ (f : List ℕ). f ++ entries_text t.entries) none }
-
-    by : IsFrontOf is.start is.front → IsFrontOf also.start also.front → a ≡ b
-    by (inl bare) (inl too) =
-        is.leaves ∙ same_after is.start also.start is.entries also.entries (bare.0 ∙ sym too.0)
-        (entries_tell_apart text is.entries also.entries (entries_in a is bare.1) (entries_in b also too.1)) ∙ sym also.leaves
-    by (inl bare) (inr snapshot) = absurd (no_both text a b is also bare.1 snapshot.0 snapshot.1)
-    by (inr snapshot) (inl bare) = absurd (no_both text b a also is bare.1 snapshot.0 snapshot.1)
-    by (inr one) (inr two) =
-        let same = sym (ap (λ (f : List ℕ). f ++ entries_text is.entries) one.1) ∙ sym is.split ∙ also.split
-        ∙ ap (λ (f : List ℕ). f ++ entries_text also.entries) two.1 in
-        let both = both_same is.start also.start is.entries also.entries one.0 two.0 is.are also.are same in
-        is.leaves ∙ same_after is.start also.start is.entries also.entries both.0 both.1 ∙ sym also.leaves
+tell_apart text a b is also = both_whole text a b (whole a text is) (whole b text also)
 
 pub nothing_is : NothingIsTheOpening
-nothing_is = record { start = opening_state; front = []; begins = inl (refl, refl); entries = []; are = tt; split = refl; leaves = refl }
+nothing_is = record {
+  start = opening_tree;
+  front = [];
+  begins = inl (refl, refl);
+  entries = [];
+  behind = [];
+  are = entries_are_theirs [] tt;
+  split = refl;
+  leaves = refl;
+}
 
 pub snapshots_keep : SnapshotsKeepTheirs
-snapshots_keep s keepable = record {
-  start = s;
-  front = snapshot_text s;
-  begins = inr (keepable, refl);
+snapshots_keep t keepable = record {
+  start = t;
+  front = snapshot_text t;
+  begins = inr (
+    keepable,
+    record { records = map row_record (row_bytes t); fit = keepable.fit; is = refl; said = without-rows (row_bytes t) },
+  );
   entries = [];
-  are = tt;
-  split = sym (append-nil (snapshot_text s));
+  behind = [];
+  are = entries_are_theirs [] tt;
+  split = sym (append-nil (snapshot_text t));
   leaves = refl;
 }
 
 pub texts_go_on : TextsGoOn
-texts_go_on s text entries is are = record {
+texts_go_on t text entries is are = record {
   start = is.start;
   front = is.front;
   begins = is.begins;
   entries = is.entries ++ entries;
-  are = are_both is.entries entries is.are are;
-  split =
-      ap (λ (t : List ℕ). t ++ entries_text entries) is.split
-      ∙ append_assoc is.front (entries_text is.entries) (entries_text entries)
-      ∙ ap (λ (t : List ℕ). is.front ++ t) (sym (text-entries is.entries entries));
-  leaves = ap (λ (v : State). after v entries) is.leaves ∙ sym (go_on is.start is.entries entries);
+  behind = is.behind ++ entries_text entries;
+  are = entries_both is.entries entries is.behind (entries_text entries) is.are (entries_are_theirs entries are);
+  split = ap (λ (whole : List ℕ). whole ++ entries_text entries) is.split ∙ append_assoc is.front is.behind (entries_text entries);
+  leaves = ap (λ (v : Tree). after v entries) is.leaves ∙ sym (go_on is.start is.entries entries);
 }

@@ -1,12 +1,7 @@
-pub mod Growing
-pub mod EntryTexts
+pub mod Bare
 pub mod States
-pub mod Passwords
-pub mod Stepping
-pub mod Anew
-pub mod Held
-pub mod Read
-pub mod ReadSeats
+pub mod Records
+pub mod ReadSoFar
 pub mod Texts
 pub mod Apart
 pub mod Starts

@@ -1,27 +1,27 @@
--- A state that is written as a snapshot, piece by piece.
+-- A tree that is written as a snapshot, piece by piece.
 use Rattle.std.specs.Prelude.{◌≡◌, ◌<◌, ◌≤◌, ℕ, ◌+◌, List, length, take, drop}
+use Rattle.ztree.specs.Tree.{Tree}
 use Rattle.zrecords.specs.Records.{text_of}
-use Rattle.zstates.specs.States.{State}
-use Rattle.zstates.specs.Texts.{IsKeepable, snapshot_records}
+use Rattle.zstates.specs.Texts.{IsKeepable, row_records}
 
--- the state, and how many of its snapshot's records were handed out
+-- the tree, and how many of its snapshot's records were handed out
 pub record ShorteningView : Type 0 where
-  pub state : State
+  pub tree : Tree
   pub written : ℕ
 
 -- the text of the records that are left
 abbrev pub text_left : ShorteningView → List ℕ
-text_left s = text_of (drop s.written (snapshot_records s.state))
+text_left s = text_of (drop s.written (row_records s.tree))
 
 -- the piece is the text of the next records, and there is at least one
 pub record IsPiece (old new : ShorteningView) (piece : List ℕ) : Type 0 where
   pub count : ℕ
   pub some : 0 < count
-  pub within : old.written + count ≤ length (snapshot_records old.state)
-  pub text : piece ≡ text_of (take count (drop old.written (snapshot_records old.state)))
+  pub within : old.written + count ≤ length (row_records old.tree)
+  pub text : piece ≡ text_of (take count (drop old.written (row_records old.tree)))
   pub view : new ≡ record old { written = old.written + count }
 
--- all records were handed out, and the state can be read from them
+-- all records were handed out, and the tree can be read from them
 pub record IsAllWritten (s : ShorteningView) : Type 0 where
-  pub all : length (snapshot_records s.state) ≤ s.written
-  pub keepable : IsKeepable s.state
+  pub all : length (row_records s.tree) ≤ s.written
+  pub keepable : IsKeepable s.tree

@@ -1,4 +1,3 @@
 pub mod Codes
-pub mod Tables
 pub mod Reading
 pub mod Writing

@@ -1,4 +1,4 @@
-//! Why no state is read.
+//! Why no tree is read.
 
 ghost use Rattle.std.specs.Prelude.{◌≡◌};
 ghost use Rattle.zstates.specs.declared.fault.ReadFault.TheVariants.{Memory as OfMemory};
@@ -6,10 +6,10 @@ ghost use Rattle.zstates.specs.declared.fault.ReadFault.TheVariants.{Memory as O
 use thiserror::Error;
 use zalloc::Memory;
 
-/// Why a text gives no state.
+/// Why a text gives no tree.
 #[derive(Clone, Copy, Debug, PartialEq, Eq, Error)]
 pub enum ReadFault {
-    /// The text keeps no state.
+    /// The text keeps no tree.
     #[error("not the text of a state")]
     NotRecords,
     /// Out of memory. It says nothing about the text.

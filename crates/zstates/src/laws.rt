@@ -1,33 +1,34 @@
 //! Laws of the definitions. Each function's contract is a law; its body does nothing.
 
-ghost use Rattle.zstates.specs.Laws.{EntriesComeBack, EntriesGoOn, EntriesTellApart, RecordsComeBack};
-ghost use Rattle.zstates.specs.Laws.{KeptStatesCanStart, NothingIsLeft, NothingIsTheOpening, SeatsStay};
+ghost use Rattle.zstates.specs.Laws.{EntriesAreTheirs, EntriesComeBack, EntriesGoOn};
+ghost use Rattle.zstates.specs.Laws.{EntriesTellApart, RecordsComeBack};
+ghost use Rattle.zstates.specs.Laws.{KeptTreesCanStart, NothingIsLeft, NothingIsTheOpening};
 ghost use Rattle.zstates.specs.Laws.{PiecesAreAll, PiecesJoin};
 ghost use Rattle.zstates.specs.Laws.{SnapshotsKeepTheirs, TextsGoOn, TextsTellApart};
 ghost use Rattle.zstates.specs.Laws.{TreesAreTheirCalls};
 
-/// Entries are written as records, and come back from them. No other entries have the same records,
-/// and no text is that of two lists of entries.
+/// Entries are written as records, and come back from them. Records that are entries are theirs and
+/// passwords. No text is that of two lists of entries.
 pub fn entries_come_back()
     ensures entries { EntriesComeBack }
     ensures records { RecordsComeBack }
+    ensures theirs { EntriesAreTheirs }
     ensures texts { EntriesTellApart }
 {}
 
-/// Entries lead to one state, whether they are applied as one list or as two. Its tree is the one
-/// that their calls leave, and each of its sessions has one seat.
+/// Entries lead to one tree, whether they are applied as one list or as two: the one that their
+/// calls leave.
 pub fn entries_lead_on()
     ensures on { EntriesGoOn }
     ensures tree { TreesAreTheirCalls }
-    ensures seats { SeatsStay }
 {}
 
-/// A text keeps one state.
+/// A text keeps one tree.
 pub fn texts_tell_apart()
     ensures { TextsTellApart }
 {}
 
-/// An empty text keeps the initial state, a snapshot its own, and entries behind a text lead on.
+/// An empty text keeps the initial tree, a snapshot its own, and entries behind a text lead on.
 pub fn texts_go_on()
     ensures nothing { NothingIsTheOpening }
     ensures snapshot { SnapshotsKeepTheirs }
@@ -41,7 +42,7 @@ pub fn pieces_join()
     ensures end { NothingIsLeft }
 {}
 
-/// A chain can begin with the tree of a state that a text keeps, and each session has its seat.
-pub fn kept_states_can_start()
-    ensures { KeptStatesCanStart }
+/// A service can begin with a tree that a text keeps.
+pub fn kept_trees_can_start()
+    ensures { KeptTreesCanStart }
 {}

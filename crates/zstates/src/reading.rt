@@ -1,61 +1,67 @@
-//! A state, read from a text.
+//! A tree, read from a text.
 
-ghost use Rattle.std.specs.Prelude.{◌≡◌, false, IfErr, IfOk, OnOk};
+ghost use Rattle.std.specs.Prelude.{◌≡◌, ◌||◌, false, length, IfErr, IfOk};
+ghost use Rattle.zstates.specs.Entries.{TellsPasswords};
 ghost use Rattle.zstates.specs.Faults.{IsReadFault};
 ghost use Rattle.zstates.specs.Texts.{IsTextOf};
-ghost use Rattle.zstates.specs.support.Reading.{AreApplied, Begins, IsEntriesFault};
+ghost use Rattle.zstates.specs.support.Reading.{AreApplied, IsEntriesFault};
 
-use crate::entries::next_entry;
 use crate::fault::ReadFault;
-use crate::lines::next_row;
-use crate::snapshot_reading::read_snapshot;
-use crate::state::State;
+use crate::found::Found;
+use crate::front_reading::begun;
 use std::alloc::Global;
+use zrecords::{Record, next_record};
+use zservice::LocalTree;
 
-impl State {
-    /// Reads the state that a text keeps: an optional snapshot, and entries behind it.
-    #[tactic(auto, using(crate::proofs::Texts::read_text, crate::proofs::Texts::read_fault))]
-    pub fn read(alloc: Global, text: &[u8]) -> Result<State, ReadFault>
-        ensures state { IfOk result (λ s. IsTextOf s.state text.now) }
-        ensures whole { IfOk result (λ s. s.is_broken ≡ false) }
-        ensures fault { IfErr result (IsReadFault text.now) }
-    {
-        let (mut state, rest) = begun(alloc, text)?;
-        match apply_all(alloc, &mut state, rest) {
-            Ok(()) => Ok(state),
-            Err(fault) => Err(fault),
-        }
-    }
-}
-
-/// Reads the state with which a text begins, and what follows.
-pub(crate) fn begun(alloc: Global, text: &[u8]) -> Result<(State, &[u8]), ReadFault>
-    ensures begins { IfOk result (λ x. Begins x.0.state text.now x.1.now) }
-    ensures whole { IfOk result (λ x. x.0.is_broken ≡ false) }
+/// Reads the tree that a text keeps: an optional snapshot, and entries behind it.
+pub fn read(alloc: Global, text: &[u8]) -> Result<Found, ReadFault>
+    ensures found { IfOk result (λ found. (is : IsTextOf found.tree.tree text.now)
+        × (found.snapshot ≡ length is.front)) }
+    ensures passwords { IfOk result (λ found. TellsPasswords text.now found.had_passwords) }
+    ensures whole { IfOk result (λ found. found.tree.is_broken ≡ false) }
     ensures fault { IfErr result (IsReadFault text.now) }
 {
-    if next_row(alloc, text)?.is_none() {
-        return Ok((State::new(alloc)?, text));
-    }
-    match read_snapshot(alloc, text)? {
-        Some(read) => Ok(read),
-        None => Err(ReadFault::NotRecords),
+    let (mut tree, rest, had_passwords) = begun(alloc, text)?;
+    let snapshot = text.len() - rest.len();
+    match apply_all(alloc, &mut tree, rest) {
+        Ok(more) => Ok(Found {
+            tree,
+            snapshot,
+            had_passwords: either(had_passwords, more),
+        }),
+        Err(fault) => Err(fault),
     }
 }
 
-/// Applies the entries of a text, one after the other.
-pub(crate) fn apply_all(alloc: Global, state: &mut State, text: &[u8]) -> Result<(), ReadFault>
-    requires whole { state.old.is_broken ≡ false }
-    ensures applied { OnOk result (AreApplied text.now state.old state.new) }
+// Returns whether one of them is true.
+fn either(first: bool, second: bool) -> bool
+    ensures { result ≡ first || second }
+{
+    first || second
+}
+
+// Applies the entries of a text, one after the other. Returns whether passwords are among them.
+fn apply_all(alloc: Global, tree: &mut LocalTree, text: &[u8]) -> Result<bool, ReadFault>
+    requires whole { tree.old.is_broken ≡ false }
+    ensures applied { IfOk result (AreApplied text.now tree.old tree.new) }
     ensures fault { IfErr result (IsEntriesFault text.now) }
 {
     let mut rest = text;
+    let mut had_passwords = false;
     while !rest.is_empty() {
-        let Some((update, password, more)) = next_entry(alloc, rest)? else {
+        let Some((record, more)) = next_record(alloc, rest)? else {
             return Err(ReadFault::NotRecords);
         };
-        state.apply(update, password)?;
+        match record {
+            Record::Password(_) => had_passwords = true,
+            Record::Update(update) => {
+                tree.apply(update)?;
+            }
+            Record::Fail(_) | Record::Join(_) | Record::Retire(_) | Record::Row(_) => {
+                return Err(ReadFault::NotRecords);
+            }
+        }
         rest = more;
     }
-    Ok(())
+    Ok(had_passwords)
 }

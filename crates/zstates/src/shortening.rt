@@ -1,4 +1,4 @@
-//! A state, written as the text of its snapshot, piece by piece.
+//! A tree, written as the text of its snapshot, piece by piece.
 
 ghost use Rattle.std.specs.Prelude.{◌≡◌, ◌++◌, true, false, length, IfNone, IfOk, IfSome, OnOk};
 ghost use Rattle.zjournal.specs.Blocks.{IsText};
@@ -7,33 +7,27 @@ ghost use Rattle.zsnapshots.specs.States.{Fits, spelled, StateRow};
 ghost use Rattle.zstates.specs.Shortening.{IsAllWritten, IsPiece};
 ghost use Rattle.zstates.specs.support.Writing.{IsRecordWritten};
 
-use crate::state::State;
 use std::alloc::Global;
 use std::marker::Model;
 use zalloc::Memory;
 use zrecords::{Record, Row, write_records};
-use zsittings::Password;
+use zservice::LocalTree;
 use zsnapshots::Writing;
-use ztree::SessionId;
 
 // A piece ends with the record that reaches this length.
 const PIECE: usize = 65_536;
 
-/// A state that is being written as a snapshot, piece by piece. The pieces together are the
+/// A tree that is being written as a snapshot, piece by piece. The pieces together are the
 /// snapshot's text.
 #[derive(Drop)]
 pub struct Shortening<'a> {
     alloc: Global,
-    state: &'a State,
+    tree: &'a LocalTree,
     writing: Writing<'a>,
-    seats: Vec<(SessionId, Password)>,
-    // How many seats were written.
-    seated: usize,
     is_broken: bool,
 }
 
 impl<'a> Model for Shortening<'a> {
-    ghost use Rattle.std.specs.Prelude.{◌+◌};
     ghost use Rattle.zstates.specs.Shortening.{ShorteningView};
     ghost use Rattle.zstates.specs.support.Codes.{coded_shortening};
     ghost use Rattle.zstates.specs.support.Writing.{IsShorteningIf};
@@ -42,31 +36,22 @@ impl<'a> Model for Shortening<'a> {
 
     ghost coded = { coded_shortening };
 
-    ghost view = { λ s. record {
-      state = s.state.now.state;
-      written = s.writing.written + s.seated;
-    } };
+    ghost view = { λ s. record { tree = s.tree.now.tree; written = s.writing.written } };
 
-    ghost invariant = { λ s. IsShorteningIf s.is_broken s.state.now.state s.writing
-        s.seats.items s.seated };
+    ghost invariant = { λ s. IsShorteningIf s.is_broken s.tree.now.tree s.writing };
 }
 
 impl<'a> Shortening<'a> {
-    /// Begins with nothing written. Returns `Memory`, too, if the state ran out of memory before.
-    pub fn new(state: &'a State) -> Result<Shortening<'a>, Memory>
-        ensures begun { IfOk result (λ s. s
-            ≡ record { state = state.now.state; written = 0 }) }
-        ensures whole { OnOk result (state.now.is_broken ≡ false) }
+    /// Begins with nothing written. Returns `Memory`, too, if the tree ran out of memory before.
+    pub fn new(alloc: Global, tree: &'a LocalTree) -> Result<Shortening<'a>, Memory>
+        ensures begun { IfOk result (λ s. s ≡ record { tree = tree.now.tree; written = 0 }) }
+        ensures whole { OnOk result (tree.now.is_broken ≡ false) }
     {
-        let seats = state.seats()?;
-        let machine = state.machine()?;
-        let writing = Writing::of_tree(state.alloc, machine)?;
+        let writing = Writing::of_tree(alloc, tree.machine()?)?;
         Ok(Shortening {
-            alloc: state.alloc,
-            state,
+            alloc,
+            tree,
             writing,
-            seats,
-            seated: 0,
             is_broken: false,
         })
     }
@@ -105,18 +90,12 @@ impl<'a> Shortening<'a> {
             return Err(Memory);
         }
         let mut bytes = Vec::new(self.alloc);
-        if self.writing.write_next(&mut bytes)? {
-            self.is_broken = true;
-            write_line(self.alloc, Record::Row(row_of(bytes)), text)?;
-            self.is_broken = false;
-            return Ok(true);
-        }
-        if self.seated >= self.seats.len() {
+        if !self.writing.write_next(&mut bytes)? {
             return Ok(false);
         }
-        let (_, password) = self.seats[self.seated];
-        write_line(self.alloc, Record::Password(password), text)?;
-        self.seated += 1;
+        self.is_broken = true;
+        write_line(self.alloc, Record::Row(row_of(bytes)), text)?;
+        self.is_broken = false;
         Ok(true)
     }
 }

@@ -8,7 +8,6 @@ use crate::trouble::Trouble;
 use std::alloc::Global;
 use zcalls::{Call, CallNumber, ClientId, Entry, Update};
 use zlines::{Line, LineFault, Request, read_line};
-use zstates::{Password, is_open, no_password};
 
 /// How much was compared.
 #[derive(Clone, Copy, Debug, PartialEq, Eq)]
@@ -107,8 +106,7 @@ impl Drill {
         let Some(number) = self.pair.next() else {
             return Err(Trouble::Full);
         };
-        let password = self.password(&update);
-        let update = self.folder.apply(update, password)?;
+        let update = self.folder.apply(update)?;
         self.enter(Entry {
             client,
             number,
@@ -157,14 +155,5 @@ impl Drill {
         self.tally.states = self.tally.states.saturating_add(1);
         self.since = 0;
         Ok(())
-    }
-
-    // Returns a password of its own for a session that is opened.
-    fn password(&self, update: &Update) -> Password {
-        if is_open(update) {
-            Password::new([(self.tally.changes % 251) as u8; 16])
-        } else {
-            no_password()
-        }
     }
 }

@@ -2,10 +2,10 @@
 //! same bytes.
 //!
 //! Each line of the input is a line of a script. The updates that it calls or begins are given to
-//! two machines and to a folder's state; a `retry` gives the client's last number again. What else
+//! two machines and to a folder's tree; a `retry` gives the client's last number again. What else
 //! it asks does nothing here. After a change the first machine is written as rows, and the second
 //! one becomes the machine that is read from them. So a machine that was read answers beside one
-//! that never was, and their answers are compared. The folder's state is read from a snapshot and
+//! that never was, and their answers are compared. The folder's tree is read from a snapshot and
 //! the entries behind it, and then from a snapshot alone.
 //!
 //! A state of more than 16 rows isn't compared at each change: as soon as there were a sixteenth as

@@ -4,7 +4,7 @@ use crate::rounds::keeps;
 use crate::states::{STORIES, WORKED, add_lines, snapshot_of};
 use std::alloc::Global;
 use std::process::Abort;
-use zstates::{ReadFault, State};
+use zstates::{ReadFault, read};
 
 // What stands behind a snapshot.
 const MORE: &[&str] = &["1 open 10", "1 create /c es:6 aGk=", "0 tick", "1 close 6"];
@@ -28,11 +28,11 @@ fn ends(rt: &impl Abort, alloc: Global) -> Vec<usize> {
     ends
 }
 
-// Whether a text keeps a state.
+// Whether a text keeps a tree.
 fn is_read(rt: &impl Abort, alloc: Global, text: &[u8]) -> bool {
-    match State::read(alloc, text) {
-        Ok(state) => {
-            drop(state);
+    match read(alloc, text) {
+        Ok(found) => {
+            drop(found);
             true
         }
         Err(fault) => {
@@ -53,12 +53,12 @@ fn a_cut_text_is_told(rt: HostRuntime) {
     }
 }
 
-// Whether a text keeps no state, or is the snapshot of the one that it keeps.
+// Whether a text keeps no tree, or is the snapshot of the one that it keeps.
 fn is_told(rt: &impl Abort, alloc: Global, text: &[u8]) -> bool {
     !is_read(rt, alloc, text) || keeps(rt, alloc, text, text)
 }
 
-// Each byte of the snapshot of the state that these lines come to is another.
+// Each byte of the snapshot of the tree that these lines come to is another.
 fn each_byte_is_told(rt: &impl Abort, alloc: Global, lines: &[&str]) {
     let mut text = snapshot_of(rt, alloc, lines);
     for place in 0..text.len() {

@@ -1,8 +1,11 @@
-//! Tests of a folder's state: entries are applied, written as a snapshot, and read again.
+//! Tests of what a folder keeps: entries are applied to a tree, which is written as a snapshot, and
+//! read again.
 #![tactic(auto)]
 
 #[cfg(test)]
 mod changed;
+#[cfg(test)]
+mod passwords;
 #[cfg(test)]
 mod rounds;
 #[cfg(test)]

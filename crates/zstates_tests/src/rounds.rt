@@ -1,22 +1,22 @@
-//! Each state of a story goes round: it is written, read, and written to the same text again.
+//! Each tree of a story goes round: it is written, read, and written to the same text again.
 
 use crate::states::{STORIES, add_lines, snapshot, snapshot_of};
 use std::alloc::Global;
 use std::process::Abort;
-use zstates::State;
+use zstates::read;
 
-/// Returns whether a text keeps a state with this snapshot.
+/// Returns whether a text keeps a tree with this snapshot.
 pub(crate) fn keeps(rt: &impl Abort, alloc: Global, text: &[u8], wanted: &[u8]) -> bool {
-    let Ok(state) = State::read(alloc, text) else {
+    let Ok(found) = read(alloc, text) else {
         return false;
     };
-    let (found, _) = snapshot(rt, alloc, &state);
-    drop(state);
-    found.as_slice() == wanted
+    let (same, _) = snapshot(rt, alloc, &found.tree);
+    drop(found);
+    same.as_slice() == wanted
 }
 
-// Whether the snapshot of each state of a story is read again. So is each with the entries behind
-// it that lead to the last state, and so are all entries by themselves.
+// Whether the snapshot of each tree of a story is read again. So is each with the entries behind it
+// that lead to the last tree, and so are all entries by themselves.
 fn goes_round(rt: &impl Abort, alloc: Global, lines: &[&str]) {
     let last = snapshot_of(rt, alloc, lines);
     for count in 0..=lines.len() {
@@ -31,7 +31,7 @@ fn goes_round(rt: &impl Abort, alloc: Global, lines: &[&str]) {
 }
 
 #[test]
-fn each_state_goes_round(rt: HostRuntime) {
+fn each_tree_goes_round(rt: HostRuntime) {
     let alloc = rt.alloc();
     for lines in STORIES {
         goes_round(&rt, alloc, lines);

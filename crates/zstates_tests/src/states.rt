@@ -1,13 +1,14 @@
-//! States that lines come to, and their texts.
+//! Trees that lines come to, and their texts.
 
 use std::alloc::Global;
 use std::process::Abort;
 use zcalls::{Call, Update};
 use zlines::{Line, Request, read_line};
 use zrecords::write_records;
-use zstates::{Password, Shortening, State, add_entry};
+use zservice::LocalTree;
+use zstates::{Shortening, add_entry};
 
-// More pieces than any state here has.
+// More pieces than any tree here has.
 const MANY: usize = 100;
 
 /// Two sessions, of which the first was closed, and two nodes.
@@ -52,19 +53,18 @@ const NODES: &[&str] = &[
 /// The stories.
 pub(crate) const STORIES: &[&[&str]] = &[WORKED, SESSIONS, NODES];
 
-/// Returns the state that the updates of these lines come to.
-pub(crate) fn state(rt: &impl Abort, alloc: Global, lines: &[&str]) -> State {
-    let mut state = State::new(alloc).expect(rt, "there is memory");
+/// Returns the tree that the updates of these lines come to.
+pub(crate) fn tree(rt: &impl Abort, alloc: Global, lines: &[&str]) -> LocalTree {
+    let mut tree = LocalTree::new(alloc).expect(rt, "there is memory");
     for line in lines {
-        let update = update(rt, alloc, line);
-        let reply = state.apply(update, password(line));
+        let reply = tree.apply(update(rt, alloc, line));
         drop(reply.expect(rt, "there is memory"));
     }
-    state
+    tree
 }
 
-// Returns the update of a line.
-fn update(rt: &impl Abort, alloc: Global, line: &str) -> Update {
+/// Returns the update of a line.
+pub(crate) fn update(rt: &impl Abort, alloc: Global, line: &str) -> Update {
     let Ok(Line::Call(request)) = read_line(alloc, line.as_bytes()) else {
         panic!(rt; "a line is a call: {line}")
     };
@@ -75,14 +75,9 @@ fn update(rt: &impl Abort, alloc: Global, line: &str) -> Update {
     update
 }
 
-/// Returns the password of the session that a line opens. It repeats the length of the line.
-pub(crate) fn password(line: &str) -> Password {
-    Password::new([(line.len() % 256) as u8; 16])
-}
-
-/// Returns the text of a state's snapshot, and how many pieces it has.
-pub(crate) fn snapshot(rt: &impl Abort, alloc: Global, state: &State) -> (Vec<u8>, usize) {
-    let mut shortening = Shortening::new(state).expect(rt, "there is memory");
+/// Returns the text of a tree's snapshot, and how many pieces it has.
+pub(crate) fn snapshot(rt: &impl Abort, alloc: Global, tree: &LocalTree) -> (Vec<u8>, usize) {
+    let mut shortening = Shortening::new(alloc, tree).expect(rt, "there is memory");
     let mut text = Vec::new(alloc);
     for pieces in 0..MANY {
         let Some(piece) = shortening.next_piece().expect(rt, "there is memory") else {
@@ -93,11 +88,11 @@ pub(crate) fn snapshot(rt: &impl Abort, alloc: Global, state: &State) -> (Vec<u8
     (text, MANY)
 }
 
-/// Returns the text of the snapshot of the state that these lines come to.
+/// Returns the text of the snapshot of the tree that these lines come to.
 pub(crate) fn snapshot_of(rt: &impl Abort, alloc: Global, lines: &[&str]) -> Vec<u8> {
-    let state = state(rt, alloc, lines);
-    let (text, _) = snapshot(rt, alloc, &state);
-    drop(state);
+    let tree = tree(rt, alloc, lines);
+    let (text, _) = snapshot(rt, alloc, &tree);
+    drop(tree);
     text
 }
 
@@ -105,8 +100,7 @@ pub(crate) fn snapshot_of(rt: &impl Abort, alloc: Global, lines: &[&str]) -> Vec
 pub(crate) fn add_lines(rt: &impl Abort, alloc: Global, lines: &[&str], text: &mut Vec<u8>) {
     let mut records = Vec::new(alloc);
     for line in lines {
-        let update = update(rt, alloc, line);
-        add_entry(&mut records, update, password(line)).expect(rt, "there is memory");
+        add_entry(&mut records, update(rt, alloc, line)).expect(rt, "there is memory");
     }
     write_records(alloc, &records, text).expect(rt, "there is memory");
 }

@@ -1,98 +1,77 @@
 -- What was read of a text so far, and that it could be nothing else.
-use Rattle.std.specs.Prelude.{◌≡◌, ℕ, false, List, ◌∷◌, ◌++◌, map}
+use Rattle.std.specs.Prelude.{◌≡◌, ◌≢◌, ℕ, Bool, true, false, List, [], ◌∷◌, ◌++◌, map}
 use Rattle.ztree.specs.Tree.{Tree}
 use Rattle.zops.specs.Machine.{MachineView}
 use Rattle.zrecords.specs.declared.record.Record.{Record}
 use Rattle.zrecords.specs.declared.record.Record.TheVariants as record_is
-use Rattle.zrecords.specs.Records.{AllFit, Fits, line_of, text_of}
-use Rattle.zsittings.specs.Sittings.{SittingsView}
+use Rattle.zrecords.specs.Records.{AllFit, text_of}
+use Rattle.zservice.specs.Local.{LocalTreeView}
+use Rattle.zservice.specs.Machines.{IsBare, machine_of, tree_in}
 use Rattle.zsnapshots.specs.States.{IsReadable}
 use Rattle.zstates.specs.declared.fault.ReadFault.{ReadFault}
 use Rattle.zstates.specs.declared.fault.ReadFault.TheVariants.{Memory, NotRecords}
-use Rattle.zstates.specs.Entries.{AreEntries, IsEntriesText, IsOfNoEntries, entries_text, Entry}
-use Rattle.zstates.specs.States.{Seat, State, StateView, after, ids_of}
-use Rattle.zstates.specs.Texts.{IsFrontOf, IsKeepable, IsTextOf, machine_of, row_records, seat_record, snapshot_text}
-use Rattle.zstates.specs.support.Tables.{IsBare, seat_at, tree_in}
+use Rattle.zstates.specs.Entries.{Entry, IsEntriesText, IsOfNoEntries, TellsPasswords, has_password, without_passwords}
+use Rattle.zstates.specs.States.{after}
+use Rattle.zstates.specs.Texts.{IsFrontOf, IsTextOf, row_bytes, row_record}
 
--- ---- lines
+-- ---- records
 
--- no row's line stands in front
-abbrev pub HasNoRow : List ℕ → Type 0
-HasNoRow text = (row rest : List ℕ) → Fits (record_is.Row row) → text ≡ line_of (record_is.Row row) ++ rest → ⊥
-
--- no password's line stands in front
-abbrev pub HasNoPassword : List ℕ → Type 0
-HasNoPassword text =
-    (password rest : List ℕ) → Fits (record_is.Password password) → text ≡ line_of (record_is.Password password) ++ rest → ⊥
+-- records stand in front of the text: what they say, whether passwords are among them, and the rest
+pub record IsRead (what : List Record) (had : Bool) (text rest : List ℕ) : Type 0 where
+  pub records : List Record
+  pub fit : AllFit records
+  pub split : text ≡ text_of records ++ rest
+  pub said : without_passwords records ≡ what
+  pub told : had ≡ has_password records
 
 -- records of which the first is no row
 abbrev pub BeginNoRow : List Record → Type 0
 BeginNoRow (record_is.Row row ∷ records) = ⊥
 BeginNoRow records = Unit {0}
 
+-- what a text says begins with no row
+abbrev pub HasNoRow : List ℕ → Type 0
+HasNoRow text = (records : List Record) → AllFit records → text ≡ text_of records → BeginNoRow (without_passwords records)
+
 -- ---- the rows of a tree
 
--- the text is that of the rows of this tree, and of these records behind them
-pub record IsTreesText (t : Tree) (records : List Record) (text : List ℕ) : Type 0 where
-  pub readable : IsReadable (machine_of t)
-  pub fit : AllFit (row_records t ++ records)
-  pub no_row : BeginNoRow records
-  pub is : text ≡ text_of (row_records t ++ records)
+abbrev pub HasRows : Bool → List (List ℕ) → Type 0
+HasRows true rows = rows ≢ []
+HasRows false rows = rows ≡ []
 
-abbrev pub HasNoTree : List ℕ → Type 0
-HasNoTree text = (t : Tree) (records : List Record) → IsTreesText t records text → ⊥
+-- the rows stand in front of the text, with passwords among them or none, and no row follows
+pub record IsLoaded (rows : List (List ℕ)) (has_rows had : Bool) (text rest : List ℕ) : Type 0 where
+  pub read : IsRead (map row_record rows) had text rest
+  pub some : HasRows has_rows rows
+  pub last : HasNoRow rest
 
-pub record IsTreeRead (text : List ℕ) (m : MachineView) (rest : List ℕ) : Type 0 where
+-- the machine did nothing, and its tree can be read from these rows
+pub record HasTree (rows : List (List ℕ)) (m : MachineView) : Type 0 where
   pub whole : m.is_broken ≡ false
   pub bare : IsBare m
   pub readable : IsReadable (machine_of (tree_in m))
-  pub fit : AllFit (row_records (tree_in m))
-  pub split : text ≡ text_of (row_records (tree_in m)) ++ rest
-  pub only : (t : Tree) (records : List Record) → IsTreesText t records text → (t ≡ tree_in m) × (rest ≡ text_of records)
+  pub are : row_bytes (tree_in m) ≡ rows
 
--- ---- passwords
-
--- the text is that of the passwords of these sessions, and of these records behind them
-pub record IsSeatsText (ids : List ℕ) (seats : List Seat) (records : List Record) (text : List ℕ) : Type 0 where
-  pub named : ids_of seats ≡ ids
-  pub fit : AllFit (map seat_record seats ++ records)
-  pub is : text ≡ text_of (map seat_record seats ++ records)
-
-abbrev pub HasNoSeats : List ℕ → List ℕ → Type 0
-HasNoSeats ids text = (seats : List Seat) (records : List Record) → IsSeatsText ids seats records text → ⊥
-
-pub record AreSeatsRead (ids text : List ℕ) (m : SittingsView) (rest : List ℕ) : Type 0 where
-  pub fit : AllFit (map seat_record (map (seat_at m) ids))
-  pub split : text ≡ text_of (map seat_record (map (seat_at m) ids)) ++ rest
-  pub only : (seats : List Seat) (records : List Record) → IsSeatsText ids seats records text
-      → (seats ≡ map (seat_at m) ids) × (rest ≡ text_of records)
-
--- ---- a snapshot
-
-abbrev pub HasNoSnapshot : List ℕ → Type 0
-HasNoSnapshot text =
-    (s : State) (entries : List Entry) → IsKeepable s → AreEntries entries → text ≡ snapshot_text s ++ entries_text entries → ⊥
-
-pub record IsSnapshotRead (text : List ℕ) (s : State) (rest : List ℕ) : Type 0 where
-  pub keepable : IsKeepable s
-  pub split : text ≡ snapshot_text s ++ rest
-  pub only : (other : State) (entries : List Entry) → IsKeepable other → AreEntries entries → text ≡ snapshot_text other ++ entries_text entries
-      → (other ≡ s) × (rest ≡ entries_text entries)
+-- the rows are those of no tree that can be read
+abbrev pub AreOfNoTree : List (List ℕ) → Type 0
+AreOfNoTree rows = (t : Tree) → IsReadable (machine_of t) → row_bytes t ≢ rows
 
 -- ---- a text
 
--- a state begins the text. Whatever state the text keeps, the rest is the text of entries
-pub record Begins (start : State) (text rest : List ℕ) : Type 0 where
+-- a tree begins the text. Whatever tree the text keeps, the rest is the text of entries
+pub record Begins (start : Tree) (had : Bool) (text rest : List ℕ) : Type 0 where
   pub front : List ℕ
   pub begins : IsFrontOf start front
   pub split : text ≡ front ++ rest
-  pub only : (s : State) → IsTextOf s text → (entries : List Entry) × IsEntriesText entries rest
+  pub told : TellsPasswords front had
+  pub only : (t : Tree) → IsTextOf t text → (entries : List Entry) × IsEntriesText entries rest
 
 -- all entries of the text were applied
-pub record AreApplied (text : List ℕ) (old new : StateView) : Type 0 where
+pub record AreApplied (text : List ℕ) (old new : LocalTreeView) (had : Bool) : Type 0 where
   pub entries : List Entry
   pub read : IsEntriesText entries text
-  pub view : new ≡ record { state = after old.state entries; is_broken = false }
+  pub told : TellsPasswords text had
+  pub view : new ≡ record { tree = after old.tree entries; is_broken = false }
 
 abbrev pub IsEntriesFault : List ℕ → ReadFault → Type 0
 IsEntriesFault text NotRecords = IsOfNoEntries text

@@ -1,4 +1,4 @@
-use Rattle.zkept.proofs.Serving.{what_is_kept_stands_in_a_log}
+use Rattle.zkept.proofs.Leading.{what_is_kept_stands_in_a_log}
 use Rattle.zkept.proofs.laws.what_is_kept_stands_in_a_log.Goals as goal
 
 pub returns : goal.returns

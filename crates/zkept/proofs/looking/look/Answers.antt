@@ -1,26 +1,26 @@
 use Rattle.std.proofs.Common.{◌≡◌, ℕ, List, length, sym, subst, ◌∙◌}
 use Rattle.zjournal.specs.Journal.{StandsFor}
+use Rattle.zstates.specs.Entries.{TellsPasswords}
 use Rattle.zstates.specs.Faults.{IsReadFault}
 use Rattle.zstates.specs.Texts.{IsTextOf}
 use Rattle.zkept.specs.Faults.{IsSuchFile}
 use Rattle.zkept.proofs.Opening.{such_read}
 use Rattle.zkept.proofs.looking.look.Goals as goal
 
-pub returns-in-Ok-read_measured-clause-keeps : goal.returns-in-Ok-read_measured-clause-keeps
-returns-in-Ok-read_measured-clause-keeps g c =
+pub returns-in-Ok-read-clause-keeps : goal.returns-in-Ok-read-clause-keeps
+returns-in-Ok-read-clause-keeps g c =
     let read = c.in-Ok.ensures.text in
-    let found = c.in-Ok-read_measured.ensures.state in
     record {
       batches = read.0;
       stands = subst (λ n. StandsFor n read.0 (g.D.Device.seen c.args.device.now)) c.number.ensures.same read.1;
-      text = subst (IsTextOf c.in-Ok-read_measured.read.0.state) (c.deref.ensures.value ∙ read.2) found.0;
+      text = subst (IsTextOf c.in-Ok-read.found.tree.tree) (c.deref.ensures.value ∙ read.2) c.in-Ok-read.ensures.found.0;
     }
 
-pub returns-in-Ok-read_measured-clause-look : goal.returns-in-Ok-read_measured-clause-look
-returns-in-Ok-read_measured-clause-look g c =
+pub returns-in-Ok-read-clause-look : goal.returns-in-Ok-read-clause-look
+returns-in-Ok-read-clause-look g c =
     let read = c.in-Ok.ensures.text in
-    let found = subst (λ (text : List ℕ). (is : IsTextOf c.in-Ok-read_measured.read.0.state text) × (c.in-Ok-read_measured.read.1 ≡ length is.front))
-    (c.deref.ensures.value ∙ read.2) c.in-Ok-read_measured.ensures.state in
+    let found = subst (λ (text : List ℕ). (is : IsTextOf c.in-Ok-read.found.tree.tree text) × (c.in-Ok-read.found.snapshot ≡ length is.front))
+    (c.deref.ensures.value ∙ read.2) c.in-Ok-read.ensures.found in
     record {
       batches = read.0;
       stands = subst (λ n. StandsFor n read.0 (g.D.Device.seen c.args.device.now)) c.number.ensures.same read.1;
@@ -28,10 +28,18 @@ returns-in-Ok-read_measured-clause-look g c =
       begins = found.1;
     }
 
+pub returns-in-Ok-read-clause-passwords : goal.returns-in-Ok-read-clause-passwords
+returns-in-Ok-read-clause-passwords g c =
+    let read = c.in-Ok.ensures.text in (
+      read.0,
+      subst (λ n. StandsFor n read.0 (g.D.Device.seen c.args.device.now)) c.number.ensures.same read.1,
+      subst (λ (text : List ℕ). TellsPasswords text c.in-Ok-read.found.had_passwords) (c.deref.ensures.value ∙ read.2) c.in-Ok-read.ensures.passwords,
+    )
+
 pub returns-clause-fault : goal.returns-clause-fault
 returns-clause-fault g c =
     let read = c.in-Ok.ensures.text in
     subst (IsSuchFile c.args.servers (g.D.Device.seen c.args.device.now)) (sym c.from.ensures)
-    (such_read c.in-Err-read_measured.fault c.args.servers c.number.result (g.D.Device.seen c.args.device.now)
+    (such_read c.in-Err-read.fault c.args.servers c.number.result (g.D.Device.seen c.args.device.now)
     c.in-Ok.text.items c.number.ensures.same read.0 read.1 read.2
-    (subst (λ t. IsReadFault t c.in-Err-read_measured.fault) c.deref.ensures.value c.in-Err-read_measured.ensures.fault))
+    (subst (λ t. IsReadFault t c.in-Err-read.fault) c.deref.ensures.value c.in-Err-read.ensures.fault))

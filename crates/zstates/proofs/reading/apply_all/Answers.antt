@@ -1,35 +1,73 @@
-use Rattle.std.proofs.Common.{◌≡◌, ◌<◌, ◌++◌, ◌∷◌, [], length, refl, ap, ◌∙◌, arith}
+use Rattle.std.proofs.Common.{◌≡◌, ◌<◌, ◌++◌, ◌∷◌, [], length, ap, ◌∙◌, arith}
 use Rattle.std.proofs.lemmas.Bool.Decides.{nat_tests}
-use Rattle.zstates.specs.Entries.{Entry}
-use Rattle.zstates.specs.States.{StateView, after, after_entry}
-use Rattle.zstates.proofs.EntryTexts.{are_more, entry_shorter, no_text, something_left, split_more}
-use Rattle.zstates.proofs.States.{after_more}
+use Rattle.std.proofs.lemmas.List.{nil_from_length}
+use Rattle.zrecords.proofs.Texts.{shorter}
+use Rattle.zservice.specs.Local.{LocalTreeView}
+use Rattle.zstates.specs.Entries.{records_of}
+use Rattle.zstates.specs.States.{after, after_entry}
+use Rattle.zstates.proofs.ReadSoFar.{entry_more, no_entries, no_entry, read_none, read_password, says_all, something_left, tells_all}
+use Rattle.zstates.proofs.States.{after_more, entry_acts}
 use Rattle.zstates.proofs.reading.apply_all.Goals as goal
 
 pub loop-rest-init : goal.loop-rest-init
-loop-rest-init c = ([], tt, refl, (λ i. record { state = c.args.state.now.state; is_broken = c.requires.whole i }))
+loop-rest-init c = ([], read_none c.args.text.now, (λ i. record { tree = c.args.tree.now.tree; is_broken = c.requires.whole i }))
 
 pub returns-in_default-clause-fault : goal.returns-in_default-clause-fault
 returns-in_default-clause-fault c =
     let so_far = c.loop-rest.invariant in
     let some : 0 < length c.loop-rest.rest.now = grind (arith, nat_tests) in
-    no_text so_far.0 c.args.text.now c.loop-rest.rest.now so_far.1 so_far.2 (something_left c.loop-rest.rest.now some)
-    (rw c.in_default.is at c.in_ok-update.ensures.none)
+    no_entries so_far.0 c.loop-rest.had_passwords c.args.text.now c.loop-rest.rest.now so_far.1
+    (something_left c.loop-rest.rest.now some) (rw c.in_default.is at c.in_ok-record.ensures.none)
 
 pub loop-rest-smaller : goal.loop-rest-smaller
 loop-rest-smaller c =
-    let read = rw c.in-Some.is at c.in_ok-update.ensures.some in
-    entry_shorter (c.in-Some.update, c.in-Some.password) c.loop-rest.rest.now c.in-Some.more.now read.0 read.1
+    let read = rw c.in-Some.is at c.in_ok-record.ensures.some in
+    shorter c.in-Some.record c.loop-rest.rest.now c.in-Some.more.now read.1
+
+pub loop-rest-smaller-in-Password : goal.loop-rest-smaller-in-Password
+loop-rest-smaller-in-Password c =
+    let read = rw c.in-Some.is at c.in_ok-record.ensures.some in
+    shorter c.in-Some.record c.loop-rest.rest.now c.in-Some.more.now read.1
+
+pub loop-rest-preserved-in-Password : goal.loop-rest-preserved-in-Password
+loop-rest-preserved-in-Password c =
+    let so_far = c.loop-rest.invariant in
+    let read = rw c.in-Some.is at c.in_ok-record.ensures.some in (
+      so_far.0,
+      read_password (records_of so_far.0) c.loop-rest.had_passwords c.args.text.now c.loop-rest.rest.now so_far.1
+          c.in-Some.record c.in-Some.more.now read.0 read.1 c.in-Password.field-0 c.in-Password.is,
+      so_far.2,
+    )
 
 pub loop-rest-preserved : goal.loop-rest-preserved
 loop-rest-preserved c =
     let so_far = c.loop-rest.invariant in
-    let entry : Entry = (c.in-Some.update, c.in-Some.password) in
-    let read = rw c.in-Some.is at c.in_ok-update.ensures.some in
-    let state : c.apply.new.self.state ≡ after c.args.state.now.state (so_far.0 ++ entry ∷ []) =
-    c.in_ok-apply.ensures.state ∙ ap (λ (v : StateView). after_entry v.state entry) so_far.3 ∙ after_more c.args.state.now.state so_far.0 entry in (
+    let entry = c.in-Update.update in
+    let read = rw c.in-Some.is at c.in_ok-record.ensures.some in
+    let tree : c.apply.new.self.tree ≡ after c.args.tree.now.tree (so_far.0 ++ entry ∷ []) =
+    entry_acts c.loop-rest.tree.tree c.apply.new.self.tree _ entry c.in_ok-apply-in-Update.ensures.applied
+    ∙ ap (λ (v : LocalTreeView). after_entry v.tree entry) so_far.2 ∙ after_more c.args.tree.now.tree so_far.0 entry in (
       so_far.0 ++ entry ∷ [],
-      are_more so_far.0 entry so_far.1 read.0,
-      split_more so_far.0 entry c.args.text.now c.loop-rest.rest.now c.in-Some.more.now so_far.2 read.1,
-      λ i. record { state = state i; is_broken = c.in_ok-apply.ensures.sound.1 i },
+      entry_more so_far.0 c.loop-rest.had_passwords c.args.text.now c.loop-rest.rest.now so_far.1
+          c.in-Some.record c.in-Some.more.now read.0 read.1 entry c.in-Update.is,
+      λ i. record { tree = tree i; is_broken = c.in_ok-apply-in-Update.ensures.sound.1 i },
     )
+
+pub returns-in-Fail-clause-fault : goal.returns-in-Fail-clause-fault
+returns-in-Fail-clause-fault c =
+    let so_far = c.loop-rest.invariant in
+    let read = rw c.in-Some.is at c.in_ok-record.ensures.some in
+    no_entry so_far.0 c.loop-rest.had_passwords c.args.text.now c.loop-rest.rest.now so_far.1
+    c.in-Some.record c.in-Some.more.now read.0 read.1 c.in-Fail.is
+
+pub returns-clause-applied : goal.returns-clause-applied
+returns-clause-applied c =
+    let so_far = c.loop-rest.invariant in
+    let zero : length c.loop-rest.rest.now ≡ 0 = grind (arith, nat_tests) in
+    let none = nil_from_length c.loop-rest.rest.now zero in
+    record {
+      entries = so_far.0;
+      read = says_all (records_of so_far.0) c.loop-rest.had_passwords c.args.text.now c.loop-rest.rest.now so_far.1 none;
+      told = tells_all (records_of so_far.0) c.loop-rest.had_passwords c.args.text.now c.loop-rest.rest.now so_far.1 none;
+      view = so_far.2;
+    }

@@ -1,13 +1,14 @@
-use Rattle.std.proofs.Common.{◌≡◌, false, List, ◌++◌, length}
-use Rattle.zstates.specs.Entries.{AreEntries, Entry, entries_text}
+use Rattle.std.proofs.Common.{◌≡◌, false, List, length}
+use Rattle.zstates.specs.Entries.{Entry, records_of}
 use Rattle.zstates.specs.States.{after}
+use Rattle.zstates.specs.support.Reading.{IsRead}
 use Rattle.zstates.proofs.reading.apply_all.Given as goal
 
 -- so far the entries before the rest were applied
 abbrev pub invariant-loop-rest : goal.invariant-loop-rest
 invariant-loop-rest l =
-    (entries : List Entry) × AreEntries entries × (l.text ≡ entries_text entries ++ l.rest)
-    × (l.state ≡ record { state = after l.initial.state.state entries; is_broken = false })
+    (entries : List Entry) × IsRead (records_of entries) l.had_passwords l.text l.rest
+    × (l.tree ≡ record { tree = after l.initial.tree.tree entries; is_broken = false })
 
 abbrev pub decreases-loop-rest : goal.decreases-loop-rest
 decreases-loop-rest l = length l.rest

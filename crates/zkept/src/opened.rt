@@ -1,0 +1,14 @@
+//! What an opening gives.
+
+use crate::Kept;
+use zjournal::Device;
+
+/// A service that was opened, and what was found in its file.
+#[derive(Drop)]
+pub struct Opened<D: Device> {
+    /// The service.
+    pub kept: Kept<D>,
+    /// Whether passwords of sessions are among the records of the file. They say nothing: whoever
+    /// has one opens a new session.
+    pub had_passwords: bool,
+}

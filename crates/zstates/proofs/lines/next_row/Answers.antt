@@ -1,7 +1,0 @@
-use Rattle.zstates.proofs.Read.{no_row_in_front}
-use Rattle.zstates.proofs.lines.next_row.Goals as goal
-
-pub returns-in_default-record : goal.returns-in_default-record
-returns-in_default-record c =
-    let read = rw c.in-Some.is at c.in_ok-record.ensures.some in
-    record { some = tt; none = no_row_in_front c.args.text.now c.in-Some.rest.now c.in-Some.record read.0 read.1 c.in_default-record.not-Row }

@@ -1,5 +1,0 @@
-use Rattle.zstates.proofs.Stepping.{bare_ready}
-use Rattle.zstates.proofs.state.State.of.Goals as goal
-
-pub invariant_of-result : goal.invariant_of-result
-invariant_of-result c = λ _. bare_ready c.args.machine c.requires.whole c.requires.bare
