@@ -1,12 +1,13 @@
-/* The front of a server that keeps what it tells: it runs in a child, behind two pipes.
+/* The front of the server: it runs in a child, behind two pipes.
 
-   The child is the proved program zk_serve. It takes inputs and answers them with pieces, in the
-   records of crates/zpipe/specs. Inputs wait here until `keep`, which sends them together: so they
-   are one batch, and the disk is waited for once. The answer ends before any other input is sent.
+   The child is the proved program zk_serve. It is given the secret first. Then it takes messages and
+   answers them with pieces, in the records of crates/zpipe/specs. Inputs wait here until front_keep,
+   which sends them together: so they are one batch, and a disk is waited for once. The answer ends
+   before any other input is sent.
 
    Whoever ends the child ends the server, with the child's status. What wasn't told then is lost,
-   and what was told is kept. The child ends where its input does. It is killed where this process
-   is, so that nobody waits for the folder. */
+   and where a folder is kept, what was told is kept. The child ends where its input does. It is
+   killed where this process is, so that nobody waits for the folder. */
 #define _GNU_SOURCE
 #include <errno.h>
 #include <fcntl.h>
@@ -17,20 +18,15 @@
 #include <string.h>
 #include <sys/prctl.h>
 #include <sys/wait.h>
+#include <time.h>
 #include <unistd.h>
 #include "front.h"
-#include "jellqupas_front.h"
 
 /* The tags of records, and their limits. */
-enum { OPENED, CAME, ENDED, TICK, LINE, KEEP };
+enum { OPENED, CAME, ENDED, TICK, KEEP };
 enum { PIECE, END };
-enum { PASSWORD = 16, MOST_CAME = 65536, MOST_LINE = 524289 };
+enum { MOST_CAME = 65536 };
 
-const bool is_kept = true;
-
-static const char *program, *folder, *mode;
-static long journal;
-static int signals;
 static pid_t child;
 static int to_child, from_child;
 /* The inputs that wait. */
@@ -39,19 +35,10 @@ static size_t count, room;
 /* What came of the answer and wasn't looked at: `block` from `at` to `end`. */
 static uint8_t block[65536];
 static size_t at, end;
-/* The piece that is next, as jellqupas_front.h says, and its bytes that are still to come. */
-static uint32_t next = JELLQUPAS_FRONT_NONE, connection;
+/* The piece that is next, and its bytes that are still to come. */
+static enum next next = NOTHING;
+static uint32_t connection;
 static size_t length;
-
-void prepare(const struct words *words, int ending) {
-    if (!words->data || !words->keeper) stop(2, "--data and --keeper are missing");
-    program = words->keeper, folder = words->data, mode = words->sync, signals = ending;
-    journal = words->journal;
-}
-
-void say_what_is_left(void) {
-    fprintf(stderr, "zk: what is told is kept in %s\n", folder);
-}
 
 /* Waits for the end of the child, and gives its status. */
 static int status_of_child(void) {
@@ -61,13 +48,13 @@ static int status_of_child(void) {
         if (errno != EINTR) return 1;
     }
     if (WIFEXITED(status)) return WEXITSTATUS(status);
-    stop(1, "what keeps the folder was ended by signal %d", WTERMSIG(status));
+    stop(1, "what serves was ended by signal %d", WTERMSIG(status));
 }
 
 /* Ends with the status of a child that has ended. It has said why. */
 static _Noreturn void end_with_child(void) {
     int status = status_of_child();
-    if (!status) stop(1, "what keeps the folder has ended");
+    if (!status) stop(1, "what serves has ended");
     exit(status);
 }
 
@@ -88,56 +75,30 @@ static void put_number(uint32_t number) {
     for (int i = 0; i < 4; i++) to[i] = (uint8_t)(number >> (24 - 8 * i));
 }
 
-static void put_bytes(const uint8_t *bytes, size_t size) { memcpy(put(size), bytes, size); }
-
-static void put_sized(const uint8_t *bytes, size_t size) {
-    put_number((uint32_t)size);
-    put_bytes(bytes, size);
-}
-
 static void put_tag(uint8_t tag) { *put(1) = tag; }
 
-uint32_t jellqupas_front_opened(jellqupas_front *front, uint32_t number, const uint8_t *password) {
-    (void)front;
+void front_opened(uint32_t number) {
     put_tag(OPENED);
     put_number(number);
-    put_bytes(password, PASSWORD);
-    return JELLQUPAS_DONE;
 }
 
-uint32_t jellqupas_front_came(jellqupas_front *front, uint32_t number, const uint8_t *bytes,
-                              size_t size) {
-    (void)front;
+void front_came(uint32_t number, const uint8_t *bytes, size_t size) {
     while (size) {
         size_t part = size < MOST_CAME ? size : MOST_CAME;
         put_tag(CAME);
         put_number(number);
-        put_sized(bytes, part);
+        put_number((uint32_t)part);
+        memcpy(put(part), bytes, part);
         bytes += part, size -= part;
     }
-    return JELLQUPAS_DONE;
 }
 
-uint32_t jellqupas_front_ended(jellqupas_front *front, uint32_t number) {
-    (void)front;
+void front_ended(uint32_t number) {
     put_tag(ENDED);
     put_number(number);
-    return JELLQUPAS_DONE;
 }
 
-uint32_t jellqupas_front_tick(jellqupas_front *front) {
-    (void)front;
-    put_tag(TICK);
-    return JELLQUPAS_DONE;
-}
-
-uint32_t jellqupas_front_line(jellqupas_front *front, const uint8_t *line, size_t size) {
-    (void)front;
-    put_tag(LINE);
-    /* (so much of a longer one shows that it is too long) */
-    put_sized(line, size < MOST_LINE ? size : MOST_LINE);
-    return JELLQUPAS_DONE;
-}
+void front_tick(void) { put_tag(TICK); }
 
 /* ---- the answer */
 
@@ -166,62 +127,71 @@ static uint32_t take_number(void) {
 static void take_head(void) {
     uint8_t tag, is_last;
     take_bytes(&tag, 1);
-    next = JELLQUPAS_FRONT_NONE, connection = 0, length = 0;
+    next = NOTHING, connection = 0, length = 0;
     if (tag == END) return;
     connection = take_number();
     take_bytes(&is_last, 1);
     length = take_number();
-    next = is_last ? JELLQUPAS_FRONT_LAST : JELLQUPAS_FRONT_PIECE;
+    next = is_last ? LAST_ONE : ONE;
 }
 
-void keep(void) {
-    if (!count) return;
-    put_tag(KEEP);
-    for (size_t sent = 0; sent < count;) {
-        ssize_t part = write(to_child, inputs + sent, count - sent);
+/* Sends bytes to the child. */
+static void send_to_child(const uint8_t *bytes, size_t size) {
+    while (size) {
+        ssize_t part = write(to_child, bytes, size);
         if (part < 0 && errno == EINTR) continue;
         if (part < 0) end_with_child();
-        sent += (size_t)part;
+        bytes += part, size -= (size_t)part;
     }
+}
+
+void front_keep(void) {
+    if (!count) return;
+    put_tag(KEEP);
+    send_to_child(inputs, count);
     count = 0;
     if (room > 1 << 20) free(inputs), inputs = NULL, room = 0;
     take_head();
 }
 
-uint32_t jellqupas_front_piece(jellqupas_front *front) {
-    (void)front;
+enum next front_next(uint32_t *number) {
+    *number = connection;
     return next;
 }
 
-uint32_t jellqupas_front_connection(jellqupas_front *front) {
-    (void)front;
-    return connection;
-}
-
-size_t jellqupas_front_tell(jellqupas_front *front, uint8_t *to, size_t left) {
-    (void)front;
-    size_t told = length;
-    if (next == JELLQUPAS_FRONT_NONE || told > left) return told;
-    take_bytes(to, told);
+size_t front_take(uint8_t *to, size_t left) {
+    size_t taken = length;
+    if (next == NOTHING || taken > left) return taken;
+    take_bytes(to, taken);
     take_head();
-    return told;
+    return taken;
 }
 
 /* ---- its beginning and its end */
 
-/* Becomes the child. */
-static _Noreturn void become(int in, int out, char words[4][24], pid_t parent) {
+/* Becomes the child: in memory alone where no folder is named. */
+static _Noreturn void become(int in, int out, const struct words *words, pid_t parent) {
+    char servers[24], tick[24], time[24], journal[24];
+    struct timespec now;
+    const char *folder = words->data && !strcmp(words->data, "-") ? "./-" : words->data;
+    clock_gettime(CLOCK_REALTIME, &now);
+    snprintf(servers, sizeof servers, "%d", words->servers);
+    snprintf(tick, sizeof tick, "%ld", words->tick);
+    snprintf(time, sizeof time, "%lld", (long long)now.tv_sec * 1000 + now.tv_nsec / 1000000);
+    snprintf(journal, sizeof journal, "%ld", words->journal);
     prctl(PR_SET_PDEATHSIG, SIGKILL);
     if (getppid() != parent) _exit(1);
     dup2(in, STDIN_FILENO);
     dup2(out, STDOUT_FILENO);
-    execl(program, program, folder, mode, words[0], words[1], words[2], words[3], (char *)NULL);
-    fprintf(stderr, "zk: %s: %s\n", program, strerror(errno));
+    if (!folder) execl(words->program, words->program, "-", tick, time, (char *)NULL);
+    else execl(words->program, words->program, folder, words->sync, servers, tick, time, journal,
+               (char *)NULL);
+    fprintf(stderr, "zk: %s: %s\n", words->program, strerror(errno));
     _exit(3);
 }
 
-/* Waits until the child has opened the folder, or a signal ends this process. */
-static void wait_for_child(void) {
+/* Waits until the child has opened the front, or a signal ends this process. */
+static void wait_for_child(int signals) {
     struct pollfd ends[] = {
         {.fd = from_child, .events = POLLIN}, {.fd = signals, .events = POLLIN}};
     while (poll(ends, 2, -1) < 0 && errno == EINTR) continue;
@@ -229,17 +199,8 @@ static void wait_for_child(void) {
     take_head();
 }
 
-size_t jellqupas_front_size(void) { return 1; }
-
-uint32_t jellqupas_front_open(uint8_t servers, uint32_t tick_ms, uint64_t started_ms,
-                              jellqupas_front *front) {
-    (void)front;
+void front_open(const struct words *words, const uint8_t secret[SECRET], int signals) {
     int in[2], out[2];
-    char words[4][24];
-    snprintf(words[0], sizeof words[0], "%u", servers);
-    snprintf(words[1], sizeof words[1], "%lu", (unsigned long)tick_ms);
-    snprintf(words[2], sizeof words[2], "%llu", (unsigned long long)started_ms);
-    snprintf(words[3], sizeof words[3], "%ld", journal);
     if (pipe2(in, O_CLOEXEC) || pipe2(out, O_CLOEXEC)) stop(3, "no pipes: %s", strerror(errno));
     pid_t parent = getpid();
     child = fork();
@@ -247,12 +208,11 @@ uint32_t jellqupas_front_open(uint8_t servers, uint32_t tick_ms, uint64_t starte
     if (!child) become(in[0], out[1], words, parent);
     close(in[0]), close(out[1]);
     to_child = in[1], from_child = out[0];
-    wait_for_child();
-    return JELLQUPAS_DONE;
+    send_to_child(secret, SECRET);
+    wait_for_child(signals);
 }
 
-void jellqupas_front_close(jellqupas_front *front) {
-    (void)front;
+void front_close(void) {
     int status = status_of_child();
     free(inputs);
     if (status) exit(status);

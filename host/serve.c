@@ -1,33 +1,29 @@
-/* The server for ZooKeeper's clients: sockets and a clock around a front (jellqupas_front.h), in
-   memory or in a child that keeps a folder (front.h). It hands on what came, sends what the front
-   tells, draws passwords and gives ticks.
+/* The server for ZooKeeper's clients: sockets and a clock around a front (front.h). It hands on what
+   came, sends what the front tells, takes the secret and gives ticks.
 
-   Nothing here is proved. It is to uphold what jellqupas_front.h asks: each connection's bytes are
-   handed on once and in their order, what is told is sent in that order and whole, or the
-   connection is closed, and passwords can't be guessed.
+   Nothing here is proved. It is to uphold what front.h asks: each connection's bytes are handed on
+   once and in their order, what is told is sent in that order and whole, or the connection is
+   closed, and the secret can't be guessed.
 
-   One thread does all. It waits for events of at most 1,000 connections, of the operator's lines,
-   and of the signals that end it. A connection's number is its place in `all`.
+   One thread does all. It waits for events of at most 1,000 connections, and of the signals that end
+   it. A connection's number is its place in `all`.
 
-   In memory each input is answered at once. Where a folder is kept, all that one wait brought is
-   kept together and answered then; but many requests are kept before more is read. */
+   All that one wait brought is kept together and answered then; but many requests are kept before
+   more is read. */
 #define _GNU_SOURCE
 #include <errno.h>
-#include <limits.h>
 #include <netinet/in.h>
 #include <netinet/tcp.h>
-#include <poll.h>
 #include <stdbool.h>
 #include <stdio.h>
 #include <stdlib.h>
 #include <string.h>
 #include <sys/epoll.h>
-#include <sys/random.h>
 #include <sys/socket.h>
 #include <time.h>
 #include <unistd.h>
 #include "front.h"
-#include "jellqupas_front.h"
+#include "jellqupas.h"
 #include "start.h"
 
 enum {
@@ -46,10 +42,7 @@ enum {
     HELD = 64 << 20,
     /* The milliseconds for a greeting, and for taking what is sent before a connection's end. */
     PATIENCE = 10000,
-    /* The longest line of the operator. */
-    LINE = 524288,
     /* Events that aren't a connection's. */
-    OPERATOR = 0,
     LISTENER = MOST + 1,
     SIGNALS
 };
@@ -81,13 +74,12 @@ struct connection {
     bool is_touched;
 };
 
-static jellqupas_front *front;
 static struct connection all[MOST + 1];
 static int events, listener, signals;
 static size_t held;
 /* The requests that were handed on since the front has kept what it was told. */
 static size_t asked;
-static bool is_over, is_deaf;
+static bool is_over;
 /* The connections that were told something, and those that are GONE. */
 static uint32_t touched[MOST + 1], gone[MOST];
 static size_t touched_count, gone_count;
@@ -98,8 +90,6 @@ static uint64_t now(void) {
     clock_gettime(CLOCK_MONOTONIC, &at);
     return (uint64_t)at.tv_sec * 1000 + (uint64_t)at.tv_nsec / 1000000;
 }
-
-static bool is_drawn(uint8_t *password) { return getrandom(password, 16, 0) == 16; }
 
 static bool is_there(const struct connection *it) {
     return it->state == OPEN || it->state == LAST;
@@ -153,34 +143,28 @@ static void bound(void) {
 
 /* Takes the pieces that the front has, once what it was told is kept. */
 static void take(void) {
-    uint32_t next;
-    keep();
+    uint32_t number;
+    enum next next;
+    front_keep();
     asked = 0;
-    while ((next = jellqupas_front_piece(front)) != JELLQUPAS_FRONT_NONE) {
-        uint32_t number = jellqupas_front_connection(front);
+    while ((next = front_next(&number)) != NOTHING) {
+        if (number < 1 || number > MOST) stop(1, "what serves told connection %u", number);
         struct connection *it = &all[number];
         size_t count = 4096;
         do {
             make_room(it, count);
-            count = jellqupas_front_tell(front, it->out + it->count, it->room - it->count);
+            count = front_take(it->out + it->count, it->room - it->count);
         } while (count > it->room - it->count);
         if (it->state != OPEN) continue;
         it->count += count;
         it->until = 0;
-        if (next == JELLQUPAS_FRONT_LAST) it->state = LAST, it->until = now() + PATIENCE;
+        if (next == LAST_ONE) it->state = LAST, it->until = now() + PATIENCE;
         if (!it->is_touched) touched[touched_count++] = number;
         it->is_touched = true;
-        if (number == OPERATOR) continue;
         held += count - it->given;
         it->given = 0;
         bound();
     }
-}
-
-/* What follows each input of the front. */
-static void done(uint32_t status) {
-    if (status != JELLQUPAS_DONE) stop(1, "%s", jellqupas_status_text(status));
-    if (!is_kept || asked >= KEPT) take();
 }
 
 static void forget_sent(struct connection *it) {
@@ -210,20 +194,6 @@ static void send_on(uint32_t number) {
     wait_for(number, (owed(it) <= OWED ? EPOLLIN : 0) | (owed(it) ? EPOLLOUT : 0));
 }
 
-/* Writes answers to the operator, as far as somebody reads them: nothing waits for a full pipe. */
-static void answer(void) {
-    struct connection *it = &all[OPERATOR];
-    struct pollfd output = {.fd = STDOUT_FILENO, .events = POLLOUT};
-    while (owed(it) && poll(&output, 1, 0) == 1) {
-        size_t count = owed(it) < PIPE_BUF ? owed(it) : PIPE_BUF;
-        ssize_t written = write(STDOUT_FILENO, it->out + it->sent, count);
-        if (written < 0 && (errno == EINTR || errno == EAGAIN)) break;
-        it->sent += written < 0 ? owed(it) : (size_t)written;
-    }
-    if (!owed(it)) forget_sent(it);
-    if (!is_deaf) wait_for(OPERATOR, owed(it) ? 0 : EPOLLIN);
-}
-
 /* Sends what was told, and tells the front which connections are closed. */
 static void finish(void) {
     take();
@@ -231,12 +201,11 @@ static void finish(void) {
         while (touched_count) {
             uint32_t number = touched[--touched_count];
             all[number].is_touched = false;
-            if (number == OPERATOR) answer();
-            else send_on(number);
+            send_on(number);
         }
         while (gone_count) {
             uint32_t number = gone[--gone_count];
-            done(jellqupas_front_ended(front, number));
+            front_ended(number);
             free(all[number].out);
             all[number] = (struct connection){.is_touched = all[number].is_touched};
         }
@@ -270,30 +239,12 @@ static void read_from(uint32_t number) {
         }
         if (it->state == OPEN) {
             it->given += count, held += count, asked += begun(it, block, count);
-            done(jellqupas_front_came(front, number, block, count));
+            front_came(number, block, (size_t)count);
+            if (asked >= KEPT) take();
             bound();
         }
         if (count < HANDED) return;
     }
-}
-
-/* Takes lines of the operator. The end of them ends nothing else. */
-static void hear(void) {
-    /* (a line has one byte more where it is too long) */
-    static uint8_t line[LINE + 1], block[4096];
-    static size_t length;
-    ssize_t count = read(STDIN_FILENO, block, sizeof block);
-    if (count < 0 && (errno == EAGAIN || errno == EINTR)) return;
-    for (ssize_t i = 0; i < count; i++) {
-        if (block[i] != '\n' && length <= LINE) line[length++] = block[i];
-        if (block[i] != '\n') continue;
-        done(jellqupas_front_line(front, line, length));
-        length = 0;
-    }
-    if (count > 0) return;
-    if (length) done(jellqupas_front_line(front, line, length));
-    is_deaf = true;
-    epoll_ctl(events, EPOLL_CTL_DEL, STDIN_FILENO, NULL);
 }
 
 /* Waits for what comes on a descriptor; whether that can be. */
@@ -304,7 +255,6 @@ static bool is_added(int descriptor, uint32_t number) {
 
 /* Takes one who has connected, and closes the connection at once where there is no place. */
 static bool is_welcomed(void) {
-    uint8_t password[16];
     int on = 1, socket = accept4(listener, NULL, NULL, SOCK_NONBLOCK | SOCK_CLOEXEC);
     if (socket < 0) {
         /* (where descriptors or memory are short, nobody is welcomed for a second) */
@@ -315,34 +265,29 @@ static bool is_welcomed(void) {
     }
     uint32_t number = 1;
     while (number <= MOST && all[number].state != FREE) number++;
-    if (number > MOST || !is_drawn(password) || !is_added(socket, number)) {
-        return close(socket), true;
-    }
+    if (number > MOST || !is_added(socket, number)) return close(socket), true;
     setsockopt(socket, IPPROTO_TCP, TCP_NODELAY, &on, sizeof on);
     all[number] = (struct connection){
         .state = OPEN, .socket = socket, .events = EPOLLIN, .until = now() + PATIENCE};
-    done(jellqupas_front_opened(front, number, password));
+    front_opened(number);
     return true;
 }
 
 /* Waits at most so long, and does once what each event asks for. Returns how many there were.
    (connections end before others begin: who closes one and opens another finds its place) */
 static int pass(int milliseconds) {
-    static struct epoll_event ready[MOST + 3];
-    int count = epoll_wait(events, ready, MOST + 3, milliseconds), most = 0;
+    static struct epoll_event ready[MOST + 2];
+    int count = epoll_wait(events, ready, MOST + 2, milliseconds), most = 0;
     for (int i = 0; i < count; i++) {
         uint32_t number = ready[i].data.u32, came = ready[i].events;
         if (number == SIGNALS) is_over = true;
-        else if (number == OPERATOR) hear();
         else if (number == LISTENER) most = 64;
         else if (came & EPOLLOUT) send_on(number);
         else read_from(number);
-        if (!is_kept) finish();
     }
     finish();
     while (most && is_welcomed()) most--;
     finish();
-    if (owed(&all[OPERATOR])) answer();
     return count;
 }
 
@@ -356,60 +301,59 @@ static void look(void) {
     finish();
 }
 
-/* Serves until a signal comes. After a stall the requests that wait are taken, for at most the time
-   of a tick, and then one tick is given. */
+/* Serves until a signal comes. Ticks keep their distance. After a stall of more than a tick the
+   requests that wait are taken, for at most the time of a tick, and then one tick is given. */
 static void serve(uint32_t tick) {
     uint64_t ticks_at = now() + tick, looks_at = now() + 1000;
     while (!is_over) {
         uint64_t at = now(), next = ticks_at < looks_at ? ticks_at : looks_at;
-        int left = at < next ? (int)(next - at) : 0;
-        pass(owed(&all[OPERATOR]) && left > 100 ? 100 : left);
+        pass(at < next ? (int)(next - at) : 0);
         if (now() >= looks_at) look(), looks_at = now() + 1000;
         if (now() < ticks_at) continue;
-        for (uint64_t most = now() + tick; !is_over && pass(0) > 0 && now() < most;) continue;
-        done(jellqupas_front_tick(front));
+        bool is_stalled = now() > ticks_at + tick;
+        for (uint64_t most = now() + tick; is_stalled && !is_over && now() < most;) {
+            if (pass(0) <= 0) break;
+        }
+        front_tick();
         finish();
-        ticks_at = now() + tick;
+        ticks_at = is_stalled ? now() + tick : ticks_at + tick;
     }
 }
 
 static const char SAID[] =
-    "zk: jellqupas " JELLQUPAS_VERSION " for ZooKeeper's clients: %ld server%s, ticks of %ld ms\n"
+    "zk: jellqupas " JELLQUPAS_VERSION " for ZooKeeper's clients: one server, ticks of %ld ms\n"
     "zk: listening on %.*s:%u\n";
 static const char OPEN_TO_ALL[] =
     "zk: whoever can connect may do everything: nobody is asked who they are\n";
 
+/* Says where it listens, and what is left once it ends. */
+static void say(const struct words *words, unsigned port) {
+    int host = (int)(strrchr(words->listen, ':') - words->listen);
+    fprintf(stderr, SAID, words->tick, host, words->listen, port);
+    if (words->data) fprintf(stderr, "zk: what is told is kept in %s\n", words->data);
+    else fputs("zk: all is in memory: when it ends, nothing is left\n", stderr);
+    fputs(OPEN_TO_ALL, stderr);
+}
+
 int main(int count, char **given) {
     struct words words = understood(given + (count > 0));
     unsigned port;
-    uint8_t password[16];
-    if (!is_drawn(password)) stop(3, "no passwords can be drawn: %s", strerror(errno));
+    uint8_t secret[SECRET];
     make_ready(MOST + 32);
     signals = ending_signals();
-    prepare(&words, signals);
     listener = listening_at(words.listen, &port);
     events = epoll_create1(EPOLL_CLOEXEC);
-    struct timespec at;
-    clock_gettime(CLOCK_REALTIME, &at);
-    uint64_t started = (uint64_t)at.tv_sec * 1000 + (uint64_t)at.tv_nsec / 1000000;
-    if (!(front = malloc(jellqupas_front_size()))) stop(1, "out of memory");
-    done(jellqupas_front_open((uint8_t)words.servers, (uint32_t)words.tick, started, front));
-    int host = (int)(strrchr(words.listen, ':') - words.listen);
-    const char *many = words.servers > 1 ? "s" : "";
-    fprintf(stderr, SAID, words.servers, many, words.tick, host, words.listen, port);
-    say_what_is_left();
-    fputs(OPEN_TO_ALL, stderr);
+    take_secret(words.data, secret);
+    words.servers = words.data ? servers_of(words.data) : 1;
+    front_open(&words, secret, signals);
+    explicit_bzero(secret, sizeof secret);
+    say(&words, port);
     if (!is_added(signals, SIGNALS) || !is_added(listener, LISTENER)) {
         stop(3, "nothing can be waited for: %s", strerror(errno));
     }
-    all[OPERATOR].state = OPEN, all[OPERATOR].events = EPOLLIN;
-    /* (what can't be waited for is a file: its lines are taken before anybody is served) */
-    if (!is_added(STDIN_FILENO, OPERATOR)) while (!is_deaf) hear(), finish();
-    finish();
     serve((uint32_t)words.tick);
     for (uint32_t i = 1; i <= MOST; i++) shut(i);
-    for (uint32_t i = 0; i <= MOST; i++) free(all[i].out);
-    jellqupas_front_close(front);
-    free(front);
+    for (uint32_t i = 1; i <= MOST; i++) free(all[i].out);
+    front_close();
     return 0;
 }

@@ -75,9 +75,9 @@ int listening_at(const char *text, unsigned *port) {
 }
 
 void make_ready(unsigned descriptors) {
-    /* (a socket isn't to be standard input or output) */
+    /* (a socket isn't to be standard input or output, here or in the child) */
     int at;
-    while ((at = open("/dev/null", O_RDWR | O_CLOEXEC)) >= 0 && at <= STDERR_FILENO) continue;
+    while ((at = open("/dev/null", O_RDWR)) >= 0 && at <= STDERR_FILENO) continue;
     if (at > STDERR_FILENO) close(at);
     struct rlimit files;
     if (getrlimit(RLIMIT_NOFILE, &files) == 0 && files.rlim_cur < descriptors) {
@@ -85,8 +85,6 @@ void make_ready(unsigned descriptors) {
         setrlimit(RLIMIT_NOFILE, &files);
     }
     signal(SIGPIPE, SIG_IGN);
-    /* (in the background a terminal can't be read: that is an error, and not a stop) */
-    signal(SIGTTIN, SIG_IGN);
 }
 
 int ending_signals(void) {
@@ -101,14 +99,16 @@ int ending_signals(void) {
 static const char USAGE[] =
     "Serves ZooKeeper's clients, until SIGINT or SIGTERM comes.\n\n"
     "  --listen ADDRESS:PORT    where it listens (127.0.0.1:2181); port 0 is any that is free\n"
-    "  --servers N              how many servers the chain begins with, 1 to 16 (3)\n"
     "  --tick MS                the milliseconds of a tick, 10 to 3600000 (2000)\n"
     "  --data DIR               keeps what it tells in this folder\n"
     "  --sync batch|never       whether it waits for the disk (batch)\n"
     "  --journal MIB            from which size on its journal is shortened, 1 to 1048576 (64)\n"
-    "  --keeper PROGRAM         what keeps the folder\n"
+    "  --program PROGRAM        what serves behind it: zk_serve\n"
     "  --version, --help\n\n"
-    "Lines on standard input let servers join, fail and leave: join s4, fail s1, retire s2.\n";
+    "Without --data all is in memory. Nothing reads standard input.\n";
+
+static const char NO_CHAIN[] =
+    "a chain stands between processes, not in one: this is one server, without --servers";
 
 /* Where a word's value is put: a text, or a number from `least` to `most`. */
 struct place {
@@ -125,12 +125,10 @@ static bool is_put(const struct place *place, const char *value) {
 
 struct words understood(char **words) {
     struct words found = {
-        .listen = "127.0.0.1:2181", .sync = "batch", .servers = 3, .tick = 2000,
-        .journal = 64};
+        .listen = "127.0.0.1:2181", .sync = "batch", .tick = 2000, .journal = 64};
     const struct place places[] = {
         {.name = "--listen", .text = &found.listen}, {.name = "--data", .text = &found.data},
-        {.name = "--sync", .text = &found.sync}, {.name = "--keeper", .text = &found.keeper},
-        {.name = "--servers", .number = &found.servers, .least = 1, .most = 16},
+        {.name = "--sync", .text = &found.sync}, {.name = "--program", .text = &found.program},
         {.name = "--journal", .number = &found.journal, .least = 1, .most = 1048576},
         {.name = "--tick", .number = &found.tick, .least = 10, .most = 3600000}};
     const struct place *const end = places + sizeof places / sizeof *places;
@@ -140,6 +138,7 @@ struct words understood(char **words) {
         if (!strcmp(word, "--help")) exit(fputs(USAGE, stdout) < 0);
         if (!strcmp(word, "--version")) exit(puts("jellqupas " JELLQUPAS_VERSION) < 0);
         if (!strcmp(word, "--") && !words[1]) break;
+        if (length == 9 && !memcmp(word, "--servers", 9)) stop(2, "%s", NO_CHAIN);
         const struct place *it = places;
         while (it < end && (strlen(it->name) != length || memcmp(word, it->name, length))) it++;
         if (it == end) stop(2, "there is no word '%s'", word);
@@ -149,5 +148,6 @@ struct words understood(char **words) {
     if (strcmp(found.sync, "batch") && strcmp(found.sync, "never")) {
         stop(2, "--sync isn't '%s'", found.sync);
     }
+    if (!found.program) stop(2, "--program is missing");
     return found;
 }

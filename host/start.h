@@ -2,18 +2,31 @@
 #ifndef START_H
 #define START_H
 
+#include <stdint.h>
+
+/* The bytes of the secret from which passwords of sessions are derived. */
+enum { SECRET = 32 };
+
 /* Says one line on standard error, and ends with this status. */
 _Noreturn void stop(int status, const char *format, ...);
 
-/* What the words ask for. Where a folder is kept, `data` is its name, and `keeper` the program that
-   keeps it. */
+/* What the words ask for. `program` is the one that serves. `data` is the folder that it keeps, or
+   NULL, and `servers` the number in its journal's head. */
 struct words {
-    const char *listen, *data, *sync, *keeper;
-    long servers, tick, journal;
+    const char *listen, *data, *sync, *program;
+    long tick, journal;
+    int servers;
 };
 
 /* Reads the words behind the program's name. It tells what is asked for, and ends. */
 struct words understood(char **words);
+
+/* Takes the secret of a folder, which is drawn and put there where it has none, or draws one for this
+   process alone where `folder` is NULL. */
+void take_secret(const char *folder, uint8_t secret[SECRET]);
+
+/* The number in the head of a folder's journal, or 1 where there is none. */
+int servers_of(const char *folder);
 
 /* A socket that listens at ADDRESS:PORT, and the port. */
 int listening_at(const char *text, unsigned *port);

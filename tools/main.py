@@ -20,11 +20,8 @@ from ending import Stopped, run, teller
 tell = teller("zk")
 HELP = ("help", "--help", "-h")
 MODES = ("--proved", "--unproved")
-# What can be proved, in the words of who asks for it.
-PROVED = {
-    "script": "the program of a script", "race": "the program of a race", "library": "the library",
-    "serve": "the front of the server", "serve-data": "the program of a server that keeps a folder",
-}
+# What can be proved.
+PROVED = (*programs.NAMES, "library")
 
 
 def refuse(text):
@@ -39,14 +36,14 @@ def become(program, words):
     os.execv(program, [program, *words])
 
 
-def get(mode, command, is_proved_first=False):
+def get(mode, command):
     """A command's program, as the mode asks: proved, or built without proof where it isn't."""
     name, asked = programs.NAMES[command], "prove" if command == "script" else f"prove {command}"
     path = None if mode == "--unproved" else programs.proved(name)
     if not path and mode == "--proved":
         raise Stopped(f"the program is not proved; './zk {asked}' proves it")
-    if path or (is_proved_first and not mode):
-        return path or proof.program(name, tell)
+    if path:
+        return path
     path = programs.unproved(name) or unproved.build(name, tell)
     tell(f"this build is not proved; './zk {asked}' proves it")
     return path
@@ -57,23 +54,15 @@ def play(mode, command, words, _):
     become(get(mode, command), [command, *words])
 
 
-def serve(mode, _, words, given):
-    """Runs the server for ZooKeeper's clients, which is proved and built first."""
-    if given.data:
-        host = serving.build_kept()
-        become(host, [f"--keeper={get(mode, 'serve-data', True)}", *words])
-    if mode == "--unproved":
-        refuse("the server in memory has no build without proof")
-    path = serving.proved()
-    if not path and mode == "--proved":
-        raise Stopped("the server is not proved; './zk prove serve' proves it")
-    become(path or serving.build(tell), words)
+def serve(mode, command, words, _):
+    """Runs the server for ZooKeeper's clients, behind its host."""
+    become(serving.host(), [f"--program={get(mode, command)}", *words])
 
 
 def at_rest(mode, command, _, given):
     """Does with a server's folder, on which no server runs, what the command says."""
     servers = serving.servers_of(given.data)
-    become(get(mode, "serve-data", True), [given.data, command, str(servers)])
+    become(get(mode, "serve"), [given.data, command, str(servers)])
 
 
 def prove(words):
@@ -83,9 +72,8 @@ def prove(words):
         refuse(f"prove takes one word of {', '.join(PROVED)}, not '{' '.join(words)}'")
     if what == "library":
         os.execv(f"{sources.ROOT}/library", [f"{sources.ROOT}/library"])
-    is_served = what == "serve"
-    path = serving.build(tell) if is_served else proof.program(programs.NAMES[what], tell)
-    tell(f"{PROVED[what]} is proved")
+    path = proof.program(programs.NAMES[what], tell)
+    tell(f"the program of {what} is proved")
     print(path)
 
 

@@ -13,7 +13,7 @@ import sources
 from ending import Stopped
 
 # What a checkout may have built.
-TOPS = ("zk", "zk_race", "zk_serve", "zclib", "zfront_c")
+TOPS = ("zk", "zk_race", "zk_serve", "zclib")
 
 
 def cache():

@@ -6,8 +6,8 @@ import kit
 import places
 import sources
 
-# The program that a command runs. What keeps the folder of a server is one of its own.
-NAMES = {"script": "zk", "race": "zk_race", "serve-data": "zk_serve"}
+# The program that a command runs; that of a server is behind a host.
+NAMES = {"script": "zk", "race": "zk_race", "serve": "zk_serve"}
 
 
 def of_the_gate(name, lines):

@@ -7,7 +7,6 @@ import subprocess
 import kit
 import places
 import programs
-import serving
 import sources
 from ending import Stopped
 
@@ -20,22 +19,22 @@ A coordination service with ZooKeeper's data model and chain replication.
                               runs the service in threads, and audits the run:
                               N is 1 to 16 (3), C clients 1 to 31 (4), R nodes
                               1 to 1000 (100), S a server that is halted halfway
-./zk serve [--listen ADDRESS:PORT] [--servers N] [--tick MS]
+./zk serve [--listen ADDRESS:PORT] [--tick MS]
                               serves ZooKeeper's clients at 127.0.0.1:2181, in
-                              memory: N is 1 to 16 (3), MS 10 to 3600000 (2000)
+                              memory: MS is 10 to 3600000 (2000)
 ./zk serve --data DIR [--sync batch|never] [--journal MIB] ..
                               keeps its state in DIR, never: until a power cut;
                               shortened from MIB on (64)
 ./zk compact --data DIR       shortens a server's folder that isn't in use
 ./zk export|stat --data DIR   writes its tree as a script; says how large it is
-A script or race without a proved program builds one without proof, in a minute.
+Without a proved program each builds one without proof, in a minute, and says so.
 
-./zk prove [script|race|serve-data|serve|library]
-                              proves the program of a command, the server in
-                              memory, the library, by the toolchain's rt ci, in
-                              half an hour on four cores; stopped, it goes on
-./zk --proved script ..       runs the proved program, or nothing; race, serve too
-./zk --unproved script ..     runs the one without proof; race, serve --data too
+./zk prove [script|race|serve|library]
+                              proves the program of a command, or the library, by
+                              the toolchain's rt ci, in half an hour on four
+                              cores; stopped, it goes on
+./zk --proved script ..       runs the proved program, or nothing; others too
+./zk --unproved script ..     runs the one without proof; others too
 ./zk --version                the version, and which program would run
 ./zk clean [--all]            removes programs that aren't of this checkout, or all
 
@@ -70,17 +69,16 @@ def commit():
 def would_run(command):
     """Which program a command would run."""
     try:
-        name = programs.NAMES.get(command)
-        path = programs.proved(name) if name else serving.proved()
+        name = programs.NAMES[command]
+        path = programs.proved(name)
         if path:
             return f"proved, by {programs.kit_of(path) or 'the gate'}"
-        is_built = name and programs.unproved(name)
-        return f"not proved{', built without proof' if is_built else ''}"
+        return f"not proved{', built without proof' if programs.unproved(name) else ''}"
     except Stopped as error:
         return f"not proved ({error})"
 
 
 def version():
-    lines = [f"{it}: {would_run(it)}" for it in (*programs.NAMES, "serve")]
+    lines = [f"{it}: {would_run(it)}" for it in programs.NAMES]
     lines += [f"toolchain: {kit.identity() or 'rt is not on the PATH'}"]
     return "\n".join([f"jellqupas {version_number()}", f"commit: {commit()}", *lines])

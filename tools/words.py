@@ -43,10 +43,10 @@ def address(text):
 
 
 def folder(text):
-    """A folder's name."""
+    """A folder's name. A dash alone is none to the program."""
     if not text:
         raise ValueError
-    return text
+    return "./-" if text == "-" else text
 
 
 address.__name__ = "ADDRESS:PORT"
@@ -58,7 +58,7 @@ OPTIONS = {
         **SERVERS, "--clients": number(1, 31), "--rounds": number(1, 1000), "--halt": number(0, 16),
     },
     "serve": {
-        **SERVERS, "--data": folder, "--tick": number(10, 3600000), "--listen": address,
+        "--data": folder, "--tick": number(10, 3600000), "--listen": address,
         "--journal": number(1, 1048576), "--sync": str,
     },
     **dict.fromkeys(AT_REST, {"--data": folder}),
@@ -71,6 +71,8 @@ def read(command, words):
     for name, kind in OPTIONS[command].items():
         choices = ("batch", "never") if name == "--sync" else None
         parser.add_argument(name, type=kind, choices=choices, required=command in AT_REST)
+    if command == "serve" and any(it.startswith("--servers") for it in words):
+        parser.error("a chain stands between processes, not in one: this is one server")
     found = parser.parse_args(words)
     for name in ("sync", "journal"):
         if getattr(found, name, None) and not found.data:

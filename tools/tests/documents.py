@@ -29,8 +29,6 @@ NUMBERS = (
     ("include/jellqupas.py", "MAX_DATA", r"^MAX_DATA = (.+)$"),
     ("include/jellqupas.py", "MAX_TTL", r"^MAX_TTL = (.+)$"),
     ("include/jellqupas.h", "MAX_SERVERS", r"\b1 to (\d+)|servers, up to (\d+), are spare"),
-    ("include/jellqupas_front.h", "MAX_SERVERS", r"\b1 to (\d+)"),
-    ("host/start.c", "MAX_SERVERS", r"begins with, 1 to (\d+)|\"--servers\".*\.most = (\d+)"),
     ("tools/usage.py", "MAX_SERVERS", r"\bN is 1 to (\d+)"),
     ("tools/usage.py", "MAX_CLIENTS - 1", r"\bC clients 1 to (\d+)"),
     ("README.md", "MAX_SERVERS", r"\b1 to (\d+) servers"),

@@ -17,7 +17,10 @@ LIVES = 10
 # A journal that is shortened as soon as it may be, and bytes by which a change makes it longer.
 SHORT, PAD = ("--journal", "1"), b" " * 20000
 LARGE, ROOT = bytes(range(256)) * 250, base64.b64encode(b"root").decode()
-TASKS = ("compact", "export", "stat")
+TASKS, FILES = ("compact", "export", "stat"), ["journal", "secret"]
+# A journal of an earlier version, with 3 in its head: a session, its password, and a node.
+OF_BEFORE = ("AWplbGxxdXBhcyBqb3VybmFsIAEDICAgICAgICAgICAgAAEwNjdkMGI5ZkFBRUNBd1FGQmdjSUNRb0xEQTB"
+             "PRHhBPQpBUVFBQUFBQUFBQUFCZz09CgABM2Q2YjA1YjNBUUFBQUFBQ0wyRUFBQUFBQW1ocAoAAA==")
 # A command after which a file has at most 65,536 bytes.
 LIMITED = ("sh", "-c", 'trap "" XFSZ; ulimit -f 128; exec "$0" "$@"')
 
@@ -122,11 +125,47 @@ def restart(builds):
         want_same(greeted(server.address, other, other.password)[1], other.session, "the other one")
 
 
-def at_rest(builds, folder, task):
+def at_rest(builds, folder, task, servers=1):
     """How what does something with a folder ended: a server that isn't to serve it, or a task."""
     if task == "serve":
         return ended(words_of(builds, folder, "batch"))
-    return ended([builds.program(serving.KEEPER), folder, task, "3"])
+    return ended([builds.program(serving.PROGRAM), folder, task, str(servers)])
+
+
+def secret(builds):
+    """A folder's secret is its owner's, and has 32 bytes. Where it is gone passwords are others."""
+    folder, name = new_folder(builds), "-"
+    with Server(builds, folder) as server:
+        it = server.client()
+    mode = os.stat(f"{folder}/secret").st_mode & 0o777
+    want_same((mode, sorted(os.listdir(folder))), (0o600, FILES), "the files")
+    for held in (b"", bytes(31), bytes(33)):
+        with open(f"{folder}/secret", "wb") as file:
+            file.write(held)
+        said = f"zk: data: {folder}/secret: a secret has 32 bytes\n"
+        want_same(at_rest(builds, folder, "serve"), (3, "", said), "another length")
+    os.remove(f"{folder}/secret")
+    with Server(builds, folder) as server:
+        want_same(greeted(server.address, it, it.password), NO_SESSION, "another secret")
+        wrap = ("sh", "-c", 'cd "$0" && exec "$@"', folder)
+        with Server(builds, name, wrap=wrap) as other, other.client() as same:
+            want_same(same.session, it.session, "a folder that is named by a dash")
+    want_same(sorted(os.listdir(f"{folder}/{name}")), FILES, "its files")
+
+
+def of_before(builds):
+    """A folder whose journal has the password of its one session: that opens another one."""
+    folder, note = new_folder(builds), "zk: data: clients of before open new sessions\n"
+    os.mkdir(folder)
+    with open(f"{folder}/journal", "wb") as file:
+        file.write(base64.b64decode(OF_BEFORE))
+    for has_note in (True, False):
+        with Server(builds, folder) as server, server.client() as it:
+            want_same(it.get("/a")[0], b"hi", "its node")
+            want_same(note in server.said(), has_note, "the note")
+            it.session = 1
+            want_same(greeted(server.address, it, bytes(range(1, 17))), NO_SESSION, "its session")
+        want_same(at_rest(builds, folder, "compact", 3)[0], 0, "compact")
 
 
 def shortening(builds):
@@ -145,7 +184,8 @@ def shortening(builds):
     want(1000000 < longest < 1100000, f"it had {longest} bytes at most")
     long, found = size(), at_rest(builds, folder, "compact")
     want_same(found, (0, f"{size()} bytes, before {long}\n", ""), "compact")
-    want(size() < 60000 and os.listdir(folder) == ["journal"], f"{size()}, {os.listdir(folder)}")
+    files = sorted(os.listdir(folder))
+    want(size() < 60000 and files == FILES, f"{size()}, {files}")
     with Server(builds, folder) as server, server.client(of=it) as again:
         want_same((again.session, seen(again)), (it.session, before), "all that was")
 
@@ -170,7 +210,7 @@ def export(builds):
         want_same({key: int(stat[key]) for key in wanted}, wanted, "stat")
         want_same(at_rest(builds, folder, "compact")[0], 0, "compact")
     lines += ["1 get /", "1 get /a-b", "1 ls /", "1 ls /a", "1 exists /a/e", ""]
-    out = ended([builds.program("zk"), "script", "--servers", "3"], input="\n".join(lines))[1]
+    out = ended([builds.program("zk"), "script"], input="\n".join(lines))[1]
     want_same([it.split(" stat ")[0] for it in out.splitlines()][1:], [
         "ok /a", "ok /a/s-0000000000", "ok /a/t", "ok /a-b", f"ok data {ROOT}",
         f"ok data {large}", "ok 2 a a-b", "ok 2 s-0000000000 t", "no NoNode",
@@ -243,7 +283,7 @@ def synced(builds):
     for mode in ("batch", "never"):
         trace = f"{tempfile.mkdtemp(dir=builds.room)}/trace"
         wrap = ("strace", "-D", "-f", "-e", "trace=fsync,fdatasync", "-o", trace)
-        server = Server(builds, wrap=wrap, sync=mode)
+        server = Server(builds, new_folder(builds), wrap=wrap, sync=mode)
         with server.client() as it, open(trace, encoding="utf-8") as file:
             for number in range(5):
                 file.read()
@@ -253,7 +293,7 @@ def synced(builds):
 
 
 def tests(builds):
-    each = restart, shortening, export, not_opened, full_disk, synced
+    each = restart, secret, of_before, shortening, export, not_opened, full_disk, synced
     found = [Test(f"folder: {it.__name__}", 8, lambda _, it=it: it(builds)) for it in each]
     return found + [Test(f"folder: {LIVES} kills, {it}", 30, lambda _, it=it: kills(builds, it))
                     for it in range(4)]

@@ -3,7 +3,6 @@ import os
 import resource
 import signal
 import socket
-import subprocess
 import sys
 import time
 
@@ -12,14 +11,13 @@ import hostile
 from frames import CREATE, GET, SEQUENTIAL, create_body, greeting, look_body, request
 from report import Skipped, Test, want, want_same
 from servers import Server, ended, until, words_of
-from wire import Wire
+from wire import NO_SESSION, Wire, greeted
 
 RECIPES = f"{os.path.dirname(os.path.abspath(__file__))}/recipes.py"
 MOST, DATA, ESTABLISHED = 1000, 1 << 16, 1
 BAD_WORDS = (
-    "frob", "--frob", "--servers", "--servers 0", "--servers 17", "--servers 3x", "--servers=",
-    "--tick 9", f"--tick {'9' * 20}", "--tick 1e3", "--sync often", "--journal 0", "--listen",
-    "--data ", "--servers 3 ", *(f"--listen {it}" for it in (
+    "frob", "--frob", "--servers", "--servers 3", "--servers=1", "--program=", "--tick 9", f"--tick {'9' * 20}", "--tick 1e3", "--sync often", "--journal 0", "--listen",
+    "--data ", "--tick 2000 ", *(f"--listen {it}" for it in (
         "2181", "127.0.0.1", "127.0.0.1:", ":1", "127.0.0.1:65536", "127.0.0.1:-1", "999.0.0.1:1",
         "somewhere:1", "::1:2181", "[::g]:1", "[]:1", "1" * 999 + ":1")),
 )
@@ -51,7 +49,8 @@ def words(builds):
         want_same((status, out, said.count("\n")), (2, "", 1), f"{given}: {said}")
     for given, has in (("--help", "--listen"), ("--version", "jellqupas ")):
         want(has in ended([own[0], given])[1], given)
-    for given in ("--listen=127.0.0.1:0", "--servers=16", "--tick=10", "--tick 3600000"):
+    want("between processes" in ended([*own, "--servers=3"])[2], "why there is no --servers")
+    for given in ("--listen=127.0.0.1:0", "--tick=10", "--tick 3600000"):
         with Server(builds, words=given.split(" ")) as server:
             want(server.serves(), given)
 
@@ -173,22 +172,27 @@ def silence(builds):
         want(it.ping(), "not who has a session")
 
 
-def operator(builds):
-    """Lines of the operator: servers join and fail under a client, which loses nothing."""
-    with Server(builds, lines=subprocess.PIPE) as server, server.client() as it:
-        for number in range(4, 17):
-            for line in (f"join s{number}", "settle", f"fail s{number - 3}", "bad"):
-                server.ran.stdin.write(f"{line}\n".encode())
-                server.ran.stdin.flush()
-                wanted = {"settle": b"quiet\n", "bad": b"bad line\n"}.get(line, b"done\n")
-                want_same(server.ran.stdout.readline(), wanted, line)
-            it.create(f"/n{number}")
-        want_same(len(it.ls("/")), 13, "all that was created")
+def secrets(builds):
+    """A password is of one server's life. In memory another life refuses it."""
+    with Server(builds) as server, Server(builds) as other:
+        it, same = server.client(), other.client()
+        want_same(same.session, it.session, "the same session")
+        want_same(greeted(other.address, same, it.password), NO_SESSION, "of another life")
+        want_same(greeted(other.address, it, same.password)[1], it.session, "of this life")
+
+
+def late(builds):
+    """Ticks keep their distance. After a stall one tick is given, so sessions outlive it."""
+    with Server(builds, tick=200) as server, server.client(timeout=1000) as it:
+        server.ran.send_signal(signal.SIGSTOP)
+        time.sleep(2)
+        server.ran.send_signal(signal.SIGCONT)
+        want(it.ping(), "who waits is served before the tick")
 
 
 EACH = (
     asking.limits, asking.sessions, many, readers, silence, words,
-    asking.requests, asking.watches, hostile.frames, addresses, ends, four_letters, operator,
+    asking.requests, asking.watches, hostile.frames, addresses, ends, four_letters, secrets, late,
 )
 
 

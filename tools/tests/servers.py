@@ -1,4 +1,4 @@
-"""Servers with a folder, for tests: a host in C, and the program zk_serve that it starts."""
+"""Servers for tests: a host in C, and the program zk_serve that it starts."""
 import os
 import signal
 import subprocess
@@ -9,7 +9,6 @@ from builds import SANITIZERS
 from report import Failed, want, want_same
 from wire import Client, Ended, until
 
-HOST = (*serving.PROGRAM, serving.PIPED)
 # (another status than any of the host's, and what was freed isn't held for long)
 ENVIRONMENT = {**os.environ, "ASAN_OPTIONS": "exitcode=99:quarantine_size_mb=8"}
 # The last line that a server says before it serves.
@@ -24,11 +23,11 @@ def new_folder(builds):
 def words_of(builds, folder=None, sync="never"):
     """The words that start a server at any port. Its host has sanitizers where they are there."""
     try:
-        host = builds.compiled("serve_host", HOST, SANITIZERS)
+        host = builds.compiled("serve_host", serving.HOST, SANITIZERS)
     except Failed:
-        host = builds.compiled("serve_host_plain", HOST)
-    words = [host, f"--keeper={builds.program(serving.KEEPER)}", "--listen", "127.0.0.1:0"]
-    return [*words, "--data", folder or new_folder(builds), "--sync", sync]
+        host = builds.compiled("serve_host_plain", serving.HOST)
+    words = [host, f"--program={builds.program(serving.PROGRAM)}", "--listen", "127.0.0.1:0"]
+    return [*words, *(("--data", folder, "--sync", sync) if folder else ())]
 
 
 def ended(words, seconds=60, **given):
@@ -52,11 +51,11 @@ def is_running(pid):
 class Server:
     """A server that was started, and that has ended after the block of a `with`."""
 
-    def __init__(self, builds, folder=None, words=(), wrap=(), tick=2000, sync="never", lines=None):
-        self.error, lines = tempfile.TemporaryFile(), lines or subprocess.DEVNULL
+    def __init__(self, builds, folder=None, words=(), wrap=(), tick=2000, sync="never"):
+        self.error, none = tempfile.TemporaryFile(), subprocess.DEVNULL
         self.ran = subprocess.Popen(
             [*wrap, *words_of(builds, folder, sync), "--tick", str(tick), *words],
-            stdin=lines, stdout=lines, stderr=self.error, env=ENVIRONMENT,
+            stdin=none, stdout=none, stderr=self.error, env=ENVIRONMENT,
         )
         until(lambda: LAST in self.said() or self.ran.poll() is not None, 60)
         self.at = self.said().partition("listening on ")[2].split("\n")[0]
@@ -94,16 +93,16 @@ class Server:
             return int(file.read().split()[1]) * os.sysconf("SC_PAGE_SIZE") >> 20
 
     def below(self):
-        """The processes that the host has started: what keeps its folder."""
+        """The processes that the host has started: what serves behind it."""
         with open(f"/proc/{self.ran.pid}/task/{self.ran.pid}/children", encoding="ascii") as file:
             return [int(it) for it in file.read().split()]
 
     def kill(self, of_child=False):
-        """Kills the host, or what keeps its folder: then both end. Returns the host's status."""
-        keepers = self.below() if self.ran.poll() is None else []
-        os.kill(keepers[0], signal.SIGKILL) if of_child else self.ran.kill()
+        """Kills the host, or what serves behind it: then both end. Returns the host's status."""
+        below = self.below() if self.ran.poll() is None else []
+        os.kill(below[0], signal.SIGKILL) if of_child else self.ran.kill()
         status = self.ran.wait(60)
-        want(until(lambda: not any(map(is_running, keepers))), "what keeps the folder ends")
+        want(until(lambda: not any(map(is_running, below))), "what serves behind it ends")
         return status
 
     def stop(self, sent=signal.SIGTERM, status=0, said=""):

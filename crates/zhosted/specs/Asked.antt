@@ -1,9 +1,10 @@
--- What the words of a server that keeps a folder ask for: this project's own profile.
-use Rattle.std.specs.Prelude.{◌≡◌, ◌≤◌, ◌<◌, ◌*◌, ◌^◌, ℕ, if◌then◌else◌, List, [], ◌∷◌, codes, Option, Some, None}
+-- What the words of a server ask for: this project's own profile.
+use Rattle.std.specs.Prelude.{◌≡◌, ◌<◌, ◌*◌, ◌^◌, ℕ, Bool, true, if◌then◌else◌, List, [], ◌∷◌, codes, Option, Some, None}
 use Rattle.std.specs.Str.{bytes_eq}
 use Rattle.std.specs.Str.Parse.{IsNumeral, digits_value, without_leading_plus}
 use Rattle.zfile.specs.declared.mode.SyncMode.{SyncMode}
 use Rattle.zfile.specs.declared.mode.SyncMode.TheVariants.{Batch, Never}
+use Rattle.zhosted.specs.declared.words.FolderSettings.{FolderSettings}
 use Rattle.zhosted.specs.declared.words.HostedSettings.{HostedSettings}
 
 -- whether to wait for the disk
@@ -22,9 +23,17 @@ pub record Spells (bits : ℕ) (word : List ℕ) (n : ℕ) : Type 0 where
 abbrev pub SpellsBytes : List ℕ → ℕ → Type 0
 SpellsBytes word bytes = (n : ℕ) × Spells 32 word n × (bytes ≡ n * 2 ^ 20)
 
--- behind the program's name a folder and a mode; how many servers, 1 to 16; the milliseconds of a
--- tick, at least 1; the time in milliseconds; the MiB from which on the journal is shortened
+-- memory, in the place of a folder
+abbrev pub is_dash : List ℕ → Bool
+is_dash word = bytes_eq word (codes "-")
+
+-- Behind the program's name a dash; the milliseconds of a tick, at least 1; the time in milliseconds.
+-- Or a folder and a mode; the number in the head of its journal, 1 to 16; a tick and the time; the
+-- MiB from which on the journal is shortened.
 abbrev pub IsAsked : List (List ℕ) → HostedSettings → Type 0
+IsAsked (name ∷ dash ∷ tick ∷ now ∷ []) asked =
+    (is_dash dash ≡ true) × Spells 32 tick asked.tick × Spells 64 now asked.now × (asked.folder ≡ None)
 IsAsked (name ∷ folder ∷ mode ∷ servers ∷ tick ∷ now ∷ journal ∷ []) asked =
-    (mode_of mode ≡ Some asked.mode) × Spells 8 servers asked.last × Spells 32 tick asked.tick × Spells 64 now asked.now × SpellsBytes journal asked.long
+    (kept : FolderSettings) × (asked.folder ≡ Some kept) × (mode_of mode ≡ Some kept.mode) × Spells 8 servers kept.last
+    × Spells 32 tick asked.tick × Spells 64 now asked.now × SpellsBytes journal kept.long
 IsAsked words asked = ⊥

@@ -1,6 +1,6 @@
 -- What is written of a folder that no server has open.
 use Rattle.std.specs.Prelude.{ℕ, List}
-use Rattle.zstates.specs.States.{State}
+use Rattle.ztree.specs.Tree.{Tree}
 use Rattle.zexport.specs.Export.{export_text}
 use Rattle.zexport.specs.Laws.{HasLines}
 use Rattle.zexport.specs.Texts.{stat_text}
@@ -11,7 +11,7 @@ use Rattle.zkept.specs.Looking.{IsStatOf}
 module _ {K : Type 0} (servers : ℕ) (file : List ℕ) (took : K → List ℕ → K → Type 0) where
   -- the lines of the tree that the file keeps, which make it again
   abbrev pub IsExported : K → K → Type 0
-  IsExported old new = (s : State) × FileKeeps servers s file × HasLines s.tree × took old (export_text s.tree) new
+  IsExported old new = (t : Tree) × FileKeeps servers t file × HasLines t × took old (export_text t) new
 
   -- the numbers of the file
   abbrev pub IsStatTold : K → K → Type 0

@@ -1,5 +1,5 @@
 pub mod Asked
 pub mod Tasks
 pub mod Faults
-pub mod Hosted
+pub mod Folder
 pub mod AtRest

@@ -6,7 +6,7 @@ ghost use Rattle.zjournal.specs.Device.{Only};
 ghost use Rattle.zhosted.specs.AtRest.{IsExported, IsStatTold};
 
 use crate::fault::HostedFault;
-use crate::hosted::unkept;
+use crate::folder::unkept;
 use std::alloc::Global;
 use zcli::tell;
 use zdevices::{Sink, write_all};
@@ -57,11 +57,11 @@ pub(crate) fn export<D: Device, K: Sink, F: Sink>(
         (IsExported servers (D.seen device.old) K.took sink.old sink.new) }
     ensures seen { D.seen device.new ≡ D.seen device.old }
 {
-    let state = match look(alloc, device, servers) {
-        Ok((state, _)) => state,
+    let found = match look(alloc, device, servers) {
+        Ok(found) => found,
         Err(fault) => return Err(unread(fault)),
     };
-    let Ok(machine) = state.machine() else {
+    let Ok(machine) = found.tree.machine() else {
         return Err(HostedFault::Serve(ServeFault::Memory));
     };
     tell_left_out(alloc, machine, faults)?;

@@ -1,4 +1,4 @@
-//! What ends a server that keeps a folder before its host does.
+//! What ends a server before its host does.
 
 ghost use Rattle.std.specs.Prelude.{◌≡◌};
 

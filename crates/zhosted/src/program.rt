@@ -1,15 +1,16 @@
 //! A run of the program, without its devices.
 
-ghost use Rattle.std.specs.Prelude.{◌≤◌, IfOk};
+ghost use Rattle.std.specs.Prelude.{◌≡◌, ◌≤◌, false, IfOk};
 ghost use Rattle.zfile.specs.File.{seen_of, MayLeaveOf};
-ghost use Rattle.zhosted.specs.Hosted.{IsGood};
+ghost use Rattle.zhosted.specs.Folder.{IsGood};
 ghost use Rattle.zjournal.specs.Device.{Only};
 
 use crate::at_rest::{compact, export, stat};
 use crate::fault::HostedFault;
-use crate::hosted::Hosted;
+use crate::folder::InFolder;
+use crate::memory::InMemory;
 use crate::tasks::{Task, task_of};
-use crate::words::{HostedSettings, hosted_settings};
+use crate::words::{FolderSettings, hosted_settings};
 use std::alloc::Global;
 use std::fs;
 use std::fs::{File, Files};
@@ -17,8 +18,10 @@ use std::io::ErrorKind;
 use zcli::{WordsFault, tell};
 use zdevices::{Sink, Source};
 use zfile::{FileDevice, FileFault, SyncMode};
+use zfront::{Clock, Front, TickLength};
 use zkept::{Kept, ServerId};
-use zpipe::serve_all;
+use zpipe::{Secret, ServeFault, Service, read_secret, serve_all};
+use zservice::LocalTree;
 
 // From so many bytes on it is told that a file is opened: that may take a second.
 const LONG: usize = 1_048_576;
@@ -26,10 +29,10 @@ const LONG: usize = 1_048_576;
 /// Does what the words ask for, reports a fault on `faults`, and returns the exit status: 0 where
 /// the source has ended, or that of the fault (`HostedFault::status`).
 ///
-/// The words are those of `hosted_settings`. With `NAME FOLDER compact SERVERS` it shortens the
-/// journal of the folder, which is for so many servers, and tells on the sink how long it is. With
-/// `export` in that place it writes the lines that make the tree, and with `stat` how large the
-/// folder is.
+/// The words are those of `hosted_settings`. Then the secret is read first, and messages behind it.
+/// With `NAME FOLDER compact SERVERS` it shortens the journal of the folder, with this number in its
+/// head, and tells on the sink how long it is. With `export` in that place it writes the lines that
+/// make the tree, and with `stat` how large the folder is.
 pub fn hosted_command<R: Files<File = File> + Copy, S: Source, K: Sink, F: Sink>(
     alloc: Global,
     files: &R,
@@ -49,7 +52,7 @@ pub fn hosted_command<R: Files<File = File> + Copy, S: Source, K: Sink, F: Sink>
     }
 }
 
-// Opens the folder that the words ask for, and takes all inputs.
+// Does what the words ask for.
 fn run<R: Files<File = File> + Copy, S: Source, K: Sink, F: Sink>(
     alloc: Global,
     files: &R,
@@ -66,10 +69,30 @@ fn run<R: Files<File = File> + Copy, S: Source, K: Sink, F: Sink>(
         return do_task(alloc, device, task, last, sink, faults);
     }
     let asked = hosted_settings(words)?;
-    let device = FileDevice::open(alloc, files, folder, asked.mode)?;
-    tell_opening(alloc, asked.mode, device.waiting(), faults);
-    let service = opened(alloc, device, asked)?;
-    serve(alloc, service, source, sink)
+    let secret = read_secret(source)?;
+    let time = Time {
+        tick: asked.tick,
+        now: asked.now,
+    };
+    match asked.folder {
+        None => serve(alloc, in_memory(alloc, time, secret)?, source, sink),
+        Some(kept) => {
+            let device = FileDevice::open(alloc, files, folder, kept.mode)?;
+            tell_opening(alloc, kept.mode, device.waiting(), faults);
+            let (service, had_passwords) = in_folder(alloc, device, time, kept, secret)?;
+            if had_passwords {
+                tell(faults, "zk: data: clients of before open new sessions");
+            }
+            serve(alloc, service, source, sink)
+        }
+    }
+}
+
+// How long a tick takes, and the time in milliseconds since 1970.
+#[derive(Clone, Copy)]
+struct Time {
+    tick: TickLength,
+    now: u64,
 }
 
 // Opens the file of a folder, which is not made where it is missing.
@@ -111,14 +134,14 @@ fn do_task<R: Files<File = File> + Copy, K: Sink, F: Sink>(
     }
 }
 
-// Takes all inputs (`zpipe::serve_all`).
-fn serve<R: Files<File = File> + Copy, S: Source, K: Sink>(
+// Takes all messages (`zpipe::serve_all`).
+fn serve<V: Service + Drop, S: Source, K: Sink>(
     alloc: Global,
-    mut service: Hosted<FileDevice<R>>,
+    mut service: V,
     source: &mut S,
     sink: &mut K,
 ) -> Result<(), HostedFault>
-    requires good { IsGood seen_of MayLeaveOf service.kept }
+    requires sound { V.is_sound service }
 {
     match serve_all(alloc, &mut service, source, sink) {
         Ok(()) => Ok(()),
@@ -126,17 +149,31 @@ fn serve<R: Files<File = File> + Copy, S: Source, K: Sink>(
     }
 }
 
-// Opens the service of a file.
-fn opened<R: Files<File = File> + Copy>(
+// Opens a server in memory.
+fn in_memory(alloc: Global, time: Time, secret: Secret) -> Result<InMemory<LocalTree>, ServeFault>
+    ensures sound { IfOk result (λ service. service.front.is_broken ≡ false) }
+{
+    let clock = Clock {
+        tick: time.tick,
+        started: time.now,
+    };
+    let front = Front::new(alloc, LocalTree::new(alloc)?, secret, clock, false)?;
+    Ok(InMemory::new(front))
+}
+
+// Opens the server of a file, and returns whether that has passwords of before.
+fn in_folder<R: Files<File = File> + Copy>(
     alloc: Global,
     device: FileDevice<R>,
-    asked: HostedSettings,
-) -> Result<Hosted<FileDevice<R>>, HostedFault>
+    time: Time,
+    kept: FolderSettings,
+    secret: Secret,
+) -> Result<(InFolder<FileDevice<R>>, bool), HostedFault>
     requires durable { Only (seen_of device) (MayLeaveOf device) }
-    ensures good { IfOk result (λ service. IsGood seen_of MayLeaveOf service.kept) }
+    ensures good { IfOk result (λ opened. IsGood seen_of MayLeaveOf opened.0.kept) }
 {
-    match Kept::open(alloc, device, asked.last, asked.tick, asked.now) {
-        Ok(kept) => Ok(Hosted::new(kept, asked.long)),
+    match Kept::open(alloc, device, kept.last, secret, time.tick, time.now) {
+        Ok(opened) => Ok((InFolder::new(opened.kept, kept.long), opened.had_passwords)),
         Err((fault, _)) => Err(HostedFault::Service(fault)),
     }
 }

@@ -18,8 +18,8 @@ pub enum Task {
     Stat,
 }
 
-/// Reads `NAME FOLDER compact|export|stat SERVERS`: what is to be done with a folder, whose journal
-/// is for so many servers. `None` for all other words.
+/// Reads `NAME FOLDER compact|export|stat SERVERS`: what is to be done with a folder, with this number
+/// in the head of its journal. `None` for all other words.
 pub(crate) fn task_of(words: &[&str]) -> Option<(Task, ServerId)>
     ensures { IfSome result (IsTask (texts_of words.now)) }
 {

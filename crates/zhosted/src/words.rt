@@ -1,37 +1,76 @@
-//! The words of a server that keeps a folder. Its host writes them.
+//! The words of a server. Its host writes them.
 
 ghost use Rattle.std.specs.Prelude.{◌≡◌, IfErr, IfOk, IfSome};
 ghost use Rattle.zcli.specs.Asked.{texts_of};
-ghost use Rattle.zhosted.specs.Asked.{IsAsked, mode_of, Spells, SpellsBytes};
+ghost use Rattle.zhosted.specs.Asked.{IsAsked, is_dash, mode_of, Spells, SpellsBytes};
 
 use zcli::WordsFault;
 use zfile::SyncMode;
 use zkept::{ServerId, TickLength};
 
-/// What the words ask for, beside the folder.
+/// What the words ask for.
 #[derive(Clone, Copy, Debug, PartialEq, Eq)]
 pub struct HostedSettings {
-    /// Whether it waits for the disk.
-    pub mode: SyncMode,
-    /// The last server of the chain that it begins with.
-    pub last: ServerId,
     /// How long a tick takes.
     pub tick: TickLength,
     /// The time, in milliseconds since 1970.
     pub now: u64,
+    /// How a folder is kept, if one is.
+    pub folder: Option<FolderSettings>,
+}
+
+/// How a folder is kept.
+#[derive(Clone, Copy, Debug, PartialEq, Eq)]
+pub struct FolderSettings {
+    /// Whether it waits for the disk.
+    pub mode: SyncMode,
+    /// The number in the head of its journal.
+    pub last: ServerId,
     /// From so many bytes on the journal is shortened.
     pub long: usize,
 }
 
-/// Reads `NAME FOLDER batch|never SERVERS TICK TIME JOURNAL`: how many servers the chain begins with,
-/// the milliseconds of a tick, the time, and from how many MiB on the journal is shortened. The folder
-/// may be any word. All else is `BadWords`.
-pub fn hosted_settings<'a>(words: &'a [&'a str]) -> Result<HostedSettings, WordsFault>
+/// Reads `NAME - TICK TIME`, for a server in memory: the milliseconds of a tick, and the time. Or
+/// reads `NAME FOLDER batch|never SERVERS TICK TIME JOURNAL`: also the number in the head of the
+/// folder's journal, and from how many MiB on that is shortened. All else is `BadWords`.
+pub fn hosted_settings(words: &[&str]) -> Result<HostedSettings, WordsFault>
     ensures ok { IfOk result (IsAsked (texts_of words.now)) }
     ensures err { IfErr result (λ fault. fault ≡ WordsFault.BadWords) }
 {
+    let asked = if words.len() == 4 {
+        in_memory(words)
+    } else {
+        with_folder(words)
+    };
+    match asked {
+        Some(asked) => Ok(asked),
+        None => Err(WordsFault::BadWords),
+    }
+}
+
+// Reads the words of a server in memory.
+fn in_memory(words: &[&str]) -> Option<HostedSettings>
+    ensures { IfSome result (IsAsked (texts_of words.now)) }
+{
+    let [_, dash, tick, now] = words else {
+        return None;
+    };
+    match (is_dash(dash), tick_of(tick), number_of(now)) {
+        (true, Some(tick), Some(now)) => Some(HostedSettings {
+            tick,
+            now,
+            folder: None,
+        }),
+        _ => None,
+    }
+}
+
+// Reads the words of a server with a folder, which may be any word.
+fn with_folder(words: &[&str]) -> Option<HostedSettings>
+    ensures { IfSome result (IsAsked (texts_of words.now)) }
+{
     let [_, _, mode, servers, tick, now, journal] = words else {
-        return Err(WordsFault::BadWords);
+        return None;
     };
     match (
         mode_of(mode),
@@ -40,15 +79,20 @@ pub fn hosted_settings<'a>(words: &'a [&'a str]) -> Result<HostedSettings, Words
         number_of(now),
         bytes_of(journal),
     ) {
-        (Some(mode), Some(last), Some(tick), Some(now), Some(long)) => Ok(HostedSettings {
-            mode,
-            last,
+        (Some(mode), Some(last), Some(tick), Some(now), Some(long)) => Some(HostedSettings {
             tick,
             now,
-            long,
+            folder: Some(FolderSettings { mode, last, long }),
         }),
-        _ => Err(WordsFault::BadWords),
+        _ => None,
     }
+}
+
+// Whether the word stands for memory, in the place of a folder.
+fn is_dash(word: &str) -> bool
+    ensures { result ≡ is_dash word.now }
+{
+    word == "-"
 }
 
 // Whether the word asks to wait for the disk.
@@ -62,7 +106,7 @@ fn mode_of(word: &str) -> Option<SyncMode>
     }
 }
 
-/// The last of so many servers.
+/// The number in the head of a journal.
 pub(crate) fn last_of(word: &str) -> Option<ServerId>
     ensures { IfSome result (Spells 8 word.now) }
 {

@@ -1,7 +1,8 @@
-//! The program behind `zk serve --data DIR`: it keeps a folder, and its host has the sockets.
+//! The program behind `zk serve`: it holds the tree, and keeps a folder where one is named. Its host
+//! has the sockets.
 //!
-//! It takes inputs from its standard input and writes answers to its standard output, as the crate
-//! `zpipe` defines them. The host starts it, with the words that `hosted_settings` reads.
+//! It takes a secret and messages from its standard input, and writes answers to its standard output,
+//! as the crate `zpipe` defines them. The host starts it, with the words that `hosted_settings` reads.
 #![tactic(auto)]
 
 use std::env;

@@ -3,12 +3,13 @@ use Rattle.std.proofs.Common.{◌≡◌, inl, inr, ℕ, List, [], ◌∷◌, ◌
 use Rattle.std.specs.List.{AllByRecursion}
 use Rattle.std.proofs.lemmas.List.{append-nil}
 use Rattle.zdevices.specs.Device.{TookBeginning}
+use Rattle.zpieces.specs.Inputs.{InputView}
 use Rattle.zpieces.specs.Outbox.{PieceView}
-use Rattle.zpipe.specs.Inputs.{InputView, Keep, input}
+use Rattle.zpipe.specs.Messages.{MessageView, Keep, message}
 use Rattle.zpipe.specs.Outputs.{OutputView, End, output}
 use Rattle.zpipe.specs.Serving.{IsTelling, TellsSome, Serves, Sends, SendsSome, ServesFront, ServesAll, ServesSome}
-use Rattle.zpipe.specs.Serving.{answer_of, inputs_text, outputs_text, pieces_text}
-use Rattle.zpipe.proofs.Sequences.{Joins, answer-text, inputs-both, outputs-both, fit_both, serves_both, serves_one}
+use Rattle.zpipe.specs.Serving.{answer_of, messages_text, outputs_text, pieces_text}
+use Rattle.zpipe.proofs.Sequences.{Joins, answer-text, messages-both, outputs-both, fit_both, serves_both, serves_one}
 
 -- ---- an answer
 
@@ -65,7 +66,7 @@ pub on_ok : {A E : Type 0} (r : Result A E) (P Q : Type 0) → (P → Q) → OnO
 on_ok (Ok x) P Q then p = then p
 on_ok (Err e) P Q then p = tt
 
--- ---- inputs
+-- ---- messages
 
 module _ {V : Type 0} (took : V → InputView → V → Type 0) (kept : V → V → Type 0) (told : V → PieceView → V → Type 0) (has_told : V → Type 0) where
   -- the whole answer went to the sink
@@ -79,24 +80,24 @@ module _ {V : Type 0} (took : V → InputView → V → Type 0) (kept : V → V 
   }
 
   pub front_begins : (takes : List ℕ → Type 0) (bytes : List ℕ) (old : V) → takes [] → ServesFront took kept told has_told takes bytes bytes old old
-  front_begins takes bytes old nothing = record { inputs = []; outputs = []; serves = (refl, refl); fit = tt; split = refl; took_them = nothing }
+  front_begins takes bytes old nothing = record { messages = []; outputs = []; serves = (refl, refl); fit = tt; split = refl; took_them = nothing }
 
-  -- one more input
-  pub front_more : (takes sends both : List ℕ → Type 0) (bytes rest more : List ℕ) (it : InputView) (old middle new : V) → Joins takes sends both
-      → ServesFront took kept told has_told takes bytes rest old middle → input.Fits it → rest ≡ input.spell it ++ more
+  -- one more message
+  pub front_more : (takes sends both : List ℕ → Type 0) (bytes rest more : List ℕ) (it : MessageView) (old middle new : V) → Joins takes sends both
+      → ServesFront took kept told has_told takes bytes rest old middle → message.Fits it → rest ≡ message.spell it ++ more
       → Sends took kept told has_told it sends middle new
       → ServesFront took kept told has_told both bytes more old new
   front_more takes sends both bytes rest more it old middle new joins front fits same one = record {
-    inputs = front.inputs ++ it ∷ [];
+    messages = front.messages ++ it ∷ [];
     outputs = front.outputs ++ one.outputs;
-    serves = serves_both took kept told has_told front.inputs (it ∷ []) front.outputs one.outputs old middle new
+    serves = serves_both took kept told has_told front.messages (it ∷ []) front.outputs one.outputs old middle new
         front.serves (serves_one took kept told has_told it one.outputs middle new one.does);
-    fit = fit_both front.inputs (it ∷ []) front.fit (fits, tt);
+    fit = fit_both front.messages (it ∷ []) front.fit (fits, tt);
     split = front.split
-        ∙ ap (λ (t : List ℕ). inputs_text front.inputs ++ t) same
-        ∙ sym (append_assoc (inputs_text front.inputs) (input.spell it) more)
-        ∙ ap (λ (t : List ℕ). (inputs_text front.inputs ++ t) ++ more) (sym (append-nil (input.spell it)))
-        ∙ ap (λ (t : List ℕ). t ++ more) (sym (inputs-both front.inputs (it ∷ [])));
+        ∙ ap (λ (t : List ℕ). messages_text front.messages ++ t) same
+        ∙ sym (append_assoc (messages_text front.messages) (message.spell it) more)
+        ∙ ap (λ (t : List ℕ). (messages_text front.messages ++ t) ++ more) (sym (append-nil (message.spell it)))
+        ∙ ap (λ (t : List ℕ). t ++ more) (sym (messages-both front.messages (it ∷ [])));
     took_them = subst both (sym (outputs-both front.outputs one.outputs))
         (joins (outputs_text front.outputs) (outputs_text one.outputs) front.took_them one.took_them);
   }
@@ -104,7 +105,7 @@ module _ {V : Type 0} (took : V → InputView → V → Type 0) (kept : V → V 
   pub front_fails : (takes : List ℕ → Type 0) (bytes rest : List ℕ) (old middle : V)
       → ServesFront took kept told has_told takes bytes rest old middle → ServesSome took kept told has_told takes old
   front_fails takes bytes rest old middle front = record {
-    inputs = front.inputs;
+    messages = front.messages;
     outputs = front.outputs;
     last = middle;
     serves = front.serves;
@@ -115,12 +116,12 @@ module _ {V : Type 0} (took : V → InputView → V → Type 0) (kept : V → V 
     took_it = front.took_them;
   }
 
-  -- a beginning of an answer behind inputs that were taken
-  some_behind : (takes sends both : List ℕ → Type 0) (inputs : List InputView) (outputs : List OutputView) (old middle : V) → Joins takes sends both
-      → Serves took kept told has_told inputs outputs old middle → takes (outputs_text outputs) → SendsSome kept told sends middle
+  -- a beginning of an answer behind messages that were taken
+  some_behind : (takes sends both : List ℕ → Type 0) (messages : List MessageView) (outputs : List OutputView) (old middle : V) → Joins takes sends both
+      → Serves took kept told has_told messages outputs old middle → takes (outputs_text outputs) → SendsSome kept told sends middle
       → ServesSome took kept told has_told both old
-  some_behind takes sends both inputs outputs old middle joins serves took_them some = record {
-    inputs = inputs;
+  some_behind takes sends both messages outputs old middle joins serves took_them some = record {
+    messages = messages;
     outputs = outputs;
     last = middle;
     serves = serves;
@@ -138,22 +139,22 @@ module _ {V : Type 0} (took : V → InputView → V → Type 0) (kept : V → V 
   pub front_stops : (takes sends both : List ℕ → Type 0) (bytes rest : List ℕ) (old middle : V) → Joins takes sends both
       → ServesFront took kept told has_told takes bytes rest old middle → SendsSome kept told sends middle
       → ServesSome took kept told has_told both old
-  front_stops takes sends both bytes rest old middle joins front some = some_behind takes sends both front.inputs
+  front_stops takes sends both bytes rest old middle joins front some = some_behind takes sends both front.messages
       front.outputs old middle joins front.serves front.took_them some
 
   -- ---- all that a source gives
 
   pub record IsGoing (gave takes : List ℕ → Type 0) (begun : List ℕ) (old now : V) : Type 0 where
-    pub inputs : List InputView
+    pub messages : List MessageView
     pub outputs : List OutputView
-    pub serves : Serves took kept told has_told inputs outputs old now
-    pub fit : AllByRecursion input.Fits inputs
-    pub gave_them : gave (inputs_text inputs ++ begun)
+    pub serves : Serves took kept told has_told messages outputs old now
+    pub fit : AllByRecursion message.Fits messages
+    pub gave_them : gave (messages_text messages ++ begun)
     pub took_them : takes (outputs_text outputs)
 
   pub all_begins : (gave takes : List ℕ → Type 0) (begun : List ℕ) (old : V) → begun ≡ [] → gave [] → takes [] → IsGoing gave takes begun old old
   all_begins gave takes begun old fresh nothing none = record {
-    inputs = [];
+    messages = [];
     outputs = [];
     serves = (refl, refl);
     fit =
@@ -168,17 +169,17 @@ module _ {V : Type 0} (took : V → InputView → V → Type 0) (kept : V → V 
       → IsGoing gave takes begun old middle → gives piece → bytes ≡ begun ++ piece
       → ServesFront took kept told has_told sends bytes rest middle new → IsGoing given both rest old new
   going_on gave gives given takes sends both begun piece bytes rest old middle new gave_both took_both so_far gave_it same front = record {
-    inputs = so_far.inputs ++ front.inputs;
+    messages = so_far.messages ++ front.messages;
     outputs = so_far.outputs ++ front.outputs;
-    serves = serves_both took kept told has_told so_far.inputs front.inputs so_far.outputs front.outputs old middle new so_far.serves front.serves;
-    fit = fit_both so_far.inputs front.inputs so_far.fit front.fit;
+    serves = serves_both took kept told has_told so_far.messages front.messages so_far.outputs front.outputs old middle new so_far.serves front.serves;
+    fit = fit_both so_far.messages front.messages so_far.fit front.fit;
     gave_them =
-        let all : (inputs_text so_far.inputs ++ begun) ++ piece ≡ inputs_text (so_far.inputs ++ front.inputs) ++ rest =
-        append_assoc (inputs_text so_far.inputs) begun piece
-        ∙ ap (λ (t : List ℕ). inputs_text so_far.inputs ++ t) (sym same ∙ front.split)
-        ∙ sym (append_assoc (inputs_text so_far.inputs) (inputs_text front.inputs) rest)
-        ∙ ap (λ (t : List ℕ). t ++ rest) (sym (inputs-both so_far.inputs front.inputs)) in
-        subst given all (gave_both (inputs_text so_far.inputs ++ begun) piece so_far.gave_them gave_it);
+        let all : (messages_text so_far.messages ++ begun) ++ piece ≡ messages_text (so_far.messages ++ front.messages) ++ rest =
+        append_assoc (messages_text so_far.messages) begun piece
+        ∙ ap (λ (t : List ℕ). messages_text so_far.messages ++ t) (sym same ∙ front.split)
+        ∙ sym (append_assoc (messages_text so_far.messages) (messages_text front.messages) rest)
+        ∙ ap (λ (t : List ℕ). t ++ rest) (sym (messages-both so_far.messages front.messages)) in
+        subst given all (gave_both (messages_text so_far.messages ++ begun) piece so_far.gave_them gave_it);
     took_them = subst both (sym (outputs-both so_far.outputs front.outputs)) (took_both (outputs_text so_far.outputs)
         (outputs_text front.outputs) so_far.took_them front.took_them);
   }
@@ -187,20 +188,20 @@ module _ {V : Type 0} (took : V → InputView → V → Type 0) (kept : V → V 
       → IsGoing gave takes begun old now → gives []
       → ServesAll took kept told has_told [] given takes old now
   going_ends gave gives given takes begun old now gave_both so_far nothing = record {
-    inputs = so_far.inputs;
+    messages = so_far.messages;
     outputs = so_far.outputs;
     serves = so_far.serves;
     fit = so_far.fit;
     rest = begun;
-    gave_them = subst given (append-nil (inputs_text so_far.inputs ++ begun))
-        (gave_both (inputs_text so_far.inputs ++ begun) [] so_far.gave_them nothing);
+    gave_them = subst given (append-nil (messages_text so_far.messages ++ begun))
+        (gave_both (messages_text so_far.messages ++ begun) [] so_far.gave_them nothing);
     took_them = so_far.took_them;
   }
 
   pub going_fails : (gave takes : List ℕ → Type 0) (begun : List ℕ) (old now : V) → IsGoing gave takes begun old now
       → ServesSome took kept told has_told takes old
   going_fails gave takes begun old now so_far = record {
-    inputs = so_far.inputs;
+    messages = so_far.messages;
     outputs = so_far.outputs;
     last = now;
     serves = so_far.serves;
@@ -211,16 +212,16 @@ module _ {V : Type 0} (took : V → InputView → V → Type 0) (kept : V → V 
     took_it = so_far.took_them;
   }
 
-  -- it ended earlier, behind these inputs
-  pub some_later : (takes sends both : List ℕ → Type 0) (inputs : List InputView) (outputs : List OutputView) (old middle : V)
+  -- it ended earlier, behind these messages
+  pub some_later : (takes sends both : List ℕ → Type 0) (messages : List MessageView) (outputs : List OutputView) (old middle : V)
       → Joins takes sends both
-      → Serves took kept told has_told inputs outputs old middle → takes (outputs_text outputs)
+      → Serves took kept told has_told messages outputs old middle → takes (outputs_text outputs)
       → ServesSome took kept told has_told sends middle → ServesSome took kept told has_told both old
-  some_later takes sends both inputs outputs old middle joins serves took_them some = record {
-    inputs = inputs ++ some.inputs;
+  some_later takes sends both messages outputs old middle joins serves took_them some = record {
+    messages = messages ++ some.messages;
     outputs = outputs ++ some.outputs;
     last = some.last;
-    serves = serves_both took kept told has_told inputs some.inputs outputs some.outputs old middle some.last serves some.serves;
+    serves = serves_both took kept told has_told messages some.messages outputs some.outputs old middle some.last serves some.serves;
     more = some.more;
     begins = some.begins;
     front = outputs_text outputs ++ some.front;
@@ -237,7 +238,7 @@ module _ {V : Type 0} (took : V → InputView → V → Type 0) (kept : V → V 
   pub going_stops : (gave takes sends both : List ℕ → Type 0) (begun : List ℕ) (old middle : V) → Joins takes sends both
       → IsGoing gave takes begun old middle
       → ServesSome took kept told has_told sends middle → ServesSome took kept told has_told both old
-  going_stops gave takes sends both begun old middle joins so_far some = some_later takes sends both so_far.inputs
+  going_stops gave takes sends both begun old middle joins so_far some = some_later takes sends both so_far.messages
       so_far.outputs old middle joins so_far.serves so_far.took_them some
 
   -- ---- behind the first answer
@@ -246,9 +247,9 @@ module _ {V : Type 0} (took : V → InputView → V → Type 0) (kept : V → V 
       → Sends took kept told has_told Keep takes old middle
       → ServesAll took kept told has_told [] gave sends middle new → ServesAll took kept told has_told (Keep ∷ []) gave both old new
   all_behind gave takes sends both old middle new joins first all = record {
-    inputs = all.inputs;
+    messages = all.messages;
     outputs = first.outputs ++ all.outputs;
-    serves = serves_both took kept told has_told (Keep ∷ []) all.inputs first.outputs all.outputs old middle new
+    serves = serves_both took kept told has_told (Keep ∷ []) all.messages first.outputs all.outputs old middle new
         (serves_one took kept told has_told Keep first.outputs old middle first.does) all.serves;
     fit = all.fit;
     rest = all.rest;
@@ -266,7 +267,7 @@ module _ {V : Type 0} (took : V → InputView → V → Type 0) (kept : V → V 
 
   pub some_first : (takes : List ℕ → Type 0) (old : V) → SendsSome kept told takes old → ServesSome took kept told has_told takes old
   some_first takes old some = record {
-    inputs = [];
+    messages = [];
     outputs = [];
     last = old;
     serves = (refl, refl);

@@ -1,4 +1,4 @@
-pub mod Inputs
+pub mod Messages
 pub mod Outputs
 pub mod Readers
 pub mod Apart

@@ -1,13 +1,14 @@
--- Inputs and pieces, one after the other.
+-- Messages and pieces, one after the other.
 use Rattle.std.proofs.Common.{◌≡◌, ℕ, List, [], ◌∷◌, ◌++◌, refl, sym, ap, subst, ◌∙◌, append_assoc}
 use Rattle.std.specs.List.{AllByRecursion}
 use Rattle.std.proofs.lemmas.List.{append-nil}
 use Rattle.std.proofs.lemmas.List.Concat.{flat_map-append, flat_map-cons}
 use Rattle.zdevices.specs.Device.{TookBeginning}
+use Rattle.zpieces.specs.Inputs.{InputView}
 use Rattle.zpieces.specs.Outbox.{PieceView}
-use Rattle.zpipe.specs.Inputs.{InputView, input}
+use Rattle.zpipe.specs.Messages.{MessageView, message}
 use Rattle.zpipe.specs.Outputs.{OutputView, Piece, End, output}
-use Rattle.zpipe.specs.Serving.{Tells, IsTelling, TellsSome, Does, Serves, answer_of, inputs_text, outputs_text, pieces_text}
+use Rattle.zpipe.specs.Serving.{Tells, IsTelling, TellsSome, Does, Serves, answer_of, messages_text, outputs_text, pieces_text}
 
 -- joined bytes were taken
 abbrev pub Joins : (List ℕ → Type 0) → (List ℕ → Type 0) → (List ℕ → Type 0) → Type 0
@@ -93,20 +94,20 @@ answer-text (p ∷ pieces) =
     ∙ sym (append_assoc (output.spell (Piece p)) (pieces_text pieces) (output.spell End))
     ∙ ap (λ (t : List ℕ). t ++ output.spell End) (sym (flat_map-cons (λ (q : PieceView). output.spell (Piece q)) p pieces))
 
--- ---- inputs
+-- ---- messages
 
-pub inputs-both : (a b : List InputView) → inputs_text (a ++ b) ≡ inputs_text a ++ inputs_text b
-inputs-both a b = flat_map-append input.spell a b
+pub messages-both : (a b : List MessageView) → messages_text (a ++ b) ≡ messages_text a ++ messages_text b
+messages-both a b = flat_map-append message.spell a b
 
 pub outputs-both : (a b : List OutputView) → outputs_text (a ++ b) ≡ outputs_text a ++ outputs_text b
 outputs-both a b = flat_map-append output.spell a b
 
-pub fit_both : (a b : List InputView) → AllByRecursion input.Fits a → AllByRecursion input.Fits b → AllByRecursion input.Fits (a ++ b)
+pub fit_both : (a b : List MessageView) → AllByRecursion message.Fits a → AllByRecursion message.Fits b → AllByRecursion message.Fits (a ++ b)
 fit_both [] b fit also = also
 fit_both (x ∷ a) b fit also = (fit.0, fit_both a b fit.1 also)
 
 module _ {V : Type 0} (took : V → InputView → V → Type 0) (kept : V → V → Type 0) (told : V → PieceView → V → Type 0) (has_told : V → Type 0) where
-  pub serves_both : (a b : List InputView) (x y : List OutputView) (old middle new : V)
+  pub serves_both : (a b : List MessageView) (x y : List OutputView) (old middle new : V)
       → Serves took kept told has_told a x old middle → Serves took kept told has_told b y middle new
       → Serves took kept told has_told (a ++ b) (x ++ y) old new
   serves_both [] b x y old middle new are rest =
@@ -121,6 +122,6 @@ module _ {V : Type 0} (took : V → InputView → V → Type 0) (kept : V → V 
     ap (λ (l : List OutputView). l ++ y) are.5 ∙ append_assoc are.0 are.2 y,
   )
 
-  pub serves_one : (it : InputView) (outputs : List OutputView) (old new : V) → Does took kept told has_told it outputs old new
+  pub serves_one : (it : MessageView) (outputs : List OutputView) (old new : V) → Does took kept told has_told it outputs old new
       → Serves took kept told has_told (it ∷ []) outputs old new
   serves_one it outputs old new does = (outputs, new, [], does, (refl, refl), sym (append-nil outputs))

@@ -2,17 +2,17 @@
 use Rattle.std.specs.Prelude.{◌≡◌, List}
 use Rattle.std.specs.List.{flat_map, AllByRecursion}
 use Rattle.zforms.specs.Laws.{IsForm}
-use Rattle.zpipe.specs.Inputs.{InputView, input}
+use Rattle.zpipe.specs.Messages.{MessageView, message}
 use Rattle.zpipe.specs.Outputs.{OutputView, output}
 
 -- what is read was spelled so, and fits; what fits and is spelled is read, with what follows
 abbrev pub AreForms : Type 0
-AreForms = IsForm input × IsForm output
+AreForms = IsForm message × IsForm output
 
--- no two sequences of inputs share their bytes, and none of answers do
+-- no two sequences of messages share their bytes, and none of answers do
 abbrev pub BytesTellApart : Type 0
 BytesTellApart =
-    ((a b : List InputView) → AllByRecursion input.Fits a → AllByRecursion input.Fits b →
-    flat_map input.spell a ≡ flat_map input.spell b → a ≡ b)
+    ((a b : List MessageView) → AllByRecursion message.Fits a → AllByRecursion message.Fits b →
+    flat_map message.spell a ≡ flat_map message.spell b → a ≡ b)
     × ((a b : List OutputView) → AllByRecursion output.Fits a → AllByRecursion output.Fits b →
     flat_map output.spell a ≡ flat_map output.spell b → a ≡ b)

@@ -1,5 +1,4 @@
-pub mod Inputs
+pub mod Messages
 pub mod Outputs
 pub mod Laws
 pub mod Serving
-pub mod support

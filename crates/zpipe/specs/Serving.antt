@@ -3,12 +3,13 @@ use Rattle.std.specs.Prelude.{◌≡◌, ◌⊎◌, ℕ, List, [], ◌∷◌, �
 use Rattle.std.specs.List.{flat_map, AllByRecursion}
 use Rattle.zdevices.specs.Device.{IsBeginning}
 use Rattle.zpieces.specs.Outbox.{PieceView}
-use Rattle.zpipe.specs.Inputs.{InputView, Keep, input}
+use Rattle.zpieces.specs.Inputs.{InputView}
+use Rattle.zpipe.specs.Messages.{MessageView, Input, Keep, message}
 use Rattle.zpipe.specs.Outputs.{OutputView, Piece, End, output}
 
--- the bytes of inputs, and of what is told
-abbrev pub inputs_text : List InputView → List ℕ
-inputs_text inputs = flat_map input.spell inputs
+-- the bytes of messages, and of what is told
+abbrev pub messages_text : List MessageView → List ℕ
+messages_text messages = flat_map message.spell messages
 
 abbrev pub outputs_text : List OutputView → List ℕ
 outputs_text outputs = flat_map output.spell outputs
@@ -66,51 +67,51 @@ module _ {V : Type 0} (kept : V → V → Type 0) (told : V → PieceView → V 
   Answers pieces old new = (middle : V) × kept old middle × Tells told pieces middle new × has_told new
 
 module _ {V : Type 0} (took : V → InputView → V → Type 0) (kept : V → V → Type 0) (told : V → PieceView → V → Type 0) (has_told : V → Type 0) where
-  -- an input is taken, and this is told of it
-  abbrev pub Does : InputView → List OutputView → V → V → Type 0
+  -- this is done at a message, and this is told of it
+  abbrev pub Does : MessageView → List OutputView → V → V → Type 0
   Does Keep outputs old new = (pieces : List PieceView) × Answers kept told has_told pieces old new × (outputs ≡ answer_of pieces)
-  Does input outputs old new = took old input new × (outputs ≡ [])
+  Does (Input input) outputs old new = took old input new × (outputs ≡ [])
 
   -- and that goes to the sink
-  pub record Sends (input : InputView) (takes : List ℕ → Type 0) (old new : V) : Type 0 where
+  pub record Sends (message : MessageView) (takes : List ℕ → Type 0) (old new : V) : Type 0 where
     pub outputs : List OutputView
-    pub does : Does input outputs old new
+    pub does : Does message outputs old new
     pub took_them : takes (outputs_text outputs)
 
-  -- inputs are taken, one after the other
-  abbrev pub Serves : List InputView → List OutputView → V → V → Type 0
+  -- messages are taken, one after the other
+  abbrev pub Serves : List MessageView → List OutputView → V → V → Type 0
   Serves [] outputs old new = (new ≡ old) × (outputs ≡ [])
-  Serves (input ∷ inputs) outputs old new =
+  Serves (it ∷ messages) outputs old new =
       (first : List OutputView) × (middle : V) × (more : List OutputView)
-      × Does input first old middle × Serves inputs more middle new × (outputs ≡ first ++ more)
+      × Does it first old middle × Serves messages more middle new × (outputs ≡ first ++ more)
 
-  -- the bytes are those of inputs, with a rest that is no whole input. They were taken, and what was
+  -- the bytes are those of messages, with a rest that is no whole message. They were taken, and what was
   -- told of them went to the sink
   pub record ServesFront (takes : List ℕ → Type 0) (bytes rest : List ℕ) (old new : V) : Type 0 where
-    pub inputs : List InputView
+    pub messages : List MessageView
     pub outputs : List OutputView
-    pub serves : Serves inputs outputs old new
-    pub fit : AllByRecursion input.Fits inputs
-    pub split : bytes ≡ inputs_text inputs ++ rest
+    pub serves : Serves messages outputs old new
+    pub fit : AllByRecursion message.Fits messages
+    pub split : bytes ≡ messages_text messages ++ rest
     pub took_them : takes (outputs_text outputs)
 
-  -- The same of all bytes that a source gave, behind some inputs of its own.
-  pub record ServesAll (first : List InputView) (gave takes : List ℕ → Type 0) (old new : V) : Type 0 where
-    pub inputs : List InputView
+  -- The same of all bytes that a source gave, behind some messages of its own.
+  pub record ServesAll (first : List MessageView) (gave takes : List ℕ → Type 0) (old new : V) : Type 0 where
+    pub messages : List MessageView
     pub outputs : List OutputView
-    pub serves : Serves (first ++ inputs) outputs old new
-    pub fit : AllByRecursion input.Fits inputs
+    pub serves : Serves (first ++ messages) outputs old new
+    pub fit : AllByRecursion message.Fits messages
     pub rest : List ℕ
-    pub gave_them : gave (inputs_text inputs ++ rest)
+    pub gave_them : gave (messages_text messages ++ rest)
     pub took_them : takes (outputs_text outputs)
 
-  -- It ended earlier. Some inputs were taken, and of what was told of them, and of an answer that was
+  -- It ended earlier. Some messages were taken, and of what was told of them, and of an answer that was
   -- begun behind them, the sink took a beginning.
   pub record ServesSome (takes : List ℕ → Type 0) (old : V) : Type 0 where
-    pub inputs : List InputView
+    pub messages : List MessageView
     pub outputs : List OutputView
     pub last : V
-    pub serves : Serves inputs outputs old last
+    pub serves : Serves messages outputs old last
     pub more : List OutputView
     pub begins : BeginsToAnswer kept told more last
     pub front : List ℕ

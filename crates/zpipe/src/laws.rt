@@ -7,7 +7,7 @@ pub fn records_are_forms()
     ensures { AreForms }
 {}
 
-/// Bytes are those of one sequence of inputs alone, and of one sequence of answers.
+/// Bytes are those of one sequence of messages alone, and of one sequence of answers.
 pub fn bytes_tell_apart()
     ensures { BytesTellApart }
 {}

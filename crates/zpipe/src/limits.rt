@@ -3,9 +3,6 @@
 /// The most bytes of a connection that one record brings.
 pub const MAX_CAME: u32 = 65_536;
 
-/// The most bytes of an operator's line: one more than a line that is understood may have.
-pub const MAX_LINE: u32 = 524_289;
-
 /// The most bytes of a piece: all that its length can tell.
 pub const MAX_PIECE: u32 = 0xFFFF_FFFF;
 

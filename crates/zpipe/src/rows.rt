@@ -1,23 +1,22 @@
 //! Worked examples of the definitions. Each function's contract has some; its body does nothing.
 
-ghost use Rattle.std.specs.Prelude.{◌≡◌, [], ◌∷◌, ◌++◌, Ok, Err, true, false};
+ghost use Rattle.std.specs.Prelude.{◌≡◌, [], ◌∷◌, Ok, Err, true, false};
 ghost use Rattle.zforms.specs.declared.fault.Fault.TheVariants.{Short, Long, Invalid};
-ghost use Rattle.zpipe.specs.Inputs.{input};
-ghost use Rattle.zpipe.specs.Inputs.InputView.{Opened, Came, Ended, Tick, Line, Keep};
+ghost use Rattle.zpieces.specs.Inputs.InputView.{Opened, Came, Ended, Tick};
+ghost use Rattle.zpipe.specs.Messages.{message};
+ghost use Rattle.zpipe.specs.Messages.MessageView.{Input, Keep};
 ghost use Rattle.zpipe.specs.Outputs.{output};
 ghost use Rattle.zpipe.specs.Outputs.OutputView.{Piece, End};
-ghost use Rattle.zpipe.specs.support.Samples.{password};
 
-/// The bytes of inputs: a tag, a connection, a length.
-#[tactic(auto, unfolding(crate::specs::Inputs::input, crate::specs::Inputs::opened, crate::specs::Inputs::came, crate::specs::Inputs::line))]
-pub fn inputs_have_bytes()
-    ensures opened { input.spell (Opened 7 password) ≡ 0 ∷ 0 ∷ 0 ∷ 0 ∷ 7 ∷ password }
-    ensures came { input.spell (Came 258 (104 ∷ 105 ∷ []))
+/// The bytes of messages: a tag, a connection, a length.
+#[tactic(auto, unfolding(crate::specs::Messages::message, crate::specs::Messages::came))]
+pub fn messages_have_bytes()
+    ensures opened { message.spell (Input (Opened 7)) ≡ 0 ∷ 0 ∷ 0 ∷ 0 ∷ 7 ∷ [] }
+    ensures came { message.spell (Input (Came 258 (104 ∷ 105 ∷ [])))
         ≡ 1 ∷ 0 ∷ 0 ∷ 1 ∷ 2 ∷ 0 ∷ 0 ∷ 0 ∷ 2 ∷ 104 ∷ 105 ∷ [] }
-    ensures ended { input.spell (Ended 1000) ≡ 2 ∷ 0 ∷ 0 ∷ 3 ∷ 232 ∷ [] }
-    ensures tick { input.spell Tick ≡ 3 ∷ [] }
-    ensures line { input.spell (Line (120 ∷ [])) ≡ 4 ∷ 0 ∷ 0 ∷ 0 ∷ 1 ∷ 120 ∷ [] }
-    ensures keep { input.spell Keep ≡ 5 ∷ [] }
+    ensures ended { message.spell (Input (Ended 1000)) ≡ 2 ∷ 0 ∷ 0 ∷ 3 ∷ 232 ∷ [] }
+    ensures tick { message.spell (Input Tick) ≡ 3 ∷ [] }
+    ensures keep { message.spell Keep ≡ 4 ∷ [] }
 {}
 
 /// The bytes of answers.
@@ -31,16 +30,15 @@ pub fn outputs_have_bytes()
     ensures end { output.spell End ≡ 1 ∷ [] }
 {}
 
-/// Bytes that begin with an input, and bytes that don't.
-#[tactic(auto, unfolding(crate::specs::Inputs::input, crate::specs::Inputs::input_at, crate::specs::Inputs::opened, crate::specs::Inputs::came, crate::specs::Inputs::line, zforms::specs::Forms::number_at))]
-pub fn bytes_are_inputs()
-    ensures read { input.read (1 ∷ 0 ∷ 0 ∷ 0 ∷ 7 ∷ 0 ∷ 0 ∷ 0 ∷ 1 ∷ 104 ∷ 5 ∷ [])
-        ≡ Ok (Came 7 (104 ∷ []), 5 ∷ []) }
-    ensures next { input.read (5 ∷ 3 ∷ []) ≡ Ok (Keep, 3 ∷ []) }
-    ensures no_bytes { input.read [] ≡ Err Short }
-    ensures half { input.read (1 ∷ 0 ∷ 0 ∷ 0 ∷ 7 ∷ 0 ∷ 0 ∷ 0 ∷ 2 ∷ 104 ∷ []) ≡ Err Short }
-    ensures short_password { input.read (0 ∷ 0 ∷ 0 ∷ 0 ∷ 7 ∷ 1 ∷ 2 ∷ []) ≡ Err Short }
-    ensures too_long { input.read (1 ∷ 0 ∷ 0 ∷ 0 ∷ 7 ∷ 0 ∷ 1 ∷ 0 ∷ 1 ∷ []) ≡ Err Long }
-    ensures long_line { input.read (4 ∷ 0 ∷ 8 ∷ 0 ∷ 2 ∷ []) ≡ Err Long }
-    ensures other_tag { input.read (6 ∷ []) ≡ Err Invalid }
+/// Bytes that begin with a message, and bytes that don't.
+#[tactic(auto, unfolding(crate::specs::Messages::message, crate::specs::Messages::message_at, crate::specs::Messages::came, zforms::specs::Forms::number_at))]
+pub fn bytes_are_messages()
+    ensures read { message.read (1 ∷ 0 ∷ 0 ∷ 0 ∷ 7 ∷ 0 ∷ 0 ∷ 0 ∷ 1 ∷ 104 ∷ 4 ∷ [])
+        ≡ Ok (Input (Came 7 (104 ∷ [])), 4 ∷ []) }
+    ensures next { message.read (4 ∷ 3 ∷ []) ≡ Ok (Keep, 3 ∷ []) }
+    ensures no_bytes { message.read [] ≡ Err Short }
+    ensures half { message.read (1 ∷ 0 ∷ 0 ∷ 0 ∷ 7 ∷ 0 ∷ 0 ∷ 0 ∷ 2 ∷ 104 ∷ []) ≡ Err Short }
+    ensures short_number { message.read (0 ∷ 0 ∷ 0 ∷ 0 ∷ []) ≡ Err Short }
+    ensures too_long { message.read (1 ∷ 0 ∷ 0 ∷ 0 ∷ 7 ∷ 0 ∷ 1 ∷ 0 ∷ 1 ∷ []) ≡ Err Long }
+    ensures other_tag { message.read (5 ∷ []) ≡ Err Invalid }
 {}

@@ -1,13 +1,11 @@
 //! What takes inputs, keeps what they changed, and tells pieces.
 
-ghost use Rattle.std.specs.Prelude.{◌≡◌, ◌<◌, ℕ, List, IfNone, IfSome, OnOk};
+ghost use Rattle.std.specs.Prelude.{◌≡◌, ◌<◌, ℕ, IfNone, IfSome, OnOk};
+ghost use Rattle.zpieces.specs.Inputs.{InputView, input_of};
 ghost use Rattle.zpieces.specs.Outbox.{PieceView};
-ghost use Rattle.zpipe.specs.Inputs.{InputView};
-ghost use Rattle.zpipe.specs.Inputs.InputView.{Opened, Came, Ended, Tick, Line};
 
 use crate::fault::ServeFault;
-use zpieces::Piece;
-use zsittings::Password;
+use zpieces::{Input, Piece};
 
 /// A service that keeps what it tells. Once it failed nothing is promised of it.
 pub trait Service {
@@ -29,34 +27,10 @@ pub trait Service {
     /// It has not failed.
     ghost is_sound: { Self → Type 0 };
 
-    /// A connection was opened, with the password of a session that is opened on it.
-    fn opened(&mut self, connection: u32, password: Password) -> Result<(), ServeFault>
+    /// Takes an input.
+    fn take(&mut self, input: Input<'_>) -> Result<(), ServeFault>
         requires { is_sound self.old }
-        ensures took { OnOk result (took self.old (Opened connection password) self.new) }
-        ensures sound { OnOk result (is_sound self.new) };
-
-    /// Bytes came on a connection.
-    fn came(&mut self, connection: u32, bytes: &[u8]) -> Result<(), ServeFault>
-        requires { is_sound self.old }
-        ensures took { OnOk result (took self.old (Came connection bytes.now) self.new) }
-        ensures sound { OnOk result (is_sound self.new) };
-
-    /// A connection ended.
-    fn ended(&mut self, connection: u32) -> Result<(), ServeFault>
-        requires { is_sound self.old }
-        ensures took { OnOk result (took self.old (Ended connection) self.new) }
-        ensures sound { OnOk result (is_sound self.new) };
-
-    /// A tick went by.
-    fn tick(&mut self) -> Result<(), ServeFault>
-        requires { is_sound self.old }
-        ensures took { OnOk result (took self.old Tick self.new) }
-        ensures sound { OnOk result (is_sound self.new) };
-
-    /// The chain's operator gave a line.
-    fn line(&mut self, line: &[u8]) -> Result<(), ServeFault>
-        requires { is_sound self.old }
-        ensures took { OnOk result (took self.old (Line line.now) self.new) }
+        ensures took { OnOk result (took self.old (input_of input.entry) self.new) }
         ensures sound { OnOk result (is_sound self.new) };
 
     /// Keeps all that the inputs changed.

@@ -1,24 +1,24 @@
-//! Inputs are taken, kept and answered, demand by demand.
+//! Messages are taken one after the other: inputs are taken, and what they changed is kept and told.
 
 ghost use Rattle.std.specs.Prelude.{◌≡◌, ◌<◌, ◌++◌, [], ◌∷◌, List, ℕ, length};
 ghost use Rattle.std.specs.Prelude.{IfOk, OnErr, OnOk};
 ghost use Rattle.zdevices.specs.Device.{Between, TookBeginning};
-ghost use Rattle.zpipe.specs.Inputs.{input_of};
-ghost use Rattle.zpipe.specs.Inputs.InputView.{Keep};
+ghost use Rattle.zpipe.specs.Messages.{message_of};
+ghost use Rattle.zpipe.specs.Messages.MessageView.{Keep};
 ghost use Rattle.zpipe.specs.Serving.{IsTelling, Sends, SendsSome, ServesAll, ServesFront};
 ghost use Rattle.zpipe.specs.Serving.{ServesSome, TellsSome};
 
 use crate::fault::ServeFault;
-use crate::input::Input;
 use crate::limits::BLOCK;
-use crate::reading::next_input;
+use crate::message::Message;
+use crate::reading::next_message;
 use crate::service::Service;
 use crate::writing::{put_end, put_piece};
 use std::alloc::Global;
 use zdevices::{Sink, Source, write_all};
 use zforms::Fault;
 
-/// Tells that the service is open, and then takes all inputs of a source, until it ends. Behind
+/// Tells that the service is open, and then takes all messages of a source, until it ends. Behind
 /// each demand all that was said before it is kept. Its pieces and an end go to the sink then, and
 /// not before. What is no whole input where the source ends is dropped.
 pub fn serve_all<V: Service, S: Source, K: Sink>(
@@ -41,7 +41,7 @@ pub fn serve_all<V: Service, S: Source, K: Sink>(
     Ok(())
 }
 
-// Reads block by block, and takes the inputs that are whole.
+// Reads block by block, and takes the messages that are whole.
 fn serve_blocks<V: Service, S: Source, K: Sink>(
     alloc: Global,
     service: &mut V,
@@ -71,7 +71,7 @@ fn serve_blocks<V: Service, S: Source, K: Sink>(
     }
 }
 
-// Takes the whole inputs in front of the bytes, and returns what follows them.
+// Takes the whole messages in front of the bytes, and returns what follows them.
 fn take_all<V: Service, K: Sink>(
     alloc: Global,
     service: &mut V,
@@ -105,9 +105,9 @@ fn take_whole<'a, V: Service, K: Sink>(
 {
     let mut rest = bytes;
     loop {
-        match next_input(rest) {
-            Ok((input, more)) => {
-                take(alloc, service, input, sink)?;
+        match next_message(rest) {
+            Ok((message, more)) => {
+                take(alloc, service, message, sink)?;
                 rest = more;
             }
             Err(Fault::Short) => return Ok(rest),
@@ -116,31 +116,27 @@ fn take_whole<'a, V: Service, K: Sink>(
     }
 }
 
-// Takes one input.
+// Takes one message.
 fn take<V: Service, K: Sink>(
     alloc: Global,
     service: &mut V,
-    input: Input<'_>,
+    message: Message<'_>,
     sink: &mut K,
 ) -> Result<(), ServeFault>
     requires { V.is_sound service.old }
-    ensures done { OnOk result (Sends V.took V.kept V.told V.has_told (input_of input.entry)
+    ensures done { OnOk result (Sends V.took V.kept V.told V.has_told (message_of message.entry)
         (Between K.took sink.old sink.new) service.old service.new) }
     ensures sound { OnOk result (V.is_sound service.new) }
     ensures some { OnErr result (SendsSome V.kept V.told (Between K.took sink.old sink.new)
         service.old) }
 {
-    match input {
-        Input::Opened(connection, password) => service.opened(connection, password),
-        Input::Came(connection, bytes) => service.came(connection, bytes),
-        Input::Ended(connection) => service.ended(connection),
-        Input::Tick => service.tick(),
-        Input::Line(line) => service.line(line),
-        Input::Keep => answer(alloc, service, sink),
+    match message {
+        Message::Input(input) => service.take(input),
+        Message::Keep => answer(alloc, service, sink),
     }
 }
 
-// Keeps all that was said, and tells what is to be sent.
+// Keeps what the inputs changed, and tells what is to be sent.
 fn answer<V: Service, K: Sink>(
     alloc: Global,
     service: &mut V,

@@ -1,40 +1,40 @@
 use Rattle.std.proofs.Common.{rules}
 use Rattle.std.proofs.lemmas.Result.{err_from_is_err_and}
 use Rattle.zdevices.specs.Device.{Between}
-use Rattle.zpipe.specs.Inputs.{input_of}
-use Rattle.zpipe.proofs.Inputs.{shorter}
+use Rattle.zpipe.specs.Messages.{message_of}
+use Rattle.zpipe.proofs.Messages.{shorter}
 use Rattle.zpipe.proofs.Going.{front_begins, front_more, front_fails, front_stops}
 use Rattle.zpipe.proofs.serving.take_whole.Goals as goal
 
-pub loop-input-init : goal.loop-input-init
-loop-input-init g c = (
+pub loop-message-init : goal.loop-message-init
+loop-message-init g c = (
   front_begins g.V.Service.took g.V.Service.kept g.V.Service.told g.V.Service.has_told (Between g.K.Sink.took c.args.sink.now c.args.sink.now)
       c.args.bytes.now c.args.service.now (g.met.K.Sink.took_nothing c.args.sink.now),
   c.requires,
 )
 
 pub take-requires : goal.take-requires
-take-requires g c = c.loop-input.invariant.1
+take-requires g c = c.loop-message.invariant.1
 
 pub returns-in_err-take-in-Ok-clause-some : goal.returns-in_err-take-in-Ok-clause-some
 returns-in_err-take-in-Ok-clause-some g c =
     let p = err_from_is_err_and c.from_residual.result c.from_residual.ensures.1 in
     rw p.1 (front_stops g.V.Service.took g.V.Service.kept g.V.Service.told g.V.Service.has_told
-    (Between g.K.Sink.took c.args.sink.now c.loop-input.sink) (Between g.K.Sink.took c.loop-input.sink c.take.new.sink)
+    (Between g.K.Sink.took c.args.sink.now c.loop-message.sink) (Between g.K.Sink.took c.loop-message.sink c.take.new.sink)
     (Between g.K.Sink.took c.args.sink.now c.take.new.sink)
-    c.args.bytes.now c.loop-input.rest.now c.args.service.now c.loop-input.service (λ a b. g.met.K.Sink.took_both _ _ _ a b)
-    c.loop-input.invariant.0 c.in_err-take-in-Ok.ensures.some)
+    c.args.bytes.now c.loop-message.rest.now c.args.service.now c.loop-message.service (λ a b. g.met.K.Sink.took_both _ _ _ a b)
+    c.loop-message.invariant.0 c.in_err-take-in-Ok.ensures.some)
 
-pub loop-input-smaller : goal.loop-input-smaller
-loop-input-smaller g c = shorter (input_of c.in-Ok.input) c.loop-input.rest.now c.in-Ok.more.now c.in-Ok.ensures.found.1
+pub loop-message-smaller : goal.loop-message-smaller
+loop-message-smaller g c = shorter (message_of c.in-Ok.message) c.loop-message.rest.now c.in-Ok.more.now c.in-Ok.ensures.found.1
 
-pub loop-input-preserved : goal.loop-input-preserved
-loop-input-preserved g c = (
-  front_more g.V.Service.took g.V.Service.kept g.V.Service.told g.V.Service.has_told (Between g.K.Sink.took c.args.sink.now c.loop-input.sink)
-      (Between g.K.Sink.took c.loop-input.sink c.take.new.sink) (Between g.K.Sink.took c.args.sink.now c.take.new.sink)
-      c.args.bytes.now c.loop-input.rest.now c.in-Ok.more.now (input_of c.in-Ok.input) c.args.service.now c.loop-input.service
+pub loop-message-preserved : goal.loop-message-preserved
+loop-message-preserved g c = (
+  front_more g.V.Service.took g.V.Service.kept g.V.Service.told g.V.Service.has_told (Between g.K.Sink.took c.args.sink.now c.loop-message.sink)
+      (Between g.K.Sink.took c.loop-message.sink c.take.new.sink) (Between g.K.Sink.took c.args.sink.now c.take.new.sink)
+      c.args.bytes.now c.loop-message.rest.now c.in-Ok.more.now (message_of c.in-Ok.message) c.args.service.now c.loop-message.service
       c.take.new.service (λ a b. g.met.K.Sink.took_both _ _ _ a b)
-      c.loop-input.invariant.0 c.in-Ok.ensures.found.0 c.in-Ok.ensures.found.1 c.in_ok-take-in-Ok.ensures.done,
+      c.loop-message.invariant.0 c.in-Ok.ensures.found.0 c.in-Ok.ensures.found.1 c.in_ok-take-in-Ok.ensures.done,
   c.in_ok-take-in-Ok.ensures.sound,
 )
 
@@ -42,13 +42,13 @@ pub returns-in-Err-Short-clause-front : goal.returns-in-Err-Short-clause-front
 returns-in-Err-Short-clause-front g c = search rules
 
 pub returns-in-Err-Short-clause-sound : goal.returns-in-Err-Short-clause-sound
-returns-in-Err-Short-clause-sound g c = c.loop-input.invariant.1
+returns-in-Err-Short-clause-sound g c = c.loop-message.invariant.1
 
 pub returns-in-Err : goal.returns-in-Err
 returns-in-Err g c = record {
   front = tt;
   sound = tt;
   some = front_fails g.V.Service.took g.V.Service.kept g.V.Service.told g.V.Service.has_told
-      (Between g.K.Sink.took c.args.sink.now c.loop-input.sink) c.args.bytes.now c.loop-input.rest.now c.args.service.now
-      c.loop-input.service c.loop-input.invariant.0;
+      (Between g.K.Sink.took c.args.sink.now c.loop-message.sink) c.args.bytes.now c.loop-message.rest.now c.args.service.now
+      c.loop-message.service c.loop-message.invariant.0;
 }

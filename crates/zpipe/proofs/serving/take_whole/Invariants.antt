@@ -3,11 +3,11 @@ use Rattle.std.specs.Prelude.{length}
 use Rattle.zpipe.specs.Serving.{ServesFront}
 use Rattle.zpipe.proofs.serving.take_whole.Given as goal
 
-abbrev pub invariant-loop-input : goal.invariant-loop-input
-invariant-loop-input g l =
+abbrev pub invariant-loop-message : goal.invariant-loop-message
+invariant-loop-message g l =
     ServesFront g.V.Service.took g.V.Service.kept g.V.Service.told g.V.Service.has_told (Between g.K.Sink.took l.initial.sink l.sink)
     l.initial.rest l.rest l.initial.service l.service
     × g.V.Service.is_sound l.service
 
-abbrev pub decreases-loop-input : goal.decreases-loop-input
-decreases-loop-input g l = length l.rest
+abbrev pub decreases-loop-message : goal.decreases-loop-message
+decreases-loop-message g l = length l.rest

@@ -1,4 +1,0 @@
-pub mod Server
-pub mod Pieces
-pub mod Uses
-pub mod support

@@ -1,0 +1,82 @@
+//! A server with a folder, as its host speaks to it.
+
+ghost use Rattle.std.specs.Prelude.{◌≡◌, Err, Ok, OnOk};
+ghost use Rattle.zhosted.specs.Folder.{HasTold, IsGood, IsTold, Keeps, Takes, pieces_left};
+
+use zjournal::Device;
+use zkept::{Kept, KeptFault};
+use zpipe::{Input, Piece, ServeFault, Service};
+
+/// A server with a folder, as its host speaks to it.
+#[derive(Drop)]
+pub struct InFolder<D: Device> {
+    kept: Kept<D>,
+    // From so many bytes on its journal is shortened.
+    long: usize,
+}
+
+impl<D: Device> InFolder<D> {
+    /// Wraps a front. Its journal is shortened from so many bytes on, where it has four times those
+    /// that it had behind its last shortening.
+    pub fn new(kept: Kept<D>, long: usize) -> InFolder<D>
+        ensures { result.kept ≡ kept }
+    {
+        InFolder { kept, long }
+    }
+}
+
+impl<D: Device> Service for InFolder<D> {
+    ghost took = { λ s input t. Takes D.seen D.may_leave input s.kept t.kept };
+
+    ghost kept = { λ s t. Keeps D.seen D.may_leave s.kept t.kept };
+
+    ghost told = { λ s piece t. IsTold piece s.kept t.kept };
+
+    ghost has_told = { λ s. HasTold s.kept };
+
+    ghost pieces_left = { λ s. pieces_left s.kept };
+
+    ghost is_sound = { λ s. IsGood D.seen D.may_leave s.kept };
+
+    fn take(&mut self, input: Input<'_>) -> Result<(), ServeFault> {
+        match self.kept.take(input) {
+            Ok(()) => Ok(()),
+            Err(fault) => Err(unkept(fault)),
+        }
+    }
+
+    fn keep(&mut self) -> Result<(), ServeFault> {
+        match keep(&mut self.kept, self.long) {
+            Ok(()) => Ok(()),
+            Err(fault) => Err(unkept(fault)),
+        }
+    }
+
+    fn next_piece(&mut self) -> Option<Piece> {
+        self.kept.next_piece()
+    }
+}
+
+// Keeps what was made: by one block more, or with all else as a new file where the journal is long.
+fn keep<D: Device>(kept: &mut Kept<D>, long: usize) -> Result<(), KeptFault>
+    requires { IsGood D.seen D.may_leave kept.old }
+    ensures keeps { OnOk result (Keeps D.seen D.may_leave kept.old kept.new) }
+    ensures good { OnOk result (IsGood D.seen D.may_leave kept.new) }
+{
+    if kept.is_long(long) {
+        kept.shorten()?;
+        return Ok(());
+    }
+    kept.commit()?;
+    Ok(())
+}
+
+/// Why a service has ended, in the words of a host.
+pub(crate) fn unkept(fault: KeptFault) -> ServeFault {
+    match fault {
+        KeptFault::Memory => ServeFault::Memory,
+        KeptFault::Failed => ServeFault::Disk,
+        KeptFault::Full => ServeFault::Full,
+        KeptFault::Ended => ServeFault::Ended,
+    }
+}
