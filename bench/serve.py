@@ -6,7 +6,7 @@ each of 1 and 4 connections. Each figure is the best of five rounds and their me
 take turns. ZooKeeper is Debian's, where it is installed; its log is written with fsync (batch) and
 without (never).
 
-The second has folders of 4,000 nodes, over one server: the best times to compact and to open one.
+The second has folders of 4,000 nodes: the best times to compact and to open one.
 The folders are below TMPDIR.
 """
 import atexit
@@ -100,18 +100,19 @@ class Server:
         self.found.setdefault((shape, op), []).append(calls / took)
 
 
-def kept(builds, folder, servers=1, sync="batch", journal=64):
-    """A server that keeps a folder. No tick comes meanwhile."""
-    host = builds.compiled("host", [*serving.PROGRAM, serving.PIPED])
-    words = [host, f"--keeper={builds.program('zk_serve')}", f"--data={folder}", f"--sync={sync}"]
-    words += [f"--servers={servers}", f"--journal={journal}", "--tick=60000"]
-    return Server(f"zk serve, {servers}, {sync}", [*words, "--listen=127.0.0.1:{port}"])
+def kept(builds, folder, sync="batch", journal=64):
+    """A server that keeps a folder, or one in memory. No tick comes meanwhile."""
+    words = [builds.compiled("host", serving.HOST), f"--program={builds.program('zk_serve')}"]
+    words += [f"--data={folder}", f"--sync={sync}", f"--journal={journal}"] if folder else []
+    words += ["--tick=60000", "--listen=127.0.0.1:{port}"]
+    return Server(f"zk serve, {sync if folder else 'memory'}", words)
 
 
 def started(builds):
     """All servers of the first table."""
-    for servers, sync in itertools.product((1, 3), ("batch", "never")):
-        yield kept(builds, f"{builds.room}/{servers}-{sync}", servers, sync)
+    yield kept(builds, None)
+    for sync in ("batch", "never"):
+        yield kept(builds, f"{builds.room}/{sync}", sync)
     if not shutil.which("java") or not all(map(os.path.exists, JARS)):
         builds.say("Debian's zookeeper isn't installed")
         return
@@ -129,7 +130,7 @@ def of_requests(builds, load, rounds):
         it.measure(load, shape, NODES, "create")
         it.measure(load, shape, NODES * GETS, "get")
         it.measure(load, shape, NODES, "delete")
-    measuring.head("Server, servers, sync", "Connections, calls under way", "Creates", "Gets")
+    measuring.head("Server, sync", "Connections, calls under way", "Creates", "Gets")
     for shape, it in itertools.product(SHAPES, running):
         rates = (it.found[shape, op][1:] for op in ("create", "get"))
         figures = (f"{max(it):,.0f} / {statistics.median(it):,.0f}" for it in rates)
