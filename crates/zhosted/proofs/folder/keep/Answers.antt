@@ -1,7 +1,7 @@
 use Rattle.zkept.specs.Kept.{made_in, more_if}
 use Rattle.zhosted.proofs.folder.keep.Goals as goal
 
-pub returns-then-is_long-clause-keeps : goal.returns-in_ok-shorten-clause-keeps
+pub returns-then-is_long-clause-keeps : goal.returns-then-is_long-clause-keeps
 returns-then-is_long-clause-keeps g c = record {
   taken = c.in_ok-shorten.ensures.taken;
   keeps = λ servers batches t serving.
