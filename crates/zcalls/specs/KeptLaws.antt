@@ -80,7 +80,7 @@ OnlyActsCount {P} step =
     (s : KeptState P) (entries : List Entry)
     → (after_entries (entry_step step) s entries).plain ≡ after_acts step s.plain (acts_from step s entries)
 
--- a call that has a reply has the same one each time, whatever entries come in between
+-- a call that has a reply has the same one each time, whatever entries are applied in between
 abbrev pub SameReplyEachTime : {P : Type 0} → PlainStep P → Type 0
 SameReplyEachTime {P} step =
     (s : KeptState P) (e again : Entry) (entries : List Entry) (reply other : Reply)

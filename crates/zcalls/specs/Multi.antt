@@ -12,8 +12,8 @@ use Rattle.zcalls.specs.Part.{part_step}
 abbrev pub Run : Type 0
 Run = Result (Tree × List PartReply) (ℕ × Refusal)
 
--- the result behind a part that was done: its reply comes first, and a refused part is numbered one
--- higher
+-- the result once one part more was done first: its reply comes first, and a refused part is
+-- numbered one higher
 abbrev pub behind : PartReply → Run → Run
 behind reply (Err (number, refusal)) = Err (number + 1, refusal)
 behind reply (Ok (t, replies)) = Ok (t, reply ∷ replies)

@@ -54,7 +54,7 @@ has_other_version (Exactly version) n = not (n.version == version)
 abbrev pub is_spent : Node → Bool
 is_spent n = nat_lt MAX_COUNTER n.seq
 
--- a kind whose node has just the name that is asked for
+-- a kind whose node has just the requested name
 abbrev pub named : Lifetime → Kind
 named lifetime = record { lifetime = lifetime; is_sequential = false }
 

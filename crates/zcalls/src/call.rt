@@ -5,7 +5,7 @@ use crate::multi::Multi;
 use zpath::Path;
 use ztree::{ClientId, Data, SessionId, Ttl};
 
-/// How long a node that is created stays.
+/// The lifetime of a created node.
 #[derive(Clone, Copy, Debug, PartialEq, Eq)]
 pub enum Lifetime {
     /// Persistent: the node stays until it is deleted.
@@ -13,7 +13,7 @@ pub enum Lifetime {
     /// Persistent with a TTL. A tick removes the node once the TTL since the last write of its data
     /// has passed, if it has no children.
     WithTtl(Ttl),
-    /// Ephemeral: the node belongs to the session with this id, and goes when the session ends.
+    /// Ephemeral: the session with this id owns the node, which is removed when the session ends.
     Ephemeral(SessionId),
 }
 

@@ -149,13 +149,13 @@ pub fn replies_stay_until_the_next<P>()
 {}
 
 /// Over any sequential step and any entries, the sequential state is that of the calls that acted,
-/// in order. An entry may occur any number of times and in any place.
+/// in order. An entry may occur any number of times and at any position.
 pub fn only_acts_count<P>()
     ensures { (step : PlainStep P) → OnlyActsCount step }
 {}
 
 /// Over any sequential step, a call that has a reply has the same one each time, whatever entries
-/// come in between.
+/// are applied in between.
 pub fn same_reply_each_time<P>()
     ensures { (step : PlainStep P) → SameReplyEachTime step }
 {}

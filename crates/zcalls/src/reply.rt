@@ -31,7 +31,7 @@ pub enum Reply {
     Multi(Replies),
     /// A session was opened: its id, and the timeout granted, in ticks.
     Opened(SessionId, u64),
-    /// The session was renewed: it lives for its whole timeout from now.
+    /// The session was renewed: its timeout starts again now.
     Pinged,
     /// The session was closed.
     Closed,

@@ -1,4 +1,4 @@
--- Forms that a first number decides: flags, options, lengths and counts, sums of kinds.
+-- Forms in which a first number decides what follows: flags, options, lengths and counts, and tags.
 use Rattle.std.specs.Prelude.{ℕ, ◌≤◌, List, length, Option, Some, None, Bool, true, false, Result, Ok, Err, nat_lt, ◌==◌, if◌then◌else◌, unwrap_or, is_some}
 use Rattle.std.specs.Option.{option_map}
 use Rattle.std.specs.Int.{w8, w32}
@@ -24,27 +24,27 @@ option c = tagged flag is_some (λ has. either has (some c) (only None))
 
 -- ---- lengths and counts
 
--- a length in four bytes, at most so great
+-- a length in four bytes, at most the limit
 abbrev pub length_from : ℕ → ℕ → Result ℕ Fault
 length_from most n = if nat_lt most n then Err Long else Ok n
 
 abbrev pub at_most : ℕ → Form ℕ
 at_most most = made (number w32) (λ n. n) (length_from most) (λ n. n ≤ most)
 
--- at most so many bytes, behind their length
+-- at most that many bytes, after their length
 abbrev pub sized : ℕ → Form (List ℕ)
 sized most = tagged (at_most most) length exactly
 
--- at most so many values, behind their count
+-- at most that many values, after their count
 abbrev pub listed : {A : Type 0} → ℕ → Form A → Form (List A)
 listed most c = tagged (at_most most) length (times c)
 
--- a length in four bytes, at most so great, or -1 for none
+-- a length in four bytes, at most the limit, or -1 for null
 abbrev pub null_from : ℕ → ℕ → Result (Option ℕ) Fault
 null_from most n =
     if n == NULL then Ok None else if nat_lt most n then Err Long else Ok (Some n)
 
--- none, or a length of at most so much
+-- null, or a length of at most the limit
 abbrev pub FitsNull : ℕ → Option ℕ → Type 0
 FitsNull most None = Unit {0}
 FitsNull most (Some n) = n ≤ most
@@ -52,16 +52,16 @@ FitsNull most (Some n) = n ≤ most
 abbrev pub null_or : ℕ → Form (Option ℕ)
 null_or most = made (number w32) (λ o. unwrap_or o NULL) (null_from most) (FitsNull most)
 
--- none where the length is -1
+-- null if the length is -1, else the form for that length
 abbrev pub unless_null : {A : Type 0} → (ℕ → Form A) → Option ℕ → Form (Option A)
 unless_null body None = only None
 unless_null body (Some n) = some (body n)
 
--- at most so many bytes behind their length, or none
+-- at most that many bytes after their length, or null
 abbrev pub buffer : ℕ → Form (Option (List ℕ))
 buffer most = tagged (null_or most) (option_map length) (unless_null exactly)
 
--- at most so many values behind their count, or none
+-- at most that many values after their count, or null
 abbrev pub listed_or_null : {A : Type 0} → ℕ → Form A → Form (Option (List A))
 listed_or_null most c = tagged (null_or most) (option_map length) (unless_null (times c))
 

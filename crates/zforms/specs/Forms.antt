@@ -1,4 +1,4 @@
--- Forms: how a value is spelled in bytes, and how it is read from them.
+-- Forms: how a value is encoded in bytes, and how it is read from them.
 use Rattle.std.specs.Prelude.{◌≡◌, ℕ, zero, suc, ◌<◌, ◌^◌, Bool, true, false, List, [], ◌∷◌, ◌++◌, length, take, drop, Option, Result, Ok, Err, nat_lt, if◌then◌else◌}
 use Rattle.std.specs.Option.{IsSomeAnd, option_map_or}
 use Rattle.std.specs.List.{AllByRecursion, flat_map}
@@ -6,13 +6,13 @@ use Rattle.std.specs.Int.{Width, byte_len, from_be_bytes, to_be_bytes}
 use Rattle.zforms.specs.declared.fault.Fault.{Fault}
 use Rattle.zforms.specs.declared.fault.Fault.TheVariants.{Short, Invalid}
 
--- how a value is spelled, how it is read with what follows it, and which values have a spelling
+-- how a value is encoded, how it is read with the rest, and which values fit
 pub record Form (A : Type 0) : Type 1 where
   pub spell : A → List ℕ
   pub read : List ℕ → Result (A × List ℕ) Fault
   pub Fits : A → Type 0
 
--- go on with what was read; a fault ends the reading
+-- continues with what was read; a fault ends the reading
 infixl 10 ◌>>=◌
 abbrev pub ◌>>=◌ : {A B : Type 0} → Result A Fault → (A → Result B Fault) → Result B Fault
 (Ok x) >>= next = next x
@@ -20,21 +20,21 @@ abbrev pub ◌>>=◌ : {A B : Type 0} → Result A Fault → (A → Result B Fau
 
 -- ---- without parts
 
--- so many bytes, and what follows them
+-- the first n bytes, and the rest
 abbrev pub bytes_at : ℕ → List ℕ → Result (List ℕ × List ℕ) Fault
 bytes_at n bytes = if nat_lt (length bytes) n then Err Short else Ok (take n bytes, drop n bytes)
 
--- exactly so many bytes
+-- exactly n bytes
 abbrev pub exactly : ℕ → Form (List ℕ)
 exactly n =
     record { spell = λ bytes. bytes; read = bytes_at n; Fits = λ bytes. length bytes ≡ n }
 
--- the number that the first bytes are, and what follows it
+-- the number in the first bytes, and the rest
 unfoldable pub number_at : Width → List ℕ → Result (ℕ × List ℕ) Fault
 number_at w bytes =
     bytes_at (byte_len w) bytes >>= λ front. Ok (from_be_bytes w front.0, front.1)
 
--- a number in so many bytes, the highest byte first
+-- a number of a fixed width, the highest byte first
 abbrev pub number : Width → Form ℕ
 number w =
     record { spell = to_be_bytes w; read = number_at w; Fits = λ n. n < 256 ^ byte_len w }
@@ -47,7 +47,7 @@ only x = record { spell = λ _. []; read = λ bytes. Ok (x, bytes); Fits = λ y.
 abbrev pub empty : Form (Unit {0})
 empty = only tt
 
--- what no value is spelled as
+-- the form without any encoding: reading always fails
 abbrev pub invalid : {A : Type 0} → Form A
 invalid = record { spell = λ _. []; read = λ _. Err Invalid; Fits = λ _. ⊥ }
 
@@ -67,7 +67,7 @@ both c d =
       Fits = λ x. c.Fits x.0 × d.Fits x.1;
     }
 
--- a value that is made of another, or found to be none
+-- a value converted from another one; the conversion may fail with a fault
 abbrev pub made : {A B : Type 0} → Form A → (B → A) → (A → Result B Fault) → (B → Type 0) → Form B
 made c to from Fits =
     record {
@@ -76,7 +76,7 @@ made c to from Fits =
       Fits = Fits;
     }
 
--- a tag, and then the value in the form that its tag tells
+-- a tag, and then the value in the form for that tag
 abbrev pub tagged : {T A : Type 0} → Form T → (A → T) → (T → Form A) → Form A
 tagged tag tag_of body =
     record {
@@ -85,7 +85,7 @@ tagged tag tag_of body =
       Fits = λ x. tag.Fits (tag_of x) × (body (tag_of x)).Fits x;
     }
 
--- one of several kinds of value: `parts` has what a value of this kind is made of
+-- one of several kinds of value: `parts` returns the contents of a value of this kind
 abbrev pub kind : {A B : Type 0} → Form A → (A → B) → (B → Option A) → Form B
 kind c into parts =
     record {
@@ -94,7 +94,7 @@ kind c into parts =
       Fits = λ y. IsSomeAnd (parts y) c.Fits;
     }
 
--- so many values of one form, in sequence
+-- n values of one form, in sequence
 abbrev pub read_times : {A : Type 0} → Form A → ℕ → List ℕ → Result (List A × List ℕ) Fault
 read_times c zero bytes = Ok ([], bytes)
 read_times c (suc n) bytes =

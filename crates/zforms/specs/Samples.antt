@@ -25,19 +25,19 @@ abbrev pub told_tag : Told → ℕ
 told_tag (Word n) = 1
 told_tag (Text bytes) = 5
 
--- a byte tells which it is
+-- the first byte says which of the two it is
 abbrev pub told : Form Told
 told =
     tagged (number w8) told_tag
     (at 1 (kind (number w32) Word word_parts)
     (at 5 (kind (sized 3) Text text_parts) (λ _. invalid)))
 
--- no form: it skips a byte
+-- not a form: it skips a byte
 abbrev pub skips : Form (Unit {0})
 skips =
     record { spell = λ _. []; read = λ _. Ok (tt, []); Fits = λ _. Unit {0} }
 
--- no form: it can't be read again
+-- not a form: its encoding can't be read back
 abbrev pub forgets : Form ℕ
 forgets =
     record { spell = λ _. []; read = λ bytes. Ok (0, bytes); Fits = λ _. Unit {0} }

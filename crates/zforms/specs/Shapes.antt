@@ -5,7 +5,7 @@ use Rattle.zforms.specs.declared.limits.TheConstants.{NULL}
 use Rattle.zforms.specs.Forms.{Form, number, exactly, empty, invalid, both, tagged, kind}
 use Rattle.zforms.specs.Choices.{flag, option, sized, listed, buffer, listed_or_null, at}
 
--- numbers, a flag, bytes, nothing; pairs, options and lists of shapes; one of two, by their tags
+-- numbers, a flag, bytes, nothing; pairs, options and lists of shapes; a choice of two, by tag
 pub data Shape : Type 0 where
   U8 : Shape
   U32 : Shape
@@ -21,12 +21,12 @@ pub data Shape : Type 0 where
   ListedOrNull : ℕ → Shape → Shape
   OneOf : ℕ → Shape → ℕ → Shape → Shape
 
--- one of two
+-- a choice of two
 pub data Side (A B : Type 0) : Type 0 where
   Left : A → Side A B
   Right : B → Side A B
 
--- what is spelled in a shape
+-- the values of a shape
 abbrev pub Value : Shape → Type 0
 Value U8 = ℕ
 Value U32 = ℕ
@@ -43,7 +43,7 @@ Value (ListedOrNull most s) = Option (List (Value s))
 Value (OneOf k s l t) = Side (Value s) (Value t)
 
 module _ {A B : Type 0} where
-  -- what each is made of
+  -- the contents of each side
   abbrev pub left_parts : Side A B → Option A
   left_parts (Left x) = Some x
   left_parts (Right y) = None
@@ -52,12 +52,12 @@ module _ {A B : Type 0} where
   right_parts (Left x) = None
   right_parts (Right y) = Some y
 
-  -- its tag
+  -- the tag of a side
   abbrev pub side_tag : ℕ → ℕ → Side A B → ℕ
   side_tag k l (Left x) = k
   side_tag k l (Right y) = l
 
-  -- one of two, behind its tag
+  -- one of two, after its tag
   abbrev pub one_of : ℕ → Form A → ℕ → Form B → Form (Side A B)
   one_of k c l d =
       tagged (number w32) (side_tag k l)
@@ -79,7 +79,7 @@ form_of (Listed most s) = listed most (form_of s)
 form_of (ListedOrNull most s) = listed_or_null most (form_of s)
 form_of (OneOf k s l t) = one_of k (form_of s) l (form_of t)
 
--- each limit of a length fits into its four bytes
+-- each limit of a length fits in four bytes
 abbrev pub HasRoom : Shape → Type 0
 HasRoom (Sized most) = most < 2 ^ 32
 HasRoom (Buffer most) = most < NULL

@@ -1,4 +1,4 @@
-//! Why bytes don't spell a value.
+//! Why bytes don't encode a value.
 
 ghost use Rattle.std.specs.Prelude.{◌≡◌};
 ghost use Rattle.zforms.specs.declared.fault.ReadError.TheVariants.{Memory, Fault as OfFault};
@@ -12,7 +12,8 @@ pub enum Fault {
     /// The bytes end before the value does.
     #[error("the bytes end too early")]
     Short,
-    /// A length or a count is above its limit. A negative one is, but for the -1 of none.
+    /// A length or a count is above its limit. Read as unsigned, a negative one is above every
+    /// limit; -1 alone may mean null.
     #[error("a length is above its limit")]
     Long,
     /// A field has a value that it can't have, such as a flag of 2 or an unknown tag.
@@ -26,7 +27,7 @@ pub enum Fault {
 /// Why no value was read.
 #[derive(Clone, Copy, Debug, PartialEq, Eq, Error)]
 pub enum ReadError {
-    /// The bytes don't spell a value.
+    /// The bytes don't encode a value.
     #[error("{0}")]
     Fault(Fault),
     /// Out of memory. It says nothing about the bytes.

@@ -2,18 +2,19 @@
 
 ghost use Rattle.zforms.specs.Laws.{AreForms, SpellsApart, WholeIsSpelled, SpelledIsWhole};
 
-/// What is read was spelled so and fits. What fits and is spelled is read, with what follows it.
-/// This holds of every form that is composed of numbers, flags and bytes.
+/// Reading and encoding are inverse, for every form composed of numbers, flags and bytes. A value
+/// that was read fits and has the bytes as its encoding. The encoding of a value that fits is read
+/// back, with the rest.
 pub fn composed_forms_are_lawful()
     ensures { AreForms }
 {}
 
-/// Two values that fit don't share a text.
+/// Two values that fit have different encodings.
 pub fn texts_tell_apart()
     ensures { SpellsApart }
 {}
 
-/// All of the bytes are read as a value exactly when they are its text and it fits.
+/// All bytes are read as a value exactly when they are its encoding and the value fits.
 pub fn the_whole_is_read()
     ensures spelled { WholeIsSpelled }
     ensures again { SpelledIsWhole }

@@ -1,15 +1,19 @@
-//! Forms of values in bytes.
+//! Binary encodings of values, composed from smaller ones.
 //!
-//! A form says how a value is spelled, how it is read with what follows it, and which values have
-//! a spelling. Forms are made of forms, and so are the proofs of their laws.
+//! The lowest crate of the wing "bytes". Above it, `zjute` has the records of ZooKeeper's client
+//! protocol (jute).
 //!
-//! The definitions: `specs/Forms.antt` (forms, and what they are made of), `specs/Choices.antt`
-//! (forms that a first number decides), `specs/Readers.antt` (what a reader returns),
-//! `specs/Laws.antt` (what a form owes).
+//! A form says how a value is encoded, how it is read from the front of bytes, and which values
+//! fit. The readers consume bytes and produce a value and the rest, or the first fault. The writers
+//! append an encoding to a vector.
 //!
-//! A crate above states its own forms in the same ways, and proves their laws in one to four lines
-//! each by the lemmas in `proofs/`: `Numbers`, `Parts`, `Times`, `Choices`, `Sums` and `Whole`.
-//! `proofs/Loops.antt` has the lemmas for a loop that reads a list.
+//! The definitions: `specs/Forms.antt` (forms, and how they are composed), `specs/Choices.antt`
+//! (flags, options, lengths and tags), `specs/Readers.antt` (what a reader returns),
+//! `specs/Laws.antt` (what a form must satisfy).
+//!
+//! A crate above composes its own forms and proves their laws, in one to four lines each. The
+//! lemmas are in `proofs/`: `Numbers`, `Parts`, `Times`, `Choices`, `Sums` and `Whole`.
+//! `proofs/Loops.antt` has those for a loop that reads a list.
 #![tactic(auto)]
 
 mod fault;

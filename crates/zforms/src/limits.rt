@@ -1,4 +1,4 @@
-//! The number that stands for none.
+//! The length that represents null.
 
-/// The length -1, which stands for none: four bytes of 255.
+/// The length -1, which represents null: four bytes of 255.
 pub const NULL: u32 = 0xFFFF_FFFF;

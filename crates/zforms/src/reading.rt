@@ -1,4 +1,4 @@
-//! Values, read from the front of bytes with what follows them.
+//! Readers: each takes a value from the front of the bytes and returns it with the rest.
 //!
 //! A reader returns exactly what its form reads, or the form's fault.
 
@@ -75,7 +75,7 @@ pub fn length_at(most: u32, bytes: &[u8]) -> Result<(u32, &[u8]), Fault>
     Ok((len, rest))
 }
 
-/// A length or a count in four bytes, at most `most`, or none where it is `NULL`.
+/// A length or a count in four bytes, at most `most`; or `None` if it is `NULL`.
 pub fn length_or_null_at(most: u32, bytes: &[u8]) -> Result<(Option<u32>, &[u8]), Fault>
     ensures { Reads (λ x. (x.0, x.1.now)) result ((null_or most).read bytes.now) }
 {
@@ -87,7 +87,7 @@ pub fn length_or_null_at(most: u32, bytes: &[u8]) -> Result<(Option<u32>, &[u8])
     }
 }
 
-/// At most `most` bytes, behind their length in four bytes.
+/// At most `most` bytes, after their length in four bytes.
 pub fn sized_at(most: u32, bytes: &[u8]) -> Result<(&[u8], &[u8]), Fault>
     ensures { Reads (λ x. (x.0.now, x.1.now)) result ((sized most).read bytes.now) }
 {
@@ -95,7 +95,7 @@ pub fn sized_at(most: u32, bytes: &[u8]) -> Result<(&[u8], &[u8]), Fault>
     exactly_at(len as usize, rest)
 }
 
-/// At most `most` bytes behind their length in four bytes, or none where that is `NULL`.
+/// At most `most` bytes after their length in four bytes; or `None` if the length is `NULL`.
 pub fn buffer_at(most: u32, bytes: &[u8]) -> Result<(Option<&[u8]>, &[u8]), Fault>
     ensures { Reads (λ x. (option_map (λ text. text.now) x.0, x.1.now)) result
         ((buffer most).read bytes.now) }
@@ -110,7 +110,7 @@ pub fn buffer_at(most: u32, bytes: &[u8]) -> Result<(Option<&[u8]>, &[u8]), Faul
     }
 }
 
-/// The end: no bytes are left.
+/// The end: no bytes remain.
 pub fn end(bytes: &[u8]) -> Result<(), Fault>
     ensures { Reads (λ x. x) result (ended tt bytes.now) }
 {

@@ -25,7 +25,7 @@ pub fn numbers()
     ensures too_great { (number w8).Fits 256 → ⊥ }
 {}
 
-/// So many bytes.
+/// A fixed number of bytes.
 pub fn so_many_bytes()
     ensures spelled { (exactly 2).spell (7 ∷ 8 ∷ []) ≡ 7 ∷ 8 ∷ [] }
     ensures read { (exactly 2).read (7 ∷ 8 ∷ 9 ∷ []) ≡ Ok (7 ∷ 8 ∷ [], 9 ∷ []) }
@@ -33,7 +33,7 @@ pub fn so_many_bytes()
     ensures too_few { (exactly 2).Fits (7 ∷ []) → ⊥ }
 {}
 
-/// No bytes, for one value or for none.
+/// Encodings without bytes: of one value, and of no value.
 pub fn no_bytes()
     ensures spelled { empty.spell tt ≡ [] }
     ensures read { empty.read (9 ∷ []) ≡ Ok (tt, 9 ∷ []) }
@@ -53,7 +53,7 @@ pub fn flags()
     ensures short { flag.read [] ≡ Err Short }
 {}
 
-/// Bytes behind their length.
+/// Bytes after their length.
 #[tactic(auto, unfolding(crate::specs::Forms::number_at))]
 pub fn sized_bytes()
     ensures spelled { (sized 3).spell (7 ∷ 8 ∷ []) ≡ 0 ∷ 0 ∷ 0 ∷ 2 ∷ 7 ∷ 8 ∷ [] }
@@ -63,7 +63,7 @@ pub fn sized_bytes()
     ensures too_many { (sized 1).Fits (7 ∷ 8 ∷ []) → ⊥ }
 {}
 
-/// Bytes behind their length, or none. The length -2 is too long.
+/// Bytes after their length, or null. The length -2 is above the limit.
 #[tactic(auto, unfolding(crate::specs::Forms::number_at))]
 pub fn buffers()
     ensures none { (buffer 3).spell None ≡ null }
@@ -76,7 +76,7 @@ pub fn buffers()
     ensures too_many { (buffer 1).Fits (Some (7 ∷ 8 ∷ [])) → ⊥ }
 {}
 
-/// One value and then another: the first fault is the one on the left.
+/// One value and then another: the leftmost fault is returned.
 #[tactic(auto, unfolding(crate::specs::Forms::number_at))]
 pub fn pairs()
     ensures spelled { (both (number w8) flag).spell (7, true) ≡ 7 ∷ 1 ∷ [] }
@@ -86,7 +86,7 @@ pub fn pairs()
     ensures too_great { (both (number w8) flag).Fits (256, true) → ⊥ }
 {}
 
-/// A flag, and the value where it is set.
+/// A flag, and the value if it is set.
 #[tactic(auto, unfolding(crate::specs::Forms::number_at))]
 pub fn options()
     ensures none { (option flag).spell None ≡ 0 ∷ [] }
@@ -96,7 +96,7 @@ pub fn options()
     ensures no_tag { (option flag).read (2 ∷ 1 ∷ []) ≡ Err Invalid }
 {}
 
-/// Values behind their count, or none.
+/// Values after their count, or null.
 #[tactic(auto, unfolding(crate::specs::Forms::number_at))]
 pub fn lists()
     ensures spelled { (listed 3 flag).spell (true ∷ false ∷ []) ≡ 0 ∷ 0 ∷ 0 ∷ 2 ∷ 1 ∷ 0 ∷ [] }
@@ -113,7 +113,7 @@ pub fn lists()
         ≡ Ok (Some (true ∷ []), 9 ∷ []) }
 {}
 
-/// A tag tells which kind of value follows.
+/// A tag says which kind of value follows.
 #[tactic(auto, unfolding(crate::specs::Forms::number_at))]
 pub fn kinds()
     ensures word { told.spell (Word 258) ≡ 1 ∷ 0 ∷ 0 ∷ 1 ∷ 2 ∷ [] }
@@ -152,7 +152,7 @@ pub fn readers()
     ensures fault { Gives {X = ℕ} {Y = ℕ} (λ n. n) (Err (OfFault Short)) (Err Long) → ⊥ }
 {}
 
-/// What is no form, no byte, and no limit.
+/// What isn't a form, a byte or a limit.
 pub fn unlawful()
     ensures skips { IsForm skips → ⊥ }
     ensures forgets { IsForm forgets → ⊥ }

@@ -1,6 +1,6 @@
-//! Values, written at the end of bytes.
+//! Writers: each appends an encoding to a vector.
 //!
-//! A writer fails only where memory runs out. Then it leaves the bytes as they were.
+//! A writer fails only if memory runs out, and then leaves the vector as it was.
 
 ghost use Rattle.std.specs.Prelude.{◌≡◌, ◌<◌, ◌^◌, ◌-◌, ◌++◌, length, OnOk, OnErr};
 ghost use Rattle.std.specs.Int.{w8, w32, w64};
@@ -46,7 +46,7 @@ pub fn put_flag(out: &mut Vec<u8>, value: bool) -> Result<(), AllocError>
     put_u8(out, if value { 1 } else { 0 })
 }
 
-/// Bytes, behind their length in four bytes.
+/// Bytes, after their length in four bytes.
 pub fn put_sized(out: &mut Vec<u8>, bytes: &[u8]) -> Result<(), AllocError>
     requires { length bytes.now < 2 ^ 32 }
     ensures ok { OnOk result
@@ -62,7 +62,7 @@ pub fn put_sized(out: &mut Vec<u8>, bytes: &[u8]) -> Result<(), AllocError>
     Ok(())
 }
 
-/// Bytes behind their length in four bytes, or `NULL` for none.
+/// Bytes after their length in four bytes, or `NULL` for `None`.
 pub fn put_buffer(out: &mut Vec<u8>, bytes: Option<&[u8]>) -> Result<(), AllocError>
     requires { FitsNull (2 ^ 32 - 2) (option_map (λ text. length text.now) bytes) }
     ensures ok { OnOk result (out.new.items ≡ out.old.items

@@ -11,7 +11,7 @@ use Rattle.zpath.specs.Grammar.{is_empty, is_dots, has_bad_byte, is_long, is_lon
 abbrev pub parts_of : List ℕ → List (List ℕ)
 parts_of bytes = slice_split (λ byte. byte == 47) bytes
 
--- the names in a text after its leading slash: none where nothing follows it
+-- the names in a text after its leading slash; empty if nothing follows the slash
 abbrev pub names_of : List ℕ → List (List ℕ)
 names_of [] = []
 names_of (slash ∷ []) = []

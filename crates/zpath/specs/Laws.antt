@@ -1,4 +1,4 @@
--- Laws of the definitions: they let a text and its path stand for each other.
+-- Laws of the definitions: texts without a fault and paths correspond one to one.
 use Rattle.std.specs.Prelude.{◌≡◌, ◌≢◌, ◌↔◌, ℕ, ◌<◌, ◌^◌, false, List, [], None}
 use Rattle.zpath.specs.declared.limits.TheConstants.{COUNTER_DIGITS}
 use Rattle.zpath.specs.Grammar.{IsPath, text_of, IsTextOfPath}
@@ -14,7 +14,7 @@ abbrev pub IsFaultless : Type 0
 IsFaultless = (text : List ℕ) → (fault_of text ≡ None) ↔ IsTextOfPath text
 
 -- Two paths below the root that end with different counters are different paths, whatever names
--- were asked for. The counters must have at most `COUNTER_DIGITS` digits.
+-- were requested. The counters must have at most `COUNTER_DIGITS` digits.
 abbrev pub TellsNumbersApart : Type 0
 TellsNumbersApart =
     (left right : List (List ℕ)) (a b : ℕ) → left ≢ [] → right ≢ [] → a < 10 ^ COUNTER_DIGITS → b < 10 ^ COUNTER_DIGITS →

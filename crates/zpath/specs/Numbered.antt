@@ -1,5 +1,5 @@
--- The path of a sequential node: a counter's digits are appended to the last name that was asked
--- for. The source is the ZooKeeper Programmer's Guide, section "Sequence Nodes -- Unique Naming".
+-- The path of a sequential node: a counter's digits are appended to the last name of the requested
+-- path. The source is the ZooKeeper Programmer's Guide, section "Sequence Nodes -- Unique Naming".
 -- The limits, and the order of the faults, are those of every path.
 use Rattle.std.specs.Prelude.{◌≡◌, ◌⊎◌, ℕ, zero, suc, ◌+◌, ◌/◌, ◌%◌, Bool, true, ◌||◌, List, [], ◌∷◌, ◌++◌, Option}
 use Rattle.std.specs.List.{list_any}
@@ -14,8 +14,8 @@ abbrev pub digits : ℕ → ℕ → List ℕ
 digits zero number = []
 digits (suc width) number = digits width (number / 10) ++ (48 + number % 10) ∷ []
 
--- the path with a counter's digits appended to its last name (the root stays the root; nobody asks
--- for that)
+-- the path with a counter's digits appended to its last name; the root, which no caller numbers, is
+-- left as it is
 abbrev pub numbered_path : List (List ℕ) → ℕ → List (List ℕ)
 numbered_path [] counter = []
 numbered_path (name ∷ []) counter = (name ++ digits COUNTER_DIGITS counter) ∷ []

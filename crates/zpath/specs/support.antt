@@ -1,4 +1,4 @@
--- What serves the proofs alone: nobody has to believe it.
+-- Lemmas and definitions for the proofs alone; no contract rests on them.
 pub mod Plain
 pub mod Texts
 pub mod Lists

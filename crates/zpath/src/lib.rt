@@ -1,7 +1,7 @@
 //! Absolute paths in a tree of named nodes.
 //!
-//! A text is parsed into a `Path`, or into the first fault of the text. A path is displayed as the
-//! one text that parses to it.
+//! Consumes texts and produces paths: `Path::parse` returns the `Path`, or the first fault of the
+//! text. A path is displayed as the one text that parses to it.
 //!
 //! The definitions: `specs/Grammar.antt` (what a path is), `specs/Faults.antt` (which fault a text
 //! has), `specs/Numbered.antt` (how a sequential node is named). Contracts see a `Name` as its

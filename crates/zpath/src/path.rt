@@ -24,9 +24,8 @@ use zalloc::Memory;
 
 /// An absolute path: the names from the root down.
 ///
-/// Paths are ordered name by name, so a path comes right before those below it.
-// The names stand in a list that is shared: the copies of a path have the same list, and its
-// ancestors show fewer names of it. The root has no list.
+/// Paths are ordered name by name, so a path comes directly before its descendants.
+// Copies share one list of names, and an ancestor shows a prefix of it. The root has no list.
 #[derive(Debug, Drop)]
 pub struct Path {
     list: Option<Arc<NameList>>,

@@ -69,7 +69,7 @@ fn is_reserved(rest: &str) -> bool
     }
 }
 
-// Returns the first fault of a text that goes on after its first slash.
+// Returns the first fault of a text that continues after its first slash.
 #[tactic(auto, unfolding(crate::specs::Faults::fault_of))]
 fn names_fault(text: &str, rest: &str) -> Option<PathFault>
     requires text { text.now ≡ 47 ∷ rest.now }

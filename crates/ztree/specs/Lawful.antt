@@ -22,7 +22,7 @@ AllSessions P sessions = (id : ℕ) (s : Session) → get sessions id ≡ Some s
 abbrev pub IsPersistent : Option Node → Type 0
 IsPersistent found = (n : Node) × (found ≡ Some n) × (n.owner ≡ 0)
 
--- the owner is 0 (nobody) or a live session
+-- the owner is 0 (no owner) or a live session
 abbrev pub IsOwner : Sessions → ℕ → Type 0
 IsOwner sessions owner = (owner ≡ 0) ⊎ IsSome (get sessions owner)
 
@@ -34,7 +34,8 @@ HasOneEnd n = (n.ttl ≡ 0) ⊎ (n.owner ≡ 0)
 abbrev pub Stays : Option Node → Type 0
 Stays found = (n : Node) → found ≡ Some n → n.ttl ≡ 0
 
--- The lawful tree. Here the root is its own parent, and 0 means nobody: it is no session's id.
+-- The lawful tree. Here the root is its own parent, and owner 0 means no owner: it is no session's
+-- id.
 pub record IsLawful (t : Tree) : Type 0 where
   pub root : IsPersistent (get t.nodes [])
   pub root_stays : Stays (get t.nodes [])

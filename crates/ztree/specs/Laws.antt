@@ -1,4 +1,4 @@
--- Laws on paths and nodes: they say what the words of the other definitions mean.
+-- Laws on paths and nodes: they say what the other definitions mean.
 use Rattle.std.specs.Prelude.{◌≡◌, ℕ, false, Bool, List, [], ◌∷◌, ◌++◌, ◌==◌}
 use Rattle.std.specs.List.{list_any}
 use Rattle.std.specs.Option.{option_map_or}

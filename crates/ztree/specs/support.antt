@@ -1,4 +1,4 @@
--- What serves proofs alone.
+-- Definitions for the proofs alone.
 pub mod Codes
 pub mod Samples
 pub mod Shared

@@ -5,8 +5,8 @@ ghost use Rattle.ztree.specs.declared.limits.TheConstants.{ZXID_BOUND};
 
 use std::marker::Model;
 
-/// The zxid: the number of a change, counted from 1; 0 stands before the first change. The source
-/// is the ZooKeeper Programmer's Guide, "Time in ZooKeeper". A plain counter is this project's
+/// The zxid: the number of a change, counted from 1; 0 is before the first change. The source is
+/// the ZooKeeper Programmer's Guide, "Time in ZooKeeper". A plain counter is this project's
 /// profile.
 #[derive(Clone, Copy, Debug, PartialEq, Eq, PartialOrd, Ord)]
 pub struct Zxid {
