@@ -1,5 +1,5 @@
--- A request: the number by which its client knows the reply, its kind, and what the kind asks
--- (`RequestHeader` of zookeeper.jute, and the record behind it).
+-- A request: the number by which its client matches the reply, its kind, and the record of that
+-- kind (`RequestHeader` of zookeeper.jute, and the record after it).
 use Rattle.std.specs.Prelude.{◌≡◌, ℤ, pos, ℕ, List, [], ◌∷◌, Result, Ok, unwrap_or}
 use Rattle.zforms.specs.declared.fault.Fault.{Fault}
 use Rattle.zforms.specs.Forms.{Form, both, made, empty}
@@ -40,7 +40,7 @@ op_number op.AddWatch = pos 106
 op_number op.CloseSession = neg 11
 op_number (op.Other n) = n
 
--- the kinds that have a number of their own
+-- the kinds from 21 on, and below 0
 unfoldable pub late_ops : List Op
 late_ops =
     op.CreateTtl ∷ op.MultiRead ∷ op.Auth ∷ op.SetWatches ∷ op.SetWatches2 ∷ op.AddWatch ∷
@@ -56,22 +56,22 @@ ops =
     op.Create ∷ op.Delete ∷ op.Exists ∷ op.GetData ∷ op.SetData ∷ op.GetAcl ∷ op.SetAcl ∷
     op.GetChildren ∷ middle_ops
 
--- the kind of a number, of these kinds
+-- the kind with this number, among these
 abbrev pub op_among : List Op → ℤ → Op
 op_among kinds n = unwrap_or (with_number op_number kinds n) (op.Other n)
 
--- the kind of a number
+-- the kind with this number
 unfoldable pub op_of : ℤ → Op
 op_of = op_among ops
 
--- a kind by its number; `Other` has a number that no kind has
+-- the kind is found by its number; the number of `Other` isn't that of another kind
 abbrev pub FitsOp : Op → Type 0
 FitsOp o = int.Fits (op_number o) × (op_of (op_number o) ≡ o)
 
 abbrev pub op_form : Form Op
 op_form = made int op_number (λ n. Ok (op_of n)) FitsOp
 
--- what stands behind the number of each kind
+-- the record after the number of each kind
 unfoldable pub asked_at : Op → List ℕ → Result (Asked × List ℕ) Fault
 asked_at op.Create = read_as create (λ x. asks.Create x)
 asked_at op.Delete = read_as at_version (λ x. asks.Delete x)

@@ -62,7 +62,7 @@ codes =
     code.ConnectionLoss ∷ code.MarshallingError ∷ code.Unimplemented ∷ code.OperationTimeout ∷
     middle_codes
 
--- the code of a number, if there is one
+-- the code with this number, if there is one
 unfoldable pub code_of : ℤ → Option Code
 code_of = with_number code_number codes
 

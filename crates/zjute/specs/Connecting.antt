@@ -1,5 +1,5 @@
--- The first frame of a connection, and its answer. The last byte of each may be left out: clients
--- before 3.4 have none.
+-- The first frame of a connection, and the response. The last byte of each may be missing: clients
+-- before 3.4 don't have it.
 use Rattle.std.specs.Prelude.{ℕ, List, [], ◌∷◌, Bool, Option, Some, None, Result, Ok}
 use Rattle.zforms.specs.declared.fault.Fault.{Fault}
 use Rattle.zforms.specs.Forms.{Form, both, ◌>>=◌}
@@ -14,7 +14,7 @@ abbrev pub flag_if_any : Option Bool → List ℕ
 flag_if_any None = []
 flag_if_any (Some b) = flag.spell b
 
--- nothing where the bytes end, and else a flag
+-- nothing if the bytes end, else a flag
 abbrev pub flag_or_end : List ℕ → Result (Option Bool × List ℕ) Fault
 flag_or_end [] = Ok (None, [])
 flag_or_end (byte ∷ bytes) = flag.read (byte ∷ bytes) >>= λ x. Ok (Some x.0, x.1)

@@ -1,4 +1,4 @@
--- What is told to a watch (`WatcherEvent` of zookeeper.jute).
+-- The events of watches (`WatcherEvent` of zookeeper.jute).
 use Rattle.std.specs.Prelude.{ℤ, pos, ℕ, List, ◌++◌}
 use Rattle.zjute.specs.declared.event.EventKind.{EventKind}
 use Rattle.zjute.specs.declared.event.EventKind.TheVariants as kind
@@ -34,6 +34,6 @@ abbrev pub watcher_event : WatcherEvent → List ℕ
 watcher_event e =
     int.spell (event_number e.kind) ++ (int.spell (state_number e.state) ++ text.spell e.path)
 
--- an event behind its header, which has the xid -1
+-- an event after its header, which has the xid -1
 unfoldable pub event_text : ℤ → WatcherEvent → List ℕ
 event_text zxid e = header_text (neg 1) zxid code.Ok ++ watcher_event e

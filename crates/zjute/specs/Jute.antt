@@ -13,7 +13,7 @@ use Rattle.zjute.specs.declared.limits.TheConstants.{MAX_FRAME}
 abbrev pub neg : ℕ → ℤ
 neg n = neg_ℤ (pos n)
 
--- a signed number: one below 0 is spelled as the number that is greater by 2 ^ 32, or by 2 ^ 64
+-- a signed number in two's complement: a negative one is encoded as itself plus 2 ^ 32, or 2 ^ 64
 abbrev pub signed : Width → Form ℤ
 signed w = made (number w) (cast_unsigned w) (λ n. Ok (cast_signed w n)) (FitsSigned w)
 
@@ -25,7 +25,7 @@ int = signed w32
 unfoldable pub long : Form ℤ
 long = signed w64
 
--- `buffer`, and `ustring`, which is spelled alike: a length of -1 stands for null
+-- `buffer`, and `ustring`, which has the same encoding; a length of -1 means null
 unfoldable pub buffer : Form (Option (List ℕ))
 buffer = forms.buffer MAX_FRAME
 
@@ -37,7 +37,7 @@ text = sized MAX_FRAME
 unfoldable pub texts : Form (List (List ℕ))
 texts = listed MAX_FRAME text
 
--- all of the bytes that are left
+-- all remaining bytes
 unfoldable pub left : Form (List ℕ)
 left =
     record {

@@ -7,17 +7,17 @@ use Rattle.zjute.specs.Asking.{request}
 use Rattle.zjute.specs.Connecting.{connect_request}
 use Rattle.zjute.specs.Stats.{stat}
 
--- no two requests share their bytes
+-- two different requests have different bytes
 abbrev pub RequestsAreToldApart : Type 0
 RequestsAreToldApart =
     (x y : Request) → request.Fits x → request.Fits y → request.spell x ≡ request.spell y → x ≡ y
 
--- no two first frames share their bytes
+-- two different first frames have different bytes
 abbrev pub GreetingsAreToldApart : Type 0
 GreetingsAreToldApart =
     (x y : ConnectRequest) → connect_request.Fits x → connect_request.Fits y →
     connect_request.spell x ≡ connect_request.spell y → x ≡ y
 
--- no two stats share their bytes
+-- two different stats have different bytes
 abbrev pub StatsAreToldApart : Type 0
 StatsAreToldApart = (x y : Stat) → stat.Fits x → stat.Fits y → stat.spell x ≡ stat.spell y → x ≡ y

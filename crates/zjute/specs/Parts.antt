@@ -1,5 +1,5 @@
--- The parts of a multi and of a multiRead. Each stands behind a `MultiHeader` with its kind, and a
--- last header ends them (`MultiTransactionRecord`).
+-- The parts of a multi and of a multiRead. Each is after a `MultiHeader` with its kind, and a last
+-- header ends them (`MultiTransactionRecord`).
 use Rattle.std.specs.Prelude.{◌≡◌, ℤ, pos, ℕ, List, [], ◌∷◌, Bool, true, false, Option, Some, None, Result, Ok, Err, if◌then◌else◌}
 use Rattle.std.specs.Ordering.{int_eq}
 use Rattle.zforms.specs.declared.fault.Fault.{Fault}
@@ -20,7 +20,7 @@ use Rattle.zjute.specs.Requests.{create, create_ttl, at_version, look, set_data}
 
 -- ---- headers
 
--- `MultiHeader`: a number, whether it is the end, and an error code
+-- `MultiHeader`: the number of the kind, whether it is the end, and an error code
 abbrev pub Header : Type 0
 Header = ℤ × (Bool × ℤ)
 
@@ -31,7 +31,7 @@ header_fields = both int (both flag int)
 abbrev pub end_header : Header
 end_header = (neg 1, (true, neg 1))
 
--- in front of a part in a request; its code says nothing yet
+-- the header before a part in a request; its code is -1
 abbrev pub header_of : {K : Type 0} → (K → ℤ) → Option K → Header
 header_of number None = end_header
 header_of number (Some kind) = (number kind, (false, neg 1))
@@ -44,7 +44,7 @@ kind_at of n false = or_invalid (of n) >>= λ kind. Ok (Some kind)
 abbrev pub header_kind : {K : Type 0} → (ℤ → Option K) → Header → Result (Option K) Fault
 header_kind of h = if int_eq h.1.1 (neg 1) then kind_at of h.0 h.1.0 else Err Invalid
 
--- a kind that its number stands for
+-- the kind is found by its number
 abbrev pub FitsKind : {K : Type 0} → (K → ℤ) → (ℤ → Option K) → Option K → Type 0
 FitsKind number of None = Unit {0}
 FitsKind number of (Some kind) = int.Fits (number kind) × (of (number kind) ≡ Some kind)
@@ -52,9 +52,9 @@ FitsKind number of (Some kind) = int.Fits (number kind) × (of (number kind) ≡
 abbrev pub header : {K : Type 0} → (K → ℤ) → (ℤ → Option K) → Form (Option K)
 header number of = made header_fields (header_of number) (header_kind of) (FitsKind number of)
 
--- ---- behind a header
+-- ---- after a header
 
--- what stands behind the header of a part, and nothing behind the last
+-- the contents after the header of a part; nothing after the last header
 abbrev pub or_end : {K A : Type 0} → (K → List ℕ → Result (A × List ℕ) Fault) → Option K → List ℕ →
     Result (Option A × List ℕ) Fault
 or_end at None bytes = Ok (None, bytes)
@@ -83,7 +83,7 @@ part_kinds =
 abbrev pub part_kind_of : ℤ → Option PartKind
 part_kind_of = with_number part_number part_kinds
 
--- what stands behind the header of each kind
+-- the contents after the header of each kind
 abbrev pub part_at : PartKind → List ℕ → Result (Part × List ℕ) Fault
 part_at kind.Create = read_as create (λ x. part.Create x)
 part_at kind.Delete = read_as at_version (λ x. part.Delete x)

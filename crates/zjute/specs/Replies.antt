@@ -1,4 +1,4 @@
--- What is answered: a header (`ReplyHeader` of zookeeper.jute), and the record behind it.
+-- Replies: a header (`ReplyHeader` of zookeeper.jute), and the record after it.
 use Rattle.std.specs.Prelude.{ℤ, pos, ℕ, List, [], ◌++◌, false}
 use Rattle.std.specs.List.{flat_map}
 use Rattle.zjute.specs.declared.code.Code.{Code}
@@ -47,7 +47,7 @@ result_code result.Check = code.Ok
 result_code (result.Create2 path s) = code.Ok
 result_code (result.CreateTtl path s) = code.Ok
 
--- what stands behind its header
+-- the record after its header
 abbrev pub result_body : PartResult → List ℕ
 result_body (result.Error c) = code_text c
 result_body (result.Create path) = text.spell path
@@ -59,7 +59,7 @@ result_body result.Check = []
 result_body (result.Create2 path s) = text.spell path ++ stat.spell s
 result_body (result.CreateTtl path s) = text.spell path ++ stat.spell s
 
--- a result behind its `MultiHeader`
+-- a result after its `MultiHeader`
 abbrev pub result_text : PartResult → List ℕ
 result_text r =
     header_fields.spell (result_number r, (false, code_number (result_code r))) ++ result_body r
@@ -70,7 +70,7 @@ results_text results = flat_map result_text results ++ header_fields.spell end_h
 
 -- ---- replies
 
--- what stands behind the header
+-- the record after the header
 abbrev pub body_text : Body → List ℕ
 body_text body.Nothing = []
 body_text (body.Path path) = text.spell path

@@ -1,4 +1,4 @@
--- The records that requests are made of, each spelled as zookeeper.jute has its fields in order.
+-- The records of requests: each encodes the fields of its zookeeper.jute record in order.
 use Rattle.std.specs.Prelude.{List}
 use Rattle.zforms.specs.Forms.{Form, both}
 use Rattle.zforms.specs.Choices.{listed, flag}

@@ -6,18 +6,18 @@ use crate::bytes::Bytes;
 use crate::limits::MAX_FRAME;
 use std::marker::Model;
 
-/// Who may do what (`ACL` and `Id` of zookeeper.jute).
+/// An entry of an access control list (`ACL` and `Id` of zookeeper.jute).
 #[derive(Drop)]
 pub struct Acl {
     /// The permissions, one bit each; 31 is all of them (`ZooDefs.Perms`).
     pub perms: i32,
-    /// The scheme of the id, as `world`; `None` is a null string.
+    /// The scheme of the id, such as `world`; `None` is a null string.
     pub scheme: Option<Bytes>,
-    /// The id in that scheme, as `anyone`; `None` is a null string.
+    /// The id in that scheme, such as `anyone`; `None` is a null string.
     pub id: Option<Bytes>,
 }
 
-/// A `vector<ACL>` (zookeeper.jute), at most 1,048,575 of them.
+/// A `vector<ACL>` (zookeeper.jute) of at most 1,048,575 entries.
 #[derive(Drop)]
 pub struct Acls {
     acls: Vec<Acl>,
@@ -36,7 +36,7 @@ impl Model for Acls {
 }
 
 impl Acls {
-    /// Wraps the entries. `None`, and they are dropped, if there are more than 1,048,575.
+    /// Wraps the entries. Returns `None`, and drops them, if there are more than 1,048,575.
     pub fn new(acls: Vec<Acl>) -> Option<Acls>
         ensures some { IfSome result (λ list. list ≡ acls.items) }
         ensures none { IfNone result (MAX_FRAME < length acls.items) }

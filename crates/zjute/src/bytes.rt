@@ -1,4 +1,4 @@
-//! Bytes, and lists of them, as values.
+//! Byte strings, and lists of them.
 
 ghost use Rattle.std.specs.Prelude.{◌≡◌, ◌<◌, ◌≤◌, length, IfSome, IfNone, IfOk};
 
@@ -6,8 +6,8 @@ use crate::limits::MAX_FRAME;
 use std::alloc::{AllocError, Global};
 use std::marker::Model;
 
-/// The bytes of a `buffer` or of a `ustring` (zookeeper.jute): at most 1,048,575. A contract sees
-/// their list.
+/// The bytes of a `buffer` or of a `ustring` (zookeeper.jute): at most 1,048,575. Contracts see the
+/// list of bytes.
 #[derive(Drop)]
 pub struct Bytes {
     items: Vec<u8>,
@@ -25,7 +25,7 @@ impl Model for Bytes {
 }
 
 impl Bytes {
-    /// Wraps the bytes. `None`, and they are dropped, if there are more than 1,048,575.
+    /// Wraps the bytes. Returns `None`, and drops them, if there are more than 1,048,575.
     pub fn new(items: Vec<u8>) -> Option<Bytes>
         ensures some { IfSome result (λ bytes. bytes ≡ items.items) }
         ensures none { IfNone result (MAX_FRAME < length items.items) }
@@ -62,7 +62,7 @@ impl Bytes {
     }
 }
 
-/// A `vector<ustring>` (zookeeper.jute), at most 1,048,575 of them: the names of children, or the
+/// A `vector<ustring>` (zookeeper.jute) of at most 1,048,575 texts: the names of children, or the
 /// paths of watches.
 #[derive(Drop)]
 pub struct Texts {
@@ -81,7 +81,7 @@ impl Model for Texts {
 }
 
 impl Texts {
-    /// Wraps the texts. `None`, and they are dropped, if there are more than 1,048,575.
+    /// Wraps the texts. Returns `None`, and drops them, if there are more than 1,048,575.
     pub fn new(texts: Vec<Bytes>) -> Option<Texts>
         ensures some { IfSome result (λ list. list ≡ texts.items) }
         ensures none { IfNone result (MAX_FRAME < length texts.items) }

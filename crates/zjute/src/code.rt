@@ -5,33 +5,33 @@
 pub enum Code {
     /// 0: no error.
     Ok,
-    /// -1: an error of the system.
+    /// -1: a system error.
     SystemError,
-    /// -2: an inconsistency at run time. A part of a multi behind the refused one has it.
+    /// -2: a runtime inconsistency. The parts of a multi after the refused one have it.
     RuntimeInconsistency,
     /// -3: the data is inconsistent.
     DataInconsistency,
     /// -4: the connection was lost.
     ConnectionLoss,
-    /// -5: the bytes of the request can't be read.
+    /// -5: the bytes of the request can't be decoded.
     MarshallingError,
-    /// -6: there is no such operation.
+    /// -6: the operation isn't implemented.
     Unimplemented,
-    /// -7: the operation took too long.
+    /// -7: the operation timed out.
     OperationTimeout,
-    /// -8: the arguments are wrong.
+    /// -8: the arguments are invalid.
     BadArguments,
-    /// -12: there is no such session.
+    /// -12: the session is unknown.
     UnknownSession,
     /// -13: no quorum of the new configuration is connected.
     NewConfigNoQuorum,
-    /// -14: another reconfiguration is under way.
+    /// -14: another reconfiguration is in flight.
     ReconfigInProgress,
-    /// -100: an error of the interface.
+    /// -100: an API error.
     ApiError,
     /// -101: the node doesn't exist.
     NoNode,
-    /// -102: not permitted.
+    /// -102: the client isn't authorized.
     NoAuth,
     /// -103: the node has another version.
     BadVersion,
@@ -41,31 +41,31 @@ pub enum Code {
     NodeExists,
     /// -111: the node has children.
     NotEmpty,
-    /// -112: the session has ended.
+    /// -112: the session has expired.
     SessionExpired,
-    /// -113: the callback is wrong.
+    /// -113: the callback is invalid.
     InvalidCallback,
-    /// -114: the ACL is wrong.
+    /// -114: the ACL is invalid.
     InvalidAcl,
-    /// -115: the client isn't who it says.
+    /// -115: authentication failed.
     AuthFailed,
     /// -118: the session has moved to another server.
     SessionMoved,
-    /// -119: the server only reads.
+    /// -119: the server is read-only.
     NotReadOnly,
     /// -120: an ephemeral node of a local session.
     EphemeralOnLocalSession,
     /// -121: there is no such watch.
     NoWatcher,
-    /// -122: the request took too long.
+    /// -122: the request timed out.
     RequestTimeout,
-    /// -123: reconfiguration is switched off.
+    /// -123: reconfiguration is disabled.
     ReconfigDisabled,
-    /// -124: the session is closed for want of SASL.
+    /// -124: the session was closed because SASL authentication is required.
     SessionClosedRequireSaslAuth,
-    /// -125: a quota is used up.
+    /// -125: a quota was exceeded.
     QuotaExceeded,
-    /// -127: the server has too much to do.
+    /// -127: the server is overloaded.
     ThrottledOp,
 }
 

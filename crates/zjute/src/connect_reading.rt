@@ -1,4 +1,4 @@
-//! The first frame of a connection, read.
+//! Reads the first frame of a connection.
 
 ghost use Rattle.std.specs.Prelude.{◌≡◌, IfOk, Ok};
 ghost use Rattle.zforms.specs.Readers.{Reads, Gives, whole};
@@ -9,24 +9,24 @@ use crate::field_reading::{buffer_of, int_at, long_at, whole_of};
 use std::alloc::Global;
 use zforms::{Fault, ReadError, flag_at};
 
-/// Reads the bytes of a connection's first frame, all of them.
+/// Reads all bytes of a connection's first frame.
 ///
-/// `ReadError::Fault` tells the first fault from the left: such a connection is to be closed.
-/// `ReadError::Memory` tells nothing about the bytes.
+/// `ReadError::Fault` is the leftmost fault; the caller should then close the connection.
+/// `ReadError::Memory` says nothing about the bytes.
 pub fn read_connect(alloc: Global, bytes: &[u8]) -> Result<ConnectRequest, ReadError>
-    // What is read is spelled so.
+    // What was read has these bytes as its encoding.
     ensures found { IfOk result (λ request. connect_request.Fits request
         × (bytes.now ≡ connect_request.spell request)) }
-    // What is spelled so is read, unless memory runs out.
+    // A valid encoding is read, unless memory runs out.
     ensures only { (request : ConnectRequest) → connect_request.Fits request
         → bytes.now ≡ connect_request.spell request → Gives (λ it. it) result (Ok request) }
-    // Which fault it is.
+    // The fault is the leftmost one.
     ensures exact { Gives (λ it. it) result (whole connect_request bytes.now) }
 {
     all_of(alloc, bytes)
 }
 
-// The same, by the definition of reading alone.
+// The same, stated by the form's reading alone.
 fn all_of(alloc: Global, bytes: &[u8]) -> Result<ConnectRequest, ReadError>
     ensures { Gives (λ it. it) result (whole connect_request bytes.now) }
 {
@@ -34,7 +34,7 @@ fn all_of(alloc: Global, bytes: &[u8]) -> Result<ConnectRequest, ReadError>
     whole_of(request, rest)
 }
 
-// Reads a `ConnectRequest`, and what follows it.
+// Reads a `ConnectRequest`, and returns it with the rest.
 #[tactic(auto, unfolding(crate::specs::Connecting::connect_request))]
 fn request_of(alloc: Global, bytes: &[u8]) -> Result<(ConnectRequest, &[u8]), ReadError>
     ensures { Gives (λ x. (x.0, x.1.now)) result (connect_request.read bytes.now) }

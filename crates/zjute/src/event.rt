@@ -1,11 +1,11 @@
-//! What is told to a watch.
+//! The events of watches.
 
 use crate::bytes::Bytes;
 
-/// What happened, by its number (`Watcher.Event.EventType`).
+/// The type of an event, by its number (`Watcher.Event.EventType`).
 #[derive(Clone, Copy, Debug, PartialEq, Eq)]
 pub enum EventKind {
-    /// -1: nothing happened to a node.
+    /// -1: no change of a node.
     None,
     /// 1: the node was created.
     NodeCreated,
@@ -15,11 +15,11 @@ pub enum EventKind {
     NodeDataChanged,
     /// 4: a child was created or deleted.
     NodeChildrenChanged,
-    /// 5: the watch of its data was taken away.
+    /// 5: the watch of its data was removed.
     DataWatchRemoved,
-    /// 6: the watch of its children was taken away.
+    /// 6: the watch of its children was removed.
     ChildWatchRemoved,
-    /// 7: its persistent watch was taken away.
+    /// 7: its persistent watch was removed.
     PersistentWatchRemoved,
 }
 
@@ -51,15 +51,15 @@ pub enum KeeperState {
     Disconnected,
     /// 3: connected.
     SyncConnected,
-    /// 4: the client isn't who it says.
+    /// 4: authentication failed.
     AuthFailed,
-    /// 5: connected to a server that only reads.
+    /// 5: connected to a read-only server.
     ConnectedReadOnly,
-    /// 6: the client has shown by SASL who it is.
+    /// 6: the client is authenticated by SASL.
     SaslAuthenticated,
     /// 7: the client has closed its connection.
     Closed,
-    /// -112: the session has ended.
+    /// -112: the session has expired.
     Expired,
 }
 
@@ -83,10 +83,10 @@ impl KeeperState {
     }
 }
 
-/// What is told to a watch (`WatcherEvent` of zookeeper.jute).
+/// An event sent for a watch (`WatcherEvent` of zookeeper.jute).
 #[derive(Drop)]
 pub struct WatcherEvent {
-    /// What happened.
+    /// The type of the event.
     pub kind: EventKind,
     /// The state of the connection.
     pub state: KeeperState,

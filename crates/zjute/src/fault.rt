@@ -9,7 +9,7 @@ use thiserror::Error;
 /// Why no frame was written.
 #[derive(Clone, Copy, Debug, PartialEq, Eq, Error)]
 pub enum WriteError {
-    /// It would have more than `MAX_FRAME` bytes behind its length.
+    /// The frame would have more than `MAX_FRAME` bytes after its length.
     #[error("the frame would be too long")]
     TooLong,
     /// Out of memory.

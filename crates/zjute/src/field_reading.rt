@@ -1,4 +1,4 @@
-//! Fields, read from the front of bytes with what follows them.
+//! Readers of fields: each takes one from the front of the bytes and returns it with the rest.
 
 ghost use Rattle.std.specs.Prelude.{◌≡◌};
 ghost use Rattle.zforms.specs.Readers.{Reads, Gives, ended};
@@ -64,7 +64,7 @@ pub(crate) fn text_of(alloc: Global, bytes: &[u8]) -> Result<(Bytes, &[u8]), Rea
     }
 }
 
-/// Reads all of the bytes.
+/// Reads all remaining bytes.
 #[tactic(auto, unfolding(crate::specs::Jute::left))]
 pub(crate) fn left_of(alloc: Global, bytes: &[u8]) -> Result<(Bytes, &[u8]), ReadError>
     ensures { Gives (λ x. (x.0, x.1.now)) result (left.read bytes.now) }

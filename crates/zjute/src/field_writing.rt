@@ -1,4 +1,4 @@
-//! Fields, written at the end of bytes.
+//! Writers of fields: each appends one to a vector.
 
 ghost use Rattle.std.specs.Prelude.{◌≡◌, ◌++◌, OnOk};
 ghost use Rattle.zjute.specs.Jute.{int, long, buffer, text as text_form};

@@ -1,21 +1,21 @@
-//! Frames: what comes on a connection, cut into requests.
+//! Frames: the received bytes of a connection, cut into requests.
 
 ghost use Rattle.std.specs.Prelude.{◌≡◌};
 ghost use Rattle.zjute.specs.Frames.{NextIs, next_of};
 
 use crate::limits::MAX_FRAME;
 
-/// What stands in front of the bytes that came.
+/// The frame at the front of the received bytes, if a whole one is there.
 pub enum Next<'a> {
-    /// A whole frame without its length, and what came behind it.
+    /// A whole frame without its length, and the bytes after it.
     Whole(&'a [u8], &'a [u8]),
     /// Less than a whole frame.
     Partial,
-    /// A length that no frame has: below 0, or above `MAX_FRAME`.
+    /// An invalid length: below 0, or above `MAX_FRAME`.
     TooLong,
 }
 
-/// Returns what stands in front of the bytes that came on a connection.
+/// Cuts the first frame off the received bytes of a connection.
 #[tactic(auto, unfolding(crate::specs::Frames::next_of))]
 pub fn next_frame(came: &[u8]) -> Next<'_>
     ensures { NextIs result (next_of came.now) }

@@ -1,20 +1,19 @@
-//! What holds of the definitions themselves. Each function's contract is the law; its body does
-//! nothing.
+//! Laws of the definitions. Each function's contract is a law; its body does nothing.
 
 ghost use Rattle.zjute.specs.Frames.{FramesAreCut, OneSplit};
 ghost use Rattle.zjute.specs.Laws.{RequestsAreToldApart, GreetingsAreToldApart, StatsAreToldApart};
 
-/// What came is cut into frames in one way, in whatever pieces it came.
+/// Received bytes are cut into frames in one way, in whatever chunks they arrived.
 pub fn one_split()
     ensures { OneSplit }
 {}
 
-/// A frame that was written is cut off whole, whatever follows it.
+/// A frame that was written is cut off whole, whatever bytes follow it.
 pub fn frames_are_cut()
     ensures { FramesAreCut }
 {}
 
-/// No two requests share their bytes, nor do two first frames or two stats.
+/// Two different requests have different bytes. So have two first frames, and two stats.
 pub fn bytes_tell_apart()
     ensures requests { RequestsAreToldApart }
     ensures greetings { GreetingsAreToldApart }

@@ -1,8 +1,13 @@
-//! ZooKeeper's client protocol as bytes: what comes in is frames, and what goes out is frames.
+//! The encoding of ZooKeeper's client protocol (jute): frames are read as requests, and replies and
+//! events are written as frames.
 //!
-//! A frame is read as a request, and a reply is written as a frame. The forms of the bytes stand in
-//! `specs/`, each beside the record of zookeeper.jute that it spells. The laws: what is read is
-//! spelled so, each value has one spelling, and what is spelled is read unless memory runs out.
+//! Consumes the bytes received on a connection: `next_frame` cuts off a frame, `read_connect` reads
+//! the first one and `read_request` each later one. Produces whole frames:
+//! `write_connect_response`, `write_reply` and `write_event`.
+//!
+//! The forms are in `specs/`, each named after its record of zookeeper.jute. A request that was
+//! read has the read bytes as its encoding. Each request has one encoding, and a valid one is read
+//! unless memory runs out.
 #![tactic(auto)]
 
 mod acl;

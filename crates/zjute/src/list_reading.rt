@@ -1,4 +1,4 @@
-//! Vectors, read.
+//! Readers of vectors.
 
 ghost use Rattle.std.specs.Prelude.{◌≡◌, ◌≤◌};
 ghost use Rattle.zforms.specs.Forms.{times};
@@ -25,7 +25,7 @@ pub(crate) fn texts_of(alloc: Global, bytes: &[u8]) -> Result<(Texts, &[u8]), Re
     counted_texts(alloc, count, rest)
 }
 
-// Reads so many texts.
+// Reads that many texts.
 fn counted_texts(alloc: Global, count: u32, bytes: &[u8]) -> Result<(Texts, &[u8]), ReadError>
     requires { count ≤ MAX_FRAME }
     ensures { Gives (λ x. (x.0, x.1.now)) result ((times text count).read bytes.now) }
@@ -52,7 +52,7 @@ pub(crate) fn acls_of(alloc: Global, bytes: &[u8]) -> Result<(Acls, &[u8]), Read
     counted_acls(alloc, count, rest)
 }
 
-// Reads so many entries.
+// Reads that many entries.
 fn counted_acls(alloc: Global, count: u32, bytes: &[u8]) -> Result<(Acls, &[u8]), ReadError>
     requires { count ≤ MAX_FRAME }
     ensures { Gives (λ x. (x.0, x.1.now)) result ((times acl count).read bytes.now) }

@@ -1,4 +1,4 @@
-//! Vectors, written.
+//! Writers of vectors.
 
 ghost use Rattle.std.specs.Prelude.{◌≡◌, ◌++◌, OnOk};
 ghost use Rattle.std.specs.List.{flat_map};
@@ -21,7 +21,7 @@ pub(crate) fn put_texts(out: &mut Vec<u8>, texts: &Texts) -> Result<(), AllocErr
     put_each_text(out, texts)
 }
 
-// Writes the texts, one after the other.
+// Appends the texts in order.
 fn put_each_text(out: &mut Vec<u8>, texts: &[Bytes]) -> Result<(), AllocError>
     ensures { OnOk result (out.new.items ≡ out.old.items ++ flat_map text.spell texts.now) }
 {
@@ -41,7 +41,7 @@ pub(crate) fn put_acls(out: &mut Vec<u8>, acls: &Acls) -> Result<(), AllocError>
     put_each_acl(out, acls)
 }
 
-// Writes the entries, one after the other.
+// Appends the entries in order.
 fn put_each_acl(out: &mut Vec<u8>, acls: &[Acl]) -> Result<(), AllocError>
     ensures { OnOk result (out.new.items ≡ out.old.items ++ flat_map acl_form.spell acls.now) }
 {

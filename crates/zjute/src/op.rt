@@ -1,9 +1,9 @@
-//! The numbers of requests.
+//! The numbers of the kinds of request.
 
 ghost use Rattle.std.specs.Prelude.{◌≡◌};
 ghost use Rattle.zjute.specs.Asking.{op_of, op_among, middle_ops, late_ops};
 
-/// What kind of request it is (`ZooDefs.OpCode`).
+/// The kind of a request (`ZooDefs.OpCode`).
 #[derive(Clone, Copy, PartialEq, Eq)]
 pub(crate) enum Op {
     /// 1
@@ -75,7 +75,7 @@ impl Op {
         }
     }
 
-    // The same from 9 on.
+    // The kinds from 9 on.
     #[tactic(auto, unfolding(crate::specs::Asking::middle_ops))]
     fn among_middle(number: i32) -> Op
         ensures { result ≡ op_among middle_ops number }
@@ -93,7 +93,7 @@ impl Op {
         }
     }
 
-    // The same from 21 on, and below 0.
+    // The kinds from 21 on, and below 0.
     #[tactic(auto, unfolding(crate::specs::Asking::late_ops))]
     fn among_late(number: i32) -> Op
         ensures { result ≡ op_among late_ops number }

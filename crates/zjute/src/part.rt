@@ -5,8 +5,8 @@ ghost use Rattle.std.specs.Prelude.{◌≡◌};
 use crate::request::{AtVersion, Create, CreateTtl, Look, SetData};
 use std::marker::Model;
 
-/// A part of a multi, behind its `MultiHeader` (zookeeper.jute). The numbers of the kinds are those
-/// of the same requests alone.
+/// A part of a multi, after its `MultiHeader` (zookeeper.jute). Each kind has the number of the
+/// same request outside a multi.
 #[derive(Drop)]
 pub enum Part {
     /// 1: create a node.
@@ -17,7 +17,7 @@ pub enum Part {
     SetData(SetData),
     /// 13: check the version of a node.
     Check(AtVersion),
-    /// 15: create a node, and answer with its stat too.
+    /// 15: create a node, and return its stat too.
     Create2(Create),
     /// 19: create a container node.
     CreateContainer(Create),
@@ -63,7 +63,7 @@ impl Parts {
     }
 }
 
-/// A part of a multiRead, behind its `MultiHeader` (zookeeper.jute).
+/// A part of a multiRead, after its `MultiHeader` (zookeeper.jute).
 #[derive(Drop)]
 pub enum LookPart {
     /// 4: get the data of a node.

@@ -1,9 +1,9 @@
-//! The numbers of parts.
+//! The numbers of the kinds of part.
 
 ghost use Rattle.std.specs.Prelude.{◌≡◌};
 ghost use Rattle.zjute.specs.Parts.{part_kind_of, look_kind_of};
 
-/// What kind of part of a multi it is (`ZooDefs.OpCode`).
+/// The kind of a part of a multi (`ZooDefs.OpCode`).
 #[derive(Clone, Copy, PartialEq, Eq)]
 pub(crate) enum PartKind {
     /// 1
@@ -23,7 +23,7 @@ pub(crate) enum PartKind {
 }
 
 impl PartKind {
-    /// Returns the kind with this number, or `None` if there is none.
+    /// Returns the kind with this number, if there is one.
     pub(crate) fn of(number: i32) -> Option<PartKind>
         ensures { result ≡ part_kind_of number }
     {
@@ -40,7 +40,7 @@ impl PartKind {
     }
 }
 
-/// What kind of part of a multiRead it is (`ZooDefs.OpCode`).
+/// The kind of a part of a multiRead (`ZooDefs.OpCode`).
 #[derive(Clone, Copy, PartialEq, Eq)]
 pub(crate) enum LookKind {
     /// 4
@@ -50,7 +50,7 @@ pub(crate) enum LookKind {
 }
 
 impl LookKind {
-    /// Returns the kind with this number, or `None` if there is none.
+    /// Returns the kind with this number, if there is one.
     pub(crate) fn of(number: i32) -> Option<LookKind>
         ensures { result ≡ look_kind_of number }
     {

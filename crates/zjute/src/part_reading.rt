@@ -1,4 +1,4 @@
-//! The parts of a multi and of a multiRead, read.
+//! Readers of the parts of a multi and of a multiRead.
 
 ghost use Rattle.std.specs.Prelude.{◌≡◌};
 ghost use Rattle.zforms.specs.Readers.{Reads, Gives};
@@ -12,7 +12,7 @@ use crate::record_reading::{at_version_of, create_of, create_ttl_of, look_of, se
 use std::alloc::Global;
 use zforms::{Fault, ReadError, flag_at};
 
-// Reads the header in front of a part: the kind of the part, or none at the end.
+// Reads the header before a part: the kind of the part, or `None` at the end.
 #[tactic(auto, unfolding(crate::specs::Parts::part_header))]
 fn part_header_at(bytes: &[u8]) -> Result<(Option<PartKind>, &[u8]), Fault>
     ensures { Reads (λ x. (x.0, x.1.now)) result (part_header.read bytes.now) }
@@ -36,7 +36,7 @@ fn part_header_at(bytes: &[u8]) -> Result<(Option<PartKind>, &[u8]), Fault>
     }
 }
 
-// What was read, as a part of this kind.
+// Returns the result of reading as a part of this kind.
 macro_rules! part {
     ($kind:ident, $read:expr) => {
         match $read {
@@ -94,7 +94,7 @@ pub(crate) fn parts_of(alloc: Global, bytes: &[u8]) -> Result<(Parts, &[u8]), Re
     Err(ReadError::Fault(Fault::Short))
 }
 
-// Reads the header in front of a read: its kind, or none at the end.
+// Reads the header before a part of a multiRead: its kind, or `None` at the end.
 #[tactic(auto, unfolding(crate::specs::Parts::look_header))]
 fn look_header_at(bytes: &[u8]) -> Result<(Option<LookKind>, &[u8]), Fault>
     ensures { Reads (λ x. (x.0, x.1.now)) result (look_header.read bytes.now) }
@@ -118,7 +118,7 @@ fn look_header_at(bytes: &[u8]) -> Result<(Option<LookKind>, &[u8]), Fault>
     }
 }
 
-// Reads a read of this kind.
+// Reads a part of a multiRead of this kind.
 fn look_part_of(alloc: Global, kind: LookKind, bytes: &[u8]) -> Result<(LookPart, &[u8]), ReadError>
     ensures { Gives (λ x. (x.0, x.1.now)) result (look_at kind bytes.now) }
 {
@@ -134,7 +134,7 @@ fn look_part_of(alloc: Global, kind: LookKind, bytes: &[u8]) -> Result<(LookPart
     }
 }
 
-// Reads a read with its header, or the end.
+// Reads a part of a multiRead with its header, or the end.
 #[tactic(auto, unfolding(crate::specs::Parts::look_or_end))]
 fn look_or_end_of(alloc: Global, bytes: &[u8]) -> Result<(Option<LookPart>, &[u8]), ReadError>
     ensures { Gives (λ x. (x.0, x.1.now)) result (look_or_end.read bytes.now) }

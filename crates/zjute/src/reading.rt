@@ -1,4 +1,4 @@
-//! Requests, read.
+//! Readers of requests.
 
 ghost use Rattle.std.specs.Prelude.{◌≡◌, IfOk, Ok};
 ghost use Rattle.zforms.specs.Readers.{Gives, whole};
@@ -15,24 +15,24 @@ use crate::request::{Asked, Request};
 use std::alloc::Global;
 use zforms::ReadError;
 
-/// Reads the bytes of a frame as a request, all of them. A kind that isn't known is no fault: it is
-/// read as `Asked::Other`.
+/// Reads all bytes of a frame as a request. An unknown kind isn't a fault: it is read as
+/// `Asked::Other`.
 ///
-/// `ReadError::Fault` tells the first fault from the left: such a connection is to be closed.
-/// `ReadError::Memory` tells nothing about the bytes.
+/// `ReadError::Fault` is the leftmost fault; the caller should then close the connection.
+/// `ReadError::Memory` says nothing about the bytes.
 pub fn read_request(alloc: Global, bytes: &[u8]) -> Result<Request, ReadError>
-    // What is read is spelled so.
+    // What was read has these bytes as its encoding.
     ensures found { IfOk result (λ it. request.Fits it × (bytes.now ≡ request.spell it)) }
-    // What is spelled so is read, unless memory runs out.
+    // A valid encoding is read, unless memory runs out.
     ensures only { (it : Request) → request.Fits it → bytes.now ≡ request.spell it
         → Gives (λ it. it) result (Ok it) }
-    // Which fault it is.
+    // The fault is the leftmost one.
     ensures exact { Gives (λ it. it) result (whole request bytes.now) }
 {
     all_of(alloc, bytes)
 }
 
-// The same, by the definition of reading alone.
+// The same, stated by the form's reading alone.
 fn all_of(alloc: Global, bytes: &[u8]) -> Result<Request, ReadError>
     ensures { Gives (λ it. it) result (whole request bytes.now) }
 {
@@ -40,7 +40,7 @@ fn all_of(alloc: Global, bytes: &[u8]) -> Result<Request, ReadError>
     whole_of(request, rest)
 }
 
-// Reads a request, and what follows it.
+// Reads a request, and returns it with the rest.
 #[tactic(auto, unfolding(crate::specs::Asking::request))]
 fn request_of(alloc: Global, bytes: &[u8]) -> Result<(Request, &[u8]), ReadError>
     ensures { Gives (λ x. (x.0, x.1.now)) result (request.read bytes.now) }
@@ -50,7 +50,7 @@ fn request_of(alloc: Global, bytes: &[u8]) -> Result<(Request, &[u8]), ReadError
     Ok((Request { xid, asked }, rest))
 }
 
-// Reads the number of a kind, and what is asked.
+// Reads the number of a kind, and the request's record.
 #[tactic(auto, unfolding(crate::specs::Asking::asked))]
 fn asked_of(alloc: Global, bytes: &[u8]) -> Result<(Asked, &[u8]), ReadError>
     ensures { Gives (λ x. (x.0, x.1.now)) result (asked.read bytes.now) }
@@ -59,7 +59,7 @@ fn asked_of(alloc: Global, bytes: &[u8]) -> Result<(Asked, &[u8]), ReadError>
     case_of(alloc, Op::of(number), rest)
 }
 
-// What was read, as a request of this kind.
+// Returns the result of reading as a request of this kind.
 macro_rules! asks {
     ($kind:ident, $read:expr) => {
         match $read {
@@ -69,7 +69,7 @@ macro_rules! asks {
     };
 }
 
-// Reads what is asked by this kind.
+// Reads the record of a request of this kind.
 #[tactic(auto, unfolding(crate::specs::Asking::asked_at))]
 fn case_of(alloc: Global, op: Op, bytes: &[u8]) -> Result<(Asked, &[u8]), ReadError>
     ensures { Gives (λ x. (x.0, x.1.now)) result (asked_at op bytes.now) }

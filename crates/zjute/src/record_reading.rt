@@ -1,4 +1,4 @@
-//! The records of requests, read.
+//! Readers of the records of requests.
 
 ghost use Rattle.std.specs.Prelude.{◌≡◌};
 ghost use Rattle.zforms.specs.Readers.{Gives};
@@ -52,7 +52,7 @@ pub(crate) fn at_version_of(alloc: Global, bytes: &[u8]) -> Result<(AtVersion, &
     Ok((AtVersion { path, version }, rest))
 }
 
-/// Reads an `ExistsRequest`, a `GetDataRequest` or the like.
+/// Reads an `ExistsRequest`, a `GetDataRequest`, or another request of a path and a watch flag.
 #[tactic(auto, unfolding(crate::specs::Requests::look))]
 pub(crate) fn look_of(alloc: Global, bytes: &[u8]) -> Result<(Look, &[u8]), ReadError>
     ensures { Gives (λ x. (x.0, x.1.now)) result (look.read bytes.now) }

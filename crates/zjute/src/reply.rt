@@ -1,4 +1,4 @@
-//! What a client is answered.
+//! The replies to a client.
 
 ghost use Rattle.std.specs.Prelude.{◌≡◌};
 
@@ -8,12 +8,12 @@ use crate::code::Code;
 use crate::stat::Stat;
 use std::marker::Model;
 
-/// The result of a part of a multi or multiRead, behind its `MultiHeader` (zookeeper.jute). The
+/// The result of a part of a multi or multiRead, after its `MultiHeader` (zookeeper.jute). The
 /// numbers of the kinds are those of the requests.
 #[derive(Drop)]
 pub enum PartResult {
-    /// -1: the part wasn't done (`ErrorResponse`). The code is `Ok` in front of the part that was
-    /// refused, and `RuntimeInconsistency` behind it.
+    /// -1: the part wasn't done (`ErrorResponse`). The code is `Ok` before the refused part, and
+    /// `RuntimeInconsistency` after it.
     Error(Code),
     /// 1: the path of the node that was created (`CreateResponse`).
     Create(Bytes),
@@ -64,11 +64,11 @@ impl Results {
     }
 }
 
-/// What stands behind a reply's header. Which it is depends on the kind of the request; the bytes
-/// don't say it.
+/// The record after a reply's header. The kind of the request determines which; the bytes don't say
+/// it.
 #[derive(Drop)]
 pub enum Body {
-    /// Nothing: an error, or a request whose answer is that it was done.
+    /// No record: an error, or a request whose success has no result.
     Nothing,
     /// A path (`CreateResponse`, `SyncResponse`).
     Path(Bytes),
@@ -91,12 +91,12 @@ pub enum Body {
 /// A reply (`ReplyHeader` of zookeeper.jute, and what follows it).
 #[derive(Drop)]
 pub struct Reply {
-    /// The number of the request; -1 stands for an event, which is no reply.
+    /// The number of the request; -1 means an event, not a reply.
     pub xid: i32,
     /// The last zxid of the tree.
     pub zxid: i64,
-    /// Whether the request was done.
+    /// The result code.
     pub code: Code,
-    /// What is answered.
+    /// The record after the header.
     pub body: Body,
 }

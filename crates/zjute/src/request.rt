@@ -1,13 +1,13 @@
-//! What a client asks.
+//! The requests of a client.
 
 use crate::acl::Acls;
 use crate::bytes::{Bytes, Texts};
 use crate::part::{Looks, Parts};
 
-/// A node to be created (`CreateRequest` of zookeeper.jute).
+/// A node to create (`CreateRequest` of zookeeper.jute).
 #[derive(Drop)]
 pub struct Create {
-    /// Its path; for a sequential node, without the number. `None` is a null string.
+    /// Its path; without the counter for a sequential node. `None` is a null string.
     pub path: Option<Bytes>,
     /// Its data; `None` is a null buffer.
     pub bytes: Option<Bytes>,
@@ -17,54 +17,54 @@ pub struct Create {
     pub flags: i32,
 }
 
-/// A node to be created with a TTL (`CreateTTLRequest` of zookeeper.jute).
+/// A node to create with a TTL (`CreateTTLRequest` of zookeeper.jute).
 #[derive(Drop)]
 pub struct CreateTtl {
-    /// What stands in front.
+    /// The fields before the TTL.
     pub create: Create,
     /// The TTL in milliseconds.
     pub ttl: i64,
 }
 
-/// A node and the version that it must have; -1 is any version (`DeleteRequest` and
-/// `CheckVersionRequest` of zookeeper.jute).
+/// A node and its expected version; -1 is any version (`DeleteRequest` and `CheckVersionRequest` of
+/// zookeeper.jute).
 #[derive(Drop)]
 pub struct AtVersion {
     /// The path of the node; `None` is a null string.
     pub path: Option<Bytes>,
-    /// The version that it must have, or -1 for any.
+    /// The expected version, or -1 for any.
     pub version: i32,
 }
 
-/// A node to be looked at, and whether its next change is to be told (`ExistsRequest`,
-/// `GetDataRequest`, `GetChildrenRequest` and `GetChildren2Request` of zookeeper.jute).
+/// A node to read, and whether to set a watch (`ExistsRequest`, `GetDataRequest`,
+/// `GetChildrenRequest` and `GetChildren2Request` of zookeeper.jute).
 #[derive(Drop)]
 pub struct Look {
     /// The path of the node; `None` is a null string.
     pub path: Option<Bytes>,
-    /// Whether a watch is to be set.
+    /// Whether to set a watch.
     pub watch: bool,
 }
 
-/// A node whose data is to be written (`SetDataRequest` of zookeeper.jute).
+/// A node and its new data (`SetDataRequest` of zookeeper.jute).
 #[derive(Drop)]
 pub struct SetData {
     /// The path of the node; `None` is a null string.
     pub path: Option<Bytes>,
     /// Its new data; `None` is a null buffer.
     pub bytes: Option<Bytes>,
-    /// The version that it must have, or -1 for any.
+    /// The expected version, or -1 for any.
     pub version: i32,
 }
 
-/// A node whose ACL is to be written (`SetACLRequest` of zookeeper.jute).
+/// A node and its new ACL (`SetACLRequest` of zookeeper.jute).
 #[derive(Drop)]
 pub struct SetAcl {
     /// The path of the node; `None` is a null string.
     pub path: Option<Bytes>,
     /// Its new ACL.
     pub acls: Acls,
-    /// The version of the ACL that it must have, or -1 for any.
+    /// The expected version of the ACL, or -1 for any.
     pub version: i32,
 }
 
@@ -77,7 +77,7 @@ pub struct WatchesAt {
     pub kind: i32,
 }
 
-/// A watch to be added (`AddWatchRequest` of zookeeper.jute).
+/// A watch to add (`AddWatchRequest` of zookeeper.jute).
 #[derive(Drop)]
 pub struct AddWatch {
     /// The path of the node; `None` is a null string.
@@ -86,49 +86,49 @@ pub struct AddWatch {
     pub mode: i32,
 }
 
-/// Who the client says it is (`AuthPacket` of zookeeper.jute).
+/// A client's credentials (`AuthPacket` of zookeeper.jute).
 #[derive(Drop)]
 pub struct Auth {
     /// A number that clients send as 0.
     pub kind: i32,
-    /// The scheme, as `digest`; `None` is a null string.
+    /// The scheme, such as `digest`; `None` is a null string.
     pub scheme: Option<Bytes>,
-    /// What the scheme asks for; `None` is a null buffer.
+    /// The credentials in that scheme; `None` is a null buffer.
     pub auth: Option<Bytes>,
 }
 
-/// The watches that a client had before it came back (`SetWatches` of zookeeper.jute).
+/// The watches that a client had before it reconnected (`SetWatches` of zookeeper.jute).
 #[derive(Drop)]
 pub struct SetWatches {
     /// The last zxid that the client has seen.
     pub relative_zxid: i64,
-    /// The paths whose data is watched.
+    /// The paths with a data watch.
     pub data_watches: Texts,
-    /// The paths that are watched until they exist.
+    /// The paths with a watch for their creation.
     pub exist_watches: Texts,
-    /// The paths whose children are watched.
+    /// The paths with a watch of their children.
     pub child_watches: Texts,
 }
 
-/// The same with the watches that stay (`SetWatches2` of zookeeper.jute).
+/// The same, with persistent watches (`SetWatches2` of zookeeper.jute).
 #[derive(Drop)]
 pub struct SetWatches2 {
-    /// What stands in front.
+    /// The fields before the persistent watches.
     pub watches: SetWatches,
     /// The paths with a persistent watch.
     pub persistent_watches: Texts,
-    /// The paths with a persistent watch of all below.
+    /// The paths with a persistent recursive watch.
     pub recursive_watches: Texts,
 }
 
-/// What is asked. Each kind has a number (`ZooDefs.OpCode`), which stands behind it here.
+/// The record of a request. Its number (`ZooDefs.OpCode`) is given with each variant.
 #[derive(Drop)]
 pub enum Asked {
-    /// 1: create a node, and answer with its path.
+    /// 1: create a node, and return its path.
     Create(Create),
     /// 2: delete a node.
     Delete(AtVersion),
-    /// 3: look whether a node exists.
+    /// 3: read whether a node exists.
     Exists(Look),
     /// 4: get the data of a node.
     GetData(Look),
@@ -142,43 +142,43 @@ pub enum Asked {
     GetChildren(Look),
     /// 9: catch up with the leader, by a path (`SyncRequest`).
     Sync(Option<Bytes>),
-    /// 11: keep the session alive.
+    /// 11: ping, to renew the session.
     Ping,
     /// 12: get the names of a node's children, and its stat.
     GetChildren2(Look),
     /// 13: check the version of a node.
     Check(AtVersion),
-    /// 14: do all of the parts, or none (`MultiTransactionRecord`).
+    /// 14: do all parts, or no part (`MultiTransactionRecord`).
     Multi(Parts),
-    /// 15: create a node, and answer with its path and stat.
+    /// 15: create a node, and return its path and stat.
     Create2(Create),
-    /// 17: look whether there is a watch.
+    /// 17: check that there is a watch.
     CheckWatches(WatchesAt),
-    /// 18: take watches away.
+    /// 18: remove watches.
     RemoveWatches(WatchesAt),
     /// 21: create a node with a TTL.
     CreateTtl(CreateTtl),
-    /// 22: look at several nodes.
+    /// 22: read several nodes.
     MultiRead(Looks),
-    /// 100: say who the client is.
+    /// 100: authenticate the client.
     Auth(Auth),
-    /// 101: set the watches of before again.
+    /// 101: set the watches of the previous connection again.
     SetWatches(SetWatches),
-    /// 105: the same, with the watches that stay.
+    /// 105: the same, with persistent watches.
     SetWatches2(SetWatches2),
-    /// 106: add a watch that stays.
+    /// 106: add a persistent watch.
     AddWatch(AddWatch),
     /// -11: end the session.
     CloseSession,
-    /// Any other number, and the bytes behind it as they are.
+    /// Any other number, with the remaining bytes as they are.
     Other(i32, Bytes),
 }
 
 /// A request (`RequestHeader` of zookeeper.jute, and what follows it).
 #[derive(Drop)]
 pub struct Request {
-    /// The number by which the client knows the reply.
+    /// The number by which the client matches the reply.
     pub xid: i32,
-    /// What is asked.
+    /// The kind of the request, with its record.
     pub asked: Asked,
 }

@@ -14,7 +14,7 @@ use crate::reply::{PartResult, Results};
 use std::alloc::AllocError;
 use zforms::put_flag;
 
-/// Writes a `MultiResponse`: each result behind its header, and the last header.
+/// Writes a `MultiResponse`: each result after its header, and the last header.
 pub(crate) fn put_results(out: &mut Vec<u8>, results: &Results) -> Result<(), AllocError>
     ensures { OnOk result (out.new.items ≡ out.old.items ++ results_text results.now) }
 {
@@ -22,7 +22,7 @@ pub(crate) fn put_results(out: &mut Vec<u8>, results: &Results) -> Result<(), Al
     put_header(out, &-1, true, &-1)
 }
 
-// Writes the results, one after the other.
+// Appends the results in order.
 fn put_each_result(out: &mut Vec<u8>, results: &[PartResult]) -> Result<(), AllocError>
     ensures { OnOk result (out.new.items ≡ out.old.items ++ flat_map result_text results.now) }
 {
@@ -32,7 +32,7 @@ fn put_each_result(out: &mut Vec<u8>, results: &[PartResult]) -> Result<(), Allo
     Ok(())
 }
 
-// Writes a result behind its header.
+// Writes a result after its header.
 fn put_result(out: &mut Vec<u8>, it: &PartResult) -> Result<(), AllocError>
     ensures { OnOk result (out.new.items ≡ out.old.items ++ result_text it.now) }
 {
@@ -77,7 +77,7 @@ fn code_of(it: &PartResult) -> Code
     }
 }
 
-// Writes what stands behind the header.
+// Writes the record after the header.
 fn put_result_body(out: &mut Vec<u8>, it: &PartResult) -> Result<(), AllocError>
     ensures { OnOk result (out.new.items ≡ out.old.items ++ result_body it.now) }
 {

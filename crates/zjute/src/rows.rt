@@ -44,7 +44,7 @@ ghost use Rattle.zjute.specs.support.Rarer.{container_asked};
 ghost use Rattle.zjute.specs.support.Numbers.{code_numbers, events, event_numbers, states};
 ghost use Rattle.zjute.specs.support.Numbers.{state_numbers};
 
-/// What stands in front of the bytes that came.
+/// The frame at the front of the received bytes.
 pub fn frames_are_cut()
     ensures none { next_of [] ≡ Partial }
     ensures partial_length { next_of (0 ∷ 0 ∷ 0 ∷ []) ≡ Partial }
@@ -56,7 +56,7 @@ pub fn frames_are_cut()
     ensures below_0 { next_of (255 ∷ 255 ∷ 255 ∷ 255 ∷ []) ≡ TooLong }
 {}
 
-/// The words of four letters that a client may send first, as `ruok`, are no lengths of frames.
+/// The four-letter words that a client may send first, such as `ruok`, are not lengths of frames.
 pub fn words_are_no_frames()
     ensures ruok { next_of (114 ∷ 117 ∷ 111 ∷ 107 ∷ []) ≡ TooLong }
     ensures srvr { next_of (115 ∷ 114 ∷ 118 ∷ 114 ∷ []) ≡ TooLong }
@@ -64,7 +64,7 @@ pub fn words_are_no_frames()
     ensures isro { next_of (105 ∷ 115 ∷ 114 ∷ 111 ∷ []) ≡ TooLong }
 {}
 
-/// What kazoo sends, read.
+/// Requests as kazoo sends them.
 pub fn requests_are_read()
     ensures create { whole request create_bytes ≡ Ok create_asked }
     ensures delete { whole request delete_bytes ≡ Ok delete_asked }
@@ -76,7 +76,7 @@ pub fn requests_are_read()
     ensures get_children { whole request get_children_bytes ≡ Ok get_children_asked }
 {}
 
-/// What kazoo sends, read.
+/// More requests as kazoo sends them.
 pub fn more_requests_are_read()
     ensures sync { whole request sync_bytes ≡ Ok sync_asked }
     ensures ping { whole request ping_bytes ≡ Ok ping_asked }
@@ -88,7 +88,7 @@ pub fn more_requests_are_read()
     ensures reconfig { whole request reconfig_bytes ≡ Ok reconfig_asked }
 {}
 
-/// What other clients send, read.
+/// Requests as other clients send them.
 pub fn rarer_requests_are_read()
     ensures check { whole request check_bytes ≡ Ok check_asked }
     ensures check_watches { whole request check_watches_bytes ≡ Ok check_watches_asked }
@@ -101,7 +101,7 @@ pub fn rarer_requests_are_read()
     ensures container { whole request container_bytes ≡ Ok container_asked }
 {}
 
-/// The first fault from the left. Null isn't empty.
+/// The leftmost fault is returned. Null isn't empty.
 pub fn faults_are_told()
     ensures cut { whole request (0 ∷ 0 ∷ 0 ∷ 1 ∷ 0 ∷ 0 ∷ 0 ∷ []) ≡ Err Short }
     ensures cut_text { whole request (sent 6 (0 ∷ 0 ∷ 0 ∷ 2 ∷ 47 ∷ [])) ≡ Err Short }
@@ -117,7 +117,7 @@ pub fn faults_are_told()
         ≡ Err Invalid }
 {}
 
-/// The first frame of a connection, with its last byte and without, and its answer.
+/// The first frame of a connection, with and without its last byte, and the response.
 pub fn connecting()
     ensures without { whole connect_request (connect_front []) ≡ Ok (connecting None) }
     ensures writes { whole connect_request (connect_front (0 ∷ [])) ≡ Ok (connecting (Some false)) }
@@ -128,7 +128,7 @@ pub fn connecting()
     ensures old_answer { connect_response.spell (connected None) ≡ connected_front [] }
 {}
 
-/// What is sent to kazoo.
+/// Replies as they are sent to kazoo.
 pub fn replies_are_spelled()
     ensures created { reply_text created ≡ created_bytes }
     ensures refused { reply_text refused ≡ refused_bytes }
@@ -143,7 +143,7 @@ pub fn replies_are_spelled()
     ensures stat { stat.spell some_stat ≡ stat_bytes }
 {}
 
-/// Each code has a number of its own, and no number between them has one.
+/// Codes have different numbers, and any other number has no code.
 pub fn codes_are_numbers()
     ensures each { EachHasItsNumber }
     ensures numbers { map code_number codes ≡ code_numbers }
@@ -151,7 +151,7 @@ pub fn codes_are_numbers()
     ensures unknown { code_of (pos 1) ≡ None }
 {}
 
-/// The numbers of what happened, and of the states.
+/// The numbers of the types of events, and of the states.
 pub fn events_are_numbers()
     ensures events { map event_number events ≡ event_numbers }
     ensures states { map state_number states ≡ state_numbers }

@@ -1,6 +1,6 @@
 //! The stat of a node.
 
-/// The stat of a node (`Stat` of zookeeper.jute), its fields in the order in which they are sent.
+/// The stat of a node (`Stat` of zookeeper.jute); its fields are in the order of the encoding.
 #[derive(Clone, Copy, Debug, PartialEq, Eq)]
 pub struct Stat {
     /// The zxid of the change that created the node.

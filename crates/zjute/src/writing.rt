@@ -1,4 +1,4 @@
-//! Frames, written: replies, events and the answer to the first frame.
+//! Writers of frames: replies, events and the response to the first frame.
 
 ghost use Rattle.std.specs.Prelude.{◌≡◌, ◌++◌, ◌<◌, ◌≤◌, length, OnOk, IfOk, IfErr};
 ghost use Rattle.zjute.specs.declared.fault.WriteError.TheVariants.{TooLong};
@@ -19,9 +19,9 @@ use crate::result_writing::put_results;
 use std::alloc::{AllocError, Global};
 use zforms::{put_flag, put_u32};
 
-/// Returns a reply as a whole frame, its length in front.
+/// Returns a reply as a whole frame, with its length first.
 ///
-/// `WriteError::TooLong` tells that it would have more than `MAX_FRAME` bytes: nothing is written.
+/// Returns `WriteError::TooLong` if it would have more than `MAX_FRAME` bytes.
 pub fn write_reply(alloc: Global, reply: &Reply) -> Result<Vec<u8>, WriteError>
     ensures frame { IfOk result (λ bytes. bytes.items ≡ frame (reply_text reply.now)) }
     ensures short { OnOk result (length (reply_text reply.now) ≤ MAX_FRAME) }
@@ -45,7 +45,7 @@ pub fn write_event(alloc: Global, zxid: i64, event: &WatcherEvent) -> Result<Vec
     framed(alloc, &body)
 }
 
-/// Returns the answer to a connection's first frame as a whole frame.
+/// Returns the response to a connection's first frame as a whole frame.
 pub fn write_connect_response(
     alloc: Global,
     response: &ConnectResponse,
@@ -61,7 +61,7 @@ pub fn write_connect_response(
     framed(alloc, &body)
 }
 
-// Returns the frame of these bytes: their length, and then the bytes.
+// Returns these bytes as a frame: their length, and then the bytes.
 fn framed(alloc: Global, body: &[u8]) -> Result<Vec<u8>, WriteError>
     ensures frame { IfOk result (λ bytes. bytes.items ≡ frame body.now) }
     ensures short { OnOk result (length body.now ≤ MAX_FRAME) }
@@ -94,7 +94,7 @@ fn put_header(out: &mut Vec<u8>, xid: &i32, zxid: &i64, code: Code) -> Result<()
     put_int(out, &code.number())
 }
 
-// Writes what stands behind a reply's header.
+// Writes the record after a reply's header.
 fn put_body(out: &mut Vec<u8>, body: &Body) -> Result<(), AllocError>
     ensures { OnOk result (out.new.items ≡ out.old.items ++ body_text body.now) }
 {
@@ -123,7 +123,7 @@ fn put_body(out: &mut Vec<u8>, body: &Body) -> Result<(), AllocError>
     }
 }
 
-// Writes an event behind its header.
+// Writes an event after its header.
 #[tactic(auto, unfolding(crate::specs::Events::event_text))]
 fn put_event(out: &mut Vec<u8>, zxid: &i64, event: &WatcherEvent) -> Result<(), AllocError>
     ensures { OnOk result (out.new.items ≡ out.old.items ++ event_text zxid.now event.now) }
