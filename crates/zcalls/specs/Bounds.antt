@@ -1,4 +1,4 @@
--- Bounds on the numbers in a tree: none of them can grow too large.
+-- Bounds on the numbers in a tree.
 use Rattle.std.specs.Prelude.{ℕ, ◌+◌, ◌*◌, ◌<◌, ◌≤◌}
 use Rattle.ztree.specs.Tree.{Tree}
 use Rattle.ztree.specs.declared.limits.TheConstants.{ZXID_BOUND, TICK_BOUND}

@@ -1,4 +1,4 @@
--- Laws of runs of calls from the initial tree. The functions of `src/laws.rt` promise them.
+-- Laws of runs of calls from the initial tree. Each is the contract of a function in `src/laws.rt`.
 use Rattle.std.specs.Prelude.{◌≡◌, ℕ, ◌<◌, ◌+◌, Bool, true, false, ◌&&◌, ◌||◌, List, [], ◌∷◌, ◌++◌, Some, Result, Ok, Err, if◌then◌else◌, nat_lt}
 use Rattle.std.specs.List.{IsDistinct}
 use Rattle.std.specs.Ordering.{eq_by_cmp}
@@ -148,7 +148,7 @@ VersionCountsSets =
     → n.version ≡ through (sets_since path) 0 (calls_done opening_tree calls)
 
 -- The paths after one more create. A sequential node beneath `above` is added; the creation of
--- `above` itself starts over with none.
+-- `above` itself empties the list.
 abbrev pub with_made : Path → List Path → Bool → PartReply → List Path
 with_made above made sequential (part_reply.Created path) =
     if is_same above path then [] else

@@ -1,9 +1,9 @@
 -- The entry step: an update acts once, however often its client sends it, since the last reply to
 -- each client is cached. It works over any sequential state and step, and knows nothing of trees.
 -- The source is van Renesse and Schneider, "Chain Replication for Supporting High Throughput and
--- Availability" (OSDI 2004), section 2. There, a client can't tell a lost request from a lost
--- reply, and asks again. Numbering a client's calls from 1 on, and caching one reply per client,
--- are this project's profile.
+-- Availability" (OSDI 2004), section 2. There, a client can't distinguish a lost request from a
+-- lost reply, and sends the request again. Numbering a client's calls from 1 on, and caching one
+-- reply per client, are this project's profile.
 use Rattle.std.specs.Prelude.{ℕ, List, [], ◌∷◌, Option, None, Some, if◌then◌else◌, nat_lt, ◌==◌}
 use Rattle.std.specs.Ordering.{nat_cmp}
 use Rattle.std.specs.FinMap as finite

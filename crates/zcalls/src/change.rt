@@ -1,4 +1,8 @@
 //! A change of one node, and its result.
+//!
+//! # Why
+//! An update and a part of a multi are made of the same changes. So a change is parsed once, and no
+//! reply has to be invented for a case that can't occur.
 
 use crate::call::{Create, Delete, Part, SetData, Update};
 use crate::reply::{PartReply, Reply};

@@ -76,8 +76,8 @@ pub fn open_and_ping_renew()
     ensures { OpenAndPingRenew }
 {}
 
-/// A session lives while it isn't closed and has had fewer ticks than its timeout since its open or
-/// last ping.
+/// A session is alive while it isn't closed and has had fewer ticks than its timeout since its open
+/// or last ping.
 pub fn sessions_live_their_timeout()
     ensures { LivesItsTimeout }
 {}

@@ -3,7 +3,12 @@
 //! The sequential step (`specs/Step.antt`) is the sequential specification: the service as one
 //! machine that does one call after the other. The entry step (`specs/Kept.antt`) lets an update
 //! act once, however often it is sent. Their laws are contracts of functions with empty bodies.
-//! This crate knows no store.
+//!
+//! Consumes the values of `ztree`; produces `Call`, `Entry` and `Reply`.
+//!
+//! # Why
+//! This crate has no store: `zops` is the machine that does the calls on one. So the chain's tables
+//! and the linearizability proof rest on what a call means, not on how a machine stores its tree.
 #![tactic(auto)]
 
 mod call;

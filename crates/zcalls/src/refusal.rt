@@ -1,4 +1,8 @@
 //! Why a call was refused.
+//!
+//! # Why
+//! No refusal guards a node's version or cversion. Zxids stay below 2^40 (`Exhausted`), and one
+//! change raises each at most 4,096 times. So no counter overflows.
 
 use std::fmt;
 use thiserror::Error;

@@ -30,7 +30,7 @@ ghost use Rattle.zcalls.specs.support.Rows.{HasNode, IsChildless, get_a};
 ghost use Rattle.zcalls.specs.support.Rows.{delete_a, set_a, sevens, childless_stat, without_a, deleted_a};
 ghost use Rattle.zcalls.specs.support.Rows.{without_7, only_7, only_a, ticked, leaves};
 
-/// What one entry does: where nothing is cached, and where a client's call 3 acted last, as the
+/// The effect of one entry: with an empty cache, and after a client's call 3 acted last, as the
 /// seventh create.
 pub fn updates_act_once()
     ensures number_0 { after seven (creates 1 0) ≡ (seven, None) }
@@ -75,7 +75,7 @@ pub fn parts_are_done_in_turn()
         → FirstIsChecked (Ok (v, Deleted ∷ [])) (Ok (v, Checked ∷ Deleted ∷ [])) }
 {}
 
-/// A change that names a version is done only where the node has that version. The node of the
+/// A change that names a version is done only if the node has that version. The node of the
 /// examples has version 6 and cversion 8.
 pub fn versions_are_tested()
     ensures any { has_other_version Any some_node ≡ false }
@@ -86,8 +86,8 @@ pub fn versions_are_tested()
     ensures set_of_another { (t : Tree) → HasNode t → set_a t 8 ≡ Err BadVersion }
 {}
 
-/// What is returned: the data and the stat of a node, and the part of a multi that was refused.
-/// Also, whether a node's counter has given its last number.
+/// Results: the data and the stat of a node, and the part of a multi that was refused. Also,
+/// whether a node's counter has given its last number.
 pub fn what_is_told()
     ensures data { (t : Tree) → HasNode t → IsChildless t
         → get_a t ≡ reply.Data sevens childless_stat }
@@ -123,7 +123,7 @@ pub fn changes_of_ticks()
     ensures both { is_change (reply.Ticked 1 1 1) ≡ true }
 {}
 
-/// The tree and the reply after a tick, given the sessions that end and the nodes that go. The
+/// The tree and the reply after a tick, given the sessions to end and the nodes to remove. The
 /// sessions come first, then the nodes, with one zxid for all of them.
 pub fn ticks_are_one_change()
     ensures idle { (t : Tree) → tick_result t [] [] ≡ (with_next_tick t, ticked t 0 0) }
@@ -133,7 +133,7 @@ pub fn ticks_are_one_change()
         ≡ leaves t (without_a (without_7 t)) 1 1 }
 {}
 
-/// What nodes of each lifetime have, and the names of both kinds.
+/// The lifetimes of nodes, and the names of both kinds.
 pub fn lifetimes_and_kinds()
     ensures ttl { ttl_of (WithTtl 5) ≡ 5 }
     ensures none { ttl_of Persistent ≡ 0 }

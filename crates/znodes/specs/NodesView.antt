@@ -64,7 +64,7 @@ child_count_of v id = option_map (λ path. length (children v.nodes path)) (path
 abbrev pub IsUnder : NodesView → Id → Id → Type 0
 IsUnder v id parent = AtPath v id (λ path. path_of v parent ≡ Some (parent_of path))
 
--- the owner is nobody, or a session that may own nodes
+-- the owner is 0 (no owner), or a session that may own nodes
 abbrev pub IsKnownOwner : NodesView → ℕ → Type 0
 IsKnownOwner v owner = (owner ≡ 0) ⊎ IsSome (get v.owners owner)
 

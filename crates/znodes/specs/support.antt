@@ -1,4 +1,4 @@
--- What serves proofs alone: the rows of the nodes, the lists in which they stand, and what the
+-- Definitions for the proofs alone: the rows of the nodes, the lists that they are in, and what the
 -- calls write.
 pub mod OwnerLists
 pub mod Rows

@@ -1,4 +1,12 @@
 //! Adding nodes, removing them, and bringing them back.
+//!
+//! # Why
+//! A removed node keeps its slot and its index key until its undo is given up. So it comes back
+//! under its Id without allocating, as the first of its parent's children. No reader sees that
+//! order: names are sorted when they are listed.
+//!
+//! `add` returns `Memory` also when no Id is left. It is the one error of the call for lack of
+//! room, and no run gets near 2^64 Ids.
 
 ghost use Rattle.std.specs.Prelude.{◌≡◌, ◌≢◌, ◌<◌, ◌≤◌, [], Some, false, IsSome, IfOk, OnErr};
 ghost use Rattle.std.specs.FinMap.{get, remove};
@@ -60,7 +68,7 @@ impl Nodes {
         Ok(id)
     }
 
-    /// Removes a leaf, and keeps it so that it can come back. Allocates nothing.
+    /// Removes a leaf, and stores it so that it can come back. Allocates nothing.
     pub fn take(&mut self, id: Id)
         requires live { IsSome (path_of self.old id) }
         requires below_root { AtPath self.old id (λ path. path ≢ []) }

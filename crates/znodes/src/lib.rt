@@ -6,7 +6,8 @@
 //! what it changes, not on the size of the tree. A removed node can come back under its Id without
 //! allocating.
 //!
-//! Contracts speak of the finite maps in `specs/NodesView.antt`: nodes by path, and paths by Id.
+//! Consumes validated paths and nodes; produces Ids, and nodes by Id. Contracts speak of the finite
+//! maps in `specs/NodesView.antt`: nodes by path, and paths by Id.
 #![tactic(auto)]
 
 mod changing;

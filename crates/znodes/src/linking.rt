@@ -82,7 +82,7 @@ pub(crate) fn cut_timed(slots: &mut Slots<Row>, timed: &mut List<2>, ttl: u64, i
     }
 }
 
-// Writes the index key that a row keeps.
+// Writes the index key that a row stores.
 pub(crate) fn set_key(slots: &mut Slots<Row>, id: Id, key: Option<Path>)
     ensures { slots.new ≡ with_items slots.old (with_key slots.old.items id key) }
 {
@@ -91,7 +91,7 @@ pub(crate) fn set_key(slots: &mut Slots<Row>, id: Id, key: Option<Path>)
     }
 }
 
-// Takes the index key that a row keeps.
+// Takes the index key that a row stores.
 pub(crate) fn take_key(slots: &mut Slots<Row>, id: Id) -> Option<Path>
     ensures key { result ≡ kept_key slots.old.items id }
     ensures rows { slots.new ≡ with_items slots.old (with_key slots.old.items id None) }

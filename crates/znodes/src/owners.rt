@@ -1,4 +1,8 @@
 //! The lists of the nodes that sessions own.
+//!
+//! # Why
+//! A session has a list here from its open to its end. So a node that comes back finds its owner's
+//! list without allocating. The nodes need to know nothing else of sessions.
 
 ghost use Rattle.std.specs.Prelude.{◌≡◌, None, IsSome, IfOk, OnOk, OnErr};
 ghost use Rattle.std.specs.FinMap.{empty, get, insert, remove};

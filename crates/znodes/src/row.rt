@@ -1,4 +1,8 @@
 //! A node in its slot.
+//!
+//! # Why
+//! A row names its parent by Id, so removing a node needs no lookup. A node that comes back is
+//! given its parent's Id again, since the parent may have been removed and brought back.
 
 ghost use Rattle.std.specs.Prelude.{◌≡◌, IfOk};
 

@@ -21,7 +21,7 @@ entry_result s entry =
     let did = entry_step step s.service entry in
     (record { service = did.0; applied = s.applied + 1 }, did.1)
 
--- the state, and whether the machine has run out of memory and answers no more
+-- the state, and whether the machine has run out of memory
 pub record MachineView : Type 0 where
   pub state : MachineState
   pub is_broken : Bool

@@ -1,5 +1,6 @@
--- A machine restored from rows: the root, the sessions, the other nodes and the cached replies. Here
--- is what the rows make, and which of them can be put. Rows of a state are this project's profile.
+-- A machine restored from rows: the root, the sessions, the other nodes and the cached replies.
+-- Here are the state that rows make, and which rows can be put. The rows of a state are this
+-- project's profile.
 use Rattle.std.specs.Prelude.{ℕ, ◌*◌, ◌<◌, ◌≤◌, length}
 use Rattle.std.specs.FinMap.{empty, insert}
 use Rattle.ztree.specs.declared.limits.TheConstants.{ZXID_BOUND, TICK_BOUND}
@@ -15,7 +16,7 @@ use Rattle.zcalls.specs.Bounds.{IsWithin, IsGranted}
 use Rattle.zops.specs.declared.limits.TheConstants.{MAX_APPLIED}
 use Rattle.zops.specs.Machine.{MachineState}
 
--- the root alone, at this tick, after this change and so many entries; no reply is cached
+-- the root alone, at this tick, after this change and that many entries; no reply is cached
 abbrev pub rooted_machine : Node → ℕ → ℕ → ℕ → MachineState
 rooted_machine root time zxid applied =
     record { service = record { plain = rooted_tree root time zxid; kept = empty }; applied = applied }
@@ -67,7 +68,7 @@ pub record CanPutGranted (t : Tree) (id : ℕ) (s : Session) : Type 0 where
   pub can : CanPutSession t id s
   pub granted : IsGranted t.zxid id s
 
--- the node can be put, its numbers are bounded, and none of its zxids and ticks is above the tree's
+-- the node can be put, its numbers are bounded, and its zxids and ticks are at most the tree's
 pub record CanPutNode (t : Tree) (path : Path) (n : Node) : Type 0 where
   pub can : CanPut t path n
   pub within : IsWithin (MAX_RAISES * t.zxid) n

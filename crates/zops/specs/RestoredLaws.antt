@@ -29,8 +29,8 @@ CanPutAllNodes t [] = Unit {0}
 CanPutAllNodes t (row ∷ rows) =
     CanPutNode t row.0 row.1 × CanPutAllNodes (with_row t row.0 row.1) rows
 
--- The tree's own rows make it: a machine can begin with its root, then its sessions can be put one
--- after the other, then its other nodes, and then the tree is there.
+-- The tree's own rows restore it: a machine can begin with its root, then its sessions can be put
+-- one after the other, then its other nodes, and the result is the tree.
 pub record IsRestored (t : Tree) (applied : ℕ) : Type 0 where
   pub root : Node
   pub rows : List (Path × Node)
@@ -42,7 +42,7 @@ pub record IsRestored (t : Tree) (applied : ℕ) : Type 0 where
   pub whole : with_rows
       (with_session_rows (rooted_tree root t.time t.zxid) (entries t.sessions)) rows ≡ t
 
--- a settled tree's own rows make it
+-- a settled tree's own rows restore it
 abbrev pub RowsMakeTheirMachine : Type 0
 RowsMakeTheirMachine =
     (t : Tree) (applied : ℕ) → IsSettled t → applied ≤ MAX_APPLIED → IsRestored t applied

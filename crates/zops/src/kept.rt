@@ -1,4 +1,8 @@
 //! The cached replies: the last one to each client, with its call number.
+//!
+//! # Why
+//! There is a position for each of the 32 clients, allocated with the machine. So a lookup is an
+//! index, and caching a reply allocates nothing.
 
 ghost use Rattle.std.specs.Prelude.{◌≡◌, ◌<◌, ◌≤◌, ◌++◌, [], ◌∷◌, length, None, Some, IfNone, IfOk, IfSome, OnOk};
 ghost use Rattle.std.specs.FinMap.{empty, get, insert, keys};
@@ -150,7 +154,7 @@ impl KeptReplies {
     }
 }
 
-// Returns the clients whose places have a reply.
+// Returns the clients that have a cached reply.
 fn clients_of(alloc: Global, places: &[Option<Kept>]) -> Result<Vec<ClientId>, Memory>
     requires { length places.now ≡ MAX_CLIENTS }
     ensures clients { IfOk result (λ clients. clients.items ≡ clients_from 0 places.now) }
@@ -163,7 +167,7 @@ fn clients_of(alloc: Global, places: &[Option<Kept>]) -> Result<Vec<ClientId>, M
     Ok(clients)
 }
 
-// Adds the client with this number, if its place has a reply.
+// Adds the client with this number, if it has a cached reply.
 fn add_client(clients: &mut Vec<ClientId>, number: u8, place: &Option<Kept>) -> Result<(), Memory>
     requires { number < MAX_CLIENTS }
     ensures { OnOk result
@@ -181,7 +185,7 @@ fn add_client(clients: &mut Vec<ClientId>, number: u8, place: &Option<Kept>) -> 
     }
 }
 
-// Returns a copy of these places.
+// Returns a copy of these positions.
 fn copied_places(alloc: Global, places: &[Option<Kept>]) -> Result<Vec<Option<Kept>>, Memory>
     ensures { IfOk result (λ copy. copy.items ≡ places.now) }
 {
@@ -192,7 +196,7 @@ fn copied_places(alloc: Global, places: &[Option<Kept>]) -> Result<Vec<Option<Ke
     Ok(copy)
 }
 
-// Returns a copy of one place.
+// Returns a copy of one position.
 fn copied_place(alloc: Global, place: &Option<Kept>) -> Result<Option<Kept>, Memory>
     ensures { IfOk result (λ copy. copy ≡ place.now) }
 {

@@ -2,13 +2,13 @@
 
 ghost use Rattle.zops.specs.RestoredLaws.{RowsMakeTheirMachine, RefusedRootsAreNowhere, RefusedSessionsAreNowhere, RefusedNodesAreNowhere};
 
-/// The rows of a settled tree make it: each can be put after those before it. A tree is settled if
-/// it is lawful and bounded, and no node is of a later change or tick.
+/// The rows of a settled tree restore it: each can be put after those before it. A tree is settled
+/// if it is lawful and bounded, and no node is of a later change or tick.
 pub fn rows_make_their_machine()
     ensures { RowsMakeTheirMachine }
 {}
 
-/// A row that can't be put is at its place in no settled tree.
+/// A row that can't be put is the next row of no settled tree.
 pub fn refused_rows_are_nowhere()
     ensures root { RefusedRootsAreNowhere }
     ensures session { RefusedSessionsAreNowhere }

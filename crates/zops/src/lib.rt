@@ -1,10 +1,10 @@
 //! The calls of the service, applied to a store; and the state machine that answers them.
 //!
-//! Entries (updates with their client and number) and queries come in; replies come out.
+//! Consumes entries (updates with their client and number) and queries; produces replies.
 //! `Machine::apply` is the entry step over the plain tree, by which an update acts once.
 //! `Machine::ask` is the plain tree's reply to a query. `zcalls` defines both, independently of how
-//! the machine stores its tree. A machine's state can be read as rows, and `Restoring` makes a
-//! machine from rows, or says which row is at its place in no such state.
+//! the machine stores its tree. A machine's state can be read as rows. `Restoring` makes a machine
+//! from rows, or refuses a row that no such state has next.
 #![tactic(auto)]
 
 mod change;

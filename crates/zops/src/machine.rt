@@ -1,4 +1,9 @@
 //! The state machine of one server.
+//!
+//! # Why
+//! An entry is counted before it is done, since running out of memory ends the machine anyway. The
+//! Ids given out are at most 64 for each entry and 4,096 beside: a restored machine has given one
+//! out for each node.
 
 ghost use Rattle.zops.specs.declared.limits.TheConstants.{MAX_APPLIED};
 ghost use Rattle.zops.specs.support.Ready.{IsSteady, StaysBounded};
@@ -16,8 +21,8 @@ use zstore::Store;
 
 /// A state machine: the tree, the last reply to each client, and the calls on them.
 ///
-/// Once `apply` has run out of memory, the machine returns `Memory` for good, and its tree is never
-/// seen again.
+/// Once `apply` has run out of memory, every later `apply`, `ask` and copy returns `Memory`, and
+/// the tree is never read again.
 #[derive(Drop)]
 pub struct Machine {
     pub(crate) alloc: Global,
@@ -97,8 +102,6 @@ impl Machine {
     /// Applies an entry by the entry step over the plain tree. A number above its client's last one
     /// acts, and its reply is cached. A repeated number returns the cached reply; any other returns
     /// nothing.
-    ///
-    /// After `Memory` the machine returns `Memory` for good.
     #[tactic(auto, unfolding(crate::specs::Machine::entry_result))]
     pub fn apply(&mut self, entry: &Entry) -> Result<Option<Reply>, Memory>
         requires { self.old.state.applied < MAX_APPLIED }
@@ -202,7 +205,7 @@ fn enter(
     Ok(Some(reply))
 }
 
-// Says that a multi has few parts: reading them brings that into the proof.
+// Brings into the proof that a multi has at most 64 parts.
 fn keeps_few_parts(update: &Update)
     ensures { HasFewParts update.now }
 {

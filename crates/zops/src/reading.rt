@@ -1,4 +1,8 @@
 //! Reading a machine's state, row by row.
+//!
+//! # Why
+//! Only a machine with memory promises that no node is of a later change or tick. One that ran out
+//! may have stopped in the middle of a change, and its tree is never read.
 
 ghost use Rattle.std.specs.Prelude.{◌≡◌, ◌≤◌, false, length, is_some, None, Some, IfNone, IfOk, IfSome};
 ghost use Rattle.std.specs.FinMap.{get, keys};
@@ -36,7 +40,7 @@ impl Machine {
         requires whole { self.now.is_broken ≡ false }
         ensures paths { IfOk result (λ paths.
             paths.items ≡ keys self.now.state.service.plain.nodes) }
-        // So its rows make it: none of them is refused.
+        // So the rows read from here restore it: each can be put.
         ensures settled { IsSettled self.now.state.service.plain }
     {
         self.store.keeps_lawful();

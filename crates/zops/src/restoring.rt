@@ -1,5 +1,16 @@
 //! Restoring a machine from rows: the root, then the sessions, then the other nodes, each after its
 //! parent, and the cached replies.
+//!
+//! # Why
+//! Rows are put one by one, so a state of 268 MB is never in one buffer. Sessions are put before
+//! nodes, since a node's owner is looked up. Any order with parents first is accepted; a format
+//! with one encoding for each state orders ids and paths in its reader.
+//!
+//! A node of a later change or tick than its tree is refused here, where the tree's zxid and tick
+//! are known. So each format of rows has the same test.
+//!
+//! Only replies to updates are cached, so replies to queries are refused. The longest row of a
+//! state is then known: a multi has at most 64 parts.
 
 ghost use Rattle.std.specs.Prelude.{◌≡◌, ◌*◌, ◌<◌, IsTrue, IsFalse, IfOk, IfErr, OnOk, OnErr, false};
 ghost use Rattle.ztree.specs.declared.limits.TheConstants.{ZXID_BOUND};
@@ -48,7 +59,7 @@ impl Model for Restoring {
 }
 
 impl Restoring {
-    /// Begins with the root alone, at this tick, after this change and so many entries.
+    /// Begins with the root alone, at this tick, after this change and that many entries.
     pub fn new(
         alloc: Global,
         root: Node,
@@ -106,7 +117,7 @@ impl Restoring {
         self.store.put_session(id, session)
     }
 
-    /// Puts one more node, as it is, beneath a parent that is there. If it is refused, nothing has
+    /// Puts one more node, unchanged, beneath an existing parent. If it is refused, nothing has
     /// changed.
     pub fn put_node(&mut self, path: Path, node: Node) -> Result<(), RestoreFault>
         ensures state { OnOk result (self.new

@@ -39,7 +39,7 @@ pub fn cached_replies()
     ensures exists { IsOfUpdate (Exists (stat_with some_node 0)) → ⊥ }
 {}
 
-/// What rows make of a machine: a reply is cached for its own client, and the tree stays.
+/// The machine restored from rows: a reply is cached for its own client, and the tree stays.
 pub fn rows_make_a_machine()
     ensures applied { (rooted_machine some_node 8 40 7).applied ≡ 7 }
     ensures time { (rooted_machine some_node 8 40 7).service.plain.time ≡ 8 }

@@ -1,4 +1,8 @@
 //! The parts of a multi, done one after the other.
+//!
+//! # Why
+//! The definition (`run` of `zcalls`) is a plain recursion from the first part. A lemma shows that
+//! the loop, which appends to the replies so far, returns the same.
 
 ghost use Rattle.std.specs.Prelude.{◌≡◌, ◌≤◌, ◌+◌, Ok, length, IfOk, IfErr, OnOk};
 ghost use Rattle.zcalls.specs.Multi.{run};
@@ -15,8 +19,8 @@ use zcalls::{Part, PartReply};
 use zstore::Store;
 use ztree::ClientId;
 
-/// Does a client's parts in sequence, up to the first refusal. On an error the store keeps what the
-/// earlier parts did. The replies have room from the start.
+/// Does a client's parts in sequence, up to the first refusal. On an error the store still has the
+/// changes of the earlier parts. Room for all replies is reserved first.
 pub(crate) fn run(
     alloc: Global,
     store: &mut Store,

@@ -1,4 +1,8 @@
 //! The session calls and the tick, applied to a store.
+//!
+//! # Why
+//! A session is tested against its client: to any other client it doesn't exist. Any client may
+//! send a tick; that only client 0 does is a rule of the script's grammar.
 
 ghost use Rattle.std.specs.Prelude.{◌≡◌, ◌<◌, ◌+◌, ◌||◌, not, nat_lt, length, IfOk, OnErr};
 ghost use Rattle.ztree.specs.Sessions.{without_sessions};

@@ -1,4 +1,8 @@
 //! Updates, applied to a store by the sequential step.
+//!
+//! # Why
+//! A multi rolls back to a savepoint if a part is refused. So its cost depends on what it changes,
+//! not on the size of the tree.
 
 ghost use Rattle.std.specs.Prelude.{◌≡◌, IfOk, OnErr};
 ghost use Rattle.zcalls.specs.declared.call.Update.TheVariants.{Multi as MultiOf};

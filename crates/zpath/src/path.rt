@@ -1,4 +1,9 @@
 //! Paths: parsing, parents and children, order and display.
+//!
+//! # Why
+//! A path is made once and then shared, also between threads, so a copy only counts one more owner.
+//! A parent is the same list with one name less. No parent is ever stored, so it can't keep a long
+//! list allocated.
 
 ghost use Rattle.std.specs.Prelude.{◌≡◌, ◌≢◌, ◌≤◌, ◌⊎◌, ◌++◌, ℕ, length, take, true, false, List, [], ◌∷◌, Some, None, IfOk, IfErr, IfSome, IfNone, OnOk, refl, nat_eq};
 ghost use Rattle.std.specs.Cmp;

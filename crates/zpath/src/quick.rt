@@ -1,5 +1,9 @@
 //! The fast path from a text to its names: one pass over the bytes finds the names' lengths, then
 //! the names are cut out. Most texts take it. Any other text goes through the tests in `scan`.
+//!
+//! # Why
+//! The tests in `scan` take one pass for each fault, which only a text with a fault needs. Both
+//! paths satisfy one contract.
 
 ghost use Rattle.std.specs.Prelude.{◌≡◌, ◌∷◌, [], ◌+◌, ◌-◌, ◌≤◌, length, take, drop, true, None, IfOk, IfSome};
 ghost use Rattle.std.specs.Bool.{OnTrue};

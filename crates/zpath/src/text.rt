@@ -1,4 +1,8 @@
 //! How the bytes of a name are stored.
+//!
+//! # Why
+//! Most names of settings and locks fit in 16 bytes. So does a sequential node's counter after a
+//! stem of six bytes.
 
 ghost use Rattle.std.specs.Prelude.{◌≡◌, ◌++◌, IfOk};
 

@@ -1,4 +1,7 @@
 //! Copying a table's rows under new Ids.
+//!
+//! # Why
+//! No caller sees these Ids, so a copy may renumber them.
 
 ghost use Rattle.std.specs.Prelude.{◌≡◌, ◌<◌, IfOk, length, nat_eq};
 ghost use Rattle.std.specs.List.{IsDistinct};
@@ -36,8 +39,8 @@ pub(crate) fn opened_anew(
     Ok(copy)
 }
 
-// An invariant of every map of Ids: no number stands twice in it, and it is far shorter than the Ids
-// to give out. The function does nothing.
+// An invariant of every map of Ids: no Id occurs twice in it, and it is far shorter than the number
+// of Ids to give out. The function does nothing.
 fn keeps_unique(ids: &HashMap<u64, Id>)
     ensures unique { IsDistinct nat_eq (keys_of ids.now.entries) }
     ensures few { length ids.now.entries < GIVEN_BOUND }

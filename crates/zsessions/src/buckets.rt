@@ -1,4 +1,4 @@
-//! The buckets: each row stands in the list of its deadline modulo 32.
+//! The buckets: each row is in the list of its deadline modulo 32.
 
 ghost use Rattle.std.specs.Prelude.{◌≡◌, ◌<◌};
 ghost use Rattle.std.specs.FinMap as finite;

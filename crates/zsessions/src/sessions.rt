@@ -62,7 +62,7 @@ impl Sessions {
     }
 
     /// Returns the ids of the sessions that expire at the tick, in order; or `Memory`. No deadline
-    /// may be before the tick. Looks only at sessions whose deadline equals the tick modulo 32.
+    /// may be before the tick. Reads only sessions whose deadline equals the tick modulo 32.
     pub fn due(&self, tick: u64) -> Result<Vec<SessionId>, Memory>
         requires none_late { NoneLate self.now tick }
         ensures { IfOk result (λ ids. ids.items ≡ due_sessions self.now tick) }

@@ -1,4 +1,8 @@
 //! The rows of sessions, by id and by bucket.
+//!
+//! # Why
+//! A `HashMap` of at most 1,024 numbers, with one lookup in each call. A ping finds the session,
+//! tests its client and moves its deadline in one lookup (`keep_alive`).
 
 ghost use Rattle.std.specs.Prelude.{◌≡◌, ◌+◌, ◌<◌, ◌≤◌, nat_eq, None, IfOk, OnOk, OnErr, IsSome};
 ghost use Rattle.std.specs.FinMap as finite;

@@ -7,8 +7,8 @@ use Rattle.zslots.specs.Ids.{Ids, first_of, last_or}
 use Rattle.zslots.specs.SlotsView.{Items}
 
 module _ {T : Type 0} (links : T → Links) where
-  -- starting with `first`, these items follow each other to the end; `before` stands before the
-  -- first
+  -- starting with `first`, these items follow each other to the end; `before` is the item before
+  -- the first
   abbrev pub Chain : Items T → Option Id → Option Id → Ids → Type 0
   Chain m before first [] = first ≡ None
   Chain m before first (id ∷ ids) =

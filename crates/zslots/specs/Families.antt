@@ -1,4 +1,4 @@
--- A list for each key, such as the children of each path. Each item stands in the list of its key.
+-- A list for each key, such as the children of each path. Each item is in the list of its key.
 use Rattle.std.specs.Prelude.{◌≡◌, ◌≢◌, ◌⊎◌, ◌↔◌, ℕ, Option, Some}
 use Rattle.std.specs.Option.{option_and_then}
 use Rattle.std.specs.FinMap.{get}

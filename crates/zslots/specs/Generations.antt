@@ -1,4 +1,4 @@
--- Generations: they tell apart the Ids that share a slot.
+-- Generations distinguish the Ids that share a slot.
 use Rattle.std.specs.Prelude.{ℕ, ◌+◌, ◌*◌, ◌==◌, ◌&&◌, Bool}
 use Rattle.zslots.specs.declared.generation.Generation.{Generation}
 

@@ -51,6 +51,6 @@ abbrev pub last_or : Option Id → Ids → Option Id
 last_or before [] = before
 last_or before (id ∷ ids) = last_or (Some id) ids
 
--- the new first Id of a list: unchanged if something stands before, else the other one
+-- the new first Id of a list: unchanged if there is an item before, else the other one
 abbrev pub first_if : Option Id → Option Id → Option Id → Option Id
 first_if before first other = option_map_or (λ _. first) before other

@@ -1,4 +1,4 @@
--- What a list's calls write, and their effect on a list in good order.
+-- What a list's calls write, and their effect on a well-formed list.
 use Rattle.std.specs.Prelude.{◌≡◌, ◌∷◌, ◌++◌, ℕ, Option, IsSome}
 use Rattle.std.specs.FinMap.{get}
 use Rattle.zslots.specs.declared.id.Id.{Id}

@@ -10,7 +10,7 @@ use Rattle.zslots.specs.SlotsView.{Items}
 use Rattle.zslots.specs.Links.{with_front, without, with_between}
 use Rattle.zslots.specs.Lists.{IsList, list_without, list_with_between}
 
--- a list stands for at most one sequence of Ids
+-- a list represents at most one sequence of Ids
 abbrev pub IsOneList : ℕ → {T : Type 0} → (T → Links) → Type 0
 IsOneList L {T} links =
     (m : Items T) (list : IdList L) (a b : Ids) → IsList links m list a →

@@ -8,7 +8,7 @@ use Rattle.zslots.specs.SlotsView.{Items}
 use Rattle.zslots.specs.Links.{links_at}
 use Rattle.zslots.specs.Chains.{Chain}
 
--- the list stands for these Ids
+-- the list represents these Ids
 pub record IsList {L : ℕ} {T : Type 0} (links : T → Links) (m : Items T) (list : IdList L)
     (ids : Ids) : Type 0 where
   pub chain : Chain links m None list.first ids

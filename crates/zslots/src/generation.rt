@@ -1,4 +1,4 @@
-//! The number that tells apart the Ids that share a slot.
+//! The number that distinguishes the Ids that share a slot.
 
 ghost use Rattle.std.specs.Prelude.{◌≡◌};
 ghost use Rattle.zslots.specs.Generations.{generation_number, is_same};

@@ -1,5 +1,11 @@
 //! A slab whose Ids are never given out twice, and intrusive lists over its items.
 //!
+//! The lowest crate of the wing "machine": the state of one server. Continue with `zsessions` and
+//! `znodes`, the two tables on it, then `zstore` (both, with a clock and savepoints), then `zops`
+//! (the calls on a store).
+//!
+//! `Slots` consumes an item and produces its `Id`, by which the item is read, written and removed.
+//!
 //! ```
 //! let mut slots = Slots::new(alloc);
 //! let mut list: List<0> = List::new();
@@ -10,7 +16,7 @@
 //!
 //! Contracts see a `Slots` as a finite map from Ids (`specs/SlotsView.antt`). They see a `List` as
 //! the sequence of Ids that its items' links spell (`specs/Chains.antt`, `specs/Lists.antt`). An
-//! item can stand in as many lists as it has pairs of links. `Linked<L>` says which pair belongs to
+//! item can be in as many lists as it has pairs of links. `Linked<L>` says which pair belongs to
 //! list `L`. A list's call writes a total function of the map (`specs/Links.antt`), so a clause on
 //! one list also says what happens to all others.
 #![tactic(auto)]

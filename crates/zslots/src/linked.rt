@@ -1,4 +1,4 @@
-//! Items that can stand in lists.
+//! Items that can be in lists.
 
 use crate::id::Id;
 

@@ -1,4 +1,4 @@
-//! Intrusive lists: the links stand in the items.
+//! Intrusive lists: the links are in the items.
 
 ghost use Rattle.std.specs.Prelude.{◌≡◌, ◌<◌};
 ghost use Rattle.zslots.specs.declared.limits.TheConstants.{MAX_LENGTH};
@@ -12,7 +12,7 @@ use crate::slots::Slots;
 /// An intrusive list, by the items' links of list `L`. No call allocates.
 ///
 /// The first clauses of each call say what it writes, whatever the links are. The clause `list`
-/// says what that means for a list in good order.
+/// says what that means for a well-formed list.
 #[derive(Clone, Copy, Debug, PartialEq, Eq)]
 pub struct List<const L: usize> {
     pub(crate) first: Option<Id>,

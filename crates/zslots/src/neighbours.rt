@@ -54,7 +54,7 @@ pub(crate) fn set_prev<const L: usize, T: Linked<L>>(
     }
 }
 
-// Returns the new first Id of a list: unchanged if something stands before, else the other one.
+// Returns the new first Id of a list: unchanged if there is an item before, else the other one.
 pub(crate) fn first_if(before: Option<Id>, first: Option<Id>, other: Option<Id>) -> Option<Id>
     ensures { result ≡ first_where before first other }
 {

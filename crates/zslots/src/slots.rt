@@ -24,7 +24,7 @@ pub(crate) struct Slot<T> {
 /// Items by Id; an Id is never given out twice.
 ///
 /// A generation is the number of Ids that were given out before it. So the Id of a removed item
-/// names nothing from then on, whatever the slab stores in its slot.
+/// names nothing from then on, whatever item uses its slot.
 #[derive(Drop)]
 pub struct Slots<T> {
     pub(crate) slab: Slab<Slot<T>>,
@@ -74,7 +74,7 @@ impl<T> Slots<T> {
         self.slab.len()
     }
 
-    /// An invariant of every `Slots`: it has at most `MAX_LENGTH` items. So a list that lacks one of
+    /// An invariant of every `Slots`: it has at most `MAX_LENGTH` items. So a list without one of
     /// them can grow. The function does nothing.
     pub fn keeps_countable(&self)
         ensures { finite.len self.now.items ≤ MAX_LENGTH }

@@ -1,6 +1,6 @@
 -- A tree restored from rows: the root, then the sessions in the order of their ids, then the other
--- nodes in the order of their paths. Here is what the rows make, and which of them can be put. Rows
--- of a state are this project's profile.
+-- nodes in the order of their paths. Here are the tree that rows make, and which rows can be put.
+-- The rows of a state are this project's profile.
 use Rattle.std.specs.Prelude.{◌≡◌, ℕ, ◌<◌, false, List, [], ◌∷◌, None}
 use Rattle.std.specs.FinMap as finite
 use Rattle.std.specs.FinMap.{get, insert}
@@ -15,11 +15,11 @@ abbrev pub rooted_tree : Node → ℕ → ℕ → Tree
 rooted_tree root time zxid =
     record { nodes = insert finite.empty [] root; sessions = finite.empty; time = time; zxid = zxid }
 
--- the tree with one more node, as it is; its parent's fields for its children are left alone
+-- the tree with one more node, unchanged; its parent's fields for its children are left alone
 abbrev pub with_row : Tree → Path → Node → Tree
 with_row t path n = record t { nodes = insert t.nodes path n }
 
--- the tree with one more session, as it is
+-- the tree with one more session, unchanged
 abbrev pub with_session_row : Tree → ℕ → Session → Tree
 with_session_row t id s = record t { sessions = insert t.sessions id s }
 
@@ -35,8 +35,8 @@ pub record CanPutSession (t : Tree) (id : ℕ) (s : Session) : Type 0 where
   pub lives : t.time < s.deadline
   pub few : finite.len t.sessions < MAX_SESSIONS
 
--- the node can be put: its path is free, its parent is there and persistent, its owner is live, and
--- it doesn't have both an owner and a TTL
+-- the node can be put: its path is free, its parent exists and is persistent, its owner is live,
+-- and it doesn't have both an owner and a TTL
 pub record CanPut (t : Tree) (path : Path) (n : Node) : Type 0 where
   pub free : has_node t.nodes path ≡ false
   pub parent : IsPersistent (get t.nodes (parent_of path))

@@ -7,8 +7,8 @@ use Rattle.ztree.specs.Tree.{Tree, Path}
 use Rattle.ztree.specs.Lawful.{IsLawful}
 use Rattle.zstore.specs.Restored.{rooted_tree, with_session_rows, with_rows, CanBeRoot, CanPutSession, CanPutSessions, CanPut, CanPutAll}
 
--- The tree's own rows make it: the first node in the order of paths is the root. Its sessions can be
--- put one after the other, then its other nodes, and then the tree is there.
+-- The tree's own rows restore it: the first node in the order of paths is the root. Its sessions
+-- can be put one after the other, then its other nodes, and the result is the tree.
 pub record IsRebuilt (t : Tree) : Type 0 where
   pub root : Node
   pub rows : List (Path × Node)
@@ -20,18 +20,18 @@ pub record IsRebuilt (t : Tree) : Type 0 where
   pub whole : with_rows
       (with_session_rows (rooted_tree root t.time t.zxid) (entries t.sessions)) rows ≡ t
 
--- a lawful tree's own rows make it
+-- a lawful tree's own rows restore it
 abbrev pub RowsMakeTheirTree : Type 0
 RowsMakeTheirTree = (t : Tree) → IsLawful t → IsRebuilt t
 
--- of the whole tree's sessions in the order of ids, those so far are the first, and this one is next
+-- in the order of ids, these sessions are the first of the whole tree's, and this one is next
 pub record IsNextSession (whole so_far : Tree) (id : ℕ) (s : Session) : Type 0 where
   pub after : List (ℕ × Session)
   pub rows : entries whole.sessions ≡ entries so_far.sessions ++ (id, s) ∷ after
   pub time : so_far.time ≡ whole.time
 
--- of the whole tree's nodes in the order of paths, those so far are the first, and this one is next;
--- all sessions are there
+-- in the order of paths, these nodes are the first of the whole tree's, and this one is next; all
+-- sessions are there
 pub record IsNext (whole so_far : Tree) (path : Path) (n : Node) : Type 0 where
   pub after : List (Path × Node)
   pub rows : entries whole.nodes ≡ entries so_far.nodes ++ (path, n) ∷ after

@@ -1,4 +1,5 @@
--- What serves proofs alone: what a store keeps, how changes are undone, and the parts of its changes.
+-- Definitions for the proofs alone: the fields of a store, how changes are undone, and the parts of
+-- its changes.
 pub mod Undoing
 pub mod Stored
 pub mod Parts

@@ -2,12 +2,12 @@
 
 ghost use Rattle.zstore.specs.RestoredLaws.{RowsMakeTheirTree, RefusedRootsAreNowhere, RefusedSessionsAreNowhere, RefusedNodesAreNowhere};
 
-/// A lawful tree's own rows make it: each can be put after those before it.
+/// A lawful tree's own rows restore it: each can be put after those before it.
 pub fn rows_make_their_tree()
     ensures { RowsMakeTheirTree }
 {}
 
-/// A row that can't be put is at its place in no lawful tree.
+/// A row that can't be put is the next row of no lawful tree.
 pub fn refused_rows_are_nowhere()
     ensures root { RefusedRootsAreNowhere }
     ensures session { RefusedSessionsAreNowhere }

@@ -1,11 +1,11 @@
 //! The store of one machine: its znodes, its sessions and its clock; and a savepoint, to roll back
 //! to.
 //!
-//! The caller has validated the paths and data that come in. Nodes, stats and counts come out.
-//! Every contract speaks of the tree that the store holds (ztree's `specs/Tree.antt`), and of the
-//! Ids of its nodes (`specs/StoreView.antt`). A call's effect is the sequential specification's
-//! change of that tree. The cost of a call depends on what it changes or returns, not on the size
-//! of the tree.
+//! Consumes paths and data that the caller has validated; produces nodes, stats and counts. Every
+//! contract speaks of the tree that the store holds (ztree's `specs/Tree.antt`), and of the Ids of
+//! its nodes (`specs/StoreView.antt`). A call's effect is the sequential specification's change of
+//! that tree. The cost of a call depends on what it changes or returns, not on the size of the
+//! tree.
 #![tactic(auto)]
 
 pub mod laws;

@@ -1,4 +1,9 @@
 //! The undo log: the changes since a savepoint.
+//!
+//! # Why
+//! The savepoint's tree and Ids are the current ones before all notes, so no copy is stored. A note
+//! is right if it undoes its change. So each write proves one equation, and rolling back needs no
+//! search and no allocation.
 
 ghost use Rattle.std.specs.Prelude.{◌≡◌, ◌<◌, ◌≤◌, ◌+◌, ◌++◌, ◌∷◌, []};
 ghost use Rattle.std.specs.Vec.{vec_len, vec_capacity};

@@ -1,4 +1,9 @@
 //! Savepoints: set, roll back, give up.
+//!
+//! # Why
+//! The room is counted in steps, not calls: `add` and `drop_leaf` change two rows, the node's and
+//! its parent's. A step without room gives the savepoint up, as does every call that is not part of
+//! a multi. So no write requires room, or the absence of a savepoint.
 
 ghost use Rattle.std.specs.Prelude.{◌≡◌, None, OnOk, OnErr, IsSome};
 ghost use Rattle.zstore.specs.StoreView.{AtMark, GoesBack, MarksHere, without_mark};

@@ -1,4 +1,8 @@
 //! Reading a store.
+//!
+//! # Why
+//! `stale` names each stale node once, in no fixed order: removing two nodes in either order leaves
+//! the same tree (`proofs/order`).
 
 ghost use Rattle.std.specs.Prelude.{◌≡◌, ◌+◌, Some, None, IfOk, IfSome, IfNone, OnSome, is_some, IsSome};
 ghost use Rattle.std.specs.FinMap.{keys};

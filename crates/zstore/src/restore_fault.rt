@@ -6,10 +6,10 @@ ghost use Rattle.zstore.specs.declared.restore_fault.RestoreFault.TheVariants.{M
 use thiserror::Error;
 use zalloc::Memory;
 
-/// Why a row isn't put.
+/// Why a row can't be put.
 #[derive(Clone, Copy, Debug, PartialEq, Eq, Error)]
 pub enum RestoreFault {
-    /// The row is at its place in no lawful tree.
+    /// No lawful tree has this row next, after the rows put so far.
     #[error("not a row of a lawful tree")]
     Unlawful,
     /// Out of memory. It says nothing about the row.

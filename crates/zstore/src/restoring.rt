@@ -65,7 +65,7 @@ impl Store {
         Ok(())
     }
 
-    /// Puts one more node, as it is, beneath a parent that is there. If it is refused, nothing has
+    /// Puts one more node, as it is, beneath an existing parent. If it is refused, nothing has
     /// changed.
     pub fn put_node(&mut self, path: Path, node: Node) -> Result<(), RestoreFault>
         ensures tree { OnOk result (self.new.tree ≡ with_row self.old.tree path node) }
@@ -153,7 +153,7 @@ impl Store {
         Ok(found)
     }
 
-    // Returns whether it is nobody, or a live session.
+    // Returns whether the owner is 0 (no owner), or a live session.
     fn is_owner(&self, owner: u64) -> bool
         ensures yes { IsTrue result → IsOwner self.now.tree.sessions owner }
         ensures no { IsFalse result → IsOwner self.now.tree.sessions owner → ⊥ }

@@ -6,7 +6,7 @@ ghost use Rattle.ztree.specs.support.Samples.{at_a, at_a_b, some_node, some_sess
 ghost use Rattle.zstore.specs.Restored.{CanBeRoot, CanPut, CanPutSession};
 ghost use Rattle.zstore.specs.support.Samples.{plain, ephemeral, timed, rooted, with_ephemeral};
 
-/// A tree restored from rows has them as they are: a new child leaves its parent as it was.
+/// A tree restored from rows has them unchanged: a new child leaves its parent as it was.
 pub fn rows_make_a_tree()
     ensures time { rooted.time ≡ 8 }
     ensures zxid { rooted.zxid ≡ 40 }

@@ -1,4 +1,8 @@
 //! Reading and changing sessions, and the clock.
+//!
+//! # Why
+//! `end_session` removes the nodes in the order of its list, the definition in the order of paths.
+//! Removing two nodes in either order leaves the same tree (`proofs/order`).
 
 ghost use Rattle.std.specs.Prelude.{◌≡◌, ◌<◌, ◌+◌, [], None, Some, IsTrue, IsFalse, IfOk, IfSome, IfNone, OnOk, OnErr, IsSome};
 ghost use Rattle.std.specs.FinMap as finite;

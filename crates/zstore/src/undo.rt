@@ -2,8 +2,8 @@
 
 use znodes::{Content, Id, Marks};
 
-/// The undo of one change of the nodes. Changes are undone in reverse order, so each undo finds the
-/// nodes as its change left them.
+/// The undo of one change of the nodes. Changes are undone in reverse order, so each undo is
+/// applied to the nodes as its change left them.
 #[derive(Drop)]
 pub(crate) enum Undo {
     /// A node was added under this Id: remove it.

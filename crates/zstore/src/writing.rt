@@ -1,4 +1,8 @@
 //! Changing a store.
+//!
+//! # Why
+//! `add` makes the node of the next change (zxid + 1), and `raise` alone changes the zxid. So all
+//! parts of a multi have one zxid, and a change that is rolled back leaves the zxid as it was.
 
 ghost use Rattle.std.specs.Prelude.{◌≡◌, ◌≢◌, ◌⊎◌, ◌<◌, ◌+◌, [], Some, IfOk, OnOk, OnErr, IsSome, None, false};
 ghost use Rattle.std.specs.FinMap as finite;

@@ -7,7 +7,16 @@
 //! - `specs/Stale.antt`: the znodes that a tick removes.
 //! - `specs/Lawful.antt`: the invariant of every tree that the service can reach.
 //!
-//! How a machine stores a tree is the business of the crates above.
+//! How a machine stores a tree is decided in the crates above. This crate consumes paths (`zpath`)
+//! and produces values: `Node`, `Stat`, `Data`, `Session`, `Zxid` and other numbers.
+//!
+//! # Why
+//! The definitions find ephemerals and expired sessions by filtering all of them, which is the
+//! easiest to read. A store has lists for them, and its invariant says that these hold the same.
+//!
+//! Numbers that could be swapped have types of their own, such as `Zxid`, `SessionId` and
+//! `ClientId`. Ticks and versions are `u64`, by the names of their fields. So is a node's owner: 0
+//! means no owner, and the stat shows a number.
 #![tactic(auto)]
 
 mod client;

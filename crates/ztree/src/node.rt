@@ -28,8 +28,8 @@ pub struct Node {
     pub owner: u64,
     /// The number that the next sequential create beneath it appends to the name.
     pub seq: u64,
-    /// The TTL: how many ticks it lives after the last change of its data while it has no children.
-    /// 0 means no TTL.
+    /// The TTL in ticks, counted from the last change of its data; a tick removes it then, if it
+    /// has no children. 0 means no TTL.
     pub ttl: u64,
 }
 

@@ -1,4 +1,8 @@
 //! The data of a znode.
+//!
+//! # Why
+//! Copies share the bytes by a counter of owners, which is an allocation. So `Data::new` can fail
+//! with `Memory`.
 
 ghost use Rattle.std.specs.Prelude.{◌≡◌, [], ◌<◌, ◌≤◌, length, Err, IfErr, IfOk, OnOk};
 ghost use Rattle.ztree.specs.declared.limits.TheConstants.{MAX_DATA};

@@ -9,7 +9,7 @@ use crate::client::ClientId;
 pub struct Session {
     /// The client that opened it.
     pub client: ClientId,
-    /// The number of ticks it lives without a ping.
+    /// The number of ticks without a ping after which it expires.
     pub timeout: u64,
     /// The tick at which it expires.
     pub deadline: u64,

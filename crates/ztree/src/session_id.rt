@@ -1,4 +1,8 @@
 //! The id of a session.
+//!
+//! # Why
+//! The id is the zxid of the open. So no id is used twice, and a script can name the session by the
+//! reply.
 
 ghost use Rattle.std.specs.Prelude.{◌≡◌};
 

@@ -1,4 +1,12 @@
 //! The time to live of a znode.
+//!
+//! # Why
+//! The guide lets a server remove an expired node some time later. Here a tick removes exactly the
+//! due nodes without children, so that the specification is a function. A node whose last child is
+//! removed at a tick stays until the next one.
+//!
+//! `Ttl` is in this crate since the kinds of a create (`zcalls`) need it without a store. The root
+//! has no TTL, or a tick could remove it.
 
 ghost use Rattle.std.specs.Prelude.{◌≡◌, IfNone, IfSome};
 ghost use Rattle.ztree.specs.Stale.{IsTtl};
