@@ -74,7 +74,7 @@ abbrev pub ticks_in : Tree → List (ℕ × Update) → ℕ
 ticks_in t [] = 0
 ticks_in t (call ∷ calls) = one_if_tick t call.0 call.1 + ticks_in (step t call.0 call.1).0 calls
 
--- none of these calls is the close of that session by its own client
+-- the session's client doesn't close it by one of these calls
 abbrev pub NeverCloses : ℕ → ℕ → List (ℕ × Update) → Type 0
 NeverCloses client id [] = Unit {0}
 NeverCloses client id (call ∷ calls) = (call.0 ≡ client → call.1 ≡ Close id → ⊥) × NeverCloses client id calls

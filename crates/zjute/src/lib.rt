@@ -5,9 +5,9 @@
 //! the first one and `read_request` each later one. Produces whole frames:
 //! `write_connect_response`, `write_reply` and `write_event`.
 //!
-//! The forms are in `specs/`, each named after its record of zookeeper.jute. A request that was
-//! read has the read bytes as its encoding. Each request has one encoding, and a valid one is read
-//! unless memory runs out.
+//! The forms are in `specs/`, each with a comment that names its record of zookeeper.jute. A
+//! request that was read has the read bytes as its encoding. Each request has one encoding, and a
+//! valid one is read unless memory runs out.
 #![tactic(auto)]
 
 mod acl;

@@ -1,8 +1,8 @@
 //! Adding nodes, removing them, and bringing them back.
 //!
 //! # Why
-//! A removed node keeps its slot and its index key until its undo is given up. So it comes back
-//! under its Id without allocating, as the first of its parent's children. No reader sees that
+//! A removed node remains in its slot, with its index key, until its undo is given up. So it comes
+//! back under its Id without allocating, as the first of its parent's children. No reader sees that
 //! order: names are sorted when they are listed.
 //!
 //! `add` returns `Memory` also when no Id is left. It is the one error of the call for lack of

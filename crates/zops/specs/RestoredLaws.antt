@@ -29,8 +29,8 @@ CanPutAllNodes t [] = Unit {0}
 CanPutAllNodes t (row ∷ rows) =
     CanPutNode t row.0 row.1 × CanPutAllNodes (with_row t row.0 row.1) rows
 
--- The tree's own rows restore it: a machine can begin with its root, then its sessions can be put
--- one after the other, then its other nodes, and the result is the tree.
+-- The tree's own rows restore it: a machine can begin with its root. Its sessions can be put one
+-- after the other, then its other nodes, and the result is the tree.
 pub record IsRestored (t : Tree) (applied : ℕ) : Type 0 where
   pub root : Node
   pub rows : List (Path × Node)

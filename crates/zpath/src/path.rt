@@ -2,8 +2,8 @@
 //!
 //! # Why
 //! A path is made once and then shared, also between threads, so a copy only counts one more owner.
-//! A parent is the same list with one name less. No parent is ever stored, so it can't keep a long
-//! list allocated.
+//! A parent is the same list with one name less. No parent is ever stored, so it can't hold a long
+//! list.
 
 ghost use Rattle.std.specs.Prelude.{◌≡◌, ◌≢◌, ◌≤◌, ◌⊎◌, ◌++◌, ℕ, length, take, true, false, List, [], ◌∷◌, Some, None, IfOk, IfErr, IfSome, IfNone, OnOk, refl, nat_eq};
 ghost use Rattle.std.specs.Cmp;

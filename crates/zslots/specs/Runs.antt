@@ -13,7 +13,7 @@ pub data Change (T : Type 0) : Type 0 where
   Write : Id → T → Change T
 
 module _ {T : Type 0} where
-  -- the call turns the old view into the new one, apart from the room
+  -- the call changes the old view to the new one, apart from the room
   abbrev pub IsChange : SlotsView T → Change T → SlotsView T → Type 0
   IsChange old (Insert id item) new =
       IsNew old id × (new.items ≡ insert old.items id item) × (new.given ≡ old.given + 1)
@@ -21,7 +21,7 @@ module _ {T : Type 0} where
   IsChange old (Write id item) new =
       IsSome (get old.items id) × (new.items ≡ insert old.items id item) × (new.given ≡ old.given)
 
-  -- the calls in sequence turn the old view into the new one, apart from the room
+  -- the calls in sequence change the old view to the new one, apart from the room
   abbrev pub IsRun : SlotsView T → List (Change T) → SlotsView T → Type 0
   IsRun old [] new = (new.items ≡ old.items) × (new.given ≡ old.given)
   IsRun old (change ∷ changes) new =
