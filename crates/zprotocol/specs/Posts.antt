@@ -11,7 +11,7 @@ pub record OutView (T : Type 0) : Type 0 where
 abbrev pub Puts : {T : Type 0} → OutView T → OutView T → List (PostOf T) → Type 0
 Puts old new posts = new.posts ≡ old.posts ++ posts
 
--- these messages were appended, and each took one place of the reserved room
+-- these messages were appended, and each used one of the reserved slots
 pub record PutsInRoom {T : Type 0} (old new : OutView T) (posts : List (PostOf T)) : Type 0 where
   pub puts : Puts old new posts
   pub room : new.room + length posts ≡ old.room

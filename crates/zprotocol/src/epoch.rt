@@ -7,8 +7,6 @@ use std::marker::Model;
 
 /// The epoch of a pair of neighbours in the chain. The master gives each new pair a number above
 /// all earlier ones. It is below 2^62.
-///
-/// Published chain replication has no epochs; they are this project's profile.
 #[derive(Clone, Copy, Debug, PartialEq, Eq)]
 pub struct Epoch {
     number: u64,

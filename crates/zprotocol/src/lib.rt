@@ -1,9 +1,21 @@
 //! The protocol of chain replication: the processes, their messages, and what each kind of process
 //! does with a message. This crate has the types and the definitions.
 //!
-//! A message with its sender comes in, or a request of a caller or an operator. Messages with their
-//! receivers go out, in an `Out`. The three tables are `specs/server/Table.antt`,
+//! A process receives a message with its sender, or a request of a caller or an operator. It sends
+//! messages with their receivers, in an `Out`. The three tables are `specs/server/Table.antt`,
 //! `specs/master/Table.antt` and `specs/client/Table.antt`.
+//!
+//! This is the lowest crate of the wing "chain": the protocol, the code of each process, and the
+//! actor that runs any of them. Go on with `zclient`, `zmaster` and `zserver`, which implement the
+//! tables, and then with `zactor`. `zworld_model` puts the processes together to one world.
+//!
+//! # Why
+//!
+//! The tables are over a machine given as a record (`Does`), made of any sequential service. The
+//! proof runs over the same service as the linearization, so the two can't drift apart.
+//!
+//! Numbers are natural numbers in the definitions and types with a range in the code. Each type is
+//! seen as its number.
 #![tactic(auto)]
 
 pub mod client;

@@ -1,4 +1,4 @@
-//! The limits of the chain. They are this project's profile.
+//! The limits of the chain.
 
 use ztree::limits::MAX_CLIENTS;
 

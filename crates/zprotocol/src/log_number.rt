@@ -5,8 +5,7 @@ ghost use Rattle.std.specs.Prelude.{◌≡◌, ◌<◌, ◌≤◌, IfNone, IfSom
 use crate::limits::MAX_LOG_NUMBER;
 use std::marker::Model;
 
-/// The number of an entry in a server's log, from 1 on; 0 stands before the first. It is below
-/// 2^62.
+/// The number of an entry in a server's log, from 1 on; 0 is before the first. It is below 2^62.
 #[derive(Clone, Copy, Debug, PartialEq, Eq)]
 pub struct LogNumber {
     number: u64,

@@ -1,4 +1,9 @@
 //! The messages between processes.
+//!
+//! # Why
+//!
+//! One generic `Message<T>` serves the code and the definitions. `T` is a machine together with the
+//! number of its last entry, so a type of the code can keep the two in step.
 
 use crate::epoch::Epoch;
 use crate::log_number::LogNumber;
@@ -7,10 +12,6 @@ use zcalls::{CallNumber, Query, Reply, SharedEntry, Update};
 
 /// The messages between processes. `T` is the contents of a `Snapshot`: a machine, with the number
 /// of its last entry.
-///
-/// The source is van Renesse and Schneider, "Chain Replication for Supporting High Throughput and
-/// Availability" (OSDI 2004), section 3. Epochs, `Gone`, `Retire` and `Snapshot` are this project's
-/// profile.
 #[derive(Drop)]
 pub enum Message<T> {
     /// From a client to a server: do this update, with this call number.
@@ -39,7 +40,7 @@ pub enum Message<T> {
     Retire,
     /// From a server to the master: it has received the state.
     Joined(Epoch),
-    /// The failure notice of a server to the master. It is the last message on its link.
+    /// The failure notice of a server to the master. It is the last message on its channel.
     Gone,
     /// From the master to a client: the head and the tail of the chain, `None` if there is none.
     Config(Epoch, Option<ServerId>, Option<ServerId>),

@@ -63,7 +63,7 @@ impl<T: Drop> Out<T> {
         }
     }
 
-    /// Appends a message within the reserved room. Inlined, so that a message is made where it lies.
+    /// Appends a message within the reserved room. Inlined, so that a message is built in its slot.
     #[inline(always)]
     pub fn put_reserved(&mut self, receiver: Process, message: Message<T>)
         requires { 0 < self.old.room }

@@ -1,4 +1,4 @@
-//! The place of a process in the order of all processes.
+//! The position of a process in the order of all processes.
 
 ghost use Rattle.std.specs.Prelude.{◌≡◌, ◌<◌, ◌≤◌, IfNone, IfSome};
 ghost use Rattle.zprotocol.specs.declared.limits.TheConstants.{PROCESSES};
@@ -12,8 +12,8 @@ use zcalls::ClientId;
 const FIRST_CLIENT: usize = MAX_SERVERS as usize + 1;
 
 impl Process {
-    /// Returns the place of the process, counted from 0: first the master, then the servers, then
-    /// the clients, each by number.
+    /// Returns the position of the process, counted from 0: first the master, then the servers,
+    /// then the clients, each by number.
     pub fn place(&self) -> usize
         ensures place { result ≡ place_of self.now }
         ensures back { process_at result ≡ self.now }
@@ -26,7 +26,7 @@ impl Process {
         }
     }
 
-    /// Returns the process at a place, or `None` after the last one.
+    /// Returns the process at a position, or `None` after the last one.
     pub fn at(place: usize) -> Option<Process>
         ensures some { IfSome result (λ process. process ≡ process_at place) }
         ensures none { IfNone result (PROCESSES ≤ place) }

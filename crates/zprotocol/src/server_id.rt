@@ -53,7 +53,7 @@ impl ServerId {
         self.number
     }
 
-    /// An invariant of every id: it is 1 to `MAX_SERVERS`. The function does nothing.
+    /// Every id is 1 to `MAX_SERVERS`. The function does nothing.
     pub fn keeps_in_range(self)
         ensures some { 0 < self }
         ensures few { self ≤ MAX_SERVERS }

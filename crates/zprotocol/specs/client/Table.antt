@@ -1,8 +1,6 @@
 -- The client table: what a client does at a call, at each message, and at a retry. It never looks
--- at what a Snapshot hands over, so that can be of any type. The source is van Renesse and
--- Schneider, "Chain Replication for Supporting High Throughput and Availability" (OSDI 2004),
--- section 2. Updates go to the head and queries to the tail. A request may be lost, and then the
--- client asks again.
+-- at the contents of a Snapshot, so these can be of any type. Updates go to the head and queries to
+-- the tail. A request may be lost, and then the client sends it again.
 use Rattle.std.specs.Prelude.{ℕ, ◌+◌, Bool, false, not, Option, None, Some, List, [], ◌∷◌, if◌then◌else◌, is_some, nat_lt, ◌==◌}
 use Rattle.zpath.specs.First.{first_that_holds}
 use Rattle.zcalls.specs.declared.limits.TheConstants.{MAX_CALL_NUMBER}

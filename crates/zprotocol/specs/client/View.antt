@@ -1,6 +1,5 @@
--- The view of a client: its state, apart from how it is stored. The source is van Renesse and
--- Schneider, "Chain Replication for Supporting High Throughput and Availability" (OSDI 2004),
--- section 2. One outstanding call per client is this project's profile.
+-- The view of a client: its state, apart from how it is stored. A client has at most one
+-- outstanding call.
 use Rattle.std.specs.Prelude.{ℕ, Option, None, Some, if◌then◌else◌, nat_lt}
 use Rattle.zcalls.specs.declared.call.Call.{Call}
 

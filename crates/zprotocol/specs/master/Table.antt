@@ -1,9 +1,6 @@
--- The master table: what the master does with each message of a server, and at each order: that a
--- server join, or that a member leave. It never looks at what a Snapshot hands over, so that can be
--- of any type. The source is
--- van Renesse and Schneider, "Chain Replication for Supporting High Throughput and Availability"
--- (OSDI 2004), section 3. Epochs, Have, Joined, and the rules of joining and leaving are this
--- project's profile.
+-- The master table: what the master does with each message of a server, and with each order: that a
+-- server join, or that a member leave. It never looks at the contents of a Snapshot, so these can
+-- be of any type.
 use Rattle.std.specs.Prelude.{ℕ, ◌+◌, Bool, false, not, ◌&&◌, Option, None, Some, List, [], ◌∷◌, ◌++◌, length, if◌then◌else◌, is_some, nat_lt, ◌==◌, map}
 use Rattle.std.specs.List.{range_with_len, last_or}
 use Rattle.zpath.specs.First.{first_that_holds}
@@ -26,11 +23,11 @@ MasterResult T = MasterView × List (PostOf T)
 abbrev pub no_effect : {T : Type 0} → MasterView → MasterResult T
 no_effect v = (v, [])
 
--- tell: every client, by number, is sent the epoch, the head and the tail
+-- every client, by number, is sent the epoch, the head and the tail
 abbrev pub config_posts : {T : Type 0} → MasterView → List (PostOf T)
 config_posts v = map (λ c. (Client c, message.Config v.epoch (head_of v) (tail_of v))) (range_with_len 0 v.clients)
 
--- a new view: these messages are sent, and then the clients are told
+-- a new view: these messages are sent, and then the configuration to every client
 abbrev pub and_tell_clients : {T : Type 0} → MasterView → List (PostOf T) → MasterResult T
 and_tell_clients v first = (v, first ++ config_posts v)
 
@@ -62,9 +59,9 @@ own_tests v (Retire s) =
 unfoldable pub order_fault : MasterView → Order → Option OrderFault
 order_fault v order = first_that_holds (own_tests v order ++ (is_some v.retiring, Retiring) ∷ [])
 
--- An order that isn't refused. A server that joins is appended to the chain, and the old last member
--- is its predecessor, in a new epoch. An order to leave is sent to the member, which stays a member
--- until its Gone arrives.
+-- An order that isn't refused. A server that joins is appended to the chain, and the old last
+-- member is its predecessor, in a new epoch. An order to leave is sent to the member, which stays a
+-- member until its Gone arrives.
 unfoldable pub order_step : {T : Type 0} → MasterView → Order → MasterResult T
 order_step v (Join s) =
     elim (last_or None (members v)) [
@@ -89,7 +86,7 @@ have_row v s epoch last =
     elim (before s epoch v.chain) [ None ↦ no_effect v | Some p ↦ (v, (Server p, message.NewSucc epoch s last) ∷ []) ]
 
 -- Joined from the server that is joining: it has the state now, so there is a new epoch, and the
--- clients are told
+-- clients are sent the configuration
 unfoldable pub joined_row : {T : Type 0} → MasterView → ℕ → MasterResult T
 joined_row v s =
     if is_joining v s then and_tell_clients (record v { joining = None; epoch = v.epoch + 1 }) []
@@ -110,7 +107,7 @@ abbrev pub without_next : {T : Type 0} → ℕ → ℕ → List Neighbour → Me
 without_next epoch p [] = ([], (Server p, message.BecomeTail epoch) ∷ [])
 without_next epoch p (t ∷ rest) = ((t.0, epoch) ∷ rest, (Server t.0, message.NewPred epoch p) ∷ [])
 
--- the part of a chain behind p, after a server in it has failed
+-- the part of a chain after p, after a server in it has failed
 abbrev pub mended_chain_behind : {T : Type 0} → ℕ → ℕ → ℕ → List Neighbour → MendedChain T
 mended_chain_behind epoch s p [] = ([], [])
 mended_chain_behind epoch s p (t ∷ rest) =
@@ -138,7 +135,7 @@ without_member v s chain =
     }
 
 -- Gone from a server. A member is removed, the chain is repaired in a new epoch, and the clients
--- are told. The number of a server outside the chain becomes a used one.
+-- are sent the configuration. The number of a server outside the chain becomes a used one.
 unfoldable pub gone_row : {T : Type 0} → MasterView → ℕ → MasterResult T
 gone_row v s =
     if is_among s (members v) then

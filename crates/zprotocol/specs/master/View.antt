@@ -1,7 +1,4 @@
--- The view of the master: its state, apart from how it is stored. The source is van Renesse and
--- Schneider, "Chain Replication for Supporting High Throughput and Availability" (OSDI 2004),
--- section 3. Epochs, orders to leave, and never using a server's number again are this project's
--- profile.
+-- The view of the master: its state, apart from how it is stored.
 use Rattle.std.specs.Prelude.{ℕ, Bool, false, not, Option, None, Some, List, [], ◌∷◌, ◌==◌, nat_lt, if◌then◌else◌, map, filter}
 use Rattle.std.specs.List.{list_any, range_with_len, last_or}
 use Rattle.zprotocol.specs.server.View.{Neighbour}
@@ -59,11 +56,11 @@ abbrev pub first_of : List ℕ → Option ℕ
 first_of [] = None
 first_of (s ∷ rest) = Some s
 
--- the head that clients are told: the first member of the chain
+-- the head in the configuration sent to clients: the first member of the chain
 abbrev pub head_of : MasterView → Option ℕ
 head_of v = first_of (members v)
 
--- the tail that clients are told: the last member that isn't joining; if there is none, the first
--- member
+-- the tail in the configuration sent to clients: the last member that isn't joining; if there is
+-- none, the first member
 abbrev pub tail_of : MasterView → Option ℕ
 tail_of v = last_or (head_of v) (filter (λ s. not (is_joining v s)) (members v))

@@ -1,7 +1,5 @@
 -- What the server table requires of a state machine, and the two machines it is used with: the tree
--- with cached replies, and the log of entries. The source is van Renesse and Schneider, "Chain
--- Replication for Supporting High Throughput and Availability" (OSDI 2004), sections 2 and 3. A
--- copy of a machine is the same value.
+-- with cached replies, and the log of entries. A copy of a machine is the same value.
 use Rattle.std.specs.Prelude.{Option, List, [], ◌∷◌, ◌++◌}
 use Rattle.ztree.specs.Tree.{Tree}
 use Rattle.zcalls.specs.declared.call.Entry.{Entry}

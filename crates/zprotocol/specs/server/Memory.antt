@@ -1,8 +1,5 @@
 -- Where a server may run out of memory: only at a message that makes it grow. If there is no memory
--- for a query, the query is lost; at any other message the server stops. The source is van Renesse
--- and Schneider, "Chain Replication for Supporting High Throughput and Availability" (OSDI 2004),
--- section 2. There, a request may be ignored, and servers are fail-stop. Treating out of memory as
--- one or the other is this project's profile.
+-- for a query, the query is lost. At any other message the server stops.
 use Rattle.std.specs.Prelude.{Bool, true, false, ◌&&◌, ◌||◌, not, nat_lt, length}
 use Rattle.zprotocol.specs.declared.message.Message.TheVariants as message
 use Rattle.zprotocol.specs.declared.process.Process.{Process}

@@ -1,8 +1,5 @@
 -- The server table: what a server does with each message, over any state machine. There is one row
--- for each message, in their order; a row's conditions come before its effect. The source is van
--- Renesse and Schneider, "Chain Replication for Supporting High Throughput and Availability" (OSDI
--- 2004), section 3. Epochs, Have, Joined, the one Snapshot for a new server, and Retire are this
--- project's profile.
+-- for each message, in their order. The conditions of a row come before its effect.
 use Rattle.std.specs.Prelude.{ℕ, ◌+◌, Bool, true, false, Option, None, Some, List, [], ◌∷◌, ◌++◌, if◌then◌else◌, is_none, nat_lt, ◌==◌, map, filter}
 use Rattle.zcalls.specs.declared.call.Entry.{Entry}
 use Rattle.zcalls.specs.declared.call.Update.{Update}

@@ -1,6 +1,4 @@
--- The view of a server: its state, over any state machine. The source is van Renesse and Schneider,
--- "Chain Replication for Supporting High Throughput and Availability" (OSDI 2004), section 3.
--- Epochs and spare servers are this project's profile.
+-- The view of a server: its state, over any state machine.
 use Rattle.std.specs.Prelude.{ℕ, ◌+◌, ◌-◌, Bool, ◌&&◌, Option, None, Some, List, [], if◌then◌else◌, is_some, is_none, nat_lt, ◌==◌}
 use Rattle.zcalls.specs.declared.call.Entry.{Entry}
 use Rattle.zprotocol.specs.declared.message.Message.{Message}

@@ -1,11 +1,17 @@
 //! What the master is ordered to do.
+//!
+//! # Why
+//!
+//! A join and an order to leave are one `Order`, so the table has one list of tests and one step.
+//! `JoinFault` and `RetireFault` are other names of `OrderFault`. Two separate kinds had to be
+//! changed together by hand.
 
 use crate::server_id::ServerId;
 
 /// What the master is ordered to do with a server.
 #[derive(Clone, Copy, Debug, PartialEq, Eq)]
 pub enum Order {
-    /// To let this server join behind the tail.
+    /// To let this server join after the tail.
     Join(ServerId),
     /// To order this server, a member of the chain, to leave.
     Retire(ServerId),
@@ -27,8 +33,7 @@ impl Order {
         }
     }
 
-    /// An invariant of every order: its server's number is 1 to `MAX_SERVERS`. The function does
-    /// nothing.
+    /// Every order's server has a number of 1 to `MAX_SERVERS`. The function does nothing.
     pub fn keeps_in_range(self)
         ensures { is_server (server_of self) ≡ true }
     {

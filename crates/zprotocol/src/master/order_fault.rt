@@ -13,7 +13,7 @@ pub enum OrderFault {
     Joining,
     /// The chain has no members, so no server can join.
     NoChain,
-    /// The only member of the chain is joining, so nobody can give the state to another.
+    /// The only member of the chain is joining, so no server can hand the state to another.
     Lost,
     /// The chain has only one member, which can't leave.
     Last,

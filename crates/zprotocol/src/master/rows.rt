@@ -32,7 +32,7 @@ pub fn reports_are_passed_on()
     ensures order_of_a_server { Ignores three (Server 1) (message.BecomeTail 7) }
 {}
 
-/// How the master repairs the chain when a server has failed, and whom it tells.
+/// How the master repairs the chain when a server has failed, and to whom it sends messages.
 pub fn chain_is_mended()
     ensures first { after_gone three 1 ≡ (three_without_1, new_head 2 4) }
     ensures last { after_gone three 4 ≡ (three_without_4, new_tail 1 2) }
@@ -85,7 +85,7 @@ pub fn servers_retire()
 {}
 
 /// When the member ordered to leave is gone, the chain is repaired as for any other. Then another
-/// may be ordered to leave, or join. When another member is gone, the order stands.
+/// may be ordered to leave, or join. When another member is gone, the order remains.
 pub fn retired_servers_are_gone()
     ensures head { after_gone (retiring 1 three) 1 ≡ (three_without_1, new_head 2 4) }
     ensures middle { after_gone (retiring 2 three) 2 ≡ (three_without_2, new_pred 4 1 1 4) }
@@ -98,7 +98,7 @@ pub fn retired_servers_are_gone()
     ensures gone_one_joins { order_fault (after_gone (retiring 1 three) 1).0 (Join 1) ≡ Some Used }
 {}
 
-/// The initial view of two servers and three clients, the head and tail that clients are told, and
+/// The initial view of two servers and three clients, the head and tail in the configuration, and
 /// the used numbers with one more.
 pub fn opening_and_ends()
     ensures opening { opening_master 2 3 ≡ opening_of_two }

@@ -11,7 +11,7 @@ ghost use Rattle.zprotocol.specs.server.Machine.{kept_tree, kept_tree_from, plai
 ghost use Rattle.zprotocol.specs.server.support.Homomorphism.{LogStandsForMachine, TableKeepsLogs};
 ghost use Rattle.zprotocol.specs.server.Laws.{OnlyTailsAnswer, TableForgetsTheStart, first_step};
 
-/// A log of entries stands for the tree with cached replies that it leads to. The log replies as
+/// A log of entries represents the tree with cached replies that it leads to. The log replies as
 /// that tree does, and a server does the same with either. So what holds of a chain of logs holds
 /// of a chain of trees.
 pub fn logs_stand_for_trees()

@@ -94,8 +94,8 @@ pub fn neighbours_change()
     ensures joining_becomes_tail { Ignores joining Master (message.BecomeTail 8) }
 {}
 
-/// Which Snapshots a server without state accepts. The old tail stops replying once it has handed
-/// over its state.
+/// Which Snapshots a server without state accepts. The old tail stops replying once it has sent its
+/// state.
 pub fn state_is_handed_over()
     ensures snapshot_is_taken { after_snapshot joining ≡ (has_joined, joined_posts) }
     ensures nothing_stays_in_sent { after_snapshot joining_with_sent ≡ (has_joined, joined_posts) }

@@ -1,5 +1,5 @@
--- What a client does with a message, as one of three kinds of row, each with the conditions under which it happens: a
--- proof that splits the client table by cases has a case for each.
+-- What a client does with a message, as one of three kinds of row, each with its conditions. A
+-- proof that splits the client table has one case for each.
 use Rattle.std.specs.Prelude.{◌≡◌, ℕ, ◌<◌, [], Option, Some, None}
 use Rattle.zcalls.specs.declared.call.Call.{Call}
 use Rattle.zcalls.specs.declared.reply.Reply.{Reply}

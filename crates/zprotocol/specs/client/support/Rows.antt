@@ -1,4 +1,4 @@
--- What the worked rows of the client table speak of: calls, a reply, and some clients.
+-- Calls, a reply and clients for the worked examples of the client table.
 use Rattle.std.specs.Prelude.{◌≡◌, ℕ, Option, None, Some, List, []}
 use Rattle.zcalls.specs.declared.call.Call.{Call}
 use Rattle.zcalls.specs.declared.call.Call.TheVariants as call
@@ -29,12 +29,13 @@ update_call = call.Update update
 abbrev pub query_call : Call
 query_call = call.Query query
 
--- a client with so many calls that waits for this one, and was told of server 1 as the head and server 3 as the tail in
--- epoch 4
+-- a client that has begun this many calls and waits for this one; it knows server 1 as the head and
+-- server 3 as the tail, in epoch 4
 abbrev pub client : ℕ → Option (ℕ × Call) → ClientView
 client number outstanding = record { number = number; outstanding = outstanding; epoch = 4; head = Some 1; tail = Some 3 }
 
--- a client of two servers at the opening, and when it waits for its first call; and who is none of the clients
+-- a client of two servers in its initial state, and when it waits for its first call; and a number
+-- that is no client
 abbrev pub newcomer : ClientView
 newcomer = record { number = 0; outstanding = None; epoch = 0; head = Some 1; tail = Some 2 }
 
@@ -58,7 +59,7 @@ asking = client 7 (Some (7, query_call))
 abbrev pub eighth : Call → ClientView
 eighth c = client 8 (Some (8, c))
 
--- a client that has begun so many calls
+-- a client that has begun this many calls
 abbrev pub with_calls : ℕ → ClientView → ClientView
 with_calls number v = record v { number = number }
 
@@ -66,7 +67,8 @@ with_calls number v = record v { number = number }
 abbrev pub headless : ClientView → ClientView
 headless v = record v { head = None }
 
--- a client that was told of this head and this tail in epoch 5, and one that was told that there is no chain
+-- a client that has received this head and this tail in epoch 5, and one that has received that
+-- there is no chain
 abbrev pub told : ℕ → ℕ → ClientView → ClientView
 told head tail v = record v { epoch = 5; head = Some head; tail = Some tail }
 
@@ -84,19 +86,19 @@ query_to s number = (Server s, message.Query number query)
 abbrev pub after : ClientView → Process → MessageOf ℕ → ClientResult (Transfer ℕ)
 after v from m = client_step v from m
 
--- that changes nothing, puts nothing, and hands no reply out
+-- the message changes nothing, sends nothing, and returns no reply
 abbrev pub Ignores : ClientView → Process → MessageOf ℕ → Type 0
 Ignores v from m = after v from m ≡ (v, [], None)
 
--- what a client does when a call begins, and what it puts at a retry
+-- what a client does when a call begins, and what it sends at a retry
 abbrev pub after_call : ClientView → Call → ClientView × List (Post ℕ)
 after_call v c = begin_step v c
 
 abbrev pub after_retry : ClientView → List (Post ℕ)
 after_retry v = retry_posts v
 
--- what it does with the answer to call 7, and when it hears from the master of this head and this tail in epoch 5, or that
--- there is no chain
+-- what it does with the answer to call 7, and with the master's Config of epoch 5: with this head
+-- and this tail, or without a chain
 abbrev pub after_answer : ClientView → ℕ → ClientResult (Transfer ℕ)
 after_answer v s = after v (Server s) (message.Answer 7 Deleted)
 

@@ -1,5 +1,5 @@
--- What the master does with a message, as one of five kinds of row, each with the conditions under which it happens; and
--- how a chain is mended, as one of four. A proof that splits the master table by cases has a case for each.
+-- What the master does with a message, as one of five kinds of row, each with its conditions. How a
+-- chain is repaired is one of four. A proof that splits the master table has one case for each.
 use Rattle.std.specs.Prelude.{◌≡◌, ℕ, ◌+◌, true, false, List, [], ◌∷◌, ◌++◌, Option, Some, None}
 use Rattle.zprotocol.specs.declared.message.Message.{Message}
 use Rattle.zprotocol.specs.declared.message.Message.TheVariants as message
@@ -9,7 +9,8 @@ use Rattle.zprotocol.specs.server.View.{Neighbour}
 use Rattle.zprotocol.specs.master.View.{MasterView, is_among, with_number, members}
 use Rattle.zprotocol.specs.master.Table.{MasterResult, and_tell_clients, before, MendedChain, without_member}
 
--- a chain from which a server has failed: the only one, the first, the last, or one between two others
+-- a chain from which a server has failed: the only one, the first, the last, or one between two
+-- others
 pub data IsMended {T : Type 0} (epoch s : ℕ) : List Neighbour → MendedChain T → Type 0 where
   Only : (k : ℕ) → IsMended epoch s ((s, k) ∷ []) ([], [])
   First : (k : ℕ) (t : Neighbour) (rest : List Neighbour)

@@ -1,4 +1,4 @@
--- What the worked rows of the master table speak of: some chains.
+-- Chains for the worked examples of the master table.
 use Rattle.std.specs.Prelude.{◌≡◌, ℕ, Option, None, Some, List, [], ◌∷◌}
 use Rattle.zprotocol.specs.declared.message.Message.TheVariants as message
 use Rattle.zprotocol.specs.declared.process.Process.TheVariants.{Server, Client}
@@ -8,7 +8,8 @@ use Rattle.zprotocol.specs.master.View.{MasterView}
 use Rattle.zprotocol.specs.declared.master.order.Order.{Order}
 use Rattle.zprotocol.specs.master.Table.{MasterResult, master_step, order_step}
 
--- the master of two clients, of servers 1 to 4 and of epochs up to 6, with this chain and this server joining
+-- the master of two clients, of servers 1 to 4 and of epochs up to 6, with this chain and this
+-- server joining
 abbrev pub master : List Neighbour → Option ℕ → MasterView
 master chain joining = record { chain = chain; joining = joining; retiring = None; used = 1 ∷ 2 ∷ 3 ∷ 4 ∷ []; epoch = 6; clients = 2 }
 
@@ -19,7 +20,7 @@ three = master ((1, 0) ∷ (2, 3) ∷ (4, 5) ∷ []) None
 abbrev pub four : MasterView
 four = master ((1, 0) ∷ (2, 3) ∷ (3, 2) ∷ (4, 5) ∷ []) None
 
--- the three, behind which server 5 joins
+-- the three, after which server 5 joins
 abbrev pub with_fifth : MasterView
 with_fifth =
     record three {
@@ -29,7 +30,7 @@ with_fifth =
       epoch = 7;
     }
 
--- the master at the opening of a chain of two, with three clients
+-- the initial master of a chain of two, with three clients
 abbrev pub opening_of_two : MasterView
 opening_of_two =
     record { chain = (1, 0) ∷ (2, 0) ∷ []; joining = None; retiring = None; used = 1 ∷ 2 ∷ []; epoch = 0; clients = 3 }
@@ -52,7 +53,7 @@ lost = master ((4, 5) ∷ []) (Some 4)
 abbrev pub empty : MasterView
 empty = master [] None
 
--- both clients hear in epoch 7 of this head and this tail, or that there is no chain
+-- both clients receive this head and this tail in epoch 7, or that there is no chain
 abbrev pub tells : ℕ → ℕ → List (Post ℕ)
 tells head tail = (Client 0, message.Config 7 (Some head) (Some tail)) ∷ (Client 1, message.Config 7 (Some head) (Some tail)) ∷ []
 
@@ -63,7 +64,7 @@ tells_of_none = (Client 0, message.Config 7 None None) ∷ (Client 1, message.Co
 abbrev pub after : MasterView → Process → MessageOf ℕ → MasterResult (Transfer ℕ)
 after v from m = master_step v from m
 
--- that changes nothing, and puts nothing
+-- the message changes nothing, and sends nothing
 abbrev pub Ignores : MasterView → Process → MessageOf ℕ → Type 0
 Ignores v from m = after v from m ≡ (v, [])
 
@@ -71,7 +72,8 @@ Ignores v from m = after v from m ≡ (v, [])
 abbrev pub after_order : MasterView → Order → MasterResult (Transfer ℕ)
 after_order v order = order_step v order
 
--- what it does with the report of server 4, of a pair of epoch 5, when that server has the state, and when a server is gone
+-- what it does with the report of server 4, of a pair of epoch 5, when that server has the state,
+-- and when a server is gone
 abbrev pub after_have : MasterView → Option ℕ → MasterResult (Transfer ℕ)
 after_have v last = after v (Server 4) (message.Have 5 last)
 
@@ -81,11 +83,12 @@ after_joined v = after v (Server 4) (message.Joined 5)
 abbrev pub after_gone : MasterView → ℕ → MasterResult (Transfer ℕ)
 after_gone v s = after v (Server s) message.Gone
 
--- a master whose chain was mended in epoch 7
+-- a master whose chain was repaired in epoch 7
 abbrev pub with_chain : List Neighbour → MasterView → MasterView
 with_chain chain v = record v { chain = chain; epoch = 7 }
 
--- the three without one of them, the four without one of them, and the three whose last has no state without their second
+-- the three without one of them, the four without one of them, and the three whose last has no
+-- state without their second
 abbrev pub three_without_1 : MasterView
 three_without_1 = with_chain ((2, 3) ∷ (4, 5) ∷ []) three
 
@@ -104,16 +107,16 @@ four_without_3 = with_chain ((1, 0) ∷ (2, 3) ∷ (4, 7) ∷ []) four
 abbrev pub growing_without_2 : MasterView
 growing_without_2 = with_chain ((1, 0) ∷ (4, 7) ∷ []) growing
 
--- and one whose joining server is done with
+-- a master with no joining server, in epoch 7
 abbrev pub without_joining : MasterView → MasterView
 without_joining v = record v { joining = None; epoch = 7 }
 
--- server 2 hears what server 4, its next in a pair of epoch 5, reported
+-- server 2 receives what server 4, its next in a pair of epoch 5, reported
 abbrev pub passed_on : Option ℕ → Post ℕ
 passed_on last = (Server 2, message.NewSucc 5 4 last)
 
--- what is put when the chain is mended: a server hears in epoch 7 that it is the head, or the tail, or that another one is
--- before it; and the clients hear of the head and the tail
+-- what is sent when the chain is repaired: in epoch 7 a server becomes the head or the tail, or
+-- gets a new predecessor; the clients receive the head and the tail
 abbrev pub new_head : ℕ → ℕ → List (Post ℕ)
 new_head head tail = (Server head, message.BecomeHead 7) ∷ tells head tail
 

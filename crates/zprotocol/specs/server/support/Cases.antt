@@ -1,5 +1,5 @@
--- What a server does with a message, as one of ten kinds of row, each with the conditions under which it happens: a proof
--- that splits the server table by cases has a case for each. That the table is these rows is a law.
+-- What a server does with a message, as one of ten kinds of row, each with its conditions. A proof
+-- that splits the server table has one case for each. That the table is these rows is a law.
 use Rattle.std.specs.Prelude.{◌≡◌, ℕ, ◌+◌, ◌<◌, List, [], ◌∷◌, ◌++◌, Option, Some, None}
 use Rattle.zcalls.specs.declared.call.Entry.{Entry}
 use Rattle.zcalls.specs.declared.call.Update.{Update}

@@ -1,5 +1,5 @@
--- What a map between machines makes of views, messages and posts, and what it has to keep. By the map that replays a log,
--- the table over logs says all that the table over the tree does.
+-- What a map between machines makes of views, messages and posts, and what the map must preserve.
+-- With the map that replays a log, the table over logs says all that the table over the tree does.
 use Rattle.std.specs.Prelude.{◌≡◌, List, map}
 use Rattle.std.specs.Option.{option_map}
 use Rattle.zcalls.specs.declared.call.Entry.{Entry}
@@ -10,7 +10,7 @@ use Rattle.zprotocol.specs.server.Machine.{Does, replay, log_of}
 use Rattle.zprotocol.specs.server.View.{ServerView, MessageOf, Post}
 use Rattle.zprotocol.specs.server.Table.{ServerResult, server_step}
 
--- the map keeps what machines do: where they start, and their replies
+-- the map preserves what machines do: their initial states, and their replies
 pub record IsHomomorphism {M N : Type 0} (from : Does M) (to : Does N) (h : M → N) : Type 0 where
   pub start : h from.start ≡ to.start
   pub apply : (m : M) (entry : Entry) → to.apply (h m) entry ≡ (h (from.apply m entry).0, (from.apply m entry).1)
