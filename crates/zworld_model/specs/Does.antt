@@ -1,9 +1,6 @@
--- What one process does. A process stands somewhere, and is given one input: a message that it
--- receives, or something from outside. Then it stands somewhere else, it has sent messages, and
--- callers have seen something. The events of the world and lawful traces are both read off this. Van
--- Renesse and Schneider, "Chain Replication for Supporting High Throughput and Availability" (OSDI
--- 2004), sections 2 and 3: servers fail for good. That a server can be ordered to stop for good is
--- this project's profile.
+-- What one process does. It has a view, and is given one input: a message that it receives, or
+-- something from outside. Then it has another view, it has sent messages, and callers have seen
+-- something. The events of the world and lawful traces are both defined by this function.
 use Rattle.std.specs.Prelude.{ℕ, Bool, true, false, ◌&&◌, is_some, is_none, if◌then◌else◌, List, [], ◌∷◌, Option, None, Some}
 use Rattle.zcalls.specs.declared.call.Call.{Call}
 use Rattle.zcalls.specs.declared.reply.Reply.{Reply}
@@ -23,15 +20,15 @@ use Rattle.zprotocol.specs.client.Table as client
 use Rattle.zworld_model.specs.declared.history.CallEvent.TheVariants as call_event
 use Rattle.zworld_model.specs.History.{History}
 
--- where a process stands: its view; or it takes no part, as a server that has stopped for good
+-- what a process is: its view; or it takes no part, as a server that has stopped for good
 pub data Standing (M : Type 0) : Type 0 where
   AtMaster : MasterView → Standing M
   AtServer : ServerView M → Standing M
   AtClient : ClientView → Standing M
   Out : Standing M
 
--- what a process is given: a message, with its sender; or, from outside, a call to invoke, that it
--- send its outstanding call once more, an order, or that it stop for good
+-- what a process is given: a message, with its sender; or, from outside, a call to invoke, a
+-- request to send its outstanding call once more, an order, or a request to stop for good
 pub data Input (M : Type 0) : Type 0 where
   Hear : Process → MessageOf M → Input M
   Begin : Call → Input M
@@ -39,13 +36,13 @@ pub data Input (M : Type 0) : Type 0 where
   Obey : Order → Input M
   Stop : Input M
 
--- what it makes of that: where it stands then, what it sends, and what callers see
+-- the effect: what the process is then, what it sends, and what callers see
 pub record Effect (M : Type 0) : Type 0 where
   pub left : Standing M
   pub posts : List (Post M)
   pub told : History
 
--- a process that stands there does something with the input, and doesn't refuse it
+-- a process of that standing does something with the input, and doesn't refuse it
 abbrev pub accepts : {M : Type 0} → Process → Input M → Standing M → Bool
 accepts Master (Hear from m) (AtMaster v) = true
 accepts Master (Obey order) (AtMaster v) = is_server (server_of order) && is_none (master.order_fault v order)
@@ -67,17 +64,17 @@ server_effect did = record { left = AtServer did.0; posts = did.1; told = [] }
 abbrev pub last_post : {M : Type 0} → List (Post M)
 last_post = (Master, message.Gone) ∷ []
 
--- a server stops for good. What it had sent is still delivered; zlinear/specs/Cuts.antt has the runs
--- in which any end of it is lost
+-- a server stops for good. What it had sent is still delivered; zlinear/specs/Cuts.antt has the
+-- runs in which any end of it is lost
 abbrev pub stop_effect : {M : Type 0} → Effect M
 stop_effect = record { left = Out; posts = last_post; told = [] }
 
--- the answer that a client hands out, if it does, under its call's number, as callers see it
+-- the answer that a client returns, if any, under its call's number, as callers see it
 abbrev pub answer_told : ℕ → Option (ℕ × Reply) → History
 answer_told c None = []
 answer_told c (Some reply) = call_event.Answer c reply.0 reply.1 ∷ []
 
--- a client has this view then, sends this, and hands out this answer
+-- a client has this view then, sends this, and returns this answer
 abbrev pub client_effect : {M : Type 0} → ℕ → client.ClientResult (Transfer M) → Effect M
 client_effect c did = record { left = AtClient did.0; posts = did.1; told = answer_told c did.2 }
 
@@ -89,8 +86,8 @@ begin_effect c call did = record { left = AtClient did.0; posts = did.1; told = 
 abbrev pub idle_effect : {M : Type 0} → Standing M → Effect M
 idle_effect standing = record { left = standing; posts = []; told = [] }
 
--- what a process that stands there does with an input that it accepts: it goes by its table. A server
--- that receives the order to leave stops for good
+-- what a process does with an input that it accepts: it follows its table. A server that receives
+-- the order to leave stops for good
 abbrev pub does : {M : Type 0} → Does M → Process → Input M → Standing M → Effect M
 does machine Master (Hear from m) (AtMaster v) = master_effect (master.master_step v from m)
 does machine Master (Obey order) (AtMaster v) = master_effect (master.order_step v order)

@@ -1,8 +1,6 @@
 -- The events of the world, and its runs. Each event is one atomic step. One process receives the
 -- front message of one channel, or one input from outside. It does with that what its definition
--- says (Does.antt): it stands somewhere else then, and what it sends is put on its outgoing channels.
--- Van Renesse and Schneider, "Chain Replication for Supporting High Throughput and Availability"
--- (OSDI 2004), sections 2 and 3: a request may be ignored, servers fail for good, channels keep order.
+-- says (Does.antt), and what it sends is put on its outgoing channels.
 use Rattle.std.specs.Prelude.{Bool, true, false, ◌&&◌, not, nat_lt, if◌then◌else◌, List, [], ◌∷◌, ◌++◌}
 use Rattle.zprotocol.specs.declared.message.Message.TheVariants as message
 use Rattle.zprotocol.specs.declared.process.Process.{Process}
@@ -35,7 +33,7 @@ has_failed w Master = false
 has_failed w (Server s) = w.failed s
 has_failed w (Client c) = false
 
--- where a process stands in a world. Of a server that has failed it is where it stood last
+-- what a process is in a world; of a server that has failed, what it was last
 abbrev pub standing_of : {M : Type 0} → World M → Process → Standing M
 standing_of w Master = AtMaster w.master
 standing_of w (Server s) = AtServer (w.servers s)
@@ -50,7 +48,7 @@ is_enabled w (Ignore from to) = front_is is_request (w.links from to) && not (ha
 is_enabled w (Fail s) = is_server s && not (w.failed s)
 is_enabled w (Order order) = accepts Master (Obey order) (standing_of w Master)
 
--- a process stands somewhere else; a server that takes no part any more has failed
+-- a process with another standing; a server that takes no part any more has failed
 abbrev pub with_standing : {M : Type 0} → World M → Process → Standing M → World M
 with_standing w Master (AtMaster v) = record w { master = v }
 with_standing w (Server s) (AtServer v) = record w { servers = at s v w.servers }
@@ -58,16 +56,16 @@ with_standing w (Server s) Out = record w { failed = at s true w.failed }
 with_standing w (Client c) (AtClient v) = record w { clients = at c v w.clients }
 with_standing w p standing = w
 
--- a history goes on with what callers see
+-- a history continues with what callers see
 abbrev pub goes_on : History → History → History
 goes_on history [] = history
 goes_on history (seen ∷ more) = history ++ seen ∷ more
 
--- a process did this: where it stands, what it sent, and what callers see
+-- a process did this: what it is then, what it sent, and what callers see
 abbrev pub did_in : {M : Type 0} → World M → Process → Effect M → World M
 did_in w p did = record (with_standing w p did.left) { links = put w.links p did.posts; history = goes_on w.history did.told }
 
--- a process does what it does with an input
+-- a process does with an input what its definition says
 abbrev pub does_in : {M : Type 0} → Does M → World M → Process → Input M → World M
 does_in machine w p input = did_in w p (does machine p input (standing_of w p))
 
@@ -86,7 +84,7 @@ acts machine w (Ignore from to) = record w { links = without_front w.links from 
 acts machine w (Fail s) = does_in machine w (Server s) Stop
 acts machine w (Order order) = does_in machine w Master (Obey order)
 
--- what a failed server held is let go of: its view, and what is on channels into it. It receives
+-- what a failed server held is dropped: its view, and what is on channels into it. It receives
 -- nothing more, and sends nothing more
 abbrev pub let_go : {M : Type 0} → World M → World M
 let_go w = record w {
@@ -94,7 +92,7 @@ let_go w = record w {
   links = λ from to. if has_failed w to then [] else w.links from to;
 }
 
--- an event that is enabled acts, and what failed servers held is let go of; one that isn't changes
+-- an event that is enabled acts, and what failed servers held is dropped; one that isn't changes
 -- nothing
 abbrev pub happens : {M : Type 0} → Does M → World M → Event → World M
 happens machine w event = if is_enabled w event then let_go (acts machine w event) else w

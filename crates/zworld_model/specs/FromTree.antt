@@ -1,6 +1,5 @@
--- A chain that begins with another tree than the initial one: that of a snapshot. Each server holds
--- the tree. No reply is cached, since all clients begin anew. Such a beginning is this project's
--- profile.
+-- A chain that begins with another tree than the initial one: that of a snapshot. Each server of
+-- the chain holds the tree. No reply is cached, since all clients begin anew.
 use Rattle.std.specs.Prelude.{◌≡◌, ℕ, List}
 use Rattle.ztree.specs.Tree.{Tree}
 use Rattle.ztree.specs.Lawful.{IsLawful, AllSessions}
@@ -15,8 +14,8 @@ use Rattle.zworld_model.specs.PlainTree.{service_of}
 use Rattle.zworld_model.specs.World.{World, opening_world}
 use Rattle.zworld_model.specs.Events.{happens, run}
 
--- a chain can begin with the tree: it is lawful, and each session has an id and a timeout such as
--- are granted
+-- a chain can begin with the tree: it is lawful, and each session has an id and a timeout that can
+-- be granted
 pub record CanStart (t : Tree) : Type 0 where
   pub lawful : IsLawful t
   pub granted : AllSessions (IsGranted t.zxid) t.sessions

@@ -1,6 +1,5 @@
 -- The history of a run: what callers see of it, the calls and their responses, in the order of
--- events. Herlihy and Wing, "Linearizability: A Correctness Condition for Concurrent Objects"
--- (TOPLAS 1990), section 2.
+-- events.
 use Rattle.std.specs.Prelude.{List}
 use Rattle.zcalls.specs.declared.call.Call.{Call}
 use Rattle.zcalls.specs.declared.call.Call.TheVariants.{Update, Query}

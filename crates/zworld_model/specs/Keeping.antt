@@ -1,7 +1,5 @@
--- A world that keeps what failed servers held does the same. So no history hangs on it that a world
--- lets go of that. The proof of the chain, which needs it, keeps it. That servers fail for good:
--- van Renesse and Schneider, "Chain Replication for Supporting High Throughput and Availability"
--- (OSDI 2004), section 3.
+-- A world that preserves what failed servers held does the same as one that drops it. So no history
+-- depends on that. The proof of the chain needs what failed servers held, and preserves it.
 use Rattle.std.specs.Prelude.{◌≡◌, ℕ, true, if◌then◌else◌, List, [], ◌∷◌}
 use Rattle.ztree.specs.Tree.{Tree}
 use Rattle.zcalls.specs.Kept.{KeptState}
@@ -14,7 +12,7 @@ use Rattle.zworld_model.specs.declared.event.Event.TheVariants.{Take, Fail}
 use Rattle.zworld_model.specs.World.{World}
 use Rattle.zworld_model.specs.Events.{is_enabled, acts, let_go, happens, run}
 
--- an event and a run where what failed servers held is kept
+-- an event and a run where what failed servers held is preserved
 abbrev pub keeps : {M : Type 0} → Does M → World M → Event → World M
 keeps machine w event = if is_enabled w event then acts machine w event else w
 
@@ -22,7 +20,7 @@ abbrev pub run_keeping : {M : Type 0} → Does M → World M → List Event → 
 run_keeping machine w [] = w
 run_keeping machine w (event ∷ events) = run_keeping machine (keeps machine w event) events
 
--- it is the run where that is let go of, and with it has one history
+-- with that dropped, it is the run of the definition, and has the same history
 abbrev pub KeepingDoesTheSame : Type 0
 KeepingDoesTheSame =
     (w : World (KeptState Tree)) (events : List Event) → run kept_tree (let_go w) events ≡ let_go (run_keeping kept_tree w events)

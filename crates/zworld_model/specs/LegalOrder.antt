@@ -1,7 +1,6 @@
 -- The legal order of a history is its linearization: one order of its calls that explains every
 -- reply, as if one machine had done one call after the other. It knows no chain, no log number, no
--- epoch and no retry. Herlihy and Wing, "Linearizability: A Correctness Condition for Concurrent
--- Objects" (TOPLAS 1990), section 2.
+-- epoch and no retry.
 use Rattle.std.specs.Prelude.{◌≡◌, ◌⊎◌, ℕ, List, [], ◌∷◌}
 use Rattle.std.specs.List.{AllByRecursion}
 use Rattle.zcalls.specs.declared.call.Call.{Call}
@@ -11,13 +10,13 @@ use Rattle.zcalls.specs.Lists.{Among, ComesBefore, NoTwo}
 use Rattle.zcalls.specs.Operation.{Operation, IsSameCall}
 use Rattle.zworld_model.specs.History.{History, IsUpdate, HasBegun, IsAnswered, EndsBefore}
 
--- a sequential specification: its initial state, and what a client's call does to a state and is
--- answered
+-- a sequential specification: its initial state, and what a client's call does to a state, with its
+-- reply
 pub record Service (P : Type 0) : Type 0 where
   pub opening : P
   pub step : P → ℕ → Call → P × Reply
 
--- what the service does at an operation, and answers
+-- what the service does at an operation, and replies
 abbrev pub operation_step : {P : Type 0} → Service P → P → Operation → P × Reply
 operation_step service p o = service.step p o.client o.call
 

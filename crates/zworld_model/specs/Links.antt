@@ -1,8 +1,6 @@
 -- Channels: one list of messages for each ordered pair of processes. A message that is sent goes
--- last, and the front is delivered. So a channel neither loses nor repeats messages, and keeps
--- their order. Van Renesse and Schneider, "Chain Replication for Supporting High Throughput and
--- Availability" (OSDI 2004), section 3. Runs in which channels lose their ends are in
--- zlinear/specs/Cuts.antt.
+-- last, and the front is delivered. So a channel neither loses nor repeats messages, and preserves
+-- their order. Runs in which channels lose their ends are in zlinear/specs/Cuts.antt.
 use Rattle.std.specs.Prelude.{Bool, true, false, ◌&&◌, ◌==◌, if◌then◌else◌, List, [], ◌∷◌, ◌++◌, drop}
 use Rattle.zprotocol.specs.declared.process.Process.{Process}
 use Rattle.zprotocol.specs.declared.process.Process.TheVariants.{Master, Server, Client}

@@ -1,7 +1,5 @@
--- Two lives of a service, one after the other. The second begins with the state that the first one
--- left, and its clients begin anew. So they count their calls from 1 on again. Herlihy and Wing,
--- "Linearizability: A Correctness Condition for Concurrent Objects" (TOPLAS 1990), section 2, say
--- what it is for both together to be linearizable. Beginning anew is this project's profile.
+-- Two incarnations of a service, one after the other. The second begins with the state that the
+-- first one left. Its clients begin anew, and count their calls from 1 on again.
 use Rattle.std.specs.Prelude.{◌≡◌, ℕ, ◌+◌, ◌<◌, ◌≤◌, List, [], ◌∷◌, ◌++◌, map}
 use Rattle.ztree.specs.Tree.{Tree}
 use Rattle.ztree.specs.Lawful.{IsLawful}
@@ -18,7 +16,7 @@ abbrev pub state_after : {P : Type 0} → Service P → P → List Operation →
 state_after service p [] = p
 state_after service p (o ∷ os) = state_after service (operation_step service p o).0 os
 
--- the events of calls that are counted on from a number
+-- the events of calls that are numbered on from a number
 abbrev pub later_event : ℕ → CallEvent → CallEvent
 later_event last (Begin client number call) = Begin client (last + number) call
 later_event last (Answer client number reply) = Answer client (last + number) reply
@@ -41,9 +39,9 @@ CountsFromOne history = (o : Operation) → HasBegun history o → 0 < o.number
 abbrev pub CountsUpTo : ℕ → History → Type 0
 CountsUpTo last history = (o : Operation) → HasBegun history o → o.number ≤ last
 
--- A life is linearizable from a tree on, and leaves a tree. Another is linearizable from that tree
--- on. Then both are one life that is linearizable from the first tree on, where the clients of the
--- second go on counting. Its order is that of the first life, and then that of the second
+-- One incarnation is linearizable from a tree on, and leaves a tree. Another is linearizable from
+-- that tree on. Then both together are linearizable from the first tree on, where the clients of
+-- the second continue to count. The order is that of the first, and then that of the second
 abbrev pub TwoLivesAreOne : Type 0
 TwoLivesAreOne =
     (t u : Tree) (first second : History) (before after : List Operation) (last : ℕ)

@@ -1,5 +1,5 @@
 -- The plain tree as a service of one call after the other: the sequential specification of the
--- legal order. ZooKeeper Programmer's Guide, "The ZooKeeper Data Model".
+-- legal order.
 use Rattle.std.specs.Prelude.{ℕ, List}
 use Rattle.ztree.specs.Tree.{Tree}
 use Rattle.ztree.specs.Lawful.{IsLawful}
@@ -13,7 +13,7 @@ use Rattle.zworld_model.specs.History.{History}
 use Rattle.zworld_model.specs.LegalOrder.{Service, IsLegalOrder}
 
 -- a call: an update acts by the plain service's step; a query is answered from the state, and
--- leaves it
+-- leaves it unchanged
 abbrev pub call_step : {P : Type 0} → Plain P → P → ℕ → Call → P × Reply
 call_step plain p client (Update update) = plain.update p client update
 call_step plain p client (Query query) = (p, plain.ask p query)

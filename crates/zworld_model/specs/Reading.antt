@@ -1,7 +1,6 @@
--- The reading of a list of events resolves what each came to, where processes can run out of
--- memory. A server that runs out of memory at a message stops, and that delivery reads as its
--- failure. A query for which it has no memory is lost. Out of memory as a failure is this project's
--- profile.
+-- What each event of a list came to, where processes can run out of memory. A server that runs out
+-- of memory at a message stops, and that delivery is resolved to its failure. A query for which it
+-- has no memory is lost.
 use Rattle.std.specs.Prelude.{◌≡◌, Bool, true, false, ◌&&◌, if◌then◌else◌, List, [], ◌∷◌}
 use Rattle.zprotocol.specs.declared.process.Process.{Process}
 use Rattle.zprotocol.specs.declared.process.Process.TheVariants.{Server}
@@ -21,8 +20,8 @@ abbrev pub is_delivery : {M : Type 0} → World M → Event → (ServerView M �
 is_delivery w (Take from (Server s)) test = is_enabled w (Take from (Server s)) && front_is (test (w.servers s) from) (w.links from (Server s))
 is_delivery w event test = false
 
--- the outcome fits the event: a server stops, or doesn't hear a query, only where it may for lack
--- of memory
+-- the outcome fits the event: a server stops, or drops a query, only where it may when out of
+-- memory
 abbrev pub is_fitting : {M : Type 0} → Does M → World M → Event → Outcome → Bool
 is_fitting machine w event Acted = true
 is_fitting machine w event Stopped = is_delivery w event (may_stop machine)

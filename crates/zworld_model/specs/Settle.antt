@@ -1,8 +1,8 @@
 -- Settling runs the world until it is quiescent: it delivers the messages in one fixed order. A
--- pass goes over all channels, and delivers one message from each that has one when the pass comes
--- to it. Passes go on until no message can be delivered. Then each client with an outstanding call
--- sends it once more, and passes go on again. Settling ends early, at its limit, as soon as that
--- many events were done. The order, the one retry and the limit are this project's profile.
+-- pass visits all channels, and delivers one message from each that has one when the pass comes to
+-- it. Passes continue until no message can be delivered. Then each client with an outstanding call
+-- sends it once more, and passes follow again. Settling ends early, at its limit, as soon as that
+-- many events were done.
 use Rattle.std.specs.Prelude.{◌+◌, if◌then◌else◌, ℕ, zero, suc, ◌-◌, Bool, true, false, ◌&&◌, ◌||◌, not, nat_lt, ◌==◌}
 use Rattle.std.specs.Prelude.{List, [], ◌∷◌, ◌++◌, map, flat_map, drop}
 use Rattle.std.specs.List.{range_with_len, list_any}
@@ -60,7 +60,7 @@ abbrev pub with_try : {M : Type 0} → Does M → Settling M → Event → Settl
 with_try machine s event =
     if nat_lt 0 s.left && is_enabled s.world event then with_event machine s (read machine s.world event (next_outcome s.outcomes)) else s
 
--- events in turn, each tried when its turn comes
+-- events in order, each tried when those before it are done
 abbrev pub with_tries : {M : Type 0} → Does M → Settling M → List Event → Settling M
 with_tries machine s [] = s
 with_tries machine s (event ∷ events) = with_tries machine (with_try machine s event) events

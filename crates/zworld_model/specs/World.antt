@@ -1,7 +1,5 @@
 -- The world: what every process holds, what is on every channel, who has failed, and what callers
--- saw. Van Renesse and Schneider, "Chain Replication for Supporting High Throughput and
--- Availability" (OSDI 2004), section 3: servers fail-stop, and a master that detects failures and
--- doesn't fail. It is over any machine.
+-- saw. Servers fail-stop. The master detects failures, and doesn't fail. It is over any machine.
 use Rattle.std.specs.Prelude.{ℕ, Bool, false, ◌==◌, if◌then◌else◌, []}
 use Rattle.zprotocol.specs.server.Machine.{Does}
 use Rattle.zprotocol.specs.server.View.{ServerView, opening_server}

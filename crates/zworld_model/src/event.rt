@@ -1,4 +1,13 @@
 //! The events of the world.
+//!
+//! # Why
+//!
+//! Any event ends by dropping what failed servers held: their views, and the messages on channels
+//! into them. A program drops both, so it is in the very world of the definition. That no history
+//! changes by it is a law (`failed_servers_do_not_matter`).
+//!
+//! A delivery asks only that its receiver hasn't failed, since a history is defined for any number
+//! of servers.
 
 use zcalls::{Call, ClientId};
 use zprotocol::{Order, Process, ServerId};
@@ -22,7 +31,7 @@ pub enum Event {
     /// A server fails for good; its failure notice `Gone` is its last message. Enabled where it has
     /// not failed.
     Fail(ServerId),
-    /// A server is asked to join behind the tail, or a member of the chain is ordered to leave.
+    /// A server is asked to join after the tail, or a member of the chain is ordered to leave.
     /// Enabled where the master accepts the order.
     Order(Order),
 }

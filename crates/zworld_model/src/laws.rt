@@ -28,7 +28,7 @@ pub fn log_world_stands_for_the_world()
     ensures enabled { LogWorldHasTheSameEnabled }
 {}
 
-/// A world that keeps what failed servers held does the same as one that lets go of it, in every
+/// A world that preserves what failed servers held does the same as one that drops it, in every
 /// run. So they have one history.
 pub fn failed_servers_do_not_matter()
     ensures run { KeepingDoesTheSame }
@@ -86,16 +86,16 @@ pub fn calls_do_the_plain_step()
         → serve t c (call.Query q) ≡ (t, query_reply t q) }
 {}
 
-/// What happens at an event, and so in a run, doesn't hang on the tree that the machines began
+/// What happens at an event, and so in a run, doesn't depend on the tree that the machines began
 /// with.
 pub fn runs_forget_the_start()
     ensures event { EventsForgetTheStart }
     ensures run { RunsForgetTheStart }
 {}
 
-/// A service lives, and is begun anew with the tree that it left, of which alone a snapshot was
-/// kept. What callers saw in both lives is what one plain tree explains, as if there were one life.
-/// So it is with any number of lives, as the law joins the first two of them to one.
+/// A service ends, and restarts from a snapshot with only the tree that it left. What callers saw
+/// in both incarnations is linearizable over one plain tree, as if there were one. The law joins
+/// the first two, so it holds for any number of incarnations.
 pub fn two_lives_are_one()
     ensures explained { TwoLivesAreOne }
     ensures leaves { TheSecondLifeLeavesTheTree }

@@ -1,4 +1,10 @@
 //! What became of an event.
+//!
+//! # Why
+//!
+//! Resolved events are computed from outcomes, one for each event. `is_fitting` says which outcomes
+//! an event can have, so that a program's contract can demand it. An outcome that doesn't fit
+//! leaves the event as it is.
 
 /// What became of an enabled event, where processes can run out of memory.
 #[derive(Clone, Copy, Debug, PartialEq, Eq)]

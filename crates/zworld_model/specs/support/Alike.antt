@@ -1,5 +1,5 @@
 -- Worlds that are equal but for what can't matter any more: the views of failed servers, and the
--- messages on channels into them. A world that let go of those is the one of all that are alike.
+-- messages on channels into them. Among all such worlds one has dropped those.
 use Rattle.std.specs.Prelude.{◌≡◌, ℕ, false}
 use Rattle.zprotocol.specs.declared.process.Process.{Process}
 use Rattle.zworld_model.specs.World.{World}

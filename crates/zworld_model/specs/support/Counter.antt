@@ -1,6 +1,6 @@
--- A service that only counts its updates, and a machine for it, for the worked rows. They stand for
--- the plain tree and its machine, and compute. An update is answered with the name that it made,
--- which is the number of updates before it. A query is answered with the number of updates so far.
+-- A service that only counts its updates, and a machine for it, for the worked examples. They stand
+-- in for the plain tree and its machine, and compute. The reply to an update is the name that it
+-- made: the number of updates before it. The reply to a query is the number of updates so far.
 use Rattle.std.specs.Prelude.{ℕ, ◌+◌, ◌==◌, nat_lt, if◌then◌else◌, List, [], ◌∷◌, Option, None, Some}
 use Rattle.zcalls.specs.declared.call.Lifetime.TheVariants.{Persistent}
 use Rattle.zcalls.specs.Part.{sequential}
@@ -32,7 +32,7 @@ count_step count client (Query query) = (count, count_reply count)
 abbrev pub counter : Service ℕ
 counter = record { opening = 0; step = count_step }
 
--- an update and a query for the rows
+-- an update and a query for the examples
 abbrev pub create_update : update.Update
 create_update = update.TheVariants.Create (record { path = (110 ∷ []) ∷ []; kind = sequential Persistent; bytes = [] })
 

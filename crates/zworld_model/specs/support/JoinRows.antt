@@ -6,8 +6,8 @@ use Rattle.zworld_model.specs.Orders.{Join}
 use Rattle.zworld_model.specs.support.Counter.{create, exists}
 use Rattle.zworld_model.specs.support.RunRows.{m, s1, s2, s3, c1}
 
--- one server has an update, and s2 joins behind it; client 1 asks s1, which has handed the state
--- over, and is told to ask s2
+-- one server has an update, and s2 joins after it; client 1 asks s1, which has handed the state
+-- over, and learns from the master to ask s2
 abbrev pub state_is_handed_over : List Event
 state_is_handed_over =
     Begin 1 create

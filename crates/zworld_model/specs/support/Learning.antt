@@ -1,6 +1,6 @@
 -- Outcomes that are learnt as events are done: a program settles, or resolves events, without
--- knowing the outcomes beforehand. It keeps one fact: the definition, given the outcomes learnt so
--- far and any others, is where the program is, given those others.
+-- knowing the outcomes beforehand. One fact is preserved. The definition, given the outcomes learnt
+-- so far and any others, is where the program is, given those others.
 use Rattle.std.specs.Prelude.{◌≡◌, Bool, true, false, ◌&&◌, nat_lt, List, [], ◌∷◌, ◌++◌, suc, ℕ}
 use Rattle.zprotocol.specs.server.Machine.{Does}
 use Rattle.zworld_model.specs.declared.event.Event.{Event}
@@ -10,7 +10,7 @@ use Rattle.zworld_model.specs.Events.{is_enabled, happens}
 use Rattle.zworld_model.specs.Reading.{read, read_all}
 use Rattle.zworld_model.specs.Settle.{Settling, with_event, with_try, with_tries, is_over, passes}
 
--- from its beginning the settling goes on from here, whatever outcomes follow those learnt so far
+-- from its beginning the settling continues from here, whatever outcomes follow those learnt so far
 abbrev pub GoesOn : {M : Type 0} → (List Outcome → Settling M) → (Settling M → Settling M) → List Outcome → Settling M → Type 0
 GoesOn whole from learnt s = (rest : List Outcome) → whole (learnt ++ rest) ≡ from (record s { outcomes = rest })
 
@@ -48,7 +48,7 @@ PassesEnd {M} machine =
     → is_over s deliveries ≡ true → GoesOn whole (λ t. from (passes machine deliveries more t)) learnt s
     → GoesOn whole from learnt s
 
--- from its beginning the resolving of events goes on from here
+-- from its beginning the resolving of events continues from here
 abbrev pub ReadsOn : {M : Type 0} → Does M → (List Outcome → List Event) → List Outcome → List Event → World M → List Event → Type 0
 ReadsOn machine whole learnt readings w events =
     (rest : List Outcome) → whole (learnt ++ rest) ≡ readings ++ read_all machine w events rest

@@ -1,7 +1,5 @@
 -- The log world: the same world over logs of entries in place of trees. It says who holds which
--- entries, and the world of the service is known by it: each tree is the one that its log leads to.
--- Van Renesse and Schneider, "Chain Replication for Supporting High Throughput and Availability"
--- (OSDI 2004), section 2: an object's state is what its history of updates makes of it.
+-- entries. The world of the service follows from it: each tree is the one that its log leads to.
 use Rattle.std.specs.Prelude.{◌≡◌, ℕ, List, map}
 use Rattle.zcalls.specs.declared.call.Entry.{Entry}
 use Rattle.zprotocol.specs.server.Machine.{kept_tree, log_of, replay}

@@ -1,7 +1,7 @@
--- Worked rows of the legal order, over a service that counts: a history with its order, and orders
--- that don't explain it. Client 1 creates and is answered; then client 2 asks for the count and is
--- answered. Meanwhile client 3 creates and client 4 asks, and neither is answered. Client 3's
--- create acted, since client 2's count includes it.
+-- Worked examples of the legal order, over a service that counts: a history with its order, and
+-- orders that don't explain it. Client 1 creates and is answered; then client 2 asks for the count
+-- and is answered. Meanwhile client 3 creates and client 4 asks, and neither is answered. Client
+-- 3's create acted, since client 2's count includes it.
 use Rattle.std.specs.Prelude.{ℕ, ◌≤◌, List, [], ◌∷◌}
 use Rattle.ztree.specs.Tree.{opening_tree}
 use Rattle.zcalls.specs.declared.call.Call.TheVariants as call
@@ -29,7 +29,7 @@ lost_exists = record { client = 4; number = 1; call = exists }
 abbrev pub last_exists : Operation
 last_exists = record { client = 2; number = 1; call = exists }
 
--- a call that nobody invoked
+-- a call that no client invoked
 abbrev pub strange_create : Operation
 strange_create = record { client = 5; number = 1; call = create }
 

@@ -6,7 +6,8 @@ use Rattle.zworld_model.specs.declared.event.Event.TheVariants.{Begin, Take, Fai
 use Rattle.zworld_model.specs.support.Counter.{create}
 use Rattle.zworld_model.specs.support.RunRows.{m, s1, s2, s3, c1}
 
--- the head fails after it forwarded client 1's update: s2 is the head, and the update goes on
+-- the head fails after it forwarded client 1's update: s2 is the head, and the update continues
+-- down
 abbrev pub head_fails : List Event
 head_fails =
     Begin 1 create
@@ -56,8 +57,8 @@ tail_fails =
     ∷ Take s2 c1
     ∷ []
 
--- the middle fails before it had client 1's update: s3 tells the master what it has, and s1 sends
--- s3 what it lacks
+-- the middle fails before it had client 1's update: s3 reports to the master what it has, and s1
+-- sends s3 what it lacks
 abbrev pub middle_fails : List Event
 middle_fails =
     Begin 1 create

@@ -27,8 +27,8 @@ head_retires =
     ∷ Take s3 c1
     ∷ []
 
--- the middle is ordered to leave, and receives the order before client 1's update: s3 tells the
--- master what it has, and s1 sends s3 what it lacks
+-- the middle is ordered to leave, and receives the order before client 1's update: s3 reports to
+-- the master what it has, and s1 sends s3 what it lacks
 abbrev pub middle_retires : List Event
 middle_retires =
     Begin 1 create

@@ -1,5 +1,5 @@
--- Worked runs of a chain in which nobody fails, over a machine that counts, with two clients (0 and
--- 1).
+-- Worked runs of a chain in which no server fails, over a machine that counts, with two clients (0
+-- and 1).
 use Rattle.std.specs.Prelude.{ℕ, ◌≡◌, true, false, Some, List, [], ◌∷◌, ◌++◌, take}
 use Rattle.zcalls.specs.declared.call.Entry.{Entry}
 use Rattle.zprotocol.specs.declared.message.Message.TheVariants as message
@@ -91,7 +91,7 @@ request = message.Submit 1 create_update ∷ []
 abbrev pub two_answers : List (MessageOf Counting)
 two_answers = message.Answer 1 (name_reply 0) ∷ message.Answer 1 (name_reply 0) ∷ []
 
--- what the master tells a client of the chain's ends
+-- the chain's ends, as the master sends them to a client
 abbrev pub config : ℕ → ℕ → ℕ → List (MessageOf Counting)
 config epoch head tail = message.Config epoch (Some head) (Some tail) ∷ []
 
@@ -124,7 +124,7 @@ update_in_turn =
     ∷ Take s2 s1
     ∷ []
 
--- two clients' updates go down the chain one behind the other
+-- two clients' updates go down the chain, one after the other
 abbrev pub two_updates : List Event
 two_updates =
     Begin 0 create

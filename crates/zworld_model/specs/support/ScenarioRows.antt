@@ -1,6 +1,6 @@
 -- Worked scenarios: calls that settle, with failures and joins between them, over a machine that
--- counts, with two clients (0 and 1). In each the chain keeps the state as long as one server that
--- has it lives.
+-- counts, with two clients (0 and 1). In each the chain preserves the state as long as one server
+-- that has it doesn't fail.
 use Rattle.std.specs.Prelude.{ℕ, List, [], ◌∷◌}
 use Rattle.zcalls.specs.declared.call.Call.{Call}
 use Rattle.zworld_model.specs.declared.event.Event.{Event}
@@ -55,8 +55,7 @@ two_fail = Calls create ∷ Happen (Fail 1 ∷ Fail 2 ∷ []) ∷ Settles ∷ Ca
 abbrev pub both_middle_servers_fail : List Scene
 both_middle_servers_fail = Happen (Begin 1 create ∷ Take c1 s1 ∷ Take s1 s2 ∷ Fail 2 ∷ Fail 3 ∷ []) ∷ Settles ∷ []
 
--- the middle of three fails, and then the head too, when the tail has been told of its new
--- predecessor
+-- the middle of three fails, and then the head too, when the tail has received its new predecessor
 abbrev pub head_fails_in_a_repair : List Scene
 head_fails_in_a_repair =
     Happen (Begin 1 create ∷ Take c1 s1 ∷ Fail 2 ∷ Take s2 m ∷ Take m s3 ∷ Fail 1 ∷ Take s1 m ∷ Take s3 m ∷ []) ∷ Settles ∷ []

@@ -68,8 +68,8 @@ asked_again = Retry 1 ∷ Take c1 s1 ∷ Take s1 c1 ∷ []
 abbrev pub lost_query : List Event
 lost_query = Begin 1 exists ∷ Ignore c1 s1 ∷ []
 
--- the only server has failed: the master learns of it and tells both clients, and client 1 has
--- nobody to ask again
+-- the only server has failed: the master learns of it and notifies both clients, and client 1 has
+-- no server to ask again
 abbrev pub news_and_retry : List Event
 news_and_retry = Take s1 m ∷ Take m c0 ∷ Take m c1 ∷ Retry 1 ∷ []
 
@@ -77,13 +77,13 @@ news_and_retry = Take s1 m ∷ Take m c0 ∷ Take m c1 ∷ Retry 1 ∷ []
 abbrev pub lost_state : List Event
 lost_state = Join 2 ∷ Fail 1 ∷ Begin 1 exists ∷ []
 
--- the head of two servers fails, and the master tells the other one, which receives that
+-- the head of two servers fails, and the master sends the other one a message, which it receives
 abbrev pub new_head : List Event
 new_head = Fail 1 ∷ Take s1 m ∷ []
 
 abbrev pub new_head_told : List Event
 new_head_told = new_head ++ Take m s2 ∷ []
 
--- a server joins behind the only one, which is no tail any more when a client's query reaches it
+-- a server joins after the only one, which is no tail any more when a client's query reaches it
 abbrev pub query_at_old_tail : List Event
 query_at_old_tail = Join 2 ∷ Take m s2 ∷ Take s2 m ∷ Take m s1 ∷ Begin 1 exists ∷ []

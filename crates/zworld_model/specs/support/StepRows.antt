@@ -1,5 +1,5 @@
--- Worked steps of one process, over a machine that counts: where the processes of a chain of three
--- stand, and what each does.
+-- Worked steps of one process, over a machine that counts: what the processes of a chain of three
+-- are, and what each does.
 use Rattle.std.specs.Prelude.{◌≡◌, true, false, List}
 use Rattle.zprotocol.specs.declared.process.Process.{Process}
 use Rattle.zworld_model.specs.declared.event.Event.{Event}
@@ -8,15 +8,15 @@ use Rattle.zworld_model.specs.Events.{standing_of}
 use Rattle.zworld_model.specs.support.Counter.{Counting, counting_machine}
 use Rattle.zworld_model.specs.support.RunRows.{after}
 
--- where a process stands after events
+-- what a process is after events
 abbrev pub stands : List Event → Process → Standing Counting
 stands events p = standing_of (after 3 events) p
 
--- what it does there with an input
+-- what it does then with an input
 abbrev pub effect : List Event → Process → Input Counting → Effect Counting
 effect events p input = does counting_machine p input (stands events p)
 
--- it accepts the input there, or it doesn't
+-- it accepts the input then, or it doesn't
 abbrev pub Accepts : List Event → Process → Input Counting → Type 0
 Accepts events p input = accepts p input (stands events p) ≡ true
 

@@ -1,4 +1,10 @@
-//! Worked rows of chains that begin with another tree than the initial one.
+//! Worked examples of chains that begin with another tree than the initial one.
+//!
+//! # Why
+//!
+//! A chain can begin with any lawful tree whose sessions can be granted (`CanStart`). Lawful alone
+//! isn't enough: a session with a timeout of 0 has its deadline ahead, and a ping would remove
+//! that.
 
 ghost use Rattle.std.specs.Prelude.{◌≡◌, ◌≤◌, ℕ, [], ◌∷◌, None, Some};
 ghost use Rattle.std.specs.FinMap.{get};
@@ -40,7 +46,7 @@ pub fn servers_hold_the_tree()
     ensures no_event { (t : Tree) → world_after_from t 3 1 [] ≡ opening_world_from t 3 1 }
 {}
 
-/// Histories that are linearizable from a tree on: nobody calls; a query of the tree is answered,
+/// Histories that are linearizable from a tree on: no one calls; a query of the tree is answered,
 /// and with no other reply. From the initial tree on they are the linearizable ones.
 pub fn trees_explain()
     ensures silence { (t : Tree) → CanStart t → IsExplainedFrom t [] }
@@ -52,7 +58,7 @@ pub fn trees_explain()
     ensures from_initial { (h : History) → IsExplainedFrom opening_tree h → IsExplained h }
 {}
 
-/// Two lives: the calls of the second are counted on from the last number of the first.
+/// Two incarnations: the calls of the second are numbered on from the last number of the first.
 pub fn lives_are_counted_on()
     ensures history { (a : Call) (r : Reply) → later_history 3 (Begin 1 1 a ∷ (Answer 1 1 r ∷ []))
         ≡ Begin 1 4 a ∷ (Answer 1 4 r ∷ []) }

@@ -12,7 +12,7 @@ ghost use Rattle.zworld_model.specs.support.JoinRows.{state_is_handed_over, snap
 ghost use Rattle.zworld_model.specs.support.JoinRows.{state_is_lost};
 ghost use Rattle.zworld_model.specs.support.RunRows.{CannotHappen, create_and_exists, config};
 
-/// A server joins behind the tail. Once the old tail has sent its snapshot, it answers nobody; the
+/// A server joins after the tail. Once the old tail has sent its snapshot, it answers no one. The
 /// new tail answers once it has the state.
 pub fn joining_server_is_handed_the_state()
     ensures one_joins { order_fault (after 1 (take 4 state_is_handed_over)).master (order.Join 3)

@@ -1,4 +1,4 @@
-//! Worked rows of the legal order, and the first linearizable histories.
+//! Worked examples of the legal order, and the first linearizable histories.
 
 ghost use Rattle.std.specs.Prelude.{[], ◌∷◌, ◌++◌, take};
 ghost use Rattle.zcalls.specs.declared.call.Query.{Query};
@@ -10,7 +10,7 @@ ghost use Rattle.zworld_model.specs.support.OrderRows.{lost_exists};
 ghost use Rattle.zworld_model.specs.support.OrderRows.{last_exists, strange_create, query_is_first};
 ghost use Rattle.zworld_model.specs.support.OrderRows.{update_is_first};
 
-/// A worked row of the legal order: it may hold an unanswered update, but no unanswered query.
+/// A worked example of the legal order: it may hold an unanswered update, but no unanswered query.
 pub fn legal_order_is_taken()
     ensures explained { Explains 2 2 true_order }
 {}
@@ -27,14 +27,14 @@ pub fn other_orders_are_refused()
     ensures unlawful_state { Explains 1 2 true_order → ⊥ }
 {}
 
-/// A run and its order: two updates go down the chain, one behind the other. The first one comes
+/// A run and its order: two updates go down the chain, one after the other. The first one comes
 /// first, whichever response is received first.
 pub fn run_has_one_order()
     ensures explained { ExplainsTheRun (first_down ∷ second_down ∷ []) }
     ensures no_other { ExplainsTheRun (second_down ∷ first_down ∷ []) → ⊥ }
 {}
 
-/// Linearizable histories: nobody calls; a query of the initial tree is answered; an update is
+/// Linearizable histories: no one calls; a query of the initial tree is answered; an update is
 /// answered, and then a query of the tree after it.
 pub fn plain_tree_explains()
     ensures silence { IsExplained [] }

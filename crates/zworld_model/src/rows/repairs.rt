@@ -45,8 +45,8 @@ pub fn tail_fails_before_it_answered()
     ensures seen { seen 3 tail_fails ≡ one_create }
 {}
 
-/// The middle fails: the tail tells the master its last number, the master tells the head, and the
-/// head sends what follows.
+/// The middle fails: the tail reports its last number to the master, the master sends it to the
+/// head, and the head sends what follows.
 pub fn middle_fails_before_it_forwarded()
     ensures unsent { link 3 (take 2 middle_fails) s1 s2 ≡ message.Update 0 1 first_entry ∷ [] }
     ensures lost { link 3 (take 3 middle_fails) s1 s2 ≡ [] }

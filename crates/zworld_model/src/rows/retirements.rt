@@ -54,7 +54,7 @@ pub fn tail_retires_before_it_answered()
     ensures seen { seen 3 tail_retires ≡ one_create }
 {}
 
-/// Who can be ordered to leave, and that no server can run out of memory at the order.
+/// Which members can be ordered to leave, and that no server can run out of memory at the order.
 pub fn members_are_ordered_to_leave()
     ensures member { CanHappen 3 [] (Retire 3) }
     ensures spare { CannotHappen 3 [] (Retire 4) }
@@ -64,7 +64,7 @@ pub fn members_are_ordered_to_leave()
     ensures wants_no_memory { StayThemselves 3 order_taken (Acted ∷ Stopped ∷ []) }
 {}
 
-/// Members leave one at a time, and the last one stays.
+/// Members leave one at a time, and the last one remains.
 pub fn members_leave_in_turn()
     ensures second { order_fault (scenes_master 3 (take 2 two_retire)) (order.Retire 2)
         ≡ Some Retiring }
@@ -75,8 +75,8 @@ pub fn members_leave_in_turn()
     ensures seen { scenes_history 3 two_retire ≡ create_and_exists }
 {}
 
-/// Nobody is ordered to leave while a server joins, and nobody joins while a member leaves. So
-/// servers can be replaced one by one.
+/// No member is ordered to leave while a server joins, and no server joins while a member leaves.
+/// So servers can be replaced one by one.
 pub fn servers_are_replaced()
     ensures joining { order_fault (scenes_master 2 (take 1 one_is_replaced)) (order.Retire 1)
         ≡ Some Joining }
@@ -88,7 +88,7 @@ pub fn servers_are_replaced()
     ensures seen { scenes_history 2 both_are_replaced ≡ create_and_exists }
 {}
 
-/// An order to leave stands while another server fails.
+/// An order to leave remains while another server fails.
 pub fn another_fails_meanwhile()
     ensures stands { (scenes_master 3 (take 2 another_fails)).retiring ≡ Some 1 }
     ensures chain { scenes_chain 3 another_fails ≡ (3, 1) ∷ [] }

@@ -1,4 +1,4 @@
-//! Worked runs of a chain in which nobody fails.
+//! Worked runs of a chain in which no server fails.
 
 ghost use Rattle.std.specs.Prelude.{◌≡◌, [], ◌∷◌, take};
 ghost use Rattle.zworld_model.specs.declared.event.Event.TheVariants.{Begin, Retry, Take, Ignore, Fail};
@@ -10,8 +10,8 @@ ghost use Rattle.zworld_model.specs.support.RunRows.{began, told, create_begun, 
 ghost use Rattle.zworld_model.specs.support.RunRows.{two_updates, other_then_first, retried_update, late_answer};
 ghost use Rattle.zworld_model.specs.support.RunRows.{one_create, two_creates, request, two_answers};
 
-/// An update goes down the chain. Nobody but the tail answers it, and the acknowledgement empties
-/// every Sent.
+/// An update goes down the chain. Only the tail answers it, and the acknowledgement empties every
+/// Sent.
 pub fn update_is_answered_by_the_tail()
     ensures head_is_silent { link 3 (take 2 update_in_turn) s1 c1 ≡ [] }
     ensures kept { (view 3 (take 5 update_in_turn) 1).sent ≡ (1, first_entry) ∷ [] }
@@ -22,8 +22,8 @@ pub fn update_is_answered_by_the_tail()
     ensures nothing_is_left { link 3 update_in_turn s2 s1 ≡ [] }
 {}
 
-/// Channels keep order: the update that the head received first acts first, whichever response is
-/// received first.
+/// Channels preserve order: the update that the head received first acts first, whichever response
+/// is received first.
 pub fn links_keep_order()
     ensures under_way { link 3 (take 4 two_updates) s1 s2 ≡ other_then_first }
     ensures seen { seen 3 two_updates ≡ began 0 1 ∷ began 1 1 ∷ told 1 1 1 ∷ told 0 1 0 ∷ [] }

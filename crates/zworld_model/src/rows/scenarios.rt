@@ -19,7 +19,7 @@ pub fn answers_survive_failures()
     ensures head_fails_in_a_repair { scenes_history 3 head_fails_in_a_repair ≡ one_create }
 {}
 
-/// The state moves on to servers that joined, and outlives all servers that it began with.
+/// The state moves to servers that joined, and outlives all servers that it began with.
 pub fn state_outlives_its_first_server()
     ensures seen { scenes_history 1 state_moves_on ≡ create_and_exists }
     ensures chain { scenes_chain 1 state_moves_on ≡ (3, 3) ∷ [] }
@@ -41,7 +41,7 @@ pub fn failed_spare_leaves_again()
     ensures used { order_fault (scenes_master 1 failed_spare_joins) (order.Join 2) ≡ Some Used }
 {}
 
-/// Without a chain nobody can join.
+/// Without a chain no server can join.
 pub fn empty_chain_takes_nobody()
     ensures no_chain { order_fault (scenes_master 1 chain_is_empty) (order.Join 2) ≡ Some NoChain }
     ensures used { order_fault (scenes_master 1 chain_is_empty) (order.Join 1) ≡ Some Used }

@@ -1,4 +1,10 @@
 //! Worked runs of settling and of resolved events.
+//!
+//! # Why
+//!
+//! Settling is a function to the events that it does, with the world after them. That this is the
+//! run of those events is a law. A program learns the outcomes as it settles, and another law
+//! covers that.
 
 ghost use Rattle.std.specs.Prelude.{◌≡◌, true, false, [], ◌∷◌, Some, take};
 ghost use Rattle.zprotocol.specs.declared.master.order_fault.OrderFault.TheVariants.{Lost};
@@ -20,8 +26,8 @@ ghost use Rattle.zworld_model.specs.support.RunRows.{one_create, create_begun, c
 ghost use Rattle.zworld_model.specs.support.RunRows.{exists_begun, exists_taken};
 ghost use Rattle.zworld_model.specs.support.SettleRows.{settled_history, settled_events, fits_after};
 
-/// The order of the deliveries: channel by channel, one message from each that has one when its
-/// turn comes, pass after pass.
+/// The order of the deliveries: channel by channel, one message from each that has one when the
+/// pass reaches it, pass after pass.
 pub fn settling_goes_link_by_link()
     ensures events { settled_events 3 two_begin [] ≡ two_settle }
     ensures quiet { settling_end (settled_after 3 two_begin 100 []) ≡ Quiet }

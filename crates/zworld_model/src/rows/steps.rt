@@ -11,7 +11,7 @@ ghost use Rattle.zworld_model.specs.support.RunRows.{m, s1, s2, s3, s4, c0, c1, 
 ghost use Rattle.zworld_model.specs.support.RunRows.{create_taken, first_entry};
 ghost use Rattle.zworld_model.specs.support.StepRows.{stands, effect, Accepts, Refuses};
 
-/// What each process accepts: a message always, and from outside what is of its own kind.
+/// What each process accepts: a message always, and from outside the inputs of its own kind.
 pub fn processes_accept_what_is_theirs()
     ensures any_message { Accepts [] s1 (Hear c0 message.Gone) }
     ensures call { Accepts [] c1 (given.Begin create) }
@@ -28,7 +28,7 @@ pub fn processes_accept_what_is_theirs()
     ensures out { accepts s1 Stop (effect [] s1 Stop).left ≡ false }
 {}
 
-/// What each process does: it goes by its table. A server that stops, or receives the order to
+/// What each process does: it follows its table. A server that stops, or receives the order to
 /// leave, sends its failure notice and takes no part any more.
 pub fn processes_go_by_their_tables()
     ensures call_is_told { (effect [] c1 (given.Begin create)).told ≡ saw.Begin 1 1 create ∷ [] }
