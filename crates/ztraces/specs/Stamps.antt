@@ -1,5 +1,4 @@
--- Timestamps: Lamport, "Time, Clocks, and the Ordering of Events in a Distributed System" (1978),
--- up to a last one.
+-- Lamport timestamps, up to a last one.
 use Rattle.std.specs.Prelude.{ℕ, ◌+◌, nat_lt, if◌then◌else◌}
 use Rattle.ztraces.specs.declared.stamp.TheConstants.{MAX_STAMP}
 

@@ -1,5 +1,5 @@
--- Traces as events of the world: the merge of all traces by timestamps, and what it is for its
--- events to be in their places.
+-- Traces as events of the world: the merge of all traces by timestamps, and when its events are
+-- allowed.
 use Rattle.std.specs.Prelude.{if◌then◌else◌, ◌≡◌, ℕ, zero, suc, Bool, true, false, ◌&&◌, ◌||◌, ◌==◌, nat_lt, List, [], ◌∷◌, ◌++◌, Option, None, Some, map, filter, length, get_or}
 use Rattle.zprotocol.specs.declared.process.Process.{Process}
 use Rattle.zprotocol.specs.declared.process.Process.TheVariants.{Master, Server, Client}
@@ -36,8 +36,8 @@ record_of t c = get_or (map (λ (client : ClientTrace). client.record.items) t.c
 abbrev pub client_count : Traces → ℕ
 client_count t = length t.clients.items
 
--- the event of the world that a process's act stands for; an act of another kind of process has
--- none
+-- the event of the world that a process's act represents; an act of another kind of process
+-- represents none
 abbrev pub event_of : Process → Act → Option Event
 event_of p (Took from Acted) = Some (event.Take from p)
 event_of (Server s) (Took from Unheard) = Some (event.Ignore from (Server s))
@@ -64,9 +64,9 @@ comes_before a b =
 abbrev pub at_process : {A : Type 0} → Process → A → (Process → A) → Process → A
 at_process p x family q = if is_same q p then x else family q
 
--- the steps are the first events of all traces, by timestamp and process, and `left` is left of the
--- traces; the first step begins its trace, and no trace begins with an event that comes before it;
--- the other steps are the first events of what is left then
+-- The steps are the first events of all traces, by timestamp and process, and `left` is left of the
+-- traces. The first step begins its trace, and no trace begins with an event that comes before it.
+-- The other steps are the first events of what is left then
 abbrev pub Merges : (Process → List TraceEvent) → List Step → (Process → List TraceEvent) → Type 0
 Merges traces [] left = (p : Process) → traces p ≡ left p
 Merges traces (step ∷ steps) left =
@@ -93,12 +93,12 @@ abbrev pub stamps_rise : List TraceEvent → Bool
 stamps_rise [] = true
 stamps_rise (e ∷ more) = stamps_rise_from e.stamp more
 
--- an event is in its place if it is enabled, or is an order, which the master may refuse
+-- an event is allowed if it is enabled, or is an order, which the master may refuse
 abbrev pub is_in_place : {M : Type 0} → World M → Event → Bool
 is_in_place w (event.Order order) = true
 is_in_place w other = is_enabled w other
 
--- a step is in its place: it stands for an event, which is
+-- a step is allowed: it represents an event, and that event is allowed
 abbrev pub is_step_in_place : {M : Type 0} → World M → Option Event → Bool
 is_step_in_place w None = false
 is_step_in_place w (Some event) = is_in_place w event
@@ -108,14 +108,14 @@ abbrev pub step_happens : {M : Type 0} → Does M → World M → Option Event �
 step_happens machine w None = w
 step_happens machine w (Some event) = happens machine w event
 
--- each step is in its place in the run of those before it
+-- each step is allowed in the run of those before it
 abbrev pub are_in_place : {M : Type 0} → Does M → World M → List Step → Bool
 are_in_place machine w [] = true
 are_in_place machine w (step ∷ steps) =
     is_step_in_place w (event_of step.process step.event.act)
     && are_in_place machine (step_happens machine w (event_of step.process step.event.act)) steps
 
--- the events that steps stand for
+-- the events that steps represent
 abbrev pub event_list : Option Event → List Event
 event_list None = []
 event_list (Some event) = event ∷ []
@@ -129,10 +129,10 @@ abbrev pub client_of : CallEvent → ℕ
 client_of (call_event.Begin client number call) = client
 client_of (call_event.Answer client number reply) = client
 
--- what a history tells of a client
+-- what a history holds of a client
 abbrev pub told_of : ℕ → History → History
 told_of c history = filter (λ e. client_of e == c) history
 
--- the history tells of each client what its record does
+-- the history holds of each client what its record holds
 abbrev pub AgreesWithRecords : Traces → History → Type 0
 AgreesWithRecords t history = (c : ℕ) → nat_lt c (client_count t) ≡ true → told_of c history ≡ record_of t c

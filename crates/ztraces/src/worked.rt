@@ -1,4 +1,5 @@
-//! Worked rows of the definitions: each function's contract has some, and its body does nothing.
+//! Worked examples of the definitions: each function's contract has some, and its body does
+//! nothing.
 
 ghost use Rattle.std.specs.Prelude.{◌≡◌, ℕ, true, false, None, Some, [], ◌∷◌, ◌++◌, take, drop};
 ghost use Rattle.zprotocol.specs.declared.message.Message.TheVariants as message;
@@ -26,7 +27,7 @@ ghost use Rattle.ztraces.specs.support.TraceRows.{runs, runs_over_three, goes_on
 ghost use Rattle.ztraces.specs.support.TraceRows.{Stays, Ends, GoesThrough};
 ghost use Rattle.ztraces.specs.support.TraceRows.{is_server_cut, is_client_cut, AreWhole};
 
-/// The event that an act stands for. An act of another kind of process stands for none.
+/// The event that an act represents. An act of another kind of process represents none.
 pub fn acts_are_events()
     ensures take { event_of s1 (Took c0 Acted) ≡ Some (event.Take c0 s1) }
     ensures ignored_query { event_of s1 (Took c0 Unheard) ≡ Some (event.Ignore c0 s1) }
@@ -69,8 +70,8 @@ pub fn stamps_rise_by_events()
     ensures falls_at_the_end { stamps_rise (tick 1 ∷ tick 3 ∷ tick 2 ∷ []) ≡ false }
 {}
 
-/// A write and a read of one client at one server: each event is in its place, and the history is
-/// what the caller sees. A run may lose any request: a server's rows say that it hears each update.
+/// A write and a read of one client at one server: each event is allowed, and the history is what
+/// the caller sees. A run may lose any request: a server's rows say that it handles each update.
 pub fn written_and_read_is_a_run()
     ensures in_place { runs written_and_read ≡ true }
     ensures told { told_of 0 (after_steps written_and_read).history ≡ seen }
@@ -107,8 +108,8 @@ pub fn retirement_is_a_run()
         ≡ false }
 {}
 
-/// Which events are in their place in the initial state of one server and one client. A join or an
-/// order to leave is, even if the master refuses it.
+/// Which events are allowed in the initial state of one server and one client. A join or an order
+/// to leave is, even if the master refuses it.
 pub fn places_are_tested()
     ensures refused_join { is_in_place opening (orders.Join 1) ≡ true }
     ensures refused_order { is_in_place opening (orders.Retire 1) ≡ true }
@@ -128,7 +129,7 @@ pub fn one_stamp_is_by_process()
     ensures not_all { Merges both_at_1 (tick_of s1 1 ∷ []) (λ p. []) → ⊥ }
 {}
 
-/// What each process does at a write. Client and server go by their tables from the initial state,
+/// What each process does at a write. Client and server follow their tables from the initial state,
 /// and each receives what the other sent.
 pub fn write_goes_by_the_tables()
     ensures client { GoesThrough c0 (standing_in opening c0) 0 client_deeds }

@@ -1,5 +1,5 @@
--- The traces by place, the master's first, then the servers', then the clients'; and how far each
--- was read.
+-- The traces by position, the master's first, then the servers', then the clients'; and how far
+-- each was read.
 use Rattle.std.specs.Prelude.{◌≡◌, ◌⊎◌, ◌<◌, ◌≤◌, ℕ, zero, suc, ◌+◌, ◌-◌, true, false, ◌==◌, nat_lt, nat_le, if◌then◌else◌, List, [], ◌∷◌, Option, None, Some, length, get_or, drop}
 use Rattle.zprotocol.specs.declared.process.Process.{Process}
 use Rattle.zprotocol.specs.declared.process.Process.TheVariants.{Master, Server, Client}
@@ -23,7 +23,7 @@ process_at t place =
     if nat_le place (length t.servers.items) then Server place else
     Client (place - (1 + length t.servers.items))
 
--- where a process's trace is
+-- the position of a process's trace
 abbrev pub index_of : Traces → Process → ℕ
 index_of t Master = 0
 index_of t (Server s) = s
@@ -47,19 +47,19 @@ chosen best place None = best
 chosen None place (Some stamp) = Some (place, stamp)
 chosen (Some best) place (Some stamp) = if nat_lt stamp best.1 then Some (place, stamp) else Some best
 
--- of the places below n, none has an event left; or this one has the next, with this timestamp
+-- of the positions below n, none has an event left; or this one has the next, with this timestamp
 abbrev pub IsLeast : Traces → List ℕ → ℕ → Option (ℕ × ℕ) → Type 0
 IsLeast t read n None = (j : ℕ) → j < n → head_at t read j ≡ None
 IsLeast t read n (Some best) =
     (best.0 < n) × (head_at t read best.0 ≡ Some best.1)
     × ((j s : ℕ) → j < n → head_at t read j ≡ Some s → (best.1 < s) ⊎ ((s ≡ best.1) × (best.0 ≤ j)))
 
--- how many events are left in the places below n
+-- how many events are left at the positions below n
 abbrev pub unread : Traces → List ℕ → ℕ → ℕ
 unread t read zero = 0
 unread t read (suc n) = (length (trace_of t (process_at t n)) - get_or read n 0) + unread t read n
 
--- so far these steps were replayed, each in its place, and led to this world
+-- so far these steps were replayed, each was allowed, and they led to this world
 abbrev pub HasReplayed : Traces → List ℕ → World (KeptState Tree) → Type 0
 HasReplayed t read w =
     (steps : List Step) × Merges (trace_of t) steps (rest_of t read) × (are_in_place kept_tree (opening_of t) steps ≡ true)
@@ -69,6 +69,6 @@ HasReplayed t read w =
 abbrev pub IsAllRead : Traces → List ℕ → Type 0
 IsAllRead t read = (p : Process) → rest_of t read p ≡ []
 
--- an event of a prefix of the merge isn't in its place
+-- an event of a prefix of the merge isn't allowed
 abbrev pub IsReplayFault : Traces → Type 0
 IsReplayFault t = (steps : List Step) × BeginsMerge t steps × (are_in_place kept_tree (opening_of t) steps ≡ false)

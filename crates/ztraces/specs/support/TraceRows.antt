@@ -122,7 +122,7 @@ seen =
 abbrev pub opening_of_three : World ℕ
 opening_of_three = opening_world counting_machine 3 1
 
--- the steps are in their places, from either initial state
+-- the steps are allowed, from either initial state
 abbrev pub runs : List Step → Bool
 runs steps = are_in_place counting_machine opening steps
 
@@ -151,18 +151,18 @@ server_with entries = record { machine = Some entries; last = entries; sent = []
 abbrev pub old_tail : ServerView ℕ
 old_tail = record (server_with 0) { succ = Some (2, 0) }
 
--- where the server stands in the initial state
+-- what the server is in the initial state
 abbrev pub at_opening : Standing ℕ
 at_opening = AtServer (server_with 0)
 
--- rows of its table: it stays where it stands and sends nothing, or it ends with its failure notice
+-- rows of its table: it remains what it is and sends nothing, or it ends with its failure notice
 abbrev pub Stays : Standing ℕ → Act → Option (Stamped ℕ) → Type 0
 Stays standing act took = Row counting_machine s1 standing act took standing [] []
 
 abbrev pub Ends : Standing ℕ → Act → Option (Stamped ℕ) → Type 0
 Ends standing act took = Row counting_machine s1 standing act took Out last_post []
 
--- a process goes by its table through steps
+-- a process follows its table through steps
 abbrev pub GoesThrough : Process → Standing ℕ → ℕ → List (Deed ℕ) → Type 0
 GoesThrough process standing last deeds = GoesBy counting_machine process standing last deeds
 
@@ -179,7 +179,7 @@ answer = message.Answer 1 (number_reply 1)
 abbrev pub asked : MessageOf ℕ
 asked = message.Query 1 query
 
--- the trace of one of the servers is cut, or of one of the clients; or none of all
+-- the trace of one of the servers is cut, or of one of the clients; or no trace is
 abbrev pub is_server_cut : Traces → Bool
 is_server_cut t = list_any (λ (trace : Trace). trace.is_cut) t.servers.items
 
