@@ -1,4 +1,4 @@
--- What the client table leaves open: out of memory, and how a reply is handed out.
+-- What the client table leaves open: out of memory, and how a reply is returned.
 use Rattle.std.specs.Prelude.{◌≡◌, ◌<◌, ℕ, Option, None, Some, List}
 use Rattle.std.specs.Option.{IsSome, option_map}
 use Rattle.zcalls.specs.declared.reply.Reply.{Reply}
@@ -24,7 +24,7 @@ abbrev pub IsResend : {T : Type 0} → ClientView → Process → Message T → 
 IsResend v Master (message.Config epoch head tail) = (v.epoch < epoch) × IsSome v.outstanding
 IsResend v from other = ⊥
 
--- the reply that is handed out, without the number of its call
+-- the reply that is returned, without the number of its call
 abbrev pub reply_of : Option (ℕ × Reply) → Option Reply
 reply_of given = option_map (λ answer. answer.1) given
 

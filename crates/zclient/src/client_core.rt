@@ -1,4 +1,9 @@
 //! The core of a client.
+//!
+//! # Why
+//!
+//! `ClientCore::new` takes only the last server of the initial chain: the head is always server 1,
+//! and the channels know who the client is. It stores the allocator, by which its later calls grow.
 
 ghost use Rattle.std.specs.Prelude.{◌≡◌, ◌+◌, ◌<◌, ◌≤◌, ℕ, None, Some, [], IfErr, IfOk, IsSome, OnErr, OnOk, is_some};
 ghost use Rattle.std.specs.Option.{option_map};
@@ -78,7 +83,7 @@ impl ClientCore {
         Some(*number)
     }
 
-    /// Returns the head of the chain, as the master last told this client.
+    /// Returns the head of the chain, as in the master's last configuration.
     pub fn head(&self) -> Option<ServerId>
         ensures { result ≡ self.now.head }
     {
@@ -86,7 +91,7 @@ impl ClientCore {
         *head
     }
 
-    /// Returns the tail of the chain, as the master last told this client.
+    /// Returns the tail of the chain, as in the master's last configuration.
     pub fn tail(&self) -> Option<ServerId>
         ensures { result ≡ self.now.tail }
     {
@@ -140,8 +145,8 @@ impl ClientCore {
     }
 
     /// Handles a received message, and returns the reply that the outstanding call waited for.
-    /// Where the call must be sent again and memory runs out, it hands the message back; then
-    /// nothing has changed and nothing was sent.
+    /// Where the call must be sent again and memory runs out, it returns the message as the error.
+    /// Then nothing has changed and nothing was sent.
     #[tactic(auto, unfolding(zprotocol::specs::client::Table::client_step))]
     #[inline(always)]
     pub fn take<T: Drop>(
@@ -206,7 +211,7 @@ impl ClientCore {
         send_call(self.alloc, head, tail, *number, call, out)
     }
 
-    // `Answer`: the reply to the outstanding call ends the wait and is handed out. Any other is
+    // `Answer`: the reply to the outstanding call ends the wait and is returned. Any other is
     // dropped.
     #[tactic(auto, unfolding(zprotocol::specs::client::Table::answer_row))]
     #[inline(always)]

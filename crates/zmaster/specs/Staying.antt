@@ -1,4 +1,4 @@
--- The members that have the state and stay. Who stays is this project's profile.
+-- The members that have the state and remain in the chain.
 use Rattle.std.specs.Prelude.{ℕ, Bool, ◌&&◌, not}
 use Rattle.zprotocol.specs.master.View.{MasterView, is_among, members, is_joining, is_retiring}
 

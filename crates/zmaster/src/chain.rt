@@ -1,4 +1,4 @@
-//! The chain of servers: where a member stands, and how the chain is repaired.
+//! The chain of servers: the position of a member, and how the chain is repaired.
 
 ghost use Rattle.std.specs.Prelude.{◌≡◌, ◌<◌, ◌≤◌, ◌==◌, length, map};
 ghost use Rattle.std.specs.List.{last_or, position};

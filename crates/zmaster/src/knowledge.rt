@@ -87,8 +87,7 @@ impl Knowledge {
         self.clients
     }
 
-    /// An invariant of what is known: at most `MAX_SERVERS` numbers are used. The function does
-    /// nothing.
+    /// At most `MAX_SERVERS` numbers are used. The function does nothing.
     pub(crate) fn keeps_few_used(&self)
         ensures { length self.now.used ≤ MAX_SERVERS }
     {
@@ -115,8 +114,8 @@ impl Knowledge {
         }
     }
 
-    // `Have`: tells the sender's predecessor of its new successor and of the last entry that it
-    // has.
+    // `Have`: sends the sender's predecessor its new successor, and the last entry that the
+    // successor has.
     fn have<T: Drop>(
         &self,
         server: ServerId,
@@ -137,7 +136,7 @@ impl Knowledge {
         }
     }
 
-    // `Joined`, from the joining server: clients are told of the new tail.
+    // `Joined`, from the joining server: clients are sent the new tail.
     fn joined<T: Drop>(&mut self, server: ServerId, out: &mut Out<T>)
         requires epochs { self.old.epoch < MAX_EPOCH }
         requires room { MAX_POSTS ≤ out.old.room }
@@ -152,7 +151,7 @@ impl Knowledge {
     }
 
     // `Gone`: outside the chain the server's number counts as used. In the chain, the chain is
-    // repaired in a new epoch, and clients are told.
+    // repaired in a new epoch, and clients are sent the configuration.
     fn gone<T: Drop>(&mut self, server: ServerId, out: &mut Out<T>)
         requires epochs { self.old.epoch < MAX_EPOCH }
         requires room { MAX_POSTS ≤ out.old.room }
@@ -236,7 +235,7 @@ impl Knowledge {
         None
     }
 
-    // A server joins behind the last member.
+    // A server joins after the last member.
     fn join<T: Drop>(&mut self, server: ServerId, out: &mut Out<T>)
         requires epochs { self.old.epoch < MAX_EPOCH }
         requires new { length self.old.chain < length (with_number server self.old.used) }
@@ -255,7 +254,7 @@ impl Knowledge {
         out.put_reserved(Process::Server(server), Message::NewPred(epoch, before));
     }
 
-    // A member is told to leave.
+    // A member is sent the order to leave.
     fn retire<T: Drop>(&mut self, server: ServerId, out: &mut Out<T>)
         requires { MAX_POSTS ≤ out.old.room }
         ensures next { self.new ≡ (order_step {T = T} self.old (Retire server)).0 }
@@ -295,14 +294,14 @@ impl Knowledge {
         }
     }
 
-    // Returns the head that clients are told.
+    // Returns the head in the configuration sent to clients.
     fn head(&self) -> Option<ServerId>
         ensures { result ≡ head_of self.now }
     {
         Some(self.chain.first()?.id())
     }
 
-    // Returns the tail that clients are told.
+    // Returns the tail in the configuration sent to clients.
     fn tail(&self) -> Option<ServerId>
         ensures { result ≡ tail_of self.now }
     {

@@ -1,9 +1,9 @@
-//! The limits of the master: each is this project's profile.
+//! The limits of the master.
 
 use zprotocol::MAX_SERVERS;
 use ztree::limits::MAX_CLIENTS;
 
-// No row of the table sends so many messages to servers at once: the rest is spare.
+// No row of the table sends this many messages to servers at once: the rest is spare.
 const ROOM_FOR_SERVERS: usize = 8;
 
 /// The messages that the caller must reserve room for: one to each client, and some to servers.

@@ -90,7 +90,7 @@ impl Master {
         Ok(())
     }
 
-    /// Lets a server join behind the tail, or returns why it can't. It allocates nothing.
+    /// Lets a server join after the tail, or returns why it can't. It allocates nothing.
     pub fn join<T: Drop>(&mut self, server: ServerId, out: &mut Out<T>) -> Result<(), JoinFault>
         requires { MAX_POSTS ≤ out.old.room }
         ensures next { OnOk result (self.new ≡ (order_step {T = T} self.old (Join server)).0) }

@@ -40,7 +40,7 @@ impl Member {
     }
 }
 
-/// Fills the places of the array that hold no member.
+/// Fills the slots of the array that hold no member.
 impl Default for Member {
     fn default() -> Member {
         Member {

@@ -1,4 +1,4 @@
-//! The server numbers that were ever used, as a row of flags.
+//! The server numbers that were ever used, as an array of flags.
 
 ghost use Rattle.std.specs.Prelude.{◌≡◌, ◌≤◌, length};
 ghost use Rattle.zprotocol.specs.declared.limits.TheConstants.{MAX_SERVERS};
@@ -22,7 +22,7 @@ pub(crate) fn mark_used(used: &mut [bool; SERVERS], server: ServerId)
     used[server.number() as usize - 1] = true;
 }
 
-/// An invariant of the flags: at most `MAX_SERVERS` numbers are used. The function does nothing.
+/// At most `MAX_SERVERS` numbers are used. The function does nothing.
 pub(crate) fn keeps_few(used: &[bool; SERVERS])
     ensures { length (numbers_from 1 used.now) ≤ MAX_SERVERS }
 {

@@ -1,4 +1,4 @@
-//! Worked rows of the master's limits. The function does nothing.
+//! A worked example of the master's limits. The function does nothing.
 
 ghost use Rattle.std.specs.Prelude.{◌≡◌};
 ghost use Rattle.zmaster.specs.declared.limits.TheConstants.{MAX_POSTS};

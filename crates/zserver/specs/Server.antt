@@ -1,7 +1,4 @@
 -- A server as its owner sees it: its view of the server table, and whether it has stopped, and why.
--- Van Renesse and Schneider, "Chain Replication for Supporting High Throughput and Availability"
--- (OSDI 2004), section 2: servers are fail-stop, and a request may be ignored. The order to leave
--- is this project's profile.
 use Rattle.std.specs.Prelude.{◌≡◌, ◌⊎◌, ℕ, true, Option, None, Some}
 use Rattle.std.specs.Option.{option_map}
 use Rattle.ztree.specs.Tree.{Tree}
@@ -33,7 +30,7 @@ TreeResult = ServerResult (KeptState Tree)
 abbrev pub TreeOut : Type 0
 TreeOut = OutView (Transfer (KeptState Tree))
 
--- a server: its view, and why it has stopped, if it has. The view of one that has stopped says
+-- a server: its view, and why it has stopped, if it has. The view of one that has stopped means
 -- nothing
 pub record ServerState : Type 0 where
   pub view : TreeView
@@ -59,7 +56,7 @@ first_view_from t pred succ = member (kept_tree_from t) (first_neighbour pred) (
 abbrev pub IsFresh : Transfer (KeptState Tree) → Type 0
 IsFresh snapshot = snapshot ≡ record { last = 0; machine = nothing_kept snapshot.machine.plain }
 
--- the effect of a message: what the server table says, or none where it was unheard
+-- the effect of a message: what the server table says, or none where it was dropped
 abbrev pub taken_result : Taken → TreeView → Process → TreeMessage → TreeResult
 taken_result Acted v from m = server_step kept_tree v from m
 taken_result Unheard v from m = no_effect v
@@ -72,11 +69,11 @@ BecomesAt old new from m taken = new ≡ (taken_result taken old from m).0
 abbrev pub PutsAt : TreeOut → TreeOut → TreeView → Process → TreeMessage → Taken → Type 0
 PutsAt old new v from m taken = Puts old new (taken_result taken v from m).1
 
--- a message was heard, or else this holds
+-- a message was handled, or else this holds
 abbrev pub IsHeardOr : Type 0 → Taken → Type 0
 IsHeardOr fact taken = taken ≡ Unheard → fact
 
--- a message may be unheard: it is a query that the server would answer
+-- a message may be dropped: it is a query that the server would answer
 abbrev pub MayBeUnheard : TreeView → Process → TreeMessage → Type 0
 MayBeUnheard v from m = may_be_unheard kept_tree v from m ≡ true
 

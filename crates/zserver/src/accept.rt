@@ -81,8 +81,8 @@ impl Replica {
         LogNumber::new(machine.applied() + 1)
     }
 
-    // `accept` at a server with a successor: keeps the entry and forwards it. Inlined, as `process`
-    // and `apply` are: a row then takes fewer instructions.
+    // `accept` at a server with a successor: stores the entry in Sent and forwards it. Inlined, as
+    // `process` and `apply` are: a row then takes fewer instructions.
     #[inline(always)]
     fn forward(
         &mut self,

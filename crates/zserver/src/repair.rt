@@ -37,7 +37,7 @@ impl Replica {
         Ok(())
     }
 
-    /// `NewPred`: adopts the new predecessor, and tells the master what the server has.
+    /// `NewPred`: adopts the new predecessor, and reports to the master what the server has.
     #[tactic(auto, unfolding(zprotocol::specs::server::Table::new_pred_row))]
     pub(crate) fn new_pred(
         &mut self,

@@ -1,4 +1,13 @@
 //! The entries that were forwarded, and that the tail may not have processed yet.
+//!
+//! # Why
+//!
+//! The head makes an entry once. The message to the successor, Sent and the machine share it
+//! (`SharedEntry`, an `Arc`), so a chain of any length has one block for it, and a server alone
+//! none.
+//!
+//! Sent is a vector in the order of the log, and an acknowledgement drops what isn't above its
+//! number. So no law is needed that the numbers rise.
 
 ghost use Rattle.std.specs.Prelude.{◌≡◌, ◌<◌, ◌≤◌, length, map, IfOk, OnErr, OnOk};
 ghost use Rattle.zprotocol.specs.Posts.{Puts};

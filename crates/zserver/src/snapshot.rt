@@ -66,8 +66,8 @@ impl Snapshot {
         self.machine.as_ref()
     }
 
-    /// An invariant of every snapshot: its tree is lawful, and its numbers are bounded. The function
-    /// does nothing.
+    /// The tree of every snapshot is lawful, and its numbers are bounded. The function does
+    /// nothing.
     pub fn keeps_lawful(&self)
         ensures lawful { IsLawful self.now.machine.plain }
         ensures bounded { IsBounded self.now.machine.plain }

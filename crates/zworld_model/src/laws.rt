@@ -1,5 +1,11 @@
 //! What holds of the definitions themselves. Each function's contract is a law, and its body does
 //! nothing.
+//!
+//! # Why
+//!
+//! Failed servers do not matter, because every test looks only at processes that have not failed
+//! and at the fronts of channels into them. Both worlds have those in common, so they enable the
+//! same events, and an enabled event does the same in both.
 
 ghost use Rattle.std.specs.Prelude.{◌≡◌, ℕ};
 ghost use Rattle.ztree.specs.Tree.{Tree, opening_tree};

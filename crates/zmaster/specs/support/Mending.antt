@@ -19,13 +19,13 @@ with_state joining members = filter (λ s. not (joins joining s)) (map (λ membe
 abbrev pub who_stays : Option ℕ → ℕ → Option ℕ
 who_stays who s = if elim who [ None ↦ false | Some one ↦ one == s ] then None else who
 
--- the server stands first at this position
+-- this position is the first one that holds the server
 abbrev pub IsPlace : ℕ → ℕ → List Neighbour → Type 0
 IsPlace s at [] = ⊥
 IsPlace s zero (t ∷ rest) = (t.0 == s) ≡ true
 IsPlace s (suc at) (t ∷ rest) = ((t.0 == s) ≡ false) × IsPlace s at rest
 
--- the members behind p, without the one at this position
+-- the members after p, without the one at this position
 abbrev pub mended_behind_at : {T : Type 0} → ℕ → ℕ → ℕ → List Neighbour → MendedChain T
 mended_behind_at epoch p zero rest = without_next epoch p rest
 mended_behind_at epoch p (suc at) [] = ([], [])
@@ -41,7 +41,7 @@ mended_at {T} epoch (suc at) (t ∷ rest) =
     let mended = mended_behind_at {T = T} epoch t.0 at rest in
     (t ∷ mended.0, mended.1)
 
--- why nobody can join a chain, by its length
+-- why no server can join a chain, by its length
 abbrev pub chain_fault : Option ℕ → List Neighbour → Option OrderFault
 chain_fault joining [] = Some NoChain
 chain_fault joining (only ∷ []) = if joins joining only.0 then Some Lost else None

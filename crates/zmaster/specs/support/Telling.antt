@@ -1,4 +1,4 @@
--- The messages to the first clients, on the way to telling all.
+-- The configuration messages to the first clients, of those to all.
 use Rattle.std.specs.Prelude.{ℕ, List, map}
 use Rattle.std.specs.List.{range_with_len}
 use Rattle.zprotocol.specs.declared.message.Message.TheVariants as message

@@ -23,7 +23,7 @@ abbrev pub server_of : Result TreeView Stopped → ServerState
 server_of (Err why) = record { view = spare; stopped = Some why }
 server_of (Ok v) = running v
 
--- the tree with cached replies that the machine stands for, if there is one
+-- the tree with cached replies that the machine represents, if there is one
 abbrev pub state_of : Option MachineView → Option (KeptState Tree)
 state_of None = None
 state_of (Some m) = Some m.state.service
