@@ -1,9 +1,6 @@
--- What a process of the program makes of an input, by the definition of what processes do
--- (Does.antt of the world's model). A server may run out of memory. Then it stops, or it doesn't
--- hear a query.
--- Van Renesse and Schneider, "Chain Replication for Supporting High Throughput and Availability"
--- (OSDI 2004), sections 2 and 3: servers are fail-stop, and a request may be ignored. Treating out
--- of memory as one or the other is this project's profile.
+-- What a process of the program does with an input, by the definition of what processes do
+-- (Does.antt of the world's model). A server may run out of memory. Then it stops, or it drops a
+-- query.
 use Rattle.std.specs.Prelude.{◌≡◌, ◌<◌, ℕ, Bool, true, false, not, is_some, if◌then◌else◌, List, [], ◌∷◌, Option, None, Some, Result, Ok, Err}
 use Rattle.std.specs.Prelude.{option_to_list}
 use Rattle.std.specs.Option.{option_map}
@@ -53,7 +50,7 @@ TreeEffect = Effect (KeptState Tree)
 abbrev pub TreePost : Type 0
 TreePost = Post (KeptState Tree)
 
--- the process can stand there: it is of that kind. A server alone stops for good
+-- the process can have that standing: it is of that kind; only a server stops for good
 abbrev pub can_stand : Process → TreeStanding → Bool
 can_stand Master (AtMaster v) = true
 can_stand (Server s) (AtServer v) = true
@@ -79,8 +76,8 @@ abbrev pub read : Input → Done → TreeInput
 read input Stopped = given.Stop
 read input done = input_of input
 
--- what a process that stands there makes of an input, by what became of it. A message that it
--- doesn't hear has no effect
+-- what a process of that standing does with an input, by what became of it. A message that it drops
+-- has no effect
 abbrev pub effect_of : Process → TreeStanding → Input → Done → TreeEffect
 effect_of process standing input Unheard = idle_effect standing
 effect_of process standing input done = does kept_tree process (read input done) standing
@@ -90,8 +87,8 @@ abbrev pub reply_in : TreeMessage → Option Reply
 reply_in (message.Answer number reply) = Some reply
 reply_in other = None
 
--- this can become of the input, there: a server stops, or doesn't hear a query, only where it may
--- for lack of memory. A client hands out a reply only where it hears one
+-- this can become of the input, for that standing: a server stops, or drops a query, only where it
+-- may when out of memory. A client returns a reply only at a message that brings one
 abbrev pub can_come : TreeStanding → Input → Done → Bool
 can_come (AtMaster v) (Hear from message) Acted = true
 can_come (AtMaster v) (Obey order) Acted = true
@@ -112,22 +109,22 @@ is_end Stopped = true
 is_end Left = true
 is_end done = false
 
--- what it puts: all that it sends, but for the failure notice of a server that has stopped. Who
--- runs it delivers that
+-- what it appends to the outgoing messages: all that it sends, except the failure notice of a
+-- server that has stopped, which its runner delivers
 abbrev pub put_by : Done → List TreePost → List TreePost
 put_by Stopped posts = []
 put_by Left posts = []
 put_by done posts = posts
 
--- what callers see, as the result tells it
+-- what callers see, by the result
 abbrev pub told_by : Process → Input → Done → History
 told_by (Client c) (Begin call) (Began number) = call_event.Begin c number call ∷ []
 told_by (Client c) (Hear from message) (Answered number) =
     option_to_list (option_map (λ reply. call_event.Answer c number reply) (reply_in message))
 told_by process input done = []
 
--- the process went by its definition: it stood there and stands here, the outgoing messages were
--- these and are those, and this became of the input
+-- the process followed its definition from the old standing to the new one; the outgoing messages
+-- were these and are those, and this became of the input
 pub record HasActed (process : Process) (old new : TreeStanding) (input : Input) (before after : TreeOut) (done : Done) : Type 0 where
   pub comes : can_come old input done ≡ true
   pub accepted : accepts process (read input done) old ≡ true
@@ -142,7 +139,7 @@ abbrev pub Acts : TreeStanding → TreeStanding → Input → TreeOut → TreeOu
 Acts old new input before after done =
     (process : Process) → can_stand process old ≡ true → HasActed process old new input before after done
 
--- why a process that stands there refuses an input, if it does. Out of memory isn't part of this
+-- why a process of that standing refuses an input, if it does. Out of memory isn't part of this
 abbrev pub refusal_of : TreeStanding → Input → Option Refusal
 refusal_of (AtMaster v) (Hear from message) = None
 refusal_of (AtMaster v) (Obey order) = option_map (λ fault. refusal.Order fault) (order_fault v order)
@@ -153,21 +150,21 @@ refusal_of (AtClient v) (Begin call) = option_map (λ fault. refusal.Begin fault
 refusal_of (AtClient v) Retry = if is_some v.outstanding then None else Some refusal.NotAccepted
 refusal_of standing input = Some refusal.NotAccepted
 
--- no process that stands there accepts the input; or each does
+-- no process of that standing accepts the input; or each does
 abbrev pub IsRefused : TreeStanding → Input → Type 0
 IsRefused standing input = (process : Process) → accepts process (input_of input) standing ≡ false
 
 abbrev pub IsAccepted : TreeStanding → Input → Type 0
 IsAccepted standing input = (process : Process) → can_stand process standing ≡ true → accepts process (input_of input) standing ≡ true
 
--- the message that is to be heard, if the input is one
+-- the message that is to be handled, if the input is one
 abbrev pub message_of : Input → Option TreeMessage
 message_of (Hear from message) = Some message
 message_of input = None
 
--- a process that accepts the input may run out of memory there, where this much room is reserved
+-- A process that accepts the input may run out of memory at it, where this much room is reserved
 -- for outgoing messages. The master has to have room for all that it may send. A client sends its
--- call, at a message only if that makes it. A server never hands a message back
+-- call, at a message only if that makes it. A server never returns a message
 abbrev pub MayWantMemory : TreeStanding → Input → ℕ → Type 0
 MayWantMemory (AtMaster v) (Hear from message) room = room < MAX_POSTS
 MayWantMemory (AtMaster v) (Obey order) room = room < MAX_POSTS
@@ -181,19 +178,19 @@ abbrev pub IsActFault : TreeStanding → Input → ℕ → ActFault → Type 0
 IsActFault standing input room (Refused why) = (refusal_of standing input ≡ Some why) × IsRefused standing input
 IsActFault standing input room Memory = (refusal_of standing input ≡ None) × IsAccepted standing input × MayWantMemory standing input room
 
--- a place into which a reply was put, if there was one
+-- a slot after a reply was put into it, if there was one
 abbrev pub with_reply : Option Reply → Handed → Handed
 with_reply (Some reply) before = handed.Reply reply
 with_reply None before = before
 
--- the place that is lent, by what became of the input: a reply that is handed out is put there, and a
+-- the caller's slot, by what became of the input: it receives a reply that is returned, or a
 -- message for which memory ran out
 abbrev pub handed_by : Input → Result Done ActFault → Handed → Handed
 handed_by (Hear from message) (Ok (Answered number)) before = with_reply (reply_in message) before
 handed_by (Hear from message) (Err Memory) before = handed.Message message
 handed_by input result before = before
 
--- what is in such a place
+-- the reply in such a slot
 abbrev pub reply_handed : Handed → Option Reply
 reply_handed (handed.Reply reply) = Some reply
 reply_handed other = None
@@ -202,7 +199,7 @@ abbrev pub message_handed : Handed → Option TreeMessage
 message_handed (handed.Message message) = Some message
 message_handed other = None
 
--- the views of the processes that are asked about themselves
+-- the views of the processes whose state can be read
 abbrev pub master_in : TreeStanding → Option MasterView
 master_in (AtMaster v) = Some v
 master_in standing = None

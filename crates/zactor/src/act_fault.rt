@@ -7,6 +7,6 @@ use crate::refusal::Refusal;
 pub enum ActFault {
     /// The process refuses the input.
     Refused(Refusal),
-    /// Out of memory. A message that was to be heard is handed back in the place that was lent.
+    /// Out of memory. A message that was to be handled is returned in the caller's slot.
     Memory,
 }

@@ -109,12 +109,12 @@ impl Actor {
         self.kind.refusal(input)
     }
 
-    /// Gives the process an input. What it sends is appended to the outgoing messages. A reply that
-    /// it hands out is put in the place that is lent, and so is a message that it hands back.
-    /// Otherwise what is there stays.
+    /// Gives the process an input. What it sends is appended to the outgoing messages. A reply, or
+    /// a message for which memory ran out, is put into the caller's slot. Otherwise the slot is
+    /// unchanged.
     ///
-    /// A server that stops puts no failure notice: whoever runs it delivers that, behind all that
-    /// the server had sent. So stopping takes no memory.
+    /// The failure notice of a server that stops isn't appended: its runner delivers it, after all
+    /// that the server had sent. So stopping allocates nothing.
     #[inline(always)]
     pub fn act(
         &mut self,

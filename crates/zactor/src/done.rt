@@ -17,8 +17,8 @@ pub enum Done {
     Left,
     /// A client invoked a call, under this number.
     Began(CallNumber),
-    /// A client hands out the reply to its outstanding call, which had this number. The reply is in
-    /// the place that was lent.
+    /// A client returns the reply to its outstanding call, which had this number. The reply is in
+    /// the caller's slot.
     Answered(CallNumber),
 }
 

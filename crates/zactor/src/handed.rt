@@ -1,19 +1,24 @@
-//! What is handed over beside a result.
+//! What is returned beside a result.
+//!
+//! # Why
+//!
+//! The caller lends a slot for what is large, so that results are small. Else each result of `act`,
+//! and each step of a delivery, would have room for a reply or a message.
 
 use std::mem::replace;
 use zcalls::Reply;
 use zprotocol::Message;
 use zserver::Snapshot;
 
-/// What a process hands over, in a place that is lent to it. So results are small, and what is
-/// large is moved only where there is something.
+/// What a process returns in a slot that its caller lends. So results are small, and what is large
+/// is moved only where there is something.
 #[derive(Drop)]
 pub enum Handed {
     /// Nothing.
     Nothing,
     /// The reply to a client's outstanding call.
     Reply(Reply),
-    /// A message for which memory ran out before it was heard: to hear it later is no loss.
+    /// A message for which memory ran out before it was handled: it can be handled later.
     Message(Message<Snapshot>),
 }
 

@@ -1,4 +1,4 @@
-//! Messages that are heard.
+//! Messages that are handled.
 
 ghost use Rattle.std.specs.Prelude.{◌≡◌, IfErr, IfOk, OnErr};
 ghost use Rattle.zworld_model.specs.Does.{AtMaster, AtClient};
@@ -19,8 +19,8 @@ use zprotocol::{Message, Out, Process};
 use zserver::{Snapshot, Stopped, Taken};
 
 impl Kind {
-    /// Hears a message. Inlined, as is what a client does, so that the message isn't moved from one
-    /// to the next.
+    /// Handles a message. Inlined, as is what a client does, so that the message isn't moved from
+    /// one to the next.
     #[inline(always)]
     pub(crate) fn hear(
         &mut self,
@@ -52,7 +52,7 @@ impl Kind {
         }
     }
 
-    // The same of the master, which seldom hears one, and of a server that has stopped. It is kept
+    // The same of the master, which seldom receives one, and of a server that has stopped. It is
     // out of line, so that the others pay nothing for it.
     #[cold]
     #[inline(never)]
@@ -83,7 +83,7 @@ impl Kind {
     }
 }
 
-// The master hears a message.
+// The master handles a message.
 fn hear_as_master(
     master: &mut Master,
     from: Process,
@@ -107,7 +107,7 @@ fn hear_as_master(
     Ok(Done::Acted)
 }
 
-// A client hears a message, and the reply to its outstanding call is handed out.
+// A client handles a message, and the reply to its outstanding call is returned.
 #[inline(always)]
 fn hear_as_client(
     client: &mut ClientCore,
@@ -153,7 +153,7 @@ fn answered_number(message: &Message<Snapshot>) -> Option<CallNumber>
     }
 }
 
-// What became of a message that a server took.
+// What became of a message that a server received.
 fn done_of(taken: Taken) -> Done
     ensures { result ≡ done_of taken }
 {

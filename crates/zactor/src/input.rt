@@ -22,8 +22,7 @@ pub enum Input {
 impl Input {
     ghost use Rattle.zactor.specs.support.Inputs.{IsInRange};
 
-    /// An invariant of every input: the server of an order has a number from 1 to `MAX_SERVERS`.
-    /// The function does nothing.
+    /// The server of an order has a number from 1 to `MAX_SERVERS`. The function does nothing.
     pub(crate) fn keeps_in_range(&self)
         ensures { IsInRange self.now }
     {

@@ -1,10 +1,17 @@
 //! A process of the chain, whichever kind it is: the master, a server or a client.
 //!
-//! An input comes in: a message with its sender, or something from outside. Messages with their
-//! receivers go out, in an `Out`. What callers see is returned, with a reply in a place that is lent.
-//! Each input does what the definition says (`does` of the world's model), so whatever runs
-//! processes goes by one function.
-//! Nothing here knows channels, threads or time.
+//! It receives an input: a message with its sender, or something from outside. It sends messages
+//! with their receivers, in an `Out`. What callers see is returned, with a reply in a slot that the
+//! caller lends. Each input does what the definition says (`does` of the world's model). Nothing
+//! here knows channels, threads or time.
+//!
+//! # Why
+//!
+//! Whatever runs processes calls one function, whose contract is `does`: the world, a thread, or a
+//! process of its own.
+//!
+//! The runner sends the failure notice of a server that stops. A server may stop because memory ran
+//! out, and its list of outgoing messages may need some.
 #![tactic(auto)]
 
 mod act_fault;

@@ -2,7 +2,7 @@
 
 use zprotocol::{BeginFault, OrderFault};
 
-/// Why a process refuses an input. Out of memory is none of these.
+/// Why a process refuses an input. Out of memory isn't among these.
 #[derive(Clone, Copy, Debug, PartialEq, Eq)]
 pub enum Refusal {
     /// The client can't invoke a call: it is `Busy` or `Exhausted`.

@@ -1,5 +1,5 @@
-//! Worked rows. Each clause is one; the bodies do nothing. The master and the clients are those of
-//! the rows of `zprotocol`.
+//! Worked examples. Each clause is one; the bodies do nothing. The master and the clients are those
+//! of the examples of `zprotocol`.
 
 ghost use Rattle.std.specs.Prelude.{◌≡◌, None, Some, Ok, Err, [], ◌∷◌, true, false};
 ghost use Rattle.zcalls.specs.declared.limits.TheConstants.{MAX_CALL_NUMBER};
@@ -27,7 +27,7 @@ ghost use Rattle.zactor.specs.Acting.{MayWantMemory, handed_by};
 ghost use Rattle.zactor.specs.support.Rows.{alone, answer, ask, config, gone, have, new_pred};
 ghost use Rattle.zactor.specs.support.Rows.{outside, retire, strange_retire, submit};
 
-/// Who may stand where: a process stands where its kind does, and only a server is out.
+/// Which standings a process can have: those of its kind, and only a server can have stopped.
 pub fn kinds_stand_apart()
     ensures master { can_stand Master (AtMaster three) ≡ true }
     ensures client { can_stand (Client 4) (AtClient idle) ≡ true }
@@ -38,8 +38,8 @@ pub fn kinds_stand_apart()
     ensures client_as_server { can_stand (Client 4) outside ≡ false }
 {}
 
-/// What may become of an input. A server stops only where it would grow, and only a query isn't
-/// heard.
+/// What may become of an input. A server stops only where it would grow, and only a query is
+/// dropped.
 pub fn outcomes_fit()
     ensures acts { can_come alone submit done.Acted ≡ true }
     ensures stops { can_come alone submit done.Stopped ≡ true }
@@ -57,7 +57,7 @@ pub fn outcomes_fit()
     ensures client_never_stops { can_come (AtClient idle) (config 5) done.Stopped ≡ false }
 {}
 
-/// What a server that stops leaves undone: its failure notice is sent, but it isn't put.
+/// What a server that stops leaves undone: its failure notice is sent, but not appended.
 pub fn servers_stop()
     ensures left { effect_of (Server 2) alone retire done.Left ≡ stop_effect }
     ensures out_of_memory { effect_of (Server 2) alone submit done.Stopped ≡ stop_effect }
@@ -69,7 +69,7 @@ pub fn servers_stop()
     ensures sends { (effect_of (Server 2) outside new_pred done.Acted).posts ≡ have ∷ [] }
 {}
 
-/// What callers are told: a call that was begun, and the reply to the outstanding call.
+/// What callers see: a call that was begun, and the reply to the outstanding call.
 pub fn callers_are_told()
     ensures begun { told_by (Client 4) (input.Begin update_call) (done.Began 8)
         ≡ call_event.Begin 4 8 update_call ∷ [] }
@@ -107,7 +107,7 @@ pub fn inputs_are_refused()
     ensures stopped_stops { refusal_of Out input.Stop ≡ Some refusal.NotAccepted }
 {}
 
-/// Where memory may be wanted: never at a server, and at a client that hears a message only where
+/// Where memory may run out: never at a server, and at a client that handles a message only where
 /// it sends its call again.
 pub fn memory_is_wanted()
     ensures server { MayWantMemory alone submit 0 → ⊥ }
@@ -116,8 +116,7 @@ pub fn memory_is_wanted()
     ensures resends { MayWantMemory (AtClient asking) (config 5) 0 }
 {}
 
-/// What a process hands over in the place that is lent. Where it hands over nothing, what was there
-/// stays.
+/// What a process puts into the caller's slot. Where it puts nothing, the slot is unchanged.
 pub fn replies_and_messages_are_handed_over()
     ensures reply { handed_by (answer 7) (Ok (done.Answered 7)) handed.Nothing
         ≡ handed.Reply Deleted }

@@ -1,4 +1,4 @@
-//! Servers that stop for good, which is rare, so it is kept out of line.
+//! Servers that stop for good. This is rare, so it is out of line.
 
 ghost use Rattle.std.specs.Prelude.{◌≡◌, ℕ, IfErr, IfOk, OnErr};
 ghost use Rattle.zserver.specs.Server.{TreeOut};
@@ -14,7 +14,7 @@ use crate::refusal::Refusal;
 use std::mem::replace;
 
 impl Kind {
-    /// Stops for good. It takes no memory and puts nothing.
+    /// Stops for good. It allocates nothing and sends nothing.
     #[cold]
     #[inline(never)]
     pub(crate) fn stop(&mut self) -> Result<Done, ActFault>

@@ -1,4 +1,10 @@
 //! The channels.
+//!
+//! # Why
+//!
+//! The first channel is the last of the list: a process that has just received is mostly the next
+//! to send, so channels come and go at the end. A channel is sought from the end, as mostly one or
+//! two hold messages. Room is reserved before a message is put, so that no result has room for one.
 
 ghost use Rattle.std.specs.Prelude.{◌≡◌, ◌≤◌, ◌<◌, true, false, [], IfNone, IfOk, OnErr, OnOk};
 ghost use Rattle.std.specs.Prelude.{slice_index_or, vec_len};
@@ -22,12 +28,11 @@ use zalloc::Memory;
 use zprotocol::{Message, PROCESSES, Process, ServerId};
 
 /// The channels between all processes: the queues of those with messages in flight, sorted by
-/// sender and then by receiver. The one that comes first stands last, where it is put and removed
-/// with no other moved. Mostly there is one, and the list keeps its room. So a message that is sent
-/// and received needs no block.
+/// sender and then by receiver, the first one last. Mostly there is one, and the list retains its
+/// capacity. So a message that is sent and received needs no block.
 ///
-/// A failure notice stands apart, behind all that its server had sent. All are alike, so one is
-/// there to be shown.
+/// A failure notice is stored apart, and comes after all that its server had sent. All are alike,
+/// so one serves for all when a front is returned.
 #[derive(Drop)]
 pub struct Links<T> {
     queues: Vec<Queue<T>>,
@@ -64,8 +69,8 @@ impl<T: Drop> Links<T> {
         })
     }
 
-    /// Returns the first channel, from these places on, with messages in flight: by senders, and for
-    /// one sender by receivers. Where there is none, the sender is `PROCESSES`.
+    /// Returns the first channel, from these positions on, with messages in flight: by senders, and
+    /// for one sender by receivers. Where there is none, the sender is `PROCESSES`.
     #[inline(always)]
     pub fn next_turn(&self, from: usize, to: usize) -> Turn
         ensures few { (result.sender ≤ PROCESSES) × (result.receiver < PROCESSES) }
@@ -191,7 +196,7 @@ fn insert_between<T: Drop>(
     Ok(queues.insert(at, queue)?)
 }
 
-// Removes a queue and returns it. Mostly it came first, so it stands last, and nothing is moved.
+// Removes a queue and returns it. Mostly it is the last of the list, and nothing is moved.
 #[inline(always)]
 fn remove_at<T: Drop>(queues: &mut Vec<Queue<T>>, at: usize) -> Queue<T>
     requires { at < vec_len queues.old }
@@ -207,7 +212,7 @@ fn remove_at<T: Drop>(queues: &mut Vec<Queue<T>>, at: usize) -> Queue<T>
     last
 }
 
-// Leaves the queues to other receivers.
+// Retains the queues to other receivers.
 fn keep_others<T: Drop>(queues: &mut Vec<Queue<T>>, to: usize)
     ensures { queues.new.items ≡ filter (is_for_others to) queues.old.items }
 {

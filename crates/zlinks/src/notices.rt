@@ -1,4 +1,9 @@
-//! The failure notices that are kept.
+//! The failure notices in flight.
+//!
+//! # Why
+//!
+//! A server may stop out of memory, and its notice has to be sent then. All notices are alike, so
+//! one bit each is enough.
 
 ghost use Rattle.std.specs.Prelude.{◌≡◌, ◌<◌, ◌≤◌, true, false, ◌&&◌, ◌||◌, ◌⊎◌, not};
 ghost use Rattle.zprotocol.specs.declared.limits.TheConstants.{PROCESSES};
@@ -13,7 +18,7 @@ use zprotocol::{MAX_SERVERS, Process, ServerId};
 const NUMBERS: usize = MAX_SERVERS as usize + 1;
 
 /// The servers that have sent their failure notice, by number, and how many they are. There is room
-/// for all, so a notice takes no memory. Mostly there is none, and the count tells it.
+/// for all, so a notice allocates nothing. Mostly the count is 0, and no flag is read.
 #[derive(Drop)]
 pub(crate) struct Notices {
     noted: [bool; NUMBERS],
@@ -100,8 +105,8 @@ impl Notices {
         }
     }
 
-    /// Returns the channel of the first notice from these places on, where it comes before `next`;
-    /// else `next`.
+    /// Returns the channel of the first notice from these positions on, where it comes before
+    /// `next`; else `next`.
     #[cold]
     #[inline(never)]
     pub(crate) fn sooner(&self, from: usize, to: usize, next: Turn) -> Turn

@@ -13,8 +13,9 @@ use std::mem::replace;
 use zalloc::Memory;
 use zprotocol::Message;
 
-/// The messages in flight from one process to another, by the places of the two. There is always
-/// one, the front, and mostly no other. So the front lies in the queue itself, and needs no block.
+/// The messages in flight from one process to another, by the positions of the two. There is always
+/// one, the front, and mostly no other. So the front is stored in the queue itself, and needs no
+/// block.
 #[derive(Drop)]
 pub(crate) struct Queue<T> {
     from: usize,
@@ -55,7 +56,7 @@ impl<T: Drop> Queue<T> {
         }
     }
 
-    /// Returns its places.
+    /// Returns its positions.
     pub(crate) fn turn(&self) -> Turn
         ensures places { (result.sender ≡ self.now.from) × (result.receiver ≡ self.now.to) }
         ensures small { (result.sender < PROCESSES) × (result.receiver < PROCESSES) }
@@ -66,21 +67,21 @@ impl<T: Drop> Queue<T> {
         }
     }
 
-    /// Returns the place of the receiver.
+    /// Returns the position of the receiver.
     pub(crate) fn to(&self) -> usize
         ensures { result ≡ self.now.to }
     {
         self.to
     }
 
-    /// Returns whether it is the queue between these places.
+    /// Returns whether it is the queue between these positions.
     pub(crate) fn is_between(&self, from: usize, to: usize) -> bool
         ensures { result ≡ is_between self.now from to }
     {
         self.from == from && self.to == to
     }
 
-    /// Returns whether it comes before a queue between these places: by the senders, and for one
+    /// Returns whether it comes before a queue between these positions: by the senders, and for one
     /// sender by the receivers.
     pub(crate) fn is_before(&self, from: usize, to: usize) -> bool
         ensures { result ≡ is_before self.now from to }

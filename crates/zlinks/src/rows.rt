@@ -1,5 +1,5 @@
-//! Worked rows. Each clause is one; the bodies do nothing. Server 2 has sent the master a message
-//! (`reported`), its failure notice behind that (`failed`), or the notice alone (`left`).
+//! Worked examples. Each clause is one; the bodies do nothing. Server 2 has sent the master a
+//! message (`reported`), its failure notice after that (`failed`), or the notice alone (`left`).
 
 ghost use Rattle.std.specs.Prelude.{◌≡◌, None, Some, [], ◌∷◌, true, false};
 ghost use Rattle.zprotocol.specs.declared.message.Message.TheVariants.{Gone};
@@ -8,7 +8,7 @@ ghost use Rattle.zlinks.specs.Places.{holds, links_of, with_last, without_first}
 ghost use Rattle.zlinks.specs.Places.{notices_left, without_receiver, IsFrontOf, Precedes};
 ghost use Rattle.zlinks.specs.support.Rows.{failed, have, idle, left, reported};
 
-/// A failure notice comes behind all that its server had sent to the master. It is on no other
+/// A failure notice comes after all that its server had sent to the master. It is on no other
 /// channel.
 pub fn notices_come_last()
     ensures behind { links_of failed (Server 2) Master ≡ have ∷ Gone ∷ [] }
@@ -41,7 +41,7 @@ pub fn notices_are_seen_and_dropped()
         ≡ false }
 {}
 
-/// Channels have their turn by senders, and those of one sender by receivers.
+/// Channels are in the order of senders, and those of one sender in the order of receivers.
 pub fn channels_are_in_order()
     ensures by_sender { Precedes 1 5 2 0 }
     ensures by_receiver { Precedes 2 0 2 1 }

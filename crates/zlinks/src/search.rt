@@ -1,5 +1,4 @@
-//! Queues in order, the one that comes first last, searched by the places of their senders and
-//! receivers.
+//! Queues in order, the first one last, searched by the positions of their senders and receivers.
 
 ghost use Rattle.std.specs.Prelude.{◌≡◌, ◌≤◌, ◌<◌, true, [], IfErr, IfOk};
 ghost use Rattle.zprotocol.specs.declared.limits.TheConstants.{PROCESSES};
@@ -10,7 +9,7 @@ use crate::queue::Queue;
 use crate::turn::Turn;
 use zprotocol::PROCESSES;
 
-/// Returns how many queues are between these places or come behind a queue between them.
+/// Returns how many queues are between these positions or come after a queue between them.
 pub(crate) fn count_from<T: Drop>(queues: &[Queue<T>], from: usize, to: usize) -> usize
     requires { AreSorted queues.now }
     ensures { IsCountFrom queues.now from to result }
@@ -25,7 +24,7 @@ pub(crate) fn count_from<T: Drop>(queues: &[Queue<T>], from: usize, to: usize) -
     0
 }
 
-/// Returns the first channel, from these places on, on which this was sent.
+/// Returns the first channel, from these positions on, on which this was sent.
 pub(crate) fn next_turn<T: Drop>(queues: &[Queue<T>], from: usize, to: usize) -> Turn
     requires { AreSorted queues.now }
     ensures few { (result.sender ≤ PROCESSES) × (result.receiver < PROCESSES) }
@@ -43,7 +42,7 @@ pub(crate) fn next_turn<T: Drop>(queues: &[Queue<T>], from: usize, to: usize) ->
     queues[more - 1].turn()
 }
 
-/// Returns where the queue between these places stands, or where it is to be inserted.
+/// Returns the index of the queue between these positions, or the index where it is to be inserted.
 pub(crate) fn find<T: Drop>(queues: &[Queue<T>], from: usize, to: usize) -> Result<usize, usize>
     requires { AreSorted queues.now }
     ensures found { IfOk result (IsFound queues.now from to) }

@@ -1,7 +1,7 @@
-//! The channel whose turn it is.
+//! The channel that is next.
 
-/// The places of the sender and of the receiver of a channel. The master has place 0; then come the
-/// servers and the clients, each by number.
+/// The positions of the sender and of the receiver of a channel. The master has position 0; then
+/// come the servers and the clients, each by number.
 #[derive(Clone, Copy, Debug, PartialEq, Eq)]
 pub struct Turn {
     pub sender: usize,

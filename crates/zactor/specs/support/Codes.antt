@@ -1,4 +1,4 @@
--- How where a process stands is stored.
+-- How the standing of a process is stored.
 use mathlib.Core.Logic.{inl, inr}
 use Rattle.std.specs.Prelude.{◌≡◌, ◌⊎◌, refl}
 use Rattle.std.specs.Coded.{Coded, code_by, coded⊎}
@@ -34,7 +34,7 @@ join-split (AtServer v) = refl
 join-split (AtClient v) = refl
 join-split Out = refl
 
--- how where a process stands is stored
+-- how the standing of a process is stored
 abbrev pub coded_standing : Coded TreeStanding
 coded_standing =
     code_by Views (coded⊎ master.the_row.coded (coded⊎ coded_view (coded⊎ client.the_row.coded coded_unit))) split join join-split

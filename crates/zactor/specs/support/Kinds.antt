@@ -1,4 +1,4 @@
--- What the program makes of an input, by what a process holds.
+-- What the program does with an input, by what a process holds.
 use Rattle.std.specs.Prelude.{◌≡◌, ℕ, Option, None, Some}
 use Rattle.zprotocol.specs.declared.client.begin_fault.BeginFault.{BeginFault}
 use Rattle.zprotocol.specs.declared.client.begin_fault.BeginFault.TheVariants as begin_fault
@@ -18,7 +18,7 @@ use Rattle.zactor.specs.declared.act_fault.ActFault.{ActFault}
 use Rattle.zactor.specs.declared.act_fault.ActFault.TheVariants.{Refused, Memory}
 use Rattle.zactor.specs.Acting.{TreeStanding}
 
--- where it stands
+-- its standing
 abbrev pub standing_of : Kind → TreeStanding
 standing_of (Master master) = AtMaster master
 standing_of (Server server) = AtServer server.view
@@ -30,13 +30,13 @@ abbrev pub GoesOn : Kind → Type 0
 GoesOn (Server server) = server.stopped ≡ None
 GoesOn other = Unit {0}
 
--- it is neither a server that goes on nor a client
+-- it is neither a running server nor a client
 abbrev pub IsRare : Kind → Type 0
 IsRare (Server server) = ⊥
 IsRare (Client client) = ⊥
 IsRare other = Unit {0}
 
--- what became of a message that a server took
+-- what became of a message that a server received
 abbrev pub done_of : Taken → Done
 done_of taken.Acted = Acted
 done_of taken.Unheard = Unheard

@@ -1,4 +1,4 @@
--- What the worked rows speak of: messages, posts and processes over the tree.
+-- Messages, posts and processes over the tree, for the worked examples.
 use Rattle.std.specs.Prelude.{ℕ, None, Some}
 use Rattle.zcalls.specs.declared.reply.Reply.TheVariants.{Deleted}
 use Rattle.zprotocol.specs.declared.message.Message.TheVariants as message
@@ -18,14 +18,14 @@ outside = AtServer spare
 abbrev pub alone : TreeStanding
 alone = AtServer (member kept_tree None None)
 
--- the master's order to leave, and what only another would send so
+-- the master's order to leave, and the same message from another process
 abbrev pub retire : Input
 retire = Hear Master message.Retire
 
 abbrev pub strange_retire : Input
 strange_retire = Hear (Server 1) message.Retire
 
--- the master tells of a new predecessor, which is answered
+-- the master sends a new predecessor, and the server replies
 abbrev pub new_pred : Input
 new_pred = Hear Master (message.NewPred 4 1)
 
@@ -40,7 +40,7 @@ ask = Hear (Client 5) (message.Query 18 query)
 abbrev pub answer : ℕ → Input
 answer number = Hear (Server 3) (message.Answer number Deleted)
 
--- the master tells of an epoch, and of the ends of the chain
+-- the master sends an epoch, and the ends of the chain
 abbrev pub config : ℕ → Input
 config epoch = Hear Master (message.Config epoch (Some 1) (Some 3))
 

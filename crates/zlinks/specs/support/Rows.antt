@@ -1,5 +1,5 @@
--- What the worked rows speak of: channels with a message and a failure notice of server 2. The
--- contents of a Snapshot are numbers.
+-- Channels with a message and a failure notice of server 2, for the worked examples. The contents
+-- of a Snapshot are numbers.
 use Rattle.std.specs.Prelude.{ℕ, None, true, false, [], ◌∷◌}
 use Rattle.zprotocol.specs.declared.message.Message.{Message}
 use Rattle.zprotocol.specs.declared.message.Message.TheVariants.{Have}
