@@ -1,10 +1,7 @@
 -- Runs in which connections break. Before each event any channel from a server or a client may lose
--- its end: of what is in flight on it, a beginning stays. So a server that fails takes with it any
--- end of what it had sent, and a connection between two that live loses what was in it, and is made
--- anew. The master's own channels lose nothing. Van Renesse and Schneider, "Chain Replication for
--- Supporting High Throughput and Availability" (OSDI 2004), section 3, ask for channels that lose
--- nothing. RFC 9293 (TCP), section 3.10.5, gives less: a connection that is aborted drops what it
--- hadn't delivered.
+-- its end: of what is in flight on it, only a prefix remains. A server that fails may so lose any
+-- end of what it had sent. A connection between two running processes may break, lose what was in
+-- it, and be made anew. The master's own channels lose nothing.
 use Rattle.std.specs.Prelude.{ℕ, List, [], ◌∷◌, take}
 use Rattle.zprotocol.specs.declared.process.Process.{Process}
 use Rattle.zprotocol.specs.declared.process.Process.TheVariants.{Master, Server, Client}
@@ -15,7 +12,7 @@ use Rattle.zworld_model.specs.World.{World, opening_world}
 use Rattle.zworld_model.specs.Events.{happens}
 use Rattle.zworld_model.specs.PlainTree.{IsExplained}
 
--- how many messages stay on the channel from one process to another, counted from the front
+-- how many messages remain on the channel from one process to another, counted from the front
 abbrev pub Stays : Type 0
 Stays = Process → Process → ℕ
 

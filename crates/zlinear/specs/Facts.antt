@@ -22,8 +22,8 @@ use Rattle.zlinear.specs.chain.Flow.{log_at}
 use Rattle.zlinear.specs.chain.Account.{Account, account_after, opening_account}
 use Rattle.zlinear.specs.chain.Sound.{IsSound}
 
--- the log world after a list of events, with its committed log and its items. It keeps what failed
--- servers held
+-- the log world after a list of events, with its committed log and its items; what failed servers
+-- held is preserved
 abbrev pub account_of : ℕ → ℕ → List Event → Account
 account_of servers clients events = account_after plain_tree (opening_account plain_tree servers clients) events
 
@@ -31,7 +31,7 @@ account_of servers clients events = account_after plain_tree (opening_account pl
 abbrev pub EveryRunIsSound : Type 0
 EveryRunIsSound = (servers clients : ℕ) (events : List Event) → IsSound plain_tree (account_of servers clients events)
 
--- at most one server is a tail that answers; one that has failed is none
+-- at most one server is a tail that answers; a failed server never is
 abbrev pub OneTailAnswers : Type 0
 OneTailAnswers =
     (servers clients : ℕ) (events : List Event) (s t : ℕ) → let w = run kept_tree (opening_world kept_tree servers clients) events in
@@ -59,7 +59,7 @@ AnsweredQueriesSawCommitted =
     → Among (Answer client number reply) t.world.history
     → (log : List Entry) × IsPrefix log t.committed × (plain_tree.ask (after_log plain_tree log).plain query ≡ reply)
 
--- what is committed stays committed
+-- what is committed remains committed
 abbrev pub CommittedStays : Type 0
 CommittedStays =
     (servers clients : ℕ) (events more : List Event)

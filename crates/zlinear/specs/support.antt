@@ -1,2 +1,2 @@
--- What the worked runs are made of.
+-- Definitions for the worked runs.
 pub mod CutRows

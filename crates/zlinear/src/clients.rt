@@ -1,4 +1,4 @@
-//! Clients invoke calls, receive messages and send again, and servers fail: each keeps the facts of
-//! a chain.
+//! Clients invoke calls, receive messages and send again, and servers fail: each event preserves
+//! the facts of a chain.
 
 pub mod laws;

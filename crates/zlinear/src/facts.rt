@@ -1,5 +1,5 @@
-//! What holds of every list of events besides linearizability. Each contract is a fact, and no body
-//! does anything.
+//! What holds of every list of events besides linearizability. Each contract is a fact, and each
+//! body does nothing.
 
 ghost use Rattle.zlinear.specs.Facts.{
   AnsweredQueriesSawCommitted,
@@ -17,7 +17,7 @@ pub fn every_run_is_sound()
     ensures { EveryRunIsSound }
 {}
 
-/// At most one server is a tail that answers. One that has failed is none.
+/// At most one server is a tail that answers. A failed server never is.
 pub fn one_tail_answers()
     ensures { OneTailAnswers }
 {}
@@ -27,7 +27,7 @@ pub fn logs_begin_each_other()
     ensures { LogsBeginEachOther }
 {}
 
-/// What is committed stays committed.
+/// What is committed remains committed.
 pub fn committed_stays()
     ensures { CommittedStays }
 {}

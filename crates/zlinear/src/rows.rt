@@ -11,7 +11,7 @@ ghost use Rattle.zlinear.specs.support.CutRows.{head_fails_with_what_it_sent, on
 ghost use Rattle.zlinear.specs.support.CutRows.{request_cut, second_update_cut, seen_with_cuts};
 ghost use Rattle.zlinear.specs.support.CutRows.{three, three_each};
 
-/// Of what is in flight a beginning stays, each channel's by itself. The master's channels lose
+/// Of what is in flight a prefix remains, on each channel by itself. The master's channels lose
 /// nothing.
 pub fn channels_lose_their_ends()
     ensures end { cut_links (each 2) three_each s1 s2 ≡ message.Ack 0 1 ∷ message.Ack 0 2 ∷ [] }
@@ -29,8 +29,8 @@ pub fn cuts_come_before_events()
     ensures sent { (after_cuts cut_then_begun).links c1 s1 ≡ request }
 {}
 
-/// A failed server takes with it what it had sent. Only its failure notice follows, and the call is
-/// answered once.
+/// What a failed server had sent is lost. Only its failure notice follows, and the call is answered
+/// once.
 pub fn failure_takes_what_was_sent()
     ensures lost { (after_cuts (take 3 head_fails_with_what_it_sent)).links s1 s2 ≡ [] }
     ensures gone { (after_cuts (take 3 head_fails_with_what_it_sent)).links s1 m
@@ -38,14 +38,14 @@ pub fn failure_takes_what_was_sent()
     ensures seen { seen_with_cuts head_fails_with_what_it_sent ≡ one_create }
 {}
 
-/// A connection between two servers that live breaks: what was in front arrives, and the rest
+/// A connection between two running servers breaks: what was in front arrives, and the rest
 /// doesn't.
 pub fn connection_breaks()
     ensures arrived { ((after_cuts second_update_cut).servers 2).last ≡ 1 }
     ensures seen { seen_with_cuts second_update_cut ≡ first_answered }
 {}
 
-/// The master's orders arrive, and what it tells clients does, whatever is lost elsewhere.
+/// The master's orders and its messages to clients arrive, whatever is lost elsewhere.
 pub fn orders_are_not_lost()
     ensures head { ((after_cuts order_stays).servers 2).pred ≡ None }
     ensures told { (after_cuts order_stays).links m c1 ≡ config 1 2 3 }

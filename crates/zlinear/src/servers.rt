@@ -1,3 +1,3 @@
-//! Servers receive messages from servers and clients: each keeps the facts of a chain.
+//! Servers receive messages from servers and clients: each event preserves the facts of a chain.
 
 pub mod laws;

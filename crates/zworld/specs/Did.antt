@@ -1,4 +1,4 @@
--- What is said of an event that was asked for, in terms of the definitions.
+-- What became of an event that was asked for, in terms of the definitions.
 use Rattle.std.specs.Prelude.{◌≡◌, Bool, true, false, nat_lt, Some, []}
 use Rattle.zprotocol.specs.client.Table.{begin_fault}
 use Rattle.zprotocol.specs.master.Table.{order_fault}
@@ -29,7 +29,7 @@ outcome_of became.Unheard = outcome.Unheard
 outcome_of became.Stopped = outcome.Stopped
 outcome_of other = outcome.Acted
 
--- why an event isn't enabled: the fault of the client or of the master, or nothing to say
+-- why an event isn't enabled: the fault of the client or of the master, or no further reason
 abbrev pub IsCause : Held → Event → IdleCause → Type 0
 IsCause old (event.Begin client call) (cause.Begin fault) =
     (nat_lt client (kept_world old []).master.clients ≡ true) × (begin_fault ((kept_world old []).clients client) ≡ Some fault)

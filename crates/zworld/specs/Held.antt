@@ -1,6 +1,4 @@
--- What the program holds of a world, and the world that it stands for. Van Renesse and Schneider,
--- "Chain Replication for Supporting High Throughput and Availability" (OSDI 2004), section 3: a
--- failed server is never heard of again, except for what it had sent.
+-- What the program holds of a world, and the world that it represents.
 use Rattle.std.specs.Prelude.{◌≡◌, None, List, [], get_or}
 use Rattle.ztree.specs.Tree.{Tree}
 use Rattle.zcalls.specs.Kept.{KeptState}
@@ -17,11 +15,11 @@ use Rattle.zworld_model.specs.History.{History}
 use Rattle.zworld_model.specs.World.{World}
 use Rattle.zworld_model.specs.Events.{let_go}
 
--- the channels as they are kept
+-- the channels as they are stored
 abbrev pub HeldChannels : Type 0
 HeldChannels = Channels (Transfer (KeptState Tree))
 
--- where each process stands, by its place, and the messages in flight
+-- the standing of each process, by its position, and the messages in flight
 pub record Held : Type 0 where
   pub actors : List TreeStanding
   pub links : HeldChannels
@@ -30,17 +28,17 @@ pub record Held : Type 0 where
 abbrev pub nobody : ClientView
 nobody = record { number = 0; outstanding = None; epoch = 0; head = None; tail = None }
 
--- where a process stands that isn't held: it takes no part
+-- the standing of a process that isn't held: it takes no part
 abbrev pub bystander : Process → TreeStanding
 bystander Master = AtMaster (opening_master 1 0)
 bystander (Server s) = AtServer spare
 bystander (Client c) = AtClient nobody
 
--- where a process stands
+-- the standing of a process
 abbrev pub standing_at : List TreeStanding → Process → TreeStanding
 standing_at actors process = get_or actors (place_of process) (bystander process)
 
--- the views of those that stand there. A server that has stopped has dropped what it held
+-- the views of processes of that standing. A server that has stopped has dropped what it held
 abbrev pub master_of : TreeStanding → MasterView
 master_of (AtMaster v) = v
 master_of standing = opening_master 1 0
@@ -53,7 +51,7 @@ abbrev pub client_of : TreeStanding → ClientView
 client_of (AtClient v) = v
 client_of standing = nobody
 
--- the world that is held, with this history, whatever lies on channels into failed servers
+-- the world that is held, with this history, and with whatever is on channels into failed servers
 abbrev pub kept_world : Held → History → World (KeptState Tree)
 kept_world held history = record {
   servers = λ s. view_of (standing_at held.actors (Server s));
@@ -64,7 +62,7 @@ kept_world held history = record {
   history = history;
 }
 
--- the world that it stands for: there what failed servers held is let go of
+-- the world that it represents: what failed servers held is dropped there
 abbrev pub world_of : Held → History → World (KeptState Tree)
 world_of held history = let_go (kept_world held history)
 

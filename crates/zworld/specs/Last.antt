@@ -1,5 +1,4 @@
--- The last server that has the state, and stays. That none may take it away, where a service keeps a
--- file, is this project's profile.
+-- The last server that has the state and remains. A service with a journal refuses to remove it.
 use Rattle.std.specs.Prelude.{ℕ, Bool, ◌&&◌, ◌==◌, not}
 use Rattle.std.specs.List.{list_any, range_with_len}
 use Rattle.ztree.specs.Tree.{Tree}
@@ -8,7 +7,7 @@ use Rattle.zprotocol.specs.declared.limits.TheConstants.{MAX_SERVERS}
 use Rattle.zmaster.specs.Staying.{is_staying}
 use Rattle.zworld_model.specs.World.{World}
 
--- the server runs, and for the master it is a member that has the state and stays
+-- the server runs, and for the master it is a member that has the state and remains
 abbrev pub is_lasting : World (KeptState Tree) → ℕ → Bool
 is_lasting w s = not (w.failed s) && is_staying w.master s
 

@@ -1,6 +1,5 @@
 -- What a world's calls promise. Each does what the definition says. The events are resolved first,
--- since processes can run out of memory. Van Renesse and Schneider, "Chain Replication for
--- Supporting High Throughput and Availability" (OSDI 2004), section 3: servers are fail-stop.
+-- since processes can run out of memory.
 use Rattle.std.specs.Prelude.{◌≡◌, ◌<◌, ℕ, Bool, true, false, not, List, [], ◌∷◌, ◌++◌}
 use Rattle.ztree.specs.Tree.{Tree}
 use Rattle.zcalls.specs.Kept.{KeptState}
@@ -22,10 +21,9 @@ use Rattle.zworld.specs.declared.did.Did.{Did}
 use Rattle.zworld.specs.Held.{Held, world_of}
 use Rattle.zworld.specs.Did.{is_idle, outcome_of}
 
--- a world: all processes, what callers saw, whether a past before that was forgotten, whether it
--- began with the tree of a snapshot, and whether memory ever ran out. Of a world that began so, the
--- past that led to the tree counts as forgotten. Once memory ran out, nothing is promised of the
--- processes
+-- A world: all processes, what callers saw, whether a past before that was forgotten, whether it
+-- began with the tree of a snapshot, and whether memory ever ran out. If it began so, the past that
+-- led to the tree counts as forgotten. Once memory ran out, nothing is promised of the processes
 pub record WorldView : Type 0 where
   pub held : Held
   pub history : History
@@ -37,7 +35,7 @@ pub record WorldView : Type 0 where
 abbrev pub IsSound : WorldView → Type 0
 IsSound w = w.is_broken ≡ false
 
--- the world of the definition that it stands for
+-- the world of the definition that it represents
 abbrev pub world_in : WorldView → World (KeptState Tree)
 world_in w = world_of w.held w.history
 
@@ -100,7 +98,7 @@ HasBegunToRun v events history =
     (front back : List Event) × (events ≡ front ++ back)
     × (readings : List Event) × IsReading kept_tree v front readings × ((run kept_tree v readings).history ≡ history)
 
--- the same, and the next of the events can run out of memory where those led
+-- the same, and the next of the events can run out of memory in the world that they led to
 abbrev pub HasRunOut : World (KeptState Tree) → List Event → History → Type 0
 HasRunOut v events history =
     (front back : List Event) × (event : Event) × (events ≡ front ++ event ∷ back)
@@ -112,7 +110,7 @@ abbrev pub Ends : Settling (KeptState Tree) → Settled → List Outcome → Wor
 Ends did settled later w = (settled ≡ settling_end did) × (did.outcomes ≡ later) × (did.world ≡ w)
 
 -- settling led from one world to another, and ended this way. It is that of the definition, by some
--- outcomes of its events: it used up all of those, and none that would come later
+-- outcomes of its events: it used up all of those, and would use no further ones
 abbrev pub HasSettled : World (KeptState Tree) → ℕ → Settled → World (KeptState Tree) → Type 0
 HasSettled v limit settled w =
     (outcomes : List Outcome) × ((later : List Outcome) → Ends (settle kept_tree v limit (outcomes ++ later)) settled later w)

@@ -76,7 +76,7 @@ impl Processes {
     }
 }
 
-// Appends what callers see of a delivery, the answer that a client handed out, and returns what
+// Appends what callers see of a delivery, the answer that a client returned, and returns what
 // became of it.
 #[inline(always)]
 fn told_of(
@@ -95,8 +95,8 @@ fn told_of(
     Ok(did_of(done))
 }
 
-// Appends the answer with this number, if a reply was handed out. It is out of line, so that the
-// reply stays in its place until then.
+// Appends the answer with this number, if a reply was returned. It is out of line, so that the
+// reply isn't moved until then.
 #[inline(never)]
 fn tell(
     client: ClientId,

@@ -31,7 +31,7 @@ impl Did {
     ghost use Rattle.std.specs.Prelude.{◌≡◌};
     ghost use Rattle.zworld.specs.Did.{is_short};
 
-    /// Returns whether a server ran out of memory at the event: it didn't hear a query, or stopped.
+    /// Returns whether a server ran out of memory at the event: it dropped a query, or stopped.
     pub fn is_short(self) -> bool
         ensures { result ≡ is_short self }
     {

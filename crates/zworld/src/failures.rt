@@ -1,4 +1,4 @@
-//! Servers that fail, which is rare, so it is kept out of line.
+//! Servers that fail. This is rare, so it is out of line.
 
 ghost use Rattle.std.specs.Prelude.{[]};
 ghost use Rattle.zworld_model.specs.declared.event.Event.TheVariants.{Fail};

@@ -1,4 +1,4 @@
-//! The servers that have the state, and stay.
+//! The servers that have the state and remain.
 
 ghost use Rattle.std.specs.Prelude.{◌≡◌, []};
 ghost use Rattle.std.specs.List.{list_any, range_with_len};
@@ -40,7 +40,7 @@ impl Processes {
         other.number() != server.number() && self.is_lasting(other)
     }
 
-    // Returns whether a server runs, and has the state and stays for the master.
+    // Returns whether a server runs, and for the master has the state and remains.
     fn is_lasting(&self, server: ServerId) -> bool
         ensures { result ≡ is_lasting (kept_world self.now []) server }
     {

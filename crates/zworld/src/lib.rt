@@ -5,6 +5,14 @@
 //! history of calls and responses. Each event does what the definition of the world says. Whatever
 //! the events are, the history is linearizable: that is the promise of the whole chain, and a
 //! clause of `World`'s calls.
+//!
+//! # Why
+//!
+//! A failed server is dropped with all that it held, and messages to it are dropped. So a failure
+//! allocates nothing, and a client that asks a dead head again and again fills no channel.
+//!
+//! A world always has 32 clients. Those beyond its own know no chain, so a message to one needs no
+//! invariant that rules it out.
 #![tactic(auto)]
 
 mod calls;

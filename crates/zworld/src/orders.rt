@@ -12,7 +12,7 @@ use zmaster::Order;
 use zprotocol::Process;
 
 impl Processes {
-    /// A server is asked to join behind the tail, or a member is ordered to leave.
+    /// A server is asked to join after the tail, or a member is ordered to leave.
     #[cold]
     #[inline(never)]
     pub(crate) fn order(&mut self, order: Order) -> Result<Did, Memory>

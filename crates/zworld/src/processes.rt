@@ -1,4 +1,9 @@
 //! All processes and their channels.
+//!
+//! # Why
+//!
+//! An event changes the channels and then a process, and in between no run leads there. So `World`,
+//! whose invariant is such a run, holds its `Processes` as a struct of their own.
 
 ghost use Rattle.std.specs.Prelude.{◌≡◌, ◌≤◌, [], true, IfErr, IfOk, Ok, OnErr};
 ghost use Rattle.ztree.specs.declared.limits.TheConstants.{MAX_CLIENTS};
@@ -19,9 +24,9 @@ use zprotocol::{Out, Process};
 use zserver::Snapshot;
 use zworld_model::{CallEvent, Event};
 
-/// The processes, each at its place, and the messages in flight. The list of what an event sends is
-/// kept from one event to the next, and is empty between them. The waiting clients are counted, so
-/// that settling looks for them only where there are some.
+/// The processes, each at its position, and the messages in flight. The list of what an event sends
+/// is reused from one event to the next, and is empty between them. The waiting clients are
+/// counted, so that settling looks for them only where there are some.
 #[derive(Drop)]
 pub(crate) struct Processes {
     pub(crate) alloc: Global,
@@ -65,8 +70,8 @@ impl Processes {
 
     /// Gives a process an input: the only way in which one acts. What it sends is put on its
     /// channels, except what is for servers that have stopped. A server that stops by this sends
-    /// its failure notice, and what is on channels to it is dropped. What it hands over is put in the
-    /// place that is lent.
+    /// its failure notice, and what is on channels to it is dropped. What it returns is put into
+    /// the caller's slot.
     #[inline(always)]
     pub(crate) fn give(
         &mut self,

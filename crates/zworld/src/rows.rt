@@ -1,4 +1,4 @@
-//! Worked rows: each function's contract has some, and its body does nothing.
+//! Worked examples: each function's contract has some, and its body does nothing.
 
 ghost use Rattle.std.specs.Prelude.{◌≡◌, [], ◌∷◌, true, false};
 ghost use Rattle.zprotocol.specs.server.Machine.{kept_tree};

@@ -1,4 +1,14 @@
 //! The world.
+//!
+//! # Why
+//!
+//! `run` returns only that it ran, and `history` returns the history: a borrow that a call returns
+//! of what it changes has no value of its own in that call's clauses. `run` takes its events by
+//! value, since an event's call is used up where it begins.
+//!
+//! The past that was forgotten, and the tree that a world began with, are no fields. A flag says
+//! whether there is one, and the clauses say that it exists (`IsExplainedWithPast`,
+//! `IsExplainedFromStart`).
 
 ghost use Rattle.std.specs.Prelude.{◌≡◌, ◌≤◌, [], true, false, IfOk, IsErr, OnErr, OnOk};
 ghost use Rattle.ztree.specs.declared.limits.TheConstants.{MAX_CLIENTS};
@@ -27,11 +37,11 @@ use zworld_model::{CallEvent, Event, Settled};
 /// All processes with their channels, and the history of what callers saw.
 ///
 /// After it ran out of memory itself, `step`, `run` and `settle` return `Memory` for good, and the
-/// history stays. Where a server runs out of memory, only that server stops, or doesn't hear a
+/// history is preserved. Where a server runs out of memory, only that server stops, or drops a
 /// query.
 ///
 /// The history grows by each call and each response. A program that has read it may let the world
-/// forget it: the history goes on from there.
+/// forget it: the history continues from there.
 #[derive(Drop)]
 pub struct World {
     processes: Processes,
@@ -125,7 +135,7 @@ impl World {
         &self.history
     }
 
-    /// Hands out the history, and drops the world.
+    /// Returns the history, and drops the world.
     pub fn into_history(self) -> Vec<CallEvent>
         ensures history { result.items ≡ self.history }
         ensures explained { IsExplainedFromStart self }
@@ -144,7 +154,7 @@ impl World {
     }
 
     /// Returns whether no other server runs and, for the master, is a member that has the state and
-    /// stays.
+    /// remains.
     pub fn is_last(&self, server: ServerId) -> bool
         ensures { result ≡ is_last (world_in self.now) server }
     {
@@ -220,8 +230,8 @@ impl World {
         self.settle_by(limit, false)
     }
 
-    /// Does the same, but is out of memory as soon as a server is. So what it does is what a world
-    /// does that has enough memory.
+    /// Does the same, but is out of memory as soon as a server is. So it does only what a world
+    /// with enough memory does.
     pub fn settle_strictly(&mut self, limit: usize) -> Result<Settled, Memory>
         ensures settled { IfOk result (IsSettledActing self.old self.new limit) }
         ensures quiet { IfOk result (λ settled. settled ≡ Quiet → IsAtRest (world_in self.new)) }

@@ -22,21 +22,21 @@ IsUsed w s = is_among s w.master.used ≡ true
 abbrev pub IsMember : LogWorld → ℕ → Type 0
 IsMember w s = Among s (members w.master)
 
--- a member's place: its predecessor with the epoch of their pair, or none for the head
+-- a member's position: its predecessor with the epoch of their pair, or none for the head
 abbrev pub Place : Type 0
 Place = Option Neighbour
 
--- the place behind a member, in an epoch
+-- the position after a member, in an epoch
 abbrev pub place_behind : Option ℕ → ℕ → Place
 place_behind None epoch = None
 place_behind (Some p) epoch = Some (p, epoch)
 
--- the place of a server in a chain that goes on behind a member, if it has one
+-- the position of a server in a chain that continues after a member, if it has one
 abbrev pub place_from : Option ℕ → List Neighbour → ℕ → Option Place
 place_from before [] s = None
 place_from before (t ∷ rest) s = if t.0 == s then Some (place_behind before t.1) else place_from (Some t.0) rest s
 
--- the place that the master knows for a server, if it has one
+-- the position that the master knows for a server, if it has one
 abbrev pub place_in_chain : LogWorld → ℕ → Option Place
 place_in_chain w s = place_from None w.master.chain s
 
@@ -49,14 +49,14 @@ abbrev pub IsPast : LogWorld → Place → Type 0
 IsPast w None = ⊥
 IsPast w (Some pred) = IsUsed w pred.0 × (IsMember w pred.0 → ⊥)
 
--- the place that an order gives, if it gives one
+-- the position that an order gives, if it gives one
 abbrev pub turn_of : LogMessage → Option Place
 turn_of (message.NewPred epoch p) = Some (Some (p, epoch))
 turn_of (message.BecomeHead epoch) = Some None
 turn_of other = None
 
--- orders that lead from one predecessor to another: each that the server turns away from is past,
--- unless the server is fresh
+-- orders that lead from one predecessor to another: each predecessor that the server leaves is
+-- past, unless the server is fresh
 abbrev pub LeadsTo : (Place → Type 0) → Bool → Place → List LogMessage → Place → Type 0
 LeadsTo Past fresh pred [] target = pred ≡ target
 LeadsTo Past fresh pred (m ∷ more) target =
@@ -105,6 +105,6 @@ pub record IsAhead (w : LogWorld) (x : ℕ) (log : List Entry) : Type 0 where
   pub has_successor : is_none (w.servers x).succ ≡ false
   pub no_tail_order : HasNoTailOrder (queue w x)
 
--- x is ahead of whatever y has or could still receive
+-- x is ahead of all that y has or could still receive
 abbrev pub IsBehind : LogWorld → ℕ → ℕ → Type 0
 IsBehind w x y = (log : List Entry) → final_log w y ≡ Some log → IsAhead w x log

@@ -1,4 +1,4 @@
--- What it means that an event keeps a run sound.
+-- What it means that an event preserves the soundness of a run.
 use Rattle.zcalls.specs.Kept.{Plain}
 use Rattle.zcalls.specs.PlainTree.{plain_tree}
 use Rattle.zworld_model.specs.declared.event.Event.{Event}
@@ -6,7 +6,7 @@ use Rattle.zlinear.specs.chain.Last.{LastsAreLengths}
 use Rattle.zlinear.specs.chain.Account.{Account, next_account}
 use Rattle.zlinear.specs.chain.Sound.{IsSound, IsSoundAfter}
 
--- the event keeps a run sound, and what is committed stays so
+-- the event preserves soundness, and what is committed remains so
 abbrev pub KeepsSound : Event → Type 0
 KeepsSound event = (t : Account) → LastsAreLengths t.world → IsSound plain_tree t → IsSoundAfter plain_tree t (next_account plain_tree t event)
 

@@ -1,5 +1,5 @@
--- What holds before the first event, what each event keeps, and what therefore holds of every list
--- of events.
+-- What holds before the first event, what each event preserves, and what therefore holds of every
+-- list of events.
 use Rattle.std.specs.Prelude.{ℕ, List}
 use Rattle.zcalls.specs.PlainTree.{plain_tree}
 use Rattle.zprotocol.specs.declared.process.Process.{Process}

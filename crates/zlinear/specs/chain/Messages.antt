@@ -11,9 +11,9 @@ use Rattle.zlinear.specs.chain.Flow.{LogWorld, LogMessage}
 use Rattle.zlinear.specs.chain.Chain.{IsOpened}
 
 -- A request is a call that was invoked, and an answer is that of an item. A message of an epoch is
--- there only once its receiver has received that epoch. An order or a report of an epoch is there
--- only once the server that it is about has. Entries and whole logs are of calls that were invoked.
--- Whoever is gone has failed
+-- in flight only once its receiver has received that epoch. An order or a report of an epoch is in
+-- flight only once the server that it is about has. Entries and whole logs are of calls that were
+-- invoked. A server that is reported as gone has failed
 abbrev pub IsJustified : LogWorld → List Item → Process → Process → LogMessage → Type 0
 IsJustified w items (Client c) to (message.Submit number update) =
     HasBegun w.history (record { client = c; number = number; call = call.Update update })

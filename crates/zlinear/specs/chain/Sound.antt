@@ -118,8 +118,8 @@ pub record IsSound {P : Type 0} (plain : Plain P) (t : Account) : Type 0 where
   -- every entry of the committed log is a call that was invoked
   pub committed_begun : AllBegun t.world.history t.committed
   -- Every message in flight is justified. A request is a call that was invoked, and an answer is
-  -- that of an item. A message of an epoch is there only once its receiver has received the epoch.
-  -- Whoever is gone has failed
+  -- that of an item. A message of an epoch is in flight only once its receiver has received the
+  -- epoch. A server that is reported as gone has failed
   pub justified : AllAreJustified t.world t.items t.world.links
   -- the updates among the items are the entries of the committed log that acted, in order
   pub acted : AreCommitted plain t.committed t.items
@@ -138,6 +138,6 @@ pub record IsSound {P : Type 0} (plain : Plain P) (t : Account) : Type 0 where
   -- a client's outstanding call was invoked, and isn't answered
   pub waits : WaitsAreOpen t.world
 
--- the later run is sound, and what was committed stays committed
+-- the later run is sound, and what was committed remains committed
 abbrev pub IsSoundAfter : {P : Type 0} → Plain P → Account → Account → Type 0
 IsSoundAfter plain t later = IsSound plain later × IsPrefix t.committed later.committed

@@ -1,2 +1,2 @@
--- What serves to show the invariants, and is believed for no promise.
+-- What serves to show the invariants, and is part of no promise.
 pub mod WrongTables

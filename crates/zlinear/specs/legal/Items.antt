@@ -83,7 +83,7 @@ AreCommitted plain committed items = updates_of items ≡ acts_of plain committe
 abbrev pub TimesRise : List Item → Type 0
 TimesRise items = Pairwise (λ i j. i.time ≤ j.time) items
 
--- each item's time is past the invocation of its call, and is no later than now
+-- each item's time is after the invocation of its call, and is no later than now
 abbrev pub AreBegunInTime : History → List Item → Type 0
 AreBegunInTime history items =
     (i : Item) → Among i items → (i.time ≤ length history) × HasBegun (take i.time history) i.operation

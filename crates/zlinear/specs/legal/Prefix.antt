@@ -11,7 +11,7 @@ IsPrefix {A} xs ys = (rest : List A) × (ys ≡ xs ++ rest)
 abbrev pub IsEntry : List Entry → ℕ → Entry → Type 0
 IsEntry log n entry = (before after : List Entry) × (log ≡ before ++ entry ∷ after) × (n ≡ length before + 1)
 
--- the relation holds between each member and each one behind it
+-- the relation holds between each member and each one after it
 abbrev pub Pairwise : {A : Type 0} → (A → A → Type 0) → List A → Type 0
 Pairwise R [] = Unit {0}
 Pairwise {A} R (x ∷ xs) = ((y : A) → Among y xs → R x y) × Pairwise R xs

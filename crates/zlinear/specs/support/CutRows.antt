@@ -13,11 +13,11 @@ use Rattle.zworld_model.specs.support.Counter.{Counting, counting_machine, creat
 use Rattle.zworld_model.specs.support.RunRows.{m, s1, s2, s3, c0, c1, began, told}
 use Rattle.zlinear.specs.Cuts.{Stays, run_with_cuts}
 
--- this many messages stay on each channel
+-- this many messages remain on each channel
 abbrev pub each : ℕ → Stays
 each n from to = n
 
--- this many stay on one, and more than there are on the others
+-- this many remain on one, and all on the others
 abbrev pub on : Process → Process → ℕ → Stays
 on sender taker n from to = if is_same from sender && is_same to taker then n else 9
 
@@ -47,7 +47,7 @@ request_cut = uncut (Begin 1 create ∷ []) ++ (each 0, Take c1 s1) ∷ []
 abbrev pub cut_then_begun : List (Stays × Event)
 cut_then_begun = (each 0, Begin 1 create) ∷ []
 
--- the head fails, and with it goes what it had sent: s2 is the head, and client 1 asks it again
+-- the head fails, and what it had sent is lost: s2 is the head, and client 1 asks it again
 abbrev pub head_fails_with_what_it_sent : List (Stays × Event)
 head_fails_with_what_it_sent =
     uncut (Begin 1 create ∷ Take c1 s1 ∷ [])

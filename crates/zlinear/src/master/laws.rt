@@ -2,8 +2,8 @@
 
 ghost use Rattle.zlinear.specs.master.Laws.{MasterHears, ServersHearMaster, MasterObeys};
 
-/// A server receives any message from the master: an order, also one to leave, or one that doesn't
-/// count.
+/// A server receives any message from the master: an order, also one to leave, or one that is
+/// ignored.
 pub fn servers_hear_master()
     ensures { ServersHearMaster }
 {}

@@ -1,5 +1,5 @@
--- How what is held, and a world, are stored, by the codes of their parts. A proof tells worlds
--- apart by them.
+-- How what is held, and a world, are stored, by the codes of their parts. A proof distinguishes
+-- worlds by them.
 use Rattle.std.specs.Prelude.{Bool, List, refl}
 use Rattle.std.specs.Coded.{Coded, code_by, coded×, coded_bool, coded_list}
 use Rattle.zlinks.specs.contracts.links.Links as links

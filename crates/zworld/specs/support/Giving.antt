@@ -21,11 +21,11 @@ use Rattle.zworld.specs.declared.did.Did.{Did}
 use Rattle.zworld.specs.declared.did.Did.TheVariants as did
 use Rattle.zworld.specs.Held.{Held, kept_world, standing_at}
 
--- where a process stands in the world that is held
+-- the standing of a process in the world that is held
 abbrev pub held_standing : Held → Process → TreeStanding
 held_standing held process = standing_of (kept_world held []) process
 
--- a process was given an input, and this became of it: it went by its definition
+-- a process was given an input, and this became of it: it followed its definition
 pub record IsGiven (old new : Held) (process : Process) (input : Input) (done : Done) : Type 0 where
   -- there is such a process, and it hadn't stopped
   pub inside : place_of process < PROCESSES
@@ -39,7 +39,7 @@ pub record IsGiven (old new : Held) (process : Process) (input : Input) (done : 
       (kept_world new (history ++ told_by process input done))
 
 -- a process wasn't given an input: it refused it, and nothing changed; or memory ran out, and the
--- input was one that it accepts, and not that it stop
+-- input was one that it accepts, and not a request to stop
 abbrev pub IsNotGiven : Held → Held → Process → Input → ActFault → Type 0
 IsNotGiven old new process input (Refused why) =
     (can_stand process (standing_at old.actors process) ≡ true) × (refusal_of (standing_at old.actors process) input ≡ Some why) × (new ≡ old)
@@ -57,7 +57,7 @@ did_of done.Unheard = did.Unheard
 did_of done.Stopped = did.Stopped
 did_of other = did.Done
 
--- what callers see of a delivery, where this reply was handed out
+-- what callers see of a delivery, where this reply was returned
 abbrev pub told_with : Process → Done → Option Reply → History
 told_with (Client c) (done.Answered number) (Some reply) = call_event.Answer c number reply ∷ []
 told_with to end given = []

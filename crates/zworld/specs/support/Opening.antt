@@ -14,7 +14,7 @@ use Rattle.zprotocol.specs.server.View.{opening_server}
 use Rattle.zactor.specs.Acting.{TreeStanding}
 use Rattle.zworld_model.specs.Does.{AtMaster, AtServer, AtClient}
 
--- the client of the last number, where the chain goes up to the first and so many take part
+-- the client of the last number, where the chain goes up to the first and that many take part
 abbrev pub opening_client : ℕ → ℕ → ℕ → TreeStanding
 opening_client last clients number = AtClient (client.opening_client last clients number)
 

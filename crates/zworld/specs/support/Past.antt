@@ -1,4 +1,4 @@
--- What a world keeps of its past, and runs, one event after the other.
+-- What a world holds of its past, and runs, one event after the other.
 use Rattle.std.specs.Prelude.{◌≡◌, ℕ, Bool, true, false, List, [], ◌∷◌, ◌++◌}
 use Rattle.ztree.specs.Tree.{Tree, opening_tree}
 use Rattle.zcalls.specs.Kept.{KeptState}
@@ -13,7 +13,7 @@ use Rattle.zworld_model.specs.Reading.{read}
 use Rattle.zworld_model.specs.FromTree.{CanStart, world_after_from}
 use Rattle.zworld.specs.Held.{Held, world_of}
 
--- there is a run from an initial world whose history is a past and then this history; where nothing
+-- There is a run from an initial world whose history is a past and then this history. Where nothing
 -- was forgotten there is no past. Unless memory ran out, the processes are where the run ends. The
 -- run begins with a tree: the initial one, unless the world was restored
 pub record HasPast (is_restored has_forgotten is_broken : Bool) (held : Held) (history : History) : Type 0 where

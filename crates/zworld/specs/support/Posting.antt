@@ -40,7 +40,7 @@ waiting_after waiting (Began number) = waiting + 1
 waiting_after waiting (Answered number) = waiting - 1
 waiting_after waiting done = waiting
 
--- it is a number of clients: who hands out an answer waited
+-- it is a number of clients: a client that returns an answer had waited
 abbrev pub CanCount : ℕ → Done → Type 0
 CanCount waiting (Answered number) = 0 < waiting
 CanCount waiting done = waiting ≤ PROCESSES

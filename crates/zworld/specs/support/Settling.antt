@@ -1,4 +1,4 @@
--- A settling that goes on from where the processes are. What a call does of it is a function of
+-- A settling that continues from where the processes are. What a call does of it is a function of
 -- settlings. The outcomes are learnt as events are done, so each fact holds whatever follows those
 -- learnt so far.
 use Rattle.std.specs.Prelude.{◌≡◌, ◌⊎◌, ℕ, Bool, true, List, [], ◌++◌, map, flat_map}
@@ -82,7 +82,7 @@ takes receivers senders = flat_map (takes_from receivers) senders
 abbrev pub GoOn : History → History → Type 0
 GoOn after before = (given : History) × (after ≡ before ++ given)
 
--- settling that goes on from what is held, with so many more events, can run out of memory
+-- settling that continues from what is held, with that many more events, can run out of memory
 abbrev pub CanRunOut : Held → (left : ℕ) → Type 0
 CanRunOut held left = CanWantMemoryToSettle (kept_world held []) left
 

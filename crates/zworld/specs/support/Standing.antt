@@ -21,9 +21,9 @@ pub record IsFull (actors : List TreeStanding) (links : HeldChannels) (posts : L
   -- all are there, each of its kind
   pub all : length actors ≡ PROCESSES
   pub stand : (p : Process) → can_stand p (standing_at actors p) ≡ true
-  -- who has sent its failure notice has stopped
+  -- a process that has sent its failure notice has stopped
   pub noted : (p : Process) → has_notice links p ≡ true → has_stopped (standing_at actors p) ≡ true
-  -- nothing waits to be sent
+  -- no message is still to be sent
   pub sent : posts ≡ []
-  -- so many clients wait
+  -- this is the number of clients that wait
   pub counted : waiting ≡ passing waits actors

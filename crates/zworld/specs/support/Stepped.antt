@@ -1,5 +1,5 @@
 -- What the processes do, by what they held before and hold after. An event is that of the
--- definition, resolved by what became of it, up to what lies on channels into failed servers.
+-- definition, resolved by what became of it, up to what is on channels into failed servers.
 use Rattle.std.specs.Prelude.{◌≡◌, ℕ, Bool, true, not, List, [], ◌++◌}
 use Rattle.std.specs.declared.alloc.Global.{Global}
 use Rattle.std.specs.declared.vec.Vec.{Vec}
@@ -28,13 +28,13 @@ Seen = Vec CallEvent Global
 abbrev pub CanHappen : Held → Event → Type 0
 CanHappen held event = is_enabled (kept_world held []) event ≡ true
 
--- the event leads from what was held to what is held, whatever the history before it, which goes on
--- with this
+-- the event leads from what was held to what is held, whatever the history before it, and the
+-- history continues with this
 abbrev pub Leads : Held → Event → History → Held → Type 0
 Leads old event told new =
     (history : History) → IsAlike (happens kept_tree (kept_world old history) event) (kept_world new (history ++ told))
 
--- the event was done, and the history goes on with this
+-- the event was done, and the history continues with this
 pub record HasStepped (old new : Held) (event : Event) (did : Did) (told : History) : Type 0 where
   -- it is idle exactly where it wasn't enabled, and then nothing changed
   pub idle : is_idle did ≡ not (is_enabled (kept_world old []) event)
@@ -49,7 +49,7 @@ pub record HasStepped (old new : Held) (event : Event) (did : Did) (told : Histo
 abbrev pub IsIdle : Held → Event → IdleCause → Type 0
 IsIdle held event why = HasStepped held held event (became.Idle why) []
 
--- the event was done, and the history goes on with what it recorded
+-- the event was done, and the history continues with what it recorded
 abbrev pub GoesBy : Held → Held → Event → (before after : History) → Did → Type 0
 GoesBy old new event before after did = (told : History) × (after ≡ before ++ told) × HasStepped old new event did told
 
@@ -57,7 +57,7 @@ GoesBy old new event before after did = (told : History) × (after ≡ before ++
 abbrev pub Goes : Held → Held → Event → (before after : Seen) → Did → Type 0
 Goes old new event before after did = GoesBy old new event before.items after.items did
 
--- settling came to this: it learnt these outcomes, and the history goes on with this
+-- settling came to this: it learnt these outcomes, and the history continues with this
 pub record SettlesBy (old new : Held) (limit : ℕ) (settled : Settled) (learnt : List Outcome) (told : History) : Type 0 where
   -- it ended as the definition does, whatever outcomes would follow, and used up none of those
   pub ended : (history : History) (rest : List Outcome)
@@ -68,8 +68,8 @@ pub record SettlesBy (old new : Held) (limit : ℕ) (settled : Settled) (learnt 
   pub leads : (history : History) (rest : List Outcome)
       → IsAlike (settle kept_tree (world_of old history) limit (learnt ++ rest)).world (kept_world new (history ++ told))
 
--- settling came to this, and the history goes on with the responses that clients received; where it
--- was strict, no server ran out of memory
+-- settling came to this, and the history continues with the responses that clients received; where
+-- it was strict, no server ran out of memory
 abbrev pub Settles : Bool → Held → Held → ℕ → (before after : History) → Settled → Type 0
 Settles strict old new limit before after settled =
     (learnt : List Outcome) × (told : History) × (after ≡ before ++ told) × SettlesBy old new limit settled learnt told

@@ -1,5 +1,5 @@
 -- Wrong tables, each with a step that loses an invariant. The table itself is in the server's
--- crate, so its wrong variants are written down here.
+-- crate, so its wrong variants are defined here.
 use Rattle.std.specs.Prelude.{◌≡◌, ℕ, ◌+◌, ◌==◌, ◌&&◌, if◌then◌else◌, Option, None, Some, List, [], ◌∷◌, ◌++◌, length}
 use Rattle.zcalls.specs.declared.call.Entry.{Entry}
 use Rattle.zcalls.specs.declared.call.Expected.TheVariants.{Any}
@@ -137,7 +137,7 @@ AnySnapshotsAreRefuted =
     LosesCommitted (two_members (call 1 ∷ []) (Some (call 1 ∷ [])) (on_link (Server 1) (Server 2) (message.Snapshot 0 (record { last = 0; machine = [] }))))
     (call 1 ∷ []) (Server 1) 2 (any_snapshot_row (holder (Some (call 1 ∷ [])) (Some (1, 0)) None) 1 0 (record { last = 0; machine = [] }))
 
--- a retried update that acts again stands twice among the items
+-- a retried update that acts again occurs twice among the items
 abbrev pub SecondActsAreRefuted : Type 0
 SecondActsAreRefuted =
     (t : Account) (o : Operation) (first second : Reply)
