@@ -1,5 +1,5 @@
 -- Runs in which connections break. Before each event any channel from a server or a client may lose
--- its end: of what is in flight on it, only a prefix remains. A server that fails may so lose any
+-- its end: of what is in flight on it, only a prefix remains. So a server that fails may lose any
 -- end of what it had sent. A connection between two running processes may break, lose what was in
 -- it, and be made anew. The master's own channels lose nothing.
 use Rattle.std.specs.Prelude.{ℕ, List, [], ◌∷◌, take}

@@ -5,8 +5,8 @@
 //! # Why
 //!
 //! The log world preserves what failed servers held (`run_keeping`). A member that failed is still
-//! between its neighbours until the master has heard of it, and the facts of order need its log. A
-//! law of `zworld_model` joins this world to the definition.
+//! between its neighbours until the master has received its `Gone`, and the facts of order need its
+//! log. A law of `zworld_model` joins this world to the definition.
 
 pub mod laws;
 mod rows;

@@ -120,12 +120,12 @@ Precedes from to next_from next_to = (from ≤ next_from) × (next_from ≤ from
 abbrev pub Reaches : (from to next_from next_to : ℕ) → Type 0
 Reaches from to next_from next_to = (from ≤ next_from) × (next_from ≤ from → to ≤ next_to)
 
--- a fact of each channel from two positions on, and before the channel of a turn
+-- a fact of each channel from two positions on, and before a turn, the positions of one channel
 abbrev pub Between : (from to : ℕ) → Turn → (Process → Process → Type 0) → Type 0
 Between from to end Fact =
     (p q : Process) → place_of p < PROCESSES → Reaches from to (place_of p) (place_of q)
     → Precedes (place_of p) (place_of q) end.sender end.receiver → Fact p q
 
--- a fact of the channel of the turn, if there is one
+-- a fact of the channel at a turn, if there is one
 abbrev pub At : Turn → (Process → Process → Type 0) → Type 0
 At turn Fact = (p q : Process) → place_of p ≡ turn.sender → place_of q ≡ turn.receiver → turn.sender < PROCESSES → Fact p q

@@ -8,7 +8,7 @@
 //!
 //! # Why
 //!
-//! Clauses speak of all channels as a function that reads the list (`links_of`), so nothing above
+//! Clauses see all channels as a function that reads the list (`links_of`), so nothing above
 //! knows of indices.
 #![tactic(auto)]
 

@@ -7,7 +7,7 @@
 //!
 //! This is the lowest crate of the wing "chain": the protocol, the code of each process, and the
 //! actor that runs any of them. Go on with `zclient`, `zmaster` and `zserver`, which implement the
-//! tables, and then with `zactor`. `zworld_model` puts the processes together to one world.
+//! tables, and then with `zactor`. `zworld_model` joins the processes into one world.
 //!
 //! # Why
 //!

@@ -3,7 +3,7 @@
 //! # Why
 //!
 //! One generic `Message<T>` serves the code and the definitions. `T` is a machine together with the
-//! number of its last entry, so a type of the code can keep the two in step.
+//! number of its last entry, so a type of the code can hold the two in step.
 
 use crate::epoch::Epoch;
 use crate::log_number::LogNumber;

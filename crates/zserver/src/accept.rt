@@ -155,7 +155,7 @@ impl Replica {
     }
 }
 
-// Drops a machine. Cold path: kept out of line, so that it costs the other calls nothing.
+// Drops a machine. Cold path, out of line, so that it costs the other calls nothing.
 #[cold]
 #[inline(never)]
 fn lose(machine: &mut Option<Machine>)

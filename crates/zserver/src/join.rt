@@ -15,7 +15,7 @@ use zprotocol::{Epoch, Message, Out, Process, ServerId};
 
 impl Replica {
     /// `Snapshot`: from the predecessor, at a server without state. Cold path: it comes once, so it
-    /// is kept out of line.
+    /// is out of line.
     #[cold]
     #[inline(never)]
     #[tactic(auto, unfolding(zprotocol::specs::server::Table::snapshot_row))]

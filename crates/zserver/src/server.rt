@@ -135,7 +135,7 @@ impl Server {
     }
 
     // Drops a message that isn't taken, and returns why. A server that has not stopped is ordered
-    // to leave. Cold path: kept out of line.
+    // to leave. Cold path, out of line.
     #[cold]
     #[inline(never)]
     fn refuse(&mut self, message: Message<Snapshot>) -> Stopped
@@ -150,7 +150,7 @@ impl Server {
         }
     }
 
-    // Stops for good, and drops the state. Cold path, kept out of line.
+    // Stops for good, and drops the state. Cold path, out of line.
     #[cold]
     #[inline(never)]
     fn stop(&mut self, why: Stopped) -> Stopped

@@ -9,7 +9,7 @@ use zalloc::Memory;
 use zops::Machine;
 use zprotocol::LogNumber;
 
-/// The whole state of a server, as it is handed to one that has none. Its machine has never run out
+/// The whole state of a server, as it is sent to one that has none. Its machine has never run out
 /// of memory. The number of its last entry is the number of entries that the machine applied. The
 /// machine is boxed, because every message has room for a snapshot.
 #[derive(Drop)]

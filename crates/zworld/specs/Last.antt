@@ -1,4 +1,5 @@
--- The last server that has the state and remains. A service with a journal refuses to remove it.
+-- The last server that has the state and remains. A service with a journal refuses to fail or
+-- retire it.
 use Rattle.std.specs.Prelude.{ℕ, Bool, ◌&&◌, ◌==◌, not}
 use Rattle.std.specs.List.{list_any, range_with_len}
 use Rattle.ztree.specs.Tree.{Tree}

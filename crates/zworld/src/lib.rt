@@ -11,8 +11,8 @@
 //! A failed server is dropped with all that it held, and messages to it are dropped. So a failure
 //! allocates nothing, and a client that asks a dead head again and again fills no channel.
 //!
-//! A world always has 32 clients. Those beyond its own know no chain, so a message to one needs no
-//! invariant that rules it out.
+//! There are always 32 client cores. Those beyond the world's own know no chain, so a message to
+//! one needs no invariant that rules it out.
 #![tactic(auto)]
 
 mod calls;

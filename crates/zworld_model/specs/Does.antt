@@ -20,7 +20,7 @@ use Rattle.zprotocol.specs.client.Table as client
 use Rattle.zworld_model.specs.declared.history.CallEvent.TheVariants as call_event
 use Rattle.zworld_model.specs.History.{History}
 
--- what a process is: its view; or it takes no part, as a server that has stopped for good
+-- the standing of a process: its view; or it takes no part, as a server that has stopped for good
 pub data Standing (M : Type 0) : Type 0 where
   AtMaster : MasterView → Standing M
   AtServer : ServerView M → Standing M
@@ -36,7 +36,7 @@ pub data Input (M : Type 0) : Type 0 where
   Obey : Order → Input M
   Stop : Input M
 
--- the effect: what the process is then, what it sends, and what callers see
+-- the effect: the process's standing then, what it sends, and what callers see
 pub record Effect (M : Type 0) : Type 0 where
   pub left : Standing M
   pub posts : List (Post M)

@@ -33,7 +33,7 @@ has_failed w Master = false
 has_failed w (Server s) = w.failed s
 has_failed w (Client c) = false
 
--- what a process is in a world; of a server that has failed, what it was last
+-- the standing of a process in a world; of a server that has failed, its last one
 abbrev pub standing_of : {M : Type 0} → World M → Process → Standing M
 standing_of w Master = AtMaster w.master
 standing_of w (Server s) = AtServer (w.servers s)
@@ -61,7 +61,7 @@ abbrev pub goes_on : History → History → History
 goes_on history [] = history
 goes_on history (seen ∷ more) = history ++ seen ∷ more
 
--- a process did this: what it is then, what it sent, and what callers see
+-- a process did this: its standing then, what it sent, and what callers see
 abbrev pub did_in : {M : Type 0} → World M → Process → Effect M → World M
 did_in w p did = record (with_standing w p did.left) { links = put w.links p did.posts; history = goes_on w.history did.told }
 

@@ -1,6 +1,6 @@
 -- A run of the log world with an account beside it: the committed log, and the items. The committed
 -- log is that of the last server that received a message as a tail. This world preserves what
--- failed servers held (Keeping.antt of the world's model), since the facts of the chain speak of
+-- failed servers held (Keeping.antt of the world's model), since the facts of the chain are about
 -- it.
 use Rattle.std.specs.Prelude.{ℕ, if◌then◌else◌, None, Some, List, [], ◌∷◌, ◌++◌, length, is_none}
 use Rattle.zcalls.specs.declared.call.Call.TheVariants as call

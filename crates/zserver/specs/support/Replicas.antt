@@ -69,7 +69,7 @@ query_at v client number query = query_row kept_tree v client number query
 abbrev pub update_at : TreeView → ℕ → ℕ → ℕ → Entry → TreeResult
 update_at v p epoch n entry = update_row kept_tree v p epoch n entry
 
--- what a message leads to, whoever sent it
+-- what a message leads to, by any sender
 abbrev pub step_at : TreeView → Process → TreeMessage → TreeResult
 step_at v from m = server_step kept_tree v from m
 

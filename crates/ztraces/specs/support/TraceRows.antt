@@ -80,7 +80,7 @@ written_and_read =
     ∷ []
 
 -- over three servers: the second is halted when the first has received a write, and the first while
--- the chain is repaired; a fourth joins, and the client hears of the new chain and asks again
+-- the chain is repaired; a fourth joins, and the client receives the new chain and asks again
 abbrev pub mended : List Step
 mended =
     step_of c0 1 (Began write)
@@ -97,7 +97,7 @@ mended =
     ∷ []
 
 -- over three servers: the client invokes a write, the first is ordered to leave and leaves, and the
--- client hears of the new head and asks that one
+-- client receives the new head and asks that one
 abbrev pub retirement : List Step
 retirement =
     step_of c0 1 (Began write)
@@ -151,11 +151,12 @@ server_with entries = record { machine = Some entries; last = entries; sent = []
 abbrev pub old_tail : ServerView ℕ
 old_tail = record (server_with 0) { succ = Some (2, 0) }
 
--- what the server is in the initial state
+-- the server's standing in the initial state
 abbrev pub at_opening : Standing ℕ
 at_opening = AtServer (server_with 0)
 
--- rows of its table: it remains what it is and sends nothing, or it ends with its failure notice
+-- rows of its table: its standing stays the same and it sends nothing, or it ends with its failure
+-- notice
 abbrev pub Stays : Standing ℕ → Act → Option (Stamped ℕ) → Type 0
 Stays standing act took = Row counting_machine s1 standing act took standing [] []
 

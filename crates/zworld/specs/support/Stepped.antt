@@ -59,7 +59,7 @@ Goes old new event before after did = GoesBy old new event before.items after.it
 
 -- settling came to this: it learnt these outcomes, and the history continues with this
 pub record SettlesBy (old new : Held) (limit : ℕ) (settled : Settled) (learnt : List Outcome) (told : History) : Type 0 where
-  -- it ended as the definition does, whatever outcomes would follow, and used up none of those
+  -- it ended as the definition does, whatever outcomes would follow, and used none of those
   pub ended : (history : History) (rest : List Outcome)
       → settled ≡ settling_end (settle kept_tree (world_of old history) limit (learnt ++ rest))
   pub left : (history : History) (rest : List Outcome)

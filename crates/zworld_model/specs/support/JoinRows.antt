@@ -26,7 +26,7 @@ state_is_handed_over =
     ∷ Take s2 c1
     ∷ []
 
--- two servers have an update; s3 joins behind s2, which sends its snapshot and fails; meanwhile s1
+-- two servers have an update; s3 joins after s2, which sends its snapshot and fails; meanwhile s1
 -- accepted one more update. When s3 has learnt that s1 is its predecessor, the old snapshot
 -- arrives; then s1 sends its own
 abbrev pub snapshot_is_stale : List Event

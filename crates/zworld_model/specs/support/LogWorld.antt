@@ -1,5 +1,6 @@
--- The log world: the same world over logs of entries in place of trees. It says who holds which
--- entries. The world of the service follows from it: each tree is the one that its log leads to.
+-- The log world: the same world over logs of entries in place of trees. It says which server holds
+-- which entries. The world of the service follows from it: each tree is the one that its log leads
+-- to.
 use Rattle.std.specs.Prelude.{◌≡◌, ℕ, List, map}
 use Rattle.zcalls.specs.declared.call.Entry.{Entry}
 use Rattle.zprotocol.specs.server.Machine.{kept_tree, log_of, replay}

@@ -8,7 +8,7 @@ use Rattle.zworld_model.specs.Events.{standing_of}
 use Rattle.zworld_model.specs.support.Counter.{Counting, counting_machine}
 use Rattle.zworld_model.specs.support.RunRows.{after}
 
--- what a process is after events
+-- the standing of a process after events
 abbrev pub stands : List Event → Process → Standing Counting
 stands events p = standing_of (after 3 events) p
 

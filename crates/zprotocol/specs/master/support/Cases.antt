@@ -21,7 +21,7 @@ pub data IsMended {T : Type 0} (epoch s : ℕ) : List Neighbour → MendedChain 
       → IsMended epoch s (front ++ p ∷ (s, k) ∷ t ∷ rest)
       (front ++ p ∷ (t.0, epoch) ∷ rest, (Server t.0, message.NewPred epoch p.0) ∷ [])
 
--- the view when a member has failed and its chain was mended
+-- the view when a member has failed and its chain was repaired
 abbrev pub after_gone : {T : Type 0} → MasterView → ℕ → MendedChain T → MasterView
 after_gone v s chain = without_member v s chain.0
 
