@@ -1,4 +1,9 @@
 //! The payload of a `Snapshot`.
+//!
+//! # Why
+//!
+//! A snapshot that a chain begins with has no cached reply and counts no entry (`IsFresh`). Clients
+//! begin anew, and an old reply under number 1 would answer a new call.
 
 ghost use Rattle.std.specs.Prelude.{◌≡◌, false, IfOk};
 ghost use Rattle.zserver.specs.support.Replicas.{transfer_of};

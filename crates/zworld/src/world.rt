@@ -2,6 +2,9 @@
 //!
 //! # Why
 //!
+//! The invariant of a world says that there is a run from an initial state with its history. So
+//! `history` says that it is linearizable, with no premise.
+//!
 //! `run` returns only that it ran, and `history` returns the history: a borrow that a call returns
 //! of what it changes has no value of its own in that call's clauses. `run` takes its events by
 //! value, since an event's call is used up where it begins.

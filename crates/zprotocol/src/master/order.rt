@@ -3,8 +3,8 @@
 //! # Why
 //!
 //! A join and an order to leave are one `Order`, so the table has one list of tests and one step.
-//! `JoinFault` and `RetireFault` are other names of `OrderFault`. Two separate kinds had to be
-//! changed together by hand.
+//! `JoinFault` and `RetireFault` are other names of `OrderFault`. Two separate kinds would have to
+//! be changed together by hand.
 
 use crate::server_id::ServerId;
 
