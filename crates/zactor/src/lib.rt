@@ -11,7 +11,7 @@
 //! process of its own.
 //!
 //! The runner sends the failure notice of a server that stops. A server may stop because memory ran
-//! out, and its list of outgoing messages may need some.
+//! out, and then its list of outgoing messages can't grow.
 #![tactic(auto)]
 
 mod act_fault;

@@ -14,7 +14,7 @@ use crate::refusal::Refusal;
 use std::mem::replace;
 
 impl Kind {
-    /// Stops for good. It allocates nothing and sends nothing.
+    /// Stops for good. It allocates nothing and appends no message.
     #[cold]
     #[inline(never)]
     pub(crate) fn stop(&mut self) -> Result<Done, ActFault>

@@ -8,8 +8,8 @@
 //!
 //! # Why
 //!
-//! Clauses see all channels as a function that reads the list (`links_of`), so nothing above
-//! knows of indices.
+//! Clauses see all channels as a function that reads the list (`links_of`), so nothing above knows
+//! of indices.
 #![tactic(auto)]
 
 mod links;

@@ -3,8 +3,8 @@
 //! # Why
 //!
 //! A message is matched where it was taken out of the channels, so all that passes it on is
-//! inlined. Cold paths are out of line: the compiler clears the room for a large value, such
-//! as a server, at the start of the function that may make it.
+//! inlined. Cold paths are out of line: the compiler clears the room for a large value, such as a
+//! server, at the start of the function that may make it.
 
 ghost use Rattle.std.specs.Prelude.{◌≡◌, true, IfOk, OnErr};
 ghost use Rattle.zprotocol.specs.server.Machine.{kept_tree};

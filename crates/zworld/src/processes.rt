@@ -2,8 +2,8 @@
 //!
 //! # Why
 //!
-//! An event changes the channels and then a process, and in between no run leads there. So `World`,
-//! whose invariant is such a run, holds its `Processes` as a struct of their own.
+//! An event changes the channels and then a process, and between the two no run leads to the world.
+//! So `World`, whose invariant is such a run, holds its `Processes` as a struct of their own.
 
 ghost use Rattle.std.specs.Prelude.{◌≡◌, ◌≤◌, [], true, IfErr, IfOk, Ok, OnErr};
 ghost use Rattle.ztree.specs.declared.limits.TheConstants.{MAX_CLIENTS};

@@ -5,13 +5,12 @@
 //! The invariant of a world says that there is a run from an initial state with its history. So
 //! `history` says that it is linearizable, with no premise.
 //!
-//! `run` returns only that it ran, and `history` returns the history: a borrow that a call returns
+//! `run` returns only that it ran, and `history` returns the history. A borrow that a call returns
 //! of what it changes has no value of its own in that call's clauses. `run` takes its events by
 //! value, since an event's call is used up where it begins.
 //!
-//! The past that was forgotten, and the tree that a world began with, are no fields. A flag says
-//! whether there is one, and the clauses say that it exists (`IsExplainedWithPast`,
-//! `IsExplainedFromStart`).
+//! The past that was forgotten, and the tree that a world began with, are no fields. Each has a
+//! flag, and the clauses say that it exists (`IsExplainedWithPast`, `IsExplainedFromStart`).
 
 ghost use Rattle.std.specs.Prelude.{◌≡◌, ◌≤◌, [], true, false, IfOk, IsErr, OnErr, OnOk};
 ghost use Rattle.ztree.specs.declared.limits.TheConstants.{MAX_CLIENTS};

@@ -27,8 +27,9 @@ pub data Standing (M : Type 0) : Type 0 where
   AtClient : ClientView → Standing M
   Out : Standing M
 
--- what a process is given: a message, with its sender; or, from outside, a call to invoke, a
--- request to send its outstanding call once more, an order, or a request to stop for good
+-- what a process is given: a message with its sender, or something from outside. From outside come
+-- a call to invoke, a request to send the outstanding call once more, an order, or a request to
+-- stop for good
 pub data Input (M : Type 0) : Type 0 where
   Hear : Process → MessageOf M → Input M
   Begin : Call → Input M

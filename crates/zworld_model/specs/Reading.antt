@@ -1,6 +1,6 @@
--- What each event of a list came to, where processes can run out of memory. A server that runs out
--- of memory at a message stops, and that delivery is resolved to its failure. A query for which it
--- has no memory is lost.
+-- What each event of a list resolves to, where processes can run out of memory. A server that runs
+-- out of memory at a message stops, and that delivery is resolved to its failure. A query for which
+-- it has no memory is lost.
 use Rattle.std.specs.Prelude.{◌≡◌, Bool, true, false, ◌&&◌, if◌then◌else◌, List, [], ◌∷◌}
 use Rattle.zprotocol.specs.declared.process.Process.{Process}
 use Rattle.zprotocol.specs.declared.process.Process.TheVariants.{Server}

@@ -3,9 +3,9 @@
 //!
 //! # Why
 //!
-//! Failed servers do not matter, because every test looks only at processes that have not failed
-//! and at the fronts of channels into them. Both worlds have those in common, so they enable the
-//! same events, and an enabled event does the same in both.
+//! Failed servers do not matter. The test of an event looks at the clients, the master, which
+//! servers have failed, and the front of a channel into one that hasn't. Both worlds have those in
+//! common, so an enabled event does the same in both.
 
 ghost use Rattle.std.specs.Prelude.{◌≡◌, ℕ};
 ghost use Rattle.ztree.specs.Tree.{Tree, opening_tree};

@@ -80,7 +80,7 @@ written_and_read =
     ∷ []
 
 -- over three servers: the second is halted when the first has received a write, and the first while
--- the chain is repaired; a fourth joins, and the client receives the new chain and asks again
+-- the chain is repaired. A fourth joins, and the client receives the new chain and asks again
 abbrev pub mended : List Step
 mended =
     step_of c0 1 (Began write)

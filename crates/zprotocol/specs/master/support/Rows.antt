@@ -115,8 +115,8 @@ without_joining v = record v { joining = None; epoch = 7 }
 abbrev pub passed_on : Option ℕ → Post ℕ
 passed_on last = (Server 2, message.NewSucc 5 4 last)
 
--- what is sent when the chain is repaired: in epoch 7 a server becomes the head or the tail, or
--- gets a new predecessor; the clients receive the head and the tail
+-- what is sent when the chain is repaired. In epoch 7 a server becomes the head or the tail, or
+-- gets a new predecessor. The clients receive the head and the tail
 abbrev pub new_head : ℕ → ℕ → List (Post ℕ)
 new_head head tail = (Server head, message.BecomeHead 7) ∷ tells head tail
 

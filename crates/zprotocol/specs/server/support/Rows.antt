@@ -22,8 +22,8 @@ use Rattle.zprotocol.specs.server.Table.{ServerResult, server_step}
 abbrev pub number_reply : ℕ → Reply
 number_reply n = MultiRefused n NoNode
 
--- a machine that counts entries: the reply to each is its position among them, but a call of number
--- 0 has no reply; the reply to a query is their number
+-- a machine that counts entries. The reply to each is its position among them, but a call of number
+-- 0 has no reply. The reply to a query is their number
 abbrev pub counting_machine : Does ℕ
 counting_machine =
     record {
@@ -188,8 +188,8 @@ abbrev pub Ignores : ServerView ℕ → Process → MessageOf ℕ → Type 0
 Ignores v from m = after v from m ≡ (v, [])
 
 -- the same, with the messages of most examples: client 5's two requests, the entry of a number from
--- server 1, an acknowledgement from server 3, a state from server 1, and the master's messages of
--- epoch 8
+-- server 1, and an acknowledgement from server 3. Then a state from server 1, and the master's
+-- messages of epoch 8
 abbrev pub after_submit : ServerView ℕ → ServerResult ℕ
 after_submit v = after v (Client 5) submit
 
@@ -237,8 +237,8 @@ two = call 11 ∷ call 12 ∷ []
 abbrev pub counted_log : Does (List Entry)
 counted_log = log_of counting_machine
 
--- a head before server 3 that has this log, and these entries left in Sent: the log of one entry,
--- all of it processed, and that of two, the second of which it forwarded
+-- a head before server 3 that has this log, and these entries left in Sent. Then the log of one
+-- entry, all of it processed, and that of two, the second of which it forwarded
 abbrev pub on_log : List Entry → List (ℕ × Entry) → ServerView (List Entry)
 on_log log sent = record { machine = Some log; last = length log; sent = sent; pred = None; succ = Some (3, 5) }
 
