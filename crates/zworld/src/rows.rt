@@ -8,7 +8,7 @@ ghost use Rattle.zworld_model.specs.declared.event.Event.TheVariants.{Fail};
 ghost use Rattle.zworld_model.specs.Orders.{Join, Retire};
 ghost use Rattle.zworld.specs.Last.{is_last};
 
-/// Which server is the last: who has failed, is joining or was ordered to leave doesn't count.
+/// Which server is the last: one that has failed, is joining or was ordered to leave is ignored.
 pub fn last_servers()
     ensures only { is_last (opening_world kept_tree 1 1) 1 ≡ true }
     ensures one_of_two { is_last (opening_world kept_tree 2 1) 1 ≡ false }

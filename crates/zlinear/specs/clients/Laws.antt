@@ -6,7 +6,7 @@ use Rattle.zprotocol.specs.declared.process.Process.TheVariants.{Client}
 use Rattle.zworld_model.specs.declared.event.Event.TheVariants.{Begin, Retry, Take, Fail}
 use Rattle.zlinear.specs.chain.Events.{KeepsSound}
 
--- a client receives a message: Answer, Config, or one that doesn't count
+-- a client receives a message: Answer, Config, or one that is ignored
 abbrev pub ClientsHear : Type 0
 ClientsHear = (from : Process) (c : ℕ) → KeepsSound (Take from (Client c))
 

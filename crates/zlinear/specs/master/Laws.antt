@@ -11,7 +11,7 @@ use Rattle.zlinear.specs.chain.Events.{KeepsSound}
 abbrev pub ServersHearMaster : Type 0
 ServersHearMaster = (s : ℕ) → KeepsSound (Take Master (Server s))
 
--- the master receives a message: Have, Joined, Gone, or one that doesn't count
+-- the master receives a message: Have, Joined, Gone, or one that is ignored
 abbrev pub MasterHears : Type 0
 MasterHears = (from : Process) → KeepsSound (Take from Master)
 

@@ -10,7 +10,7 @@ use Rattle.zworld_model.specs.Events.{is_enabled, happens}
 use Rattle.zworld_model.specs.Reading.{read, read_all}
 use Rattle.zworld_model.specs.Settle.{Settling, with_event, with_try, with_tries, is_over, passes}
 
--- from its beginning the settling continues from here, whatever outcomes follow those learnt so far
+-- the settling that began there continues here, whatever outcomes follow those learnt so far
 abbrev pub GoesOn : {M : Type 0} → (List Outcome → Settling M) → (Settling M → Settling M) → List Outcome → Settling M → Type 0
 GoesOn whole from learnt s = (rest : List Outcome) → whole (learnt ++ rest) ≡ from (record s { outcomes = rest })
 
@@ -48,7 +48,7 @@ PassesEnd {M} machine =
     → is_over s deliveries ≡ true → GoesOn whole (λ t. from (passes machine deliveries more t)) learnt s
     → GoesOn whole from learnt s
 
--- from its beginning the resolving of events continues from here
+-- the resolving of events that began there continues here
 abbrev pub ReadsOn : {M : Type 0} → Does M → (List Outcome → List Event) → List Outcome → List Event → World M → List Event → Type 0
 ReadsOn machine whole learnt readings w events =
     (rest : List Outcome) → whole (learnt ++ rest) ≡ readings ++ read_all machine w events rest
