@@ -1,4 +1,3 @@
 pub mod Marks
 pub mod Mending
 pub mod Rows
-pub mod Staying

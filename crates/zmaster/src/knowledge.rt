@@ -9,7 +9,6 @@ ghost use Rattle.zprotocol.specs.master.Table.{config_posts, master_step, have_r
 ghost use Rattle.zprotocol.specs.master.Table.{order_fault, order_step, own_tests};
 ghost use Rattle.zprotocol.specs.Posts.{PutsInRoom};
 ghost use Rattle.ztree.specs.declared.limits.TheConstants.{MAX_CLIENTS};
-ghost use Rattle.zmaster.specs.Staying.{is_staying};
 ghost use Rattle.zmaster.specs.declared.limits.TheConstants.{MAX_POSTS};
 
 use crate::chain::{
@@ -262,20 +261,6 @@ impl Knowledge {
     {
         self.retiring = Some(server);
         out.put_reserved(Process::Server(server), Message::Retire);
-    }
-
-    /// Returns whether the server is a member that has the state and wasn't ordered to leave.
-    pub(crate) fn is_staying(&self, server: ServerId) -> bool
-        ensures { result ≡ is_staying self.now server }
-    {
-        if position_of(&self.chain, server).is_none() {
-            return false;
-        }
-        let is_joining = is_the_joining(&self.joining, server);
-        if is_joining {
-            return false;
-        }
-        !is_the_joining(&self.retiring, server)
     }
 
     // Sends the epoch, the head and the tail to every client, in the order of their numbers.

@@ -6,7 +6,6 @@ ghost use Rattle.zprotocol.specs.declared.master.order.Order.TheVariants.{Join, 
 ghost use Rattle.zprotocol.specs.master.Table.{master_step, order_fault, order_step};
 ghost use Rattle.zprotocol.specs.Posts.{PutsInRoom};
 ghost use Rattle.ztree.specs.declared.limits.TheConstants.{MAX_CLIENTS};
-ghost use Rattle.zmaster.specs.Staying.{is_staying};
 ghost use Rattle.zmaster.specs.declared.limits.TheConstants.{MAX_POSTS};
 
 use crate::knowledge::Knowledge;
@@ -116,12 +115,5 @@ impl Master {
         ensures silent { OnErr result (out.new ≡ out.old) }
     {
         self.order(&Order::Retire(server), out)
-    }
-
-    /// Returns whether the server is a member that has the state and wasn't ordered to leave.
-    pub fn is_staying(&self, server: ServerId) -> bool
-        ensures { result ≡ is_staying self.now server }
-    {
-        self.known.is_staying(server)
     }
 }

@@ -10,7 +10,6 @@ pub mod FullThen
 pub mod Asked
 pub mod Given
 pub mod OpeningViews
-pub mod WhoLasts
 pub mod Results
 pub mod Tries
 pub mod Skips

@@ -1,5 +1,4 @@
 pub mod Held
 pub mod Did
-pub mod Last
 pub mod Steps
 pub mod support

@@ -19,12 +19,10 @@ mod calls;
 mod deliveries;
 mod did;
 mod failures;
-mod lasting;
 mod opening;
 mod orders;
 mod post;
 mod processes;
-mod rows;
 mod settling;
 mod world;
 

@@ -21,7 +21,6 @@ ghost use Rattle.zworld_model.specs.FromTree.{CanStart, opening_world_from};
 ghost use Rattle.zworld_model.specs.World.{opening_world};
 ghost use Rattle.zworld_model.specs.declared.settled.Settled.TheVariants.{Quiet};
 ghost use Rattle.zworld.specs.Did.{HasCause, is_idle};
-ghost use Rattle.zworld.specs.Last.{is_last};
 ghost use Rattle.zworld.specs.Steps.{CanWantMemory, CanWantMemoryToSettle, HasRunOut};
 ghost use Rattle.zworld.specs.Steps.{HasBegunToRun, HasDone, HasRun, IsAtRest, IsExplainedFromStart};
 ghost use Rattle.zworld.specs.Steps.{IsSettled, IsSettledActing, IsSound, world_in};
@@ -153,14 +152,6 @@ impl World {
     {
         self.history.clear();
         self.has_forgotten = true;
-    }
-
-    /// Returns whether no other server runs and, for the master, is a member that has the state and
-    /// remains.
-    pub fn is_last(&self, server: ServerId) -> bool
-        ensures { result ≡ is_last (world_in self.now) server }
-    {
-        self.processes.is_last(server)
     }
 
     /// Does one event, and returns what became of it. The first `Memory` comes only at an enabled
