@@ -1,4 +1,4 @@
--- What a client is answered for its request, by the calls that it meant and the replies to them.
+-- The answer to a request, from its calls and the replies to them.
 use Rattle.std.specs.Prelude.{ℕ, List, [], ◌∷◌, Option}
 use Rattle.std.specs.Option.{option_map_or}
 use Rattle.zcalls.specs.declared.call.Call.{Call}
@@ -20,16 +20,16 @@ use Rattle.zanswering.specs.Results.{multi_answer, looks_answer}
 abbrev pub was_done : Answer
 was_done = done body.Nothing
 
--- what stands for the answer where a call has no reply: its connection is closed, and nobody is told
+-- the answer where a call has no reply; it isn't sent, since its connection is closed
 abbrev pub was_lost : Answer
 was_lost = failed code.SystemError
 
--- by the first reply
+-- from the first reply
 abbrev pub by_first : (Reply → Answer) → List Reply → Answer
 by_first told [] = was_lost
 by_first told (reply ∷ replies) = told reply
 
--- by the first two replies
+-- from the first two replies
 abbrev pub by_two : (Reply → Reply → Answer) → List Reply → Answer
 by_two told (first ∷ second ∷ replies) = told first second
 by_two told replies = was_lost
@@ -39,16 +39,16 @@ abbrev pub made_by : Clock → Now → List Call → List Reply → Answer
 made_by clock now (call.Update (act.Create create) ∷ calls) replies = by_first (made_answer clock now create) replies
 made_by clock now calls replies = by_first (answer_of clock) replies
 
--- of a multi; one without parts has no results
+-- of a multi; an empty one has no results
 abbrev pub multi_by : Clock → Now → List AskedPart → List Call → List Reply → Answer
 multi_by clock now parts (call.Update (act.Multi means) ∷ calls) replies = by_first (multi_answer clock now parts means) replies
 multi_by clock now parts calls replies = done (body.Results [])
 
--- of a request to catch up: the path that it had
+-- of a sync: the path that it gave
 abbrev pub sync_by : Option (List ℕ) → Answer
 sync_by path = option_map_or (λ text. done (body.Path text)) path was_done
 
--- the answer to a request, at the zxid and the tick behind its calls
+-- the answer to a request, with the zxid and the tick after its calls
 abbrev pub answer_in : Clock → Now → Asked → List Call → List Reply → Answer
 answer_in clock now (asked.Create2 create) calls replies = made_by clock now calls replies
 answer_in clock now (asked.CreateTtl timed) calls replies = made_by clock now calls replies

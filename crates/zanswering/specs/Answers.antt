@@ -1,6 +1,5 @@
--- What a client is answered for one reply of the service: a code, and what stands behind the
--- header. The source is zookeeper.jute (`ReplyHeader`, and the responses), and ZooKeeper's
--- `KeeperException.Code`.
+-- The answer for one reply of the service: a code, and the body after the header. The source is
+-- zookeeper.jute (`ReplyHeader`, and the responses), and ZooKeeper's `KeeperException.Code`.
 use Rattle.std.specs.Prelude.{◌∷◌, [], List, length, nat_lt, codes, Some, if◌then◌else◌}
 use Rattle.zpath.specs.Grammar.{text_of}
 use Rattle.ztree.specs.Tree.{Name}
@@ -25,15 +24,15 @@ use Rattle.zanswering.specs.Stats.{stat_told, made_stat}
 abbrev pub done : Body → Answer
 done told = record { code = code.Ok; body = told }
 
--- it was not, and this is why
+-- it wasn't done, for this reason
 abbrev pub failed : Code → Answer
 failed why = record { code = why; body = body.Nothing }
 
--- names; more than a frame can hold are not told
+-- names; more than a frame can hold give an error
 abbrev pub names_answer : List Name → Answer
 names_answer names = if nat_lt MAX_FRAME (length names) then failed code.MarshallingError else done (body.Names names)
 
--- the answer to a request of one call, by the reply to it
+-- the answer to a request of one call, from the reply to it
 abbrev pub answer_of : Clock → Reply → Answer
 answer_of clock (reply.Created path) = done (body.Path (text_of path))
 answer_of clock reply.Deleted = done body.Nothing
@@ -58,7 +57,7 @@ made_answer clock now create told = answer_of clock told
 abbrev pub open_acls : List Acl
 open_acls = record { perms = ALL_PERMISSIONS; scheme = Some (codes "world"); id = Some (codes "anyone") } ∷ []
 
--- the answer to a request for a node's ACL, by its stat
+-- the answer to a request for a node's ACL, from its stat
 abbrev pub acl_answer : Clock → Reply → Answer
 acl_answer clock (reply.Exists stat) = done (body.AclsStat open_acls (stat_told clock stat))
 acl_answer clock told = answer_of clock told

@@ -1,4 +1,4 @@
--- What holds of the answers. The statement is the contract of a function in `src/laws.rt`.
+-- Laws of the answers. The statement is the contract of a function in `src/laws.rt`.
 use Rattle.std.specs.Prelude.{◌≡◌, ℕ, Some}
 use Rattle.ztree.specs.Tree.{Tree, Path, stat_at}
 use Rattle.ztree.specs.Lawful.{IsLawful}
@@ -9,16 +9,15 @@ use Rattle.zcalls.specs.Step.{step}
 use Rattle.zanswering.specs.declared.clock.Now.{Now}
 use Rattle.zanswering.specs.Stats.{made_stat}
 
--- where a tree is
+-- the last zxid and the tick of a tree
 abbrev pub now_of : Tree → Now
 now_of t = record { zxid = t.zxid; time = t.time }
 
--- the tree behind a client's create
+-- the tree after a client's create
 abbrev pub after_create : Tree → ℕ → Create → Tree
 after_create t client create = (step t client (act.Create create)).0
 
--- A create that made a node left it with the stat that is told of it: the one that a query right
--- behind it would tell.
+-- The stat returned for a created node is the one that a query directly after the create returns.
 abbrev pub MadeNodesHaveThisStat : Type 0
 MadeNodesHaveThisStat =
     (t : Tree) (client : ℕ) (create : Create) (path : Path)

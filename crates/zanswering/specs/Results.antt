@@ -1,7 +1,7 @@
--- What a client is answered for each part of a multi, and of a multiRead. The source is
--- `MultiResponse` and `ErrorResponse` of zookeeper.jute, and ZooKeeper's `OpResult`. Where a part
--- was refused, no part was done, and each has an error: code 0 before it, its own, and
--- RuntimeInconsistency behind it.
+-- The result of each part of a multi, and of a multiRead. The source is `MultiResponse` and
+-- `ErrorResponse` of zookeeper.jute, and ZooKeeper's `OpResult`. If a part is refused, none is
+-- done, and each has an error: code 0 before the refused one, its own, and RuntimeInconsistency
+-- after it.
 use Rattle.std.specs.Prelude.{ℕ, ◌-◌, List, [], ◌∷◌, ◌++◌, length, replicate, map, nat_lt, Some, if◌then◌else◌}
 use Rattle.zpath.specs.Grammar.{text_of}
 use Rattle.ztree.specs.Tree.{Name}
@@ -27,19 +27,19 @@ use Rattle.zanswering.specs.declared.answer.Answer.{Answer}
 use Rattle.zanswering.specs.Stats.{stat_told, made_stat}
 use Rattle.zanswering.specs.Answers.{done, answer_of}
 
--- the results of a multi of so many parts, one of which was refused; parts are counted from 1
+-- the results of a multi of `count` parts, of which one was refused; parts are counted from 1
 abbrev pub refused_results : ℕ → ℕ → Code → List PartResult
 refused_results count number why =
     replicate (number - 1) (result_of.Error code.Ok)
     ++ result_of.Error why ∷ replicate (count - number) (result_of.Error code.RuntimeInconsistency)
 
--- a node that a part made; where a stat is asked for, or a TTL was given, the stat is told too
+-- a node that a part created; with its stat, if the part asked for it or has a TTL
 abbrev pub made_result : Clock → Now → AskedPart → Create → List ℕ → PartResult
 made_result clock now (asked.Create2 create) made path = result_of.Create2 path (stat_told clock (made_stat now made))
 made_result clock now (asked.CreateTtl timed) made path = result_of.Create2 path (stat_told clock (made_stat now made))
 made_result clock now other made path = result_of.Create path
 
--- the result of a part that was done, by what was asked, the part and its reply
+-- the result of a part that was done, from the request's part, the call's part and its reply
 abbrev pub part_result : Clock → Now → AskedPart → Part → PartReply → PartResult
 part_result clock now asked (part.Create create) (part_reply.Created path) = made_result clock now asked create (text_of path)
 part_result clock now asked part (part_reply.Created path) = result_of.Create (text_of path)
@@ -47,24 +47,24 @@ part_result clock now asked part part_reply.Deleted = result_of.Delete
 part_result clock now asked part (part_reply.Set stat) = result_of.SetData (stat_told clock stat)
 part_result clock now asked part part_reply.Checked = result_of.Check
 
--- the results of the parts, one after the other
+-- the results of the parts, in order
 abbrev pub part_results : Clock → Now → List AskedPart → List Part → List PartReply → List PartResult
 part_results clock now (asked ∷ more) (part ∷ parts) (reply ∷ replies) =
     part_result clock now asked part reply ∷ part_results clock now more parts replies
 part_results clock now more parts replies = []
 
--- the answer to a multi, by what was asked, its parts and the reply
+-- the answer to a multi, from the request's parts, the call's parts and the reply
 abbrev pub multi_answer : Clock → Now → List AskedPart → List Part → Reply → Answer
 multi_answer clock now asked parts (reply.Multi replies) = done (body.Results (part_results clock now asked parts replies))
 multi_answer clock now asked parts (reply.MultiRefused number refusal) =
     done (body.Results (refused_results (length parts) number (code_of refusal)))
 multi_answer clock now asked parts told = answer_of clock told
 
--- names as a result; more than a frame can hold are not told
+-- names as a result; more than a frame can hold give an error
 abbrev pub names_result : List Name → PartResult
 names_result names = if nat_lt MAX_FRAME (length names) then result_of.Error code.MarshallingError else result_of.GetChildren names
 
--- the result of a part of a multiRead, by its reply
+-- the result of a part of a multiRead, from its reply
 abbrev pub look_result : Clock → Reply → PartResult
 look_result clock (reply.Data bytes stat) = result_of.GetData (Some bytes) (stat_told clock stat)
 look_result clock (reply.Children names) = names_result names

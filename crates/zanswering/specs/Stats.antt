@@ -1,6 +1,6 @@
--- The stat that a client is told. The source is `Stat` of zookeeper.jute and the ZooKeeper
--- Programmer's Guide, "ZooKeeper Stat Structure". Times are counted in ticks from the service's
--- start, and are told in milliseconds: that is this project's profile.
+-- The stat in an answer. The source is `Stat` of zookeeper.jute and the ZooKeeper Programmer's
+-- Guide, "ZooKeeper Stat Structure". Times are counted in ticks from the service's start and
+-- returned in milliseconds: that is this project's profile.
 use Rattle.std.specs.Prelude.{ℕ, ◌+◌, ◌*◌, ◌%◌, ◌^◌, ℤ, pos}
 use Rattle.std.specs.Int.{w32, w64, cast_signed}
 use Rattle.ztree.specs.Tree.{new_node, stat_with}
@@ -11,7 +11,7 @@ use Rattle.zjute.specs.declared.stat.Stat.{Stat as ToldStat}
 use Rattle.zanswering.specs.declared.clock.Clock.{Clock}
 use Rattle.zanswering.specs.declared.clock.Now.{Now}
 
--- a number as an `int` of zookeeper.jute: its low 32 bits, the greatest of which is the sign
+-- a number as an `int` of zookeeper.jute: its low 32 bits, the highest of which is the sign
 abbrev pub int_of : ℕ → ℤ
 int_of n = cast_signed w32 (n % 2 ^ 32)
 
@@ -23,7 +23,7 @@ long_of n = cast_signed w64 (n % 2 ^ 64)
 abbrev pub millis_at : Clock → ℕ → ℕ
 millis_at clock ticks = clock.started + ticks * clock.tick
 
--- a stat as it is told; no node has an ACL of its own, and so `aversion` is 0
+-- the stat for a client; no node has an ACL of its own, so `aversion` is 0
 abbrev pub stat_told : Clock → Stat → ToldStat
 stat_told clock s = record {
   czxid = long_of s.czxid;

@@ -4,19 +4,19 @@ ghost use Rattle.std.specs.Prelude.{◌≡◌};
 
 use zjute::{Body, Code};
 
-/// What a client is answered for a request: the code in the header, and what stands behind it.
+/// The answer to a request: the code in the header, and the body after it.
 #[derive(Drop)]
 pub struct Answer {
     /// `Ok`, or why the request wasn't done.
     pub code: Code,
-    /// What is told.
+    /// The body.
     pub body: Body,
 }
 
 impl Answer {
     ghost use Rattle.zanswering.specs.Answers as table;
 
-    /// Returns that a request was done.
+    /// Returns the answer to a request that was done.
     pub(crate) fn done(body: Body) -> Answer
         ensures { result ≡ table.done body }
     {
@@ -26,7 +26,7 @@ impl Answer {
         }
     }
 
-    /// Returns why a request wasn't done.
+    /// Returns the answer to a request that failed.
     pub(crate) fn failed(code: Code) -> Answer
         ensures { result ≡ table.failed code }
     {

@@ -1,4 +1,4 @@
-//! The answer to a request.
+//! The answer to a request, from all its replies.
 
 ghost use Rattle.std.specs.Prelude.{◌≡◌, IfOk};
 ghost use Rattle.zanswering.specs.Answers as of_one;
@@ -15,8 +15,8 @@ use zalloc::Memory;
 use zcalls::{Call, Reply, Update};
 use zjute::{Asked, Body, Bytes, Code, Parts, Results};
 
-/// Returns the answer to a request, by its calls and the reply to each. `at` is the zxid and the
-/// tick of the tree behind the calls. The only error is out of memory.
+/// Returns the answer to a request, from its calls and the reply to each. `at` is the zxid and the
+/// tick of the tree after the calls. The only error is out of memory.
 pub fn answer_to(
     alloc: Global,
     clock: &Clock,
@@ -40,14 +40,14 @@ pub fn answer_to(
     }
 }
 
-// Returns what stands for the answer where a call has no reply.
+// Returns the answer where a call has no reply.
 fn lost() -> Answer
     ensures { result ≡ was_lost }
 {
     Answer::failed(Code::SystemError)
 }
 
-// Returns the answer by the first reply.
+// Returns the answer from the first reply.
 fn first(alloc: Global, clock: &Clock, replies: &[Reply]) -> Result<Answer, Memory>
     ensures { IfOk result (λ told. told ≡ by_first (of_one.answer_of clock.now) replies.now) }
 {
@@ -118,7 +118,7 @@ fn acl(alloc: Global, clock: &Clock, replies: &[Reply]) -> Result<Answer, Memory
     }
 }
 
-// Returns the answer to a request to catch up.
+// Returns the answer to a sync.
 fn sync(alloc: Global, path: &Option<Bytes>) -> Result<Answer, Memory>
     ensures { IfOk result (λ told. told ≡ sync_by path.now) }
 {

@@ -1,4 +1,4 @@
-//! Answers by one reply, or by two.
+//! Answers from one reply, or from two.
 
 ghost use Rattle.std.specs.Prelude.{◌≡◌, Some, IfOk};
 ghost use Rattle.zpath.specs.Grammar.{text_of};
@@ -18,7 +18,7 @@ use zcalls::{Create, Data, Names, Reply, Stat};
 use zjute::{Acl, Acls, Body, Code};
 use zpath::Path;
 
-/// Returns the answer to a request of one call, by the reply to it.
+/// Returns the answer to a request of one call, from the reply to it.
 pub(crate) fn answer_of(alloc: Global, clock: &Clock, reply: &Reply) -> Result<Answer, Memory>
     ensures { IfOk result (λ answer. answer ≡ table.answer_of clock.now reply.now) }
 {
@@ -41,7 +41,7 @@ pub(crate) fn answer_of(alloc: Global, clock: &Clock, reply: &Reply) -> Result<A
     }
 }
 
-// Returns the path of a node that was made.
+// Returns the path of a created node.
 fn path_alone(alloc: Global, path: &Path) -> Result<Answer, Memory>
     ensures { IfOk result (λ answer. answer ≡ table.done (body.Path (text_of path.now))) }
 {

@@ -1,4 +1,4 @@
-//! Times.
+//! The clock, and the last zxid and tick of a tree.
 
 use zasking::TickLength;
 use ztree::Zxid;
@@ -12,7 +12,7 @@ pub struct Clock {
     pub started: u64,
 }
 
-/// Where the tree is.
+/// The last zxid and the tick of the tree.
 #[derive(Clone, Copy, Debug, PartialEq, Eq)]
 pub struct Now {
     /// The zxid of its last change.

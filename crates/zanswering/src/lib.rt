@@ -1,9 +1,13 @@
-//! What ZooKeeper's clients are answered, by the replies of this service.
+//! Answers to ZooKeeper's clients, from the replies of this service.
 //!
-//! `answer_to` returns the code and the body for a request, by the calls that it meant and the
-//! replies to them (`answer_in`, `specs/Answering.antt`). `stat_told` is the stat of eleven fields.
-//! All of it is pure: it knows no connection and no state of the service but the zxid and the tick
-//! that it is handed.
+//! `answer_to` returns the code and the body for a request, from its calls and the replies to them
+//! (`answer_in`, `specs/Answering.antt`). `stat_told` is the stat of eleven fields. All of it is
+//! pure: it knows no connection, and of the service's state only the zxid and the tick that it is
+//! given.
+//!
+//! # Why
+//!
+//! The stat of a create2 needs no second call: the node is as the create made it, at the last zxid.
 #![tactic(auto)]
 
 mod answer;

@@ -42,7 +42,7 @@ pub(crate) fn multi_answer(
     }
 }
 
-// Returns the results of the parts of a multi that was done.
+// Returns the results of a multi that was done.
 fn results_of(
     alloc: Global,
     clock: &Clock,
@@ -69,7 +69,7 @@ fn results_of(
     Ok(results)
 }
 
-// Returns the results of the parts of a multi one of which was refused.
+// Returns the results of a multi with a refused part.
 fn refused(
     alloc: Global,
     count: usize,
@@ -86,7 +86,7 @@ fn refused(
     Ok(results)
 }
 
-// Adds so many errors with a code.
+// Adds `count` errors with a code.
 fn add_errors(count: usize, code: Code, results: &mut Vec<PartResult>) -> Result<(), Memory>
     ensures { OnOk result (results.new.items
         ≡ results.old.items ++ replicate count (result_of.Error code)) }

@@ -1,4 +1,10 @@
-//! The results of one part of a multi or of a multiRead.
+//! The result of one part of a multi or of a multiRead.
+//!
+//! # Why
+//!
+//! A create2 in a multi returns its stat, as in zookeeper.jute, and so does a create with a TTL.
+//! ZooKeeper 3.8 returns the path only, as for a plain create. Clients go by the kind that precedes
+//! each result.
 
 ghost use Rattle.std.specs.Prelude.{◌≡◌, IfOk};
 ghost use Rattle.zpath.specs.Grammar.{text_of};
@@ -40,7 +46,7 @@ pub(crate) fn part_result(
     }
 }
 
-// Returns a node that a part made.
+// Returns a node that a part created.
 fn made_result(
     alloc: Global,
     clock: &Clock,

@@ -1,4 +1,4 @@
-//! The stat that a client is told.
+//! The stat in an answer.
 
 ghost use Rattle.std.specs.Prelude.{◌≡◌};
 ghost use Rattle.zanswering.specs.Stats as told;
@@ -25,8 +25,8 @@ pub fn made_stat(at: &Now, create: &Create) -> Stat
     }
 }
 
-/// Returns a stat as it is told: times in milliseconds since 1970, and each number in the bits that
-/// it has there.
+/// Returns a stat for a client: times in milliseconds since 1970, and numbers in the bits that they
+/// have there.
 pub fn stat_told(clock: &Clock, stat: &Stat) -> zjute::Stat
     ensures { result ≡ told.stat_told clock.now stat.now }
 {

@@ -10,7 +10,7 @@ use zcalls::{Data, Names};
 use zjute::{Bytes, Texts};
 use zpath::Path;
 
-/// Returns bytes of which there are few.
+/// Returns a copy of a few bytes.
 pub(crate) fn bytes_of(alloc: Global, bytes: &[u8]) -> Result<Bytes, Memory>
     requires { length bytes.now ≤ MAX_FRAME }
     ensures { IfOk result (λ told. told ≡ bytes.now) }
@@ -25,7 +25,7 @@ pub(crate) fn bytes_of(alloc: Global, bytes: &[u8]) -> Result<Bytes, Memory>
 pub(crate) fn path_told(alloc: Global, path: &Path) -> Result<Bytes, Memory>
     ensures { IfOk result (λ told. told ≡ text_of path.now) }
 {
-    // So its text is short.
+    // The text of a path is short.
     path.keeps_its_form();
     let text = path.to_string(alloc)?;
     bytes_of(alloc, text.as_bytes())

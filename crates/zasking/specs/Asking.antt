@@ -1,7 +1,7 @@
--- What the words of a request mean: paths, data, versions, kinds of nodes, ACLs. The sources are
--- the ZooKeeper Programmer's Guide ("The ZooKeeper Data Model", "ZooKeeper access control using
--- ACLs", "TTL Nodes"), and ZooKeeper's `CreateMode` and `ZooDefs.Ids`. The limits, TTLs in ticks,
--- and that only the open ACL is taken are this project's profile.
+-- What the fields of a request mean: paths, data, versions, node kinds, ACLs. The sources are the
+-- ZooKeeper Programmer's Guide ("The ZooKeeper Data Model", "ZooKeeper access control using ACLs",
+-- "TTL Nodes"), and ZooKeeper's `CreateMode` and `ZooDefs.Ids`. The limits, TTLs in ticks, and
+-- accepting only the open ACL are this project's profile.
 use Rattle.std.specs.Prelude.{◌≡◌, ◌⊎◌, ℕ, zero, suc, ℤ, pos, negsuc, Bool, false, ◌&&◌, nat_lt, nat_le, List, [], ◌∷◌, ◌++◌, length, codes, Option, None, Some, is_some, Result, Ok, Err, if◌then◌else◌}
 use Rattle.std.specs.Int.{div_ceil}
 use Rattle.std.specs.Ordering.{int_eq}
@@ -20,39 +20,39 @@ use Rattle.zasking.specs.declared.limits.TheConstants.{NO_VERSION, ALL_PERMISSIO
 use Rattle.zasking.specs.declared.fault.Unasked.{Unasked}
 use Rattle.zasking.specs.declared.fault.Unasked.TheVariants.{Refused, Memory}
 
--- what a request means, or why nothing is asked of the service
+-- what a request means, or why it makes no call
 abbrev pub Meaning : Type 0 → Type 0
 Meaning A = Result A Unasked
 
--- nothing is asked: out of memory, or that is what the request means
+-- no call is made: out of memory, or the request's meaning is a refusal
 abbrev pub IsUnasked : {A : Type 0} → Meaning A → Unasked → Type 0
 IsUnasked meaning fault = (fault ≡ Memory) ⊎ (meaning ≡ Err fault)
 
--- continue with what it means
+-- continue with the meaning
 abbrev pub then_means : {A B : Type 0} → Meaning A → (A → Meaning B) → Meaning B
 then_means (Err fault) next = Err fault
 then_means (Ok x) next = next x
 
--- what each of some things means, from the left
+-- the meaning of each element, from the left
 abbrev pub each_in : {A B : Type 0} → (A → Meaning B) → List A → Meaning (List B)
 each_in means [] = Ok []
 each_in means (x ∷ xs) = then_means (means x) (λ y. then_means (each_in means xs) (λ ys. Ok (y ∷ ys)))
 
--- the same behind things whose meaning is known
+-- the same, after elements whose meaning is known
 abbrev pub each_behind : {A B : Type 0} → List B → (A → Meaning B) → List A → Meaning (List B)
 each_behind known means xs = then_means (each_in means xs) (λ more. Ok (known ++ more))
 
--- a path: a text that is none is refused, and so is a null string
+-- a path; a null string or an invalid path is refused
 abbrev pub path_in : Option (List ℕ) → Meaning Path
 path_in None = Err (Refused BadArguments)
 path_in (Some text) = if is_some (fault_of text) then Err (Refused BadArguments) else Ok (names_of text)
 
--- data: a null buffer is no bytes
+-- data; a null buffer means no bytes
 abbrev pub data_in : Option (List ℕ) → Meaning (List ℕ)
 data_in None = Ok []
 data_in (Some bytes) = if nat_lt MAX_DATA (length bytes) then Err (Refused BadArguments) else Ok bytes
 
--- a version: -1 is any; what is below it, no node has
+-- a version: -1 matches any; no node has one below -1
 abbrev pub version_in : ℤ → Expected
 version_in (pos n) = Exactly n
 version_in (negsuc zero) = Any
@@ -63,16 +63,16 @@ abbrev pub is_text : List ℕ → Option (List ℕ) → Bool
 is_text text None = false
 is_text text (Some bytes) = bytes_eq bytes text
 
--- everybody may do everything (`ZooDefs.Ids.OPEN_ACL_UNSAFE`)
+-- anyone may do anything (`ZooDefs.Ids.OPEN_ACL_UNSAFE`)
 abbrev pub is_open : Acl → Bool
 is_open acl = int_eq acl.perms ALL_PERMISSIONS && is_text (codes "world") acl.scheme && is_text (codes "anyone") acl.id
 
--- an ACL: the open one alone
+-- an ACL; only the open one is accepted
 abbrev pub has_open_acl : List Acl → Bool
 has_open_acl (acl ∷ []) = is_open acl
 has_open_acl acls = false
 
--- the kind of a node, for a session, by its number (`CreateMode`)
+-- the kind of a node created for a session, by its number (`CreateMode`)
 abbrev pub kind_in : ℕ → ℤ → Meaning Kind
 kind_in session flags =
     if int_eq flags (pos 0) then Ok (named Persistent) else
@@ -82,8 +82,8 @@ kind_in session flags =
     if int_eq flags (pos 4) then Err (Refused Unimplemented) else
     Err (Refused BadArguments)
 
--- a TTL in ticks, given the milliseconds of a tick and those of the TTL: a part of a tick counts as
--- a whole one
+-- a TTL in ticks, from the milliseconds of a tick and of the TTL; a fraction of a tick is rounded
+-- up
 abbrev pub ttl_in : ℕ → ℤ → Meaning ℕ
 ttl_in tick (pos millis) =
     let ticks = div_ceil millis tick in

@@ -1,6 +1,6 @@
--- The code that a client is told for a refusal of the service. The codes are those of ZooKeeper's
--- `KeeperException.Code`. Where ZooKeeper has no such refusal, the nearest code is this project's
--- profile.
+-- The error code returned for a refusal of the service. The codes are those of ZooKeeper's
+-- `KeeperException.Code`. Where ZooKeeper has no such refusal, choosing the nearest code is this
+-- project's profile.
 use Rattle.zcalls.specs.declared.refusal.Refusal.{Refusal}
 use Rattle.zcalls.specs.declared.refusal.Refusal.TheVariants.{NoNode, NodeExists, NotEmpty, BadVersion, NoChildrenForEphemerals, SessionGone, SequenceFull, PathLimit, RootFixed, Full, TooManySessions, Exhausted}
 use Rattle.zjute.specs.declared.code.Code.{Code}

@@ -1,5 +1,4 @@
--- What holds of the calls of requests. Each statement is the contract of a function in
--- `src/laws.rt`.
+-- Laws of the calls of requests. Each statement is the contract of a function in `src/laws.rt`.
 use Rattle.std.specs.Prelude.{◌≡◌, ℕ, ◌<◌, List, Some, Ok}
 use Rattle.std.specs.FinMap.{get}
 use Rattle.std.specs.List.{AllByRecursion}
@@ -18,7 +17,7 @@ use Rattle.zjute.specs.declared.request.Asked.{Asked}
 use Rattle.zasking.specs.declared.limits.TheConstants.{NO_VERSION}
 use Rattle.zasking.specs.Requests.{calls_in}
 
--- a node of this lifetime belongs to the session, or to none
+-- a node of this lifetime belongs to the session, or to no session
 abbrev pub IsForSession : ℕ → Lifetime → Type 0
 IsForSession session (Ephemeral owner) = owner ≡ session
 IsForSession session Persistent = Unit {0}
@@ -32,7 +31,7 @@ PartIsFor session (part.SetData set) = Unit {0}
 PartIsFor session (part.Check check) = Unit {0}
 
 -- an update acts for the session: it opens no session, renews none, moves no clock, and closes no
--- other
+-- other session
 abbrev pub UpdateIsFor : ℕ → Act → Type 0
 UpdateIsFor session (act.Create create) = IsForSession session create.kind.lifetime
 UpdateIsFor session (act.Delete delete) = Unit {0}
@@ -48,11 +47,11 @@ abbrev pub CallIsFor : ℕ → Call → Type 0
 CallIsFor session (Update update) = UpdateIsFor session update
 CallIsFor session (Query query) = Unit {0}
 
--- a request's calls act for the session of its connection alone
+-- the calls of a request act for the session of its connection only
 abbrev pub CallsAreForTheirSession : Type 0
 CallsAreForTheirSession =
     (tick session : ℕ) (asked : Asked) (calls : List Call) → calls_in tick session asked ≡ Ok calls → AllByRecursion (CallIsFor session) calls
 
--- no node has this version, in any tree that a machine holds
+-- no node has version `NO_VERSION`, in any tree that a machine holds
 abbrev pub NoNodeHasNoVersion : Type 0
 NoNodeHasNoVersion = (t : Tree) (path : Path) (n : Node) → IsBounded t → get t.nodes path ≡ Some n → n.version < NO_VERSION

@@ -7,8 +7,7 @@ use std::marker::Model;
 use zalloc::Memory;
 use zcalls::Call;
 
-/// The calls that a request means, in the order in which they are made. Many requests mean none or
-/// one.
+/// The calls that a request makes, in order. Many requests make one call or none.
 #[derive(Drop)]
 pub struct Calls {
     calls: Vec<Call>,
@@ -31,7 +30,7 @@ impl Calls {
         Calls { calls }
     }
 
-    /// Returns no calls. Allocates nothing.
+    /// Returns an empty list. Allocates nothing.
     pub fn none(alloc: Global) -> Calls
         ensures { result ≡ [] }
     {

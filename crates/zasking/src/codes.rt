@@ -6,7 +6,7 @@ ghost use Rattle.zasking.specs.Codes as table;
 use zcalls::Refusal;
 use zjute::Code;
 
-/// Returns the code that a client is told for a refusal of the service.
+/// Returns the error code for a refusal of the service.
 pub fn code_of(refusal: Refusal) -> Code
     ensures { result ≡ table.code_of refusal }
 {

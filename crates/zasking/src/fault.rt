@@ -1,4 +1,4 @@
-//! Why a request asks nothing of the service.
+//! Why a request makes no call.
 
 ghost use Rattle.std.specs.Prelude.{◌≡◌};
 
@@ -6,7 +6,7 @@ use std::alloc::{AllocError, AllocFailed};
 use zalloc::Memory;
 use zjute::Code;
 
-/// Why a request asks nothing of the service.
+/// Why a request makes no call.
 #[derive(Clone, Copy, Debug, PartialEq, Eq)]
 pub enum Unasked {
     /// It is refused at once, with this code.

@@ -1,9 +1,17 @@
-//! What ZooKeeper's clients ask, in the calls of this service.
+//! Requests of ZooKeeper's clients, as calls of this service.
 //!
-//! `calls_of` returns the calls that a request means, or why nothing is asked of the service
-//! (`calls_in`, `specs/Requests.antt`). `code_of` is the code that a client is told for a refusal.
-//! `ticks_asked` and `millis_told` turn session timeouts into ticks and back. All of it is pure: it
-//! knows no connection, no session but the one it is handed, and no state of the service.
+//! This crate is the door to the wing "ZooKeeper's clients": a server over one tree (`zservice`)
+//! that ZooKeeper's own clients connect to. Requests come in here, and `zanswering` makes the
+//! answers. Go on with `zfront`, the front end, which takes each input and joins the parts.
+//!
+//! `calls_of` returns the calls that a request makes, or why it makes none (`calls_in`,
+//! `specs/Requests.antt`). `code_of` returns the error code for a refusal. `ticks_asked` and
+//! `millis_told` convert session timeouts to ticks and back. All of it is pure: it knows no
+//! connection, no session but the one given, and no state of the service.
+//!
+//! # Why
+//!
+//! `digest` is accepted and ignored: clients send it unasked, and the open ACL needs no identity.
 #![tactic(auto)]
 
 mod calls;

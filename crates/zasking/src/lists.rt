@@ -59,7 +59,7 @@ fn look_of(alloc: Global, look: &LookPart) -> Result<Call, Unasked>
     }
 }
 
-/// Reads the paths of watches that are set again, from the left.
+/// Reads the paths of re-registered watches, from the left.
 pub(crate) fn watches_of(alloc: Global, set: &SetWatches) -> Result<Vec<Call>, Unasked>
     ensures found { IfOk result (λ calls. watches_in set.now ≡ Ok calls.items) }
     ensures fault { IfErr result (IsUnasked (watches_in set.now)) }
@@ -80,7 +80,7 @@ fn has_many(set: &SetWatches) -> bool
     watched + missing + parents > MAX_PATHS
 }
 
-// Reads all paths of watches.
+// Reads all paths of the watches.
 fn all_watches(alloc: Global, set: &SetWatches) -> Result<Vec<Call>, Unasked>
     ensures found { IfOk result
         (λ calls. each_in watch_in (watched_in set.now) ≡ Ok calls.items) }

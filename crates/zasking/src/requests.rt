@@ -21,10 +21,10 @@ use zcalls::{Call, MAX_PARTS, Multi, Part, Query, SessionId, Update};
 use zjute::{Asked, AtVersion, Auth, Bytes, Code, CreateTtl, Looks, Parts, SetData, SetWatches};
 use zpath::Path;
 
-/// Returns the calls that a request of a session means, in their order. They are made one after the
-/// other, whatever is replied to those before.
+/// Returns the calls that a session's request makes, in order. Each is made whatever the replies to
+/// the earlier ones.
 ///
-/// A request that is refused at once, or for which memory runs out, asks nothing of the service.
+/// A request that is refused at once, or that runs out of memory, makes no call.
 pub fn calls_of(
     alloc: Global,
     tick: TickLength,
@@ -66,7 +66,7 @@ fn reads(alloc: Global, asked: &Asked) -> Result<Calls, Unasked>
     }
 }
 
-// Returns one call.
+// Returns a single call.
 fn one(alloc: Global, call: Call) -> Result<Calls, Unasked>
     ensures found { IfOk result (λ calls. calls ≡ call ∷ []) }
     ensures fault { IfErr result (λ fault. fault ≡ Unasked.Memory) }
@@ -74,7 +74,7 @@ fn one(alloc: Global, call: Call) -> Result<Calls, Unasked>
     Ok(Calls::one(alloc, call)?)
 }
 
-// Reads a create alone.
+// Reads a create.
 fn one_create(alloc: Global, session: SessionId, create: &zjute::Create) -> Result<Calls, Unasked>
     ensures found { IfOk result
         (λ calls. create_alone (create_in session create.now) ≡ Ok calls) }
@@ -84,7 +84,7 @@ fn one_create(alloc: Global, session: SessionId, create: &zjute::Create) -> Resu
     one(alloc, Call::Update(Update::Create(read)))
 }
 
-// Reads a create with a TTL alone.
+// Reads a create with a TTL.
 fn one_timed_create(alloc: Global, tick: TickLength, timed: &CreateTtl) -> Result<Calls, Unasked>
     ensures found { IfOk result
         (λ calls. create_alone (timed_create_in tick timed.now) ≡ Ok calls) }
@@ -94,7 +94,7 @@ fn one_timed_create(alloc: Global, tick: TickLength, timed: &CreateTtl) -> Resul
     one(alloc, Call::Update(Update::Create(read)))
 }
 
-// Reads a delete alone.
+// Reads a delete.
 fn delete(alloc: Global, at: &AtVersion) -> Result<Calls, Unasked>
     ensures found { IfOk result (λ calls. delete_alone at.now ≡ Ok calls) }
     ensures fault { IfErr result (IsUnasked (delete_alone at.now)) }
@@ -103,7 +103,7 @@ fn delete(alloc: Global, at: &AtVersion) -> Result<Calls, Unasked>
     one(alloc, Call::Update(Update::Delete(read)))
 }
 
-// Reads a set alone.
+// Reads a set.
 fn set_data(alloc: Global, set: &SetData) -> Result<Calls, Unasked>
     ensures found { IfOk result (λ calls. set_alone set.now ≡ Ok calls) }
     ensures fault { IfErr result (IsUnasked (set_alone set.now)) }
@@ -112,7 +112,7 @@ fn set_data(alloc: Global, set: &SetData) -> Result<Calls, Unasked>
     one(alloc, Call::Update(Update::SetData(read)))
 }
 
-// Reads a check alone: a multi of one part.
+// Reads a check: a multi of one part.
 fn check(alloc: Global, at: &AtVersion) -> Result<Calls, Unasked>
     ensures found { IfOk result (λ calls. check_alone at.now ≡ Ok calls) }
     ensures fault { IfErr result (IsUnasked (check_alone at.now)) }
@@ -123,7 +123,7 @@ fn check(alloc: Global, at: &AtVersion) -> Result<Calls, Unasked>
     one_multi(alloc, parts)
 }
 
-// Returns a multi of these parts, of which there are 1 to 64.
+// Returns a multi of these parts, which are 1 to 64.
 fn one_multi(alloc: Global, parts: Vec<Part>) -> Result<Calls, Unasked>
     requires some { 0 < length parts.items }
     requires few { length parts.items ≤ MAX_PARTS }
@@ -157,7 +157,7 @@ fn multi(
     one_multi(alloc, read)
 }
 
-// Reads a query whether a node exists.
+// Reads an exists.
 fn exists(alloc: Global, path: &Option<Bytes>) -> Result<Calls, Unasked>
     ensures found { IfOk result (λ calls. look_alone Exists path.now ≡ Ok calls) }
     ensures fault { IfErr result (IsUnasked (look_alone Exists path.now)) }
@@ -166,7 +166,7 @@ fn exists(alloc: Global, path: &Option<Bytes>) -> Result<Calls, Unasked>
     one(alloc, Call::Query(Query::Exists(path)))
 }
 
-// Reads a query of a node's data.
+// Reads a getData.
 fn get_data(alloc: Global, path: &Option<Bytes>) -> Result<Calls, Unasked>
     ensures found { IfOk result (λ calls. look_alone GetData path.now ≡ Ok calls) }
     ensures fault { IfErr result (IsUnasked (look_alone GetData path.now)) }
@@ -175,7 +175,7 @@ fn get_data(alloc: Global, path: &Option<Bytes>) -> Result<Calls, Unasked>
     one(alloc, Call::Query(Query::GetData(path)))
 }
 
-// Reads a query of the names of a node's children.
+// Reads a getChildren.
 fn get_children(alloc: Global, path: &Option<Bytes>) -> Result<Calls, Unasked>
     ensures found { IfOk result (λ calls. look_alone GetChildren path.now ≡ Ok calls) }
     ensures fault { IfErr result (IsUnasked (look_alone GetChildren path.now)) }
@@ -184,7 +184,7 @@ fn get_children(alloc: Global, path: &Option<Bytes>) -> Result<Calls, Unasked>
     one(alloc, Call::Query(Query::GetChildren(path)))
 }
 
-// Reads a query of the names of a node's children, and of its stat.
+// Reads a getChildren2.
 fn get_children2(alloc: Global, path: &Option<Bytes>) -> Result<Calls, Unasked>
     ensures found { IfOk result (λ calls. children_in path.now ≡ Ok calls) }
     ensures fault { IfErr result (IsUnasked (children_in path.now)) }
@@ -216,7 +216,7 @@ fn multi_read(alloc: Global, looks: &Looks) -> Result<Calls, Unasked>
     Ok(Calls::new(looks_of(alloc, looks)?))
 }
 
-// Reads the paths of watches that are set again.
+// Reads the paths of re-registered watches.
 fn set_watches(alloc: Global, set: &SetWatches) -> Result<Calls, Unasked>
     ensures found { IfOk result (λ calls. watches_in set.now ≡ Ok calls) }
     ensures fault { IfErr result (IsUnasked (watches_in set.now)) }
@@ -224,7 +224,7 @@ fn set_watches(alloc: Global, set: &SetWatches) -> Result<Calls, Unasked>
     Ok(Calls::new(watches_of(alloc, set)?))
 }
 
-// Returns the end of the session.
+// Returns the close of the session.
 fn close(alloc: Global, session: SessionId) -> Result<Calls, Unasked>
     ensures found { IfOk result (λ calls. calls ≡ UpdateOf (Close session) ∷ []) }
     ensures fault { IfErr result (λ fault. fault ≡ Unasked.Memory) }
@@ -232,7 +232,7 @@ fn close(alloc: Global, session: SessionId) -> Result<Calls, Unasked>
     one(alloc, Call::Update(Update::Close(session)))
 }
 
-// Reads a path to catch up by.
+// Reads a sync.
 fn sync(alloc: Global, path: &Option<Bytes>) -> Result<Calls, Unasked>
     ensures { result ≡ sync_in path.now }
 {
@@ -242,7 +242,7 @@ fn sync(alloc: Global, path: &Option<Bytes>) -> Result<Calls, Unasked>
     }
 }
 
-// Reads who the client says it is.
+// Reads an auth.
 fn say_who(alloc: Global, auth: &Auth) -> Result<Calls, Unasked>
     ensures { result ≡ auth_in auth.now }
 {

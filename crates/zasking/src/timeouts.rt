@@ -1,12 +1,17 @@
 //! Session timeouts, in milliseconds and in ticks.
+//!
+//! # Why
+//!
+//! Sessions are renewed and expire at ticks only. One that was renewed just before a tick has lost
+//! almost a whole tick. So the client gets one tick less than was granted.
 
 ghost use Rattle.std.specs.Prelude.{◌≡◌};
 ghost use Rattle.zasking.specs.Timeouts as timeouts;
 
 use crate::tick::TickLength;
 
-/// Returns the ticks to ask for where a client asks for a timeout of so many milliseconds: one more
-/// than it takes. The service grants the nearest number of ticks in its range.
+/// Returns the ticks to ask for, for a timeout of `millis` milliseconds: one more than it needs.
+/// The service grants the nearest number of ticks in its range.
 pub fn ticks_asked(tick: TickLength, millis: i32) -> u64
     ensures { result ≡ timeouts.ticks_asked tick millis }
 {
@@ -16,8 +21,8 @@ pub fn ticks_asked(tick: TickLength, millis: i32) -> u64
     (millis as u64).div_ceil(u64::from(tick.millis())) + 1
 }
 
-/// Returns the milliseconds to tell the client where so many ticks were granted: one tick less, and
-/// at most what 32 bits hold.
+/// Returns the milliseconds for the client, for the ticks granted: one tick less, and at most what
+/// 32 bits hold.
 pub fn millis_told(tick: TickLength, ticks: u64) -> i32
     ensures { result ≡ timeouts.millis_told tick ticks }
 {

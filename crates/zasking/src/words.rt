@@ -30,7 +30,7 @@ pub(crate) fn path_in_bytes(alloc: Global, bytes: &[u8]) -> Result<Path, Unasked
     ensures fault { IfErr result (IsUnasked (path_in (Some bytes.now))) }
 {
     let Ok(text) = str::from_utf8(bytes) else {
-        // A path has plain bytes alone.
+        // A path consists of plain bytes.
         return Err(Unasked::Refused(Code::BadArguments));
     };
     match Path::parse(alloc, text) {
@@ -67,7 +67,7 @@ pub(crate) fn version_of(version: i32) -> Expected
     }
 }
 
-/// Returns whether a string is this text.
+/// Returns whether the string is this text.
 pub(crate) fn is_text_of(text: &[u8], string: &Option<Bytes>) -> bool
     ensures { result ≡ is_text text.now string.now }
 {
@@ -77,7 +77,7 @@ pub(crate) fn is_text_of(text: &[u8], string: &Option<Bytes>) -> bool
     }
 }
 
-/// Returns whether it is the open ACL.
+/// Returns whether the list is the open ACL.
 pub(crate) fn is_open_acl(acls: &[Acl]) -> bool
     ensures { result ≡ has_open_acl acls.now }
 {
@@ -87,7 +87,7 @@ pub(crate) fn is_open_acl(acls: &[Acl]) -> bool
     }
 }
 
-// Returns whether everybody may do everything by this entry.
+// Returns whether this entry allows anyone to do anything.
 fn is_open_entry(acl: &Acl) -> bool
     ensures { result ≡ is_open acl.now }
 {

@@ -1,7 +1,7 @@
--- Which events a call makes: what it tells to watches of a node, and to those of the node's parent.
--- The source is the ZooKeeper Programmer's Guide, "ZooKeeper Watches"; the events are those of
--- ZooKeeper's `Watcher.Event.EventType`. What a tick, or the end of a session, takes away isn't
--- seen by the reply, and has no event here.
+-- The events of a call: those of a node, and those of its parent. The source is the ZooKeeper
+-- Programmer's Guide, "ZooKeeper Watches"; the events are those of ZooKeeper's
+-- `Watcher.Event.EventType`. A reply doesn't name the nodes that a tick or the end of a session
+-- deletes, so these have no event here.
 use Rattle.std.specs.Prelude.{List, [], ◌∷◌, ◌++◌}
 use Rattle.ztree.specs.Tree.{Path, parent_of}
 use Rattle.zcalls.specs.declared.call.Part.{Part}
@@ -20,7 +20,7 @@ use Rattle.zevents.specs.declared.event.Event.{Event}
 abbrev pub event : EventKind → Path → Event
 event kind path = record { kind = kind; path = path }
 
--- a node came or went, and the children of its parent changed
+-- a node was created or deleted, and the children of its parent changed
 abbrev pub with_parent : EventKind → Path → List Event
 with_parent kind path = event kind path ∷ event NodeChildrenChanged (parent_of path) ∷ []
 
@@ -31,12 +31,12 @@ part_events (part.Delete delete) part_reply.Deleted = with_parent NodeDeleted de
 part_events (part.SetData set) (part_reply.Set stat) = event NodeDataChanged set.path ∷ []
 part_events part reply = []
 
--- the events of the parts, one after the other
+-- the events of the parts, in order
 abbrev pub parts_events : List Part → List PartReply → List Event
 parts_events (part ∷ parts) (reply ∷ replies) = part_events part reply ++ parts_events parts replies
 parts_events parts replies = []
 
--- the events of an update, by its reply; one that is refused has none
+-- the events of an update, by its reply; a refused update has none
 abbrev pub events_of : Update → Reply → List Event
 events_of (act.Create create) (reply.Created path) = with_parent NodeCreated path
 events_of (act.Delete delete) reply.Deleted = with_parent NodeDeleted delete.path

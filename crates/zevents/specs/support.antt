@@ -1,2 +1,2 @@
--- What serves proofs and worked examples alone.
+-- For proofs and worked examples only.
 pub mod Samples

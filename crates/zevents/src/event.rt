@@ -15,7 +15,7 @@ pub struct Event {
     pub path: Path,
 }
 
-/// Events, in the order in which they are told.
+/// Events, in the order in which they are sent.
 #[derive(Drop)]
 pub struct Events {
     events: Vec<Event>,

@@ -12,7 +12,7 @@ use zcalls::{Part, PartReply, Reply, Update};
 use zjute::EventKind;
 use zpath::Path;
 
-/// Returns the events of an update, by the reply to it, in the order in which they are told. The
+/// Returns the events of an update, by the reply to it, in the order in which they are sent. The
 /// only error is out of memory.
 pub fn events_of(alloc: Global, update: &Update, reply: &Reply) -> Result<Events, Memory>
     ensures { IfOk result (λ events. events ≡ table.events_of update.now reply.now) }
@@ -53,7 +53,7 @@ fn add(kind: EventKind, path: &Path, events: &mut Vec<Event>) -> Result<(), Memo
     Ok(())
 }
 
-// Adds the events of a node that came or went.
+// Adds the events of a node that was created or deleted.
 fn add_with_parent(kind: EventKind, path: &Path, events: &mut Vec<Event>) -> Result<(), Memory>
     ensures { OnOk result (events.new.items ≡ events.old.items ++ with_parent kind path.now) }
 {
@@ -62,7 +62,7 @@ fn add_with_parent(kind: EventKind, path: &Path, events: &mut Vec<Event>) -> Res
     add(EventKind::NodeChildrenChanged, &parent, events)
 }
 
-// Returns the path of the parent; the root is its own.
+// Returns the path of the parent. The root is its own parent.
 fn parent_path(path: &Path) -> Result<Path, Memory>
     ensures { IfOk result (λ parent. parent ≡ parent_of path.now) }
 {

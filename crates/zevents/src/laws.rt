@@ -1,9 +1,9 @@
-//! What holds of the definitions. Each function's contract is a law, and its body does nothing.
+//! Laws of the definitions. Each function's contract is a law; its body does nothing.
 
 ghost use Rattle.zevents.specs.Laws.{EventsTellEveryChange};
 
-/// The events of an update tell every change that it made, of each node's data and of its children.
-/// What a tick or the end of a session takes away is the exception: the reply doesn't name it.
+/// The events of an update report every change that it made to a node's data or children.
+/// Exceptions are a tick and the end of a session: their replies don't name the deleted nodes.
 pub fn events_tell_every_change()
     ensures { EventsTellEveryChange }
 {}

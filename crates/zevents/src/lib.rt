@@ -1,4 +1,4 @@
-//! Which events a call makes for the watches of ZooKeeper's clients.
+//! The events that a call makes for watches of ZooKeeper's clients.
 //!
 //! `events_of` returns the events of an update, by the update and the service's reply to it
 //! (`specs/Events.antt`). It is pure: it knows no watch and no connection.

@@ -12,8 +12,8 @@ ghost use Rattle.zevents.specs.Events.{event, events_of, part_events};
 ghost use Rattle.zevents.specs.support.Samples.{create_a_b, delete_a_b, set_a_b, check_a_b};
 ghost use Rattle.zevents.specs.support.Samples.{created_a_b, gone_a_b, written_a_b};
 
-/// The events of a change: of the node, and where it came or went, of its parent. The parent of the
-/// parent has none.
+/// The events of a change: of the node, and of its parent if the node was created or deleted. The
+/// parent's parent has none.
 pub fn events_of_changes()
     ensures create { events_of (act.Create create_a_b) (reply.Created at_a_b)
         ≡ event NodeCreated at_a_b ∷ event NodeChildrenChanged at_a ∷ [] }
@@ -38,7 +38,7 @@ pub fn events_of_multis()
         ≡ gone_a_b ++ written_a_b }
 {}
 
-/// What makes no event: a call that is refused, and what changes no node by its reply.
+/// Calls without events: refused ones, and those whose reply shows no changed node.
 pub fn calls_without_events()
     ensures refused { events_of (act.Create create_a_b) (reply.Refused NoNode) ≡ [] }
     ensures refused_multi { events_of (act.Multi (part.SetData set_a_b ∷ []))

@@ -1,4 +1,4 @@
--- A log of calls that a tree did, one after the other, each with its reply. Herlihy and Wing,
+-- A log of the calls that a tree served, in order, each with its reply. Herlihy and Wing,
 -- "Linearizability: A Correctness Condition for Concurrent Objects" (TOPLAS 1990), section 2: a
 -- history of one process is sequential.
 use Rattle.std.specs.Prelude.{◌≡◌, List, [], ◌∷◌, map}
@@ -18,12 +18,12 @@ calls_of log = map (λ told. told.0) log
 abbrev pub replies_of : Log → List Reply
 replies_of log = map (λ told. told.1) log
 
--- the replies of a tree that does these calls of client 0, one after the other
+-- the replies of a tree that serves these calls of client 0 in order
 abbrev pub served : Tree → List Call → List Reply
 served t [] = []
 served t (call ∷ calls) = (serve t 0 call).1 ∷ served (serve t 0 call).0 calls
 
--- and the tree that they leave
+-- the tree after these calls
 abbrev pub tree_after : Tree → List Call → Tree
 tree_after t [] = t
 tree_after t (call ∷ calls) = tree_after (serve t 0 call).0 calls
@@ -32,14 +32,14 @@ tree_after t (call ∷ calls) = tree_after (serve t 0 call).0 calls
 abbrev pub IsOneTreesFrom : Tree → Log → Type 0
 IsOneTreesFrom t log = replies_of log ≡ served t (calls_of log)
 
--- and of one that begins with the initial tree
+-- the same from the initial tree
 abbrev pub IsOneTrees : Log → Type 0
 IsOneTrees log = IsOneTreesFrom opening_tree log
 
--- a log of one tree that begins with one tree and leaves another
+-- the log is one tree's, from the first tree to the second
 abbrev pub Leads : Tree → Log → Tree → Type 0
 Leads t log after = IsOneTreesFrom t log × (tree_after t (calls_of log) ≡ after)
 
--- the same from the initial tree on
+-- the same from the initial tree
 abbrev pub Leaves : Log → Tree → Type 0
 Leaves log after = Leads opening_tree log after

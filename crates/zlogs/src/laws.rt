@@ -3,8 +3,8 @@
 ghost use Rattle.zlogs.specs.Lives.{LivesAreOneTrees, LivesAreOneTreesFrom};
 ghost use Rattle.zlogs.specs.Lives.{LivesLeaveOneTree, TreesCanStartAgain};
 
-/// A service lives, and another begins with the tree that it left, and so on. The replies of all
-/// lives, in their order, are those of one plain tree, as if it had lived once.
+/// Each incarnation of a service begins with the tree that the one before left. The replies of all
+/// incarnations, in order, are those of one plain tree that never stopped.
 pub fn lives_are_one_trees()
     ensures initial { LivesAreOneTrees }
     ensures from { LivesAreOneTreesFrom }

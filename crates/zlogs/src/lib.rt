@@ -1,7 +1,7 @@
-//! Logs of calls that one tree did, and lives one after the other.
+//! Logs of the calls that one tree served, and of successive incarnations.
 //!
-//! It produces definitions and laws alone: `specs/Logs.antt` and `specs/Lives.antt`. A front for
-//! ZooKeeper's clients is explained by such a log, and a folder over all lives by another.
+//! This crate holds definitions and laws only: `specs/Logs.antt` and `specs/Lives.antt`. One such
+//! log explains a front for ZooKeeper's clients. Another explains a folder across all restarts.
 #![tactic(auto)]
 
 pub mod laws;

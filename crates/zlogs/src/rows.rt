@@ -8,7 +8,7 @@ ghost use Rattle.zworld_model.specs.PlainTree.{serve};
 ghost use Rattle.zlogs.specs.Logs.{IsOneTrees, IsOneTreesFrom, Leaves, tree_after};
 ghost use Rattle.zlogs.specs.Lives.{AreLivesFrom, whole};
 
-/// The replies of one tree: each is that of the tree after the calls before it.
+/// The replies of one tree: each is computed from the tree after the calls before it.
 pub fn logs_of_one_tree()
     ensures nothing { IsOneTrees [] }
     ensures left { Leaves [] opening_tree }
@@ -20,8 +20,8 @@ pub fn logs_of_one_tree()
         tree_after opening_tree (a ∷ (b ∷ [])) ≡ (serve t 0 b).0 }
 {}
 
-/// Lives one after the other: the first call of a life is answered from the tree that the life
-/// before it left.
+/// Successive incarnations: the first call of each is answered from the tree that the one before
+/// left.
 pub fn lives_go_on()
     ensures none { (t : Tree) → AreLivesFrom t [] }
     ensures two { (a b : Call) → let t = (serve opening_tree 0 a).0 in

@@ -3,7 +3,7 @@
 use Rattle.std.specs.Prelude.{ℕ, ◌-◌, List, ◌++◌, length, map, replicate, bit_xor}
 use Rattle.sha2.specs.Sha256.{sha256}
 
--- the key, and zeros behind it up to a block
+-- the key, padded with zeros to a block
 abbrev pub padded : List ℕ → List ℕ
 padded key = key ++ replicate (64 - length key) 0
 

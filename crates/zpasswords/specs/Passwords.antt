@@ -1,10 +1,10 @@
--- The password of a session, from a secret that the server keeps. ZooKeeper's servers derive theirs
--- from a secret and the id of the session likewise.
+-- The password of a session, derived from the server's secret. ZooKeeper's servers also derive
+-- passwords from a secret and the session's id.
 use Rattle.std.specs.Prelude.{ℕ, List, take}
 use Rattle.std.specs.Int.{w64, to_be_bytes}
 use Rattle.zpasswords.specs.Hmac.{hmac_sha256}
 
--- the id of a session in 8 bytes, the highest first
+-- the id of a session in 8 bytes, highest first
 abbrev pub session_bytes : ℕ → List ℕ
 session_bytes session = to_be_bytes w64 session
 

@@ -1,4 +1,9 @@
 //! HMAC-SHA256 under a key of 32 bytes.
+//!
+//! # Why
+//!
+//! The toolchain's library has SHA-256 but no HMAC. The key is always the 32 bytes of the secret,
+//! so a key longer than a block needs no case.
 
 ghost use Rattle.std.specs.Prelude.{◌≡◌, ◌++◌};
 ghost use Rattle.sha2.specs.Sha256.{sha256};
@@ -12,7 +17,7 @@ const INNER_PAD: u8 = 0x36;
 // What the key's block is xored with before the inner digest.
 const OUTER_PAD: u8 = 0x5c;
 
-// Returns the key with zeros up to a block, each byte xored with the pad.
+// Returns the key padded with zeros to a block, each byte xored with the pad.
 fn keyed_block(key: &[u8; 32], pad: u8) -> [u8; 64]
     ensures { result ≡ xored pad (padded key.now) }
 {
@@ -23,7 +28,7 @@ fn keyed_block(key: &[u8; 32], pad: u8) -> [u8; 64]
     block
 }
 
-// Returns the digest of the key's block, xored with the pad, and the message.
+// Returns the digest of the key's block, xored with the pad, followed by the message.
 fn keyed_digest(key: &[u8; 32], pad: u8, message: &[u8]) -> [u8; 32]
     ensures { result ≡ sha256 (xored pad (padded key.now) ++ message.now) }
 {

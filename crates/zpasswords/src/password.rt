@@ -1,11 +1,16 @@
 //! The password of a session.
+//!
+//! # Why
+//!
+//! All sixteen bytes are compared, even after one that differs, so that the time doesn't reveal how
+//! many were right. No clause speaks of time. Another length is refused at once: it is no secret.
 
 ghost use Rattle.std.specs.Prelude.{◌≡◌, length, nat_eq, take};
 ghost use lib.Pointwise.{pointwise};
 
 use std::marker::Model;
 
-/// The password of a session: sixteen bytes, which its client keeps.
+/// The password of a session: sixteen bytes, which its client stores.
 #[derive(Clone, Copy)]
 pub struct Password {
     bytes: [u8; 16],
@@ -22,14 +27,14 @@ impl Model for Password {
 }
 
 impl Password {
-    /// Returns the password with these bytes.
+    /// Makes the password with these bytes.
     pub fn new(bytes: [u8; 16]) -> Password
         ensures { result ≡ bytes }
     {
         Password { bytes }
     }
 
-    /// Returns the password with the first half of these bytes.
+    /// Makes the password of the first half of these bytes.
     pub fn first_of(digest: &[u8; 32]) -> Password
         ensures { result ≡ take 16 digest.now }
     {
@@ -46,8 +51,8 @@ impl Password {
         &self.bytes
     }
 
-    /// Returns whether the bytes given are the password. Of sixteen bytes each is compared, also
-    /// behind one that differs.
+    /// Returns whether these bytes are the password. All sixteen are compared, even after one that
+    /// differs.
     pub fn is_given(&self, given: &[u8]) -> bool
         ensures { result ≡ pointwise nat_eq given.now self.now }
     {

@@ -29,7 +29,7 @@ pub fn digests()
         ≡ for_nothing }
 {}
 
-/// Each session has a password of its own.
+/// Sessions have different passwords.
 pub fn passwords()
     ensures seventh { password_of secret 7 ≡ password_of_7 }
     ensures other { password_of secret 258 ≡ password_of_258 }

@@ -1,4 +1,9 @@
-//! What a server's passwords are derived from.
+//! The secret that a server derives its passwords from.
+//!
+//! # Why
+//!
+//! The host draws it. A server in memory has a new one at each start. Its session ids begin anew
+//! there, and an old password must not open another client's session.
 
 ghost use Rattle.std.specs.Prelude.{◌≡◌};
 ghost use Rattle.zpasswords.specs.Passwords.{password_of as derived};
@@ -8,7 +13,7 @@ use crate::password::Password;
 use std::marker::Model;
 use ztree::SessionId;
 
-/// The secret of a server: 32 bytes, which no client is told.
+/// The secret of a server: 32 bytes, which no client sees.
 #[derive(Drop)]
 pub struct Secret {
     bytes: [u8; 32],
@@ -25,7 +30,7 @@ impl Model for Secret {
 }
 
 impl Secret {
-    /// Returns the secret with these bytes.
+    /// Makes the secret with these bytes.
     pub fn new(bytes: [u8; 32]) -> Secret
         ensures { result ≡ bytes }
     {

@@ -1,18 +1,18 @@
--- The pieces that are still to be sent: a queue.
+-- The queue of chunks to be sent.
 use Rattle.std.specs.Prelude.{ℕ, Bool, List, [], ◌∷◌, Option, None, Some, nat_eq, not}
 use Rattle.std.specs.List.{filter}
 
--- bytes to be sent on a connection, which may be the last ones
+-- bytes to be sent on a connection, which may be its last
 pub record PieceView : Type 0 where
   pub connection : ℕ
   pub bytes : List ℕ
   pub is_last : Bool
 
--- the piece to be sent first
+-- the chunk to be sent first
 abbrev pub first_of : List PieceView → Option PieceView
 first_of [] = None
 first_of (piece ∷ pieces) = Some piece
 
--- the pieces without those of a connection
+-- the chunks without those of a connection
 abbrev pub without : List PieceView → ℕ → List PieceView
 without pieces connection = filter (λ p. not (nat_eq p.connection connection)) pieces

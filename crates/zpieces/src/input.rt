@@ -1,15 +1,15 @@
-//! What comes to a server.
+//! The inputs of a server.
 
-/// What comes to a server for ZooKeeper's clients.
+/// An input of a server for ZooKeeper's clients.
 #[derive(Clone, Copy)]
 pub enum Input<'a> {
-    /// A connection was opened. Numbers of connections begin with 1, and one is given again only
-    /// behind `Ended`.
+    /// A connection was opened. Connections are numbered from 1. A number is used again only after
+    /// its `Ended`.
     Opened(u32),
-    /// Bytes came on a connection.
+    /// Bytes arrived on a connection.
     Came(u32, &'a [u8]),
-    /// A connection ended. Nothing is sent on it any more.
+    /// A connection ended. Nothing more is sent on it.
     Ended(u32),
-    /// A tick went by.
+    /// A tick elapsed.
     Tick,
 }

@@ -1,8 +1,8 @@
-//! What came on each connection and is no whole frame yet, and the pieces still to be sent.
+//! The inputs of a server, the partial frames of its connections, and the chunks to be sent.
 //!
-//! It names what comes to a server. It consumes the bytes that a server reads on its connections, and the bytes that it has to send.
-//! It produces the same bytes again: the rest of each stream, and the pieces in their order.
-//! `specs/Streams.antt` and `specs/Outbox.antt` define both.
+//! Bytes that a server reads are stored in streams until they form whole frames. Bytes that it
+//! writes are queued in order in an outbox. `specs/Inputs.antt`, `specs/Streams.antt` and
+//! `specs/Outbox.antt` define these.
 #![tactic(auto)]
 
 mod input;

@@ -1,4 +1,4 @@
-//! The pieces that are still to be sent.
+//! The queue of chunks to be sent.
 
 ghost use Rattle.std.specs.Prelude.{◌≡◌, ◌==◌, [], ◌∷◌, ◌++◌, drop, length, nat_eq, OnErr, OnOk};
 ghost use Rattle.std.specs.Option.{option_copied};
@@ -10,7 +10,7 @@ use std::collections::VecDeque;
 use std::marker::Model;
 use zalloc::Memory;
 
-/// The pieces that are still to be sent, in the order in which they came.
+/// The chunks to be sent, in the order in which they were added.
 #[derive(Drop)]
 pub struct Outbox {
     pieces: VecDeque<Piece>,
@@ -29,7 +29,7 @@ impl Model for Outbox {
 }
 
 impl Outbox {
-    /// Returns an outbox without pieces. Allocates nothing.
+    /// Returns an empty outbox. Allocates nothing.
     pub fn new(alloc: Global) -> Outbox
         ensures { result ≡ [] }
     {
@@ -45,14 +45,14 @@ impl Outbox {
         self.pieces.is_empty()
     }
 
-    /// Returns the piece to be sent first.
+    /// Returns the chunk to be sent first.
     pub fn first(&self) -> Option<&Piece>
         ensures { option_copied result ≡ first_of self.now }
     {
         self.pieces.front()
     }
 
-    /// Adds a piece behind the others. After `Memory` nothing has changed.
+    /// Adds a chunk at the end. After `Memory` nothing has changed.
     pub fn push(&mut self, piece: Piece) -> Result<(), Memory>
         ensures ok { OnOk result (self.new ≡ self.old ++ piece ∷ []) }
         ensures err { OnErr result (self.new ≡ self.old) }
@@ -61,7 +61,7 @@ impl Outbox {
         Ok(())
     }
 
-    /// Takes the piece to be sent first. Allocates nothing.
+    /// Removes and returns the chunk to be sent first. Allocates nothing.
     pub fn next(&mut self) -> Option<Piece>
         ensures first { result ≡ first_of self.old }
         ensures rest { self.new ≡ drop 1 self.old }
@@ -69,7 +69,7 @@ impl Outbox {
         self.pieces.pop_front()
     }
 
-    /// Drops the pieces of a connection. Allocates nothing.
+    /// Drops the chunks of a connection. Allocates nothing.
     pub fn forget(&mut self, connection: u32)
         ensures { self.new ≡ without self.old connection }
     {
@@ -77,14 +77,14 @@ impl Outbox {
     }
 }
 
-// Keeps the pieces of other connections.
+// Retains the chunks of other connections.
 fn keep_others(pieces: &mut VecDeque<Piece>, connection: u32)
     ensures { pieces.new.items ≡ without pieces.old.items connection }
 {
     pieces.retain(|piece| !is_for(piece, connection));
 }
 
-// Returns whether the piece is to be sent on this connection.
+// Returns whether the chunk is for this connection.
 fn is_for(piece: &Piece, connection: u32) -> bool
     ensures { result ≡ nat_eq piece.now.connection connection }
 {

@@ -1,8 +1,8 @@
-//! How far a connection is.
+//! The phase of a connection.
 
 use ztree::SessionId;
 
-/// How far a connection is.
+/// The phase of a connection.
 #[derive(Clone, Copy)]
 pub enum Phase {
     /// Nothing was read on it yet.

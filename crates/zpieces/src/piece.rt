@@ -1,15 +1,15 @@
-//! A piece to be sent.
+//! A chunk to be sent.
 
 use std::marker::Model;
 
-/// Bytes to be sent on a connection.
+/// A chunk: bytes to be sent on a connection.
 #[derive(Drop)]
 pub struct Piece {
     /// The connection's number.
     pub connection: u32,
     /// The bytes.
     pub bytes: Vec<u8>,
-    /// Whether the connection is to be closed behind them.
+    /// Whether the connection is closed after these bytes.
     pub is_last: bool,
 }
 

@@ -8,7 +8,7 @@ ghost use Rattle.zpieces.specs.Streams.{bytes_of, closed, held_of, opened, phase
 ghost use Rattle.zpieces.specs.Streams.{with_bytes, with_phase};
 ghost use Rattle.zpieces.specs.support.Samples.{silent, streams, streams_with};
 
-/// Connection 3 has session 7, and two bytes came on it. Nothing was read on connection 5.
+/// Connection 3 has session 7, and two bytes arrived on it. Nothing was read on connection 5.
 pub fn streams_are_read()
     ensures speaking { phase_of streams 3 ≡ Some (Speaking 7) }
     ensures silent { phase_of streams 5 ≡ Some Silent }
@@ -19,7 +19,7 @@ pub fn streams_are_read()
     ensures held { held_of streams ≡ 2 }
 {}
 
-/// One stream is changed, and the others stay. A connection without a stream gets none.
+/// One stream is changed, and the others remain. A connection without a stream gets none.
 pub fn streams_are_changed()
     ensures opened { opened ≡ silent }
     ensures phase { with_phase streams 3 Closing ≡ streams_with Closing (1 ∷ 2 ∷ []) }
@@ -30,7 +30,7 @@ pub fn streams_are_changed()
     ensures not_closed { closed streams 4 ≡ streams }
 {}
 
-/// Pieces of connections 3 and 5 are to be sent.
+/// Chunks for connections 3 and 5 are to be sent.
 pub fn pieces_in_order()
     ensures first { (p q : Piece) → first_of (p ∷ q ∷ []) ≡ Some p }
     ensures none { first_of [] ≡ None }

@@ -6,9 +6,9 @@ use std::marker::Model;
 /// The stream of one connection.
 #[derive(Drop)]
 pub struct Stream {
-    /// How far the connection is.
+    /// The phase of the connection.
     pub phase: Phase,
-    /// What came and is no whole frame.
+    /// The bytes that form no whole frame yet.
     pub bytes: Vec<u8>,
 }
 

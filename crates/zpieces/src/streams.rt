@@ -30,7 +30,7 @@ impl Model for Streams {
 }
 
 impl Streams {
-    /// Returns no streams. Allocates nothing.
+    /// Returns an empty table. Allocates nothing.
     pub fn new(alloc: Global) -> Streams
         ensures { result ≡ finite.empty }
     {
@@ -40,29 +40,29 @@ impl Streams {
         }
     }
 
-    /// Returns how many connections have a stream.
+    /// Returns the number of connections with a stream.
     pub fn count(&self) -> usize
         ensures { result ≡ finite.len self.now }
     {
         self.table.len()
     }
 
-    /// Returns how many bytes the streams hold together. No machine has 2^64 of them.
+    /// Returns the number of bytes of all streams. No machine has 2^64 of them.
     pub fn held(&self) -> usize
         ensures { held_of self.now < 2 ^ 64 → result ≡ held_of self.now }
     {
         self.table.held()
     }
 
-    /// Returns how far a connection is, if it has a stream.
+    /// Returns the phase of a connection, if it has a stream.
     pub fn phase(&self, connection: u32) -> Option<Phase>
         ensures { result ≡ phase_of self.now connection }
     {
         self.table.phase(connection)
     }
 
-    /// Adds the stream of a connection on which nothing was read yet, in place of any that it has.
-    /// After `Memory` nothing has changed.
+    /// Adds the stream of a connection on which nothing was read yet. Replaces its stream, if it
+    /// has one. After `Memory` nothing has changed.
     pub fn open(&mut self, connection: u32) -> Result<(), Memory>
         ensures ok { OnOk result (self.new ≡ finite.insert self.old connection opened) }
         ensures err { OnErr result (self.new ≡ self.old) }
@@ -70,21 +70,21 @@ impl Streams {
         self.table.insert(connection, Phase::Silent)
     }
 
-    /// Sets how far a connection is, if it has a stream. Allocates nothing.
+    /// Sets the phase of a connection, if it has a stream. Allocates nothing.
     pub fn set_phase(&mut self, connection: u32, phase: Phase)
         ensures { self.new ≡ with_phase self.old connection phase }
     {
         self.table.set_phase(connection, phase);
     }
 
-    /// Ends the reading on a connection, if it has a stream. Drops its bytes, and allocates nothing.
+    /// Stops reading on a connection, if it has a stream. Drops its bytes, and allocates nothing.
     pub fn close(&mut self, connection: u32)
         ensures { self.new ≡ closed self.old connection }
     {
         self.table.close(connection);
     }
 
-    /// Takes the bytes of a connection: none, if it has no stream. Allocates nothing.
+    /// Takes the bytes of a connection; none if it has no stream. Allocates nothing.
     pub fn take(&mut self, connection: u32) -> Vec<u8>
         ensures bytes { result.items ≡ bytes_of self.old connection }
         ensures rest { self.new ≡ with_bytes self.old connection [] }
@@ -92,8 +92,7 @@ impl Streams {
         self.table.swap(connection, Vec::new(self.alloc))
     }
 
-    /// Keeps these bytes of a connection in place of its others, if it has a stream. Allocates
-    /// nothing.
+    /// Replaces the bytes of a connection, if it has a stream. Allocates nothing.
     pub fn keep(&mut self, connection: u32, bytes: Vec<u8>)
         ensures { self.new ≡ with_bytes self.old connection bytes.items }
     {

@@ -1,4 +1,4 @@
-//! The streams of all connections, and the count of their bytes.
+//! The streams of all connections, and their total size.
 
 ghost use Rattle.std.specs.Prelude.{◌≡◌, ◌^◌, ◌<◌, [], OnErr, OnOk};
 ghost use Rattle.std.specs.FinMap as finite;
@@ -18,7 +18,7 @@ use zalloc::Memory;
 pub(crate) struct StreamTable {
     alloc: Global,
     rows: BTreeMap<u32, Stream>,
-    // How many bytes the rows hold, wrapped at 2^64.
+    // The number of bytes of all rows, wrapped at 2^64.
     held: usize,
 }
 
@@ -38,7 +38,7 @@ impl Model for StreamTable {
 }
 
 impl StreamTable {
-    // Returns a table without streams. Allocates nothing.
+    // Returns an empty table. Allocates nothing.
     pub(crate) fn new(alloc: Global) -> StreamTable
         ensures { result ≡ finite.empty }
     {
@@ -49,21 +49,21 @@ impl StreamTable {
         }
     }
 
-    // Returns how many connections have a stream.
+    // Returns the number of connections with a stream.
     pub(crate) fn len(&self) -> usize
         ensures { result ≡ finite.len self.now }
     {
         self.rows.len()
     }
 
-    // Returns how many bytes the streams hold together, where the count isn't wrapped.
+    // Returns the number of bytes of all streams, unless the count has wrapped.
     pub(crate) fn held(&self) -> usize
         ensures { held_of self.now < 2 ^ 64 → result ≡ held_of self.now }
     {
         self.held
     }
 
-    // Returns how far a connection is, if it has a stream.
+    // Returns the phase of a connection, if it has a stream.
     pub(crate) fn phase(&self, connection: u32) -> Option<Phase>
         ensures { result ≡ phase_of self.now connection }
     {
@@ -71,8 +71,8 @@ impl StreamTable {
         Some(stream.phase)
     }
 
-    // Adds a stream without bytes, in place of any that the connection has. After `Memory` nothing
-    // has changed.
+    // Adds a stream without bytes. Replaces the connection's stream, if it has one. After `Memory`
+    // nothing has changed.
     pub(crate) fn insert(&mut self, connection: u32, phase: Phase) -> Result<(), Memory>
         ensures ok { OnOk result (self.new ≡ finite.insert self.old connection (empty_in phase)) }
         ensures err { OnErr result (self.new ≡ self.old) }
@@ -88,7 +88,7 @@ impl StreamTable {
         Ok(())
     }
 
-    // Sets how far a connection is, if it has a stream. Allocates nothing.
+    // Sets the phase of a connection, if it has a stream. Allocates nothing.
     pub(crate) fn set_phase(&mut self, connection: u32, phase: Phase)
         ensures { self.new ≡ with_phase self.old connection phase }
     {
@@ -98,7 +98,7 @@ impl StreamTable {
         stream.phase = phase;
     }
 
-    // Ends the reading on a connection, if it has a stream. Drops its bytes.
+    // Stops reading on a connection, if it has a stream. Drops its bytes.
     pub(crate) fn close(&mut self, connection: u32)
         ensures { self.new ≡ closed self.old connection }
     {
@@ -115,7 +115,7 @@ impl StreamTable {
         }
     }
 
-    // Keeps these bytes of a connection, if it has a stream, and returns those that it had.
+    // Replaces the bytes of a connection, if it has a stream, and returns the old ones.
     pub(crate) fn swap(&mut self, connection: u32, bytes: Vec<u8>) -> Vec<u8>
         ensures bytes { result.items ≡ bytes_of self.old connection }
         ensures rest { self.new ≡ with_bytes self.old connection bytes.items }

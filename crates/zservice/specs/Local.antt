@@ -2,7 +2,7 @@
 use Rattle.std.specs.Prelude.{Bool}
 use Rattle.ztree.specs.Tree.{Tree}
 
--- the tree, and whether memory ran out: then nothing more is answered
+-- the tree, and whether memory ran out; after that every call fails
 pub record LocalTreeView : Type 0 where
   pub tree : Tree
   pub is_broken : Bool

@@ -1,4 +1,4 @@
-//! A machine with the tree of another one. It has cached no reply, and applied no entry.
+//! A machine with another machine's tree. It has cached no reply and applied no entry.
 
 ghost use Rattle.std.specs.Prelude.{◌≡◌, [], false, Some, IfOk, OnOk};
 ghost use Rattle.std.specs.FinMap.{entries, get, keys};
@@ -48,7 +48,7 @@ fn rooted(alloc: Global, machine: &Machine) -> Result<Restoring, Memory>
     }
 }
 
-// Puts the sessions of a machine, one after the other.
+// Restores the sessions of a machine, in order.
 fn put_sessions(
     machine: &Machine,
     ids: Vec<SessionId>,
@@ -73,7 +73,7 @@ fn put_sessions(
     Ok(())
 }
 
-// Puts the nodes of a machine below the root, one after the other.
+// Restores the nodes of a machine below the root, in order.
 fn put_nodes(machine: &Machine, paths: Vec<Path>, restoring: &mut Restoring) -> Result<(), Memory>
     requires whole { machine.now.is_broken ≡ false }
     requires left { NodesAreLeft (tree_in machine.now) restoring.old paths.items }
@@ -91,7 +91,7 @@ fn put_nodes(machine: &Machine, paths: Vec<Path>, restoring: &mut Restoring) -> 
     Ok(())
 }
 
-// Returns the fault, which is want of memory.
+// Returns the only possible fault: out of memory.
 fn memory(fault: RestoreFault) -> Memory
     requires { fault ≡ OfMemory }
 {

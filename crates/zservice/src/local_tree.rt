@@ -1,4 +1,9 @@
 //! A tree in memory.
+//!
+//! # Why
+//!
+//! A session belongs to the client that opened it. All calls are client 0's, each under the next
+//! number, and the front distinguishes sessions itself.
 
 ghost use Rattle.std.specs.Prelude.{◌≡◌, true, false, IfOk, IsErr, OnErr, OnOk};
 ghost use Rattle.ztree.specs.Tree.{opening_tree};
@@ -16,13 +21,13 @@ use zcalls::{Query, Reply, Update};
 use zops::Machine;
 use ztree::{Session, SessionId, Zxid};
 
-/// A tree in memory, which does calls.
+/// A tree in memory, which serves calls.
 ///
-/// Once `apply` has run out of memory, each call returns `Memory`.
+/// After `apply` has run out of memory, each call returns `Memory`.
 #[derive(Drop)]
 pub struct LocalTree {
     alloc: Global,
-    // Its updates are client 0's, each under the next number.
+    // All updates are client 0's, each under the next number.
     machine: Machine,
     is_broken: bool,
 }
@@ -50,7 +55,7 @@ impl LocalTree {
         Ok(LocalTree::of(alloc, machine))
     }
 
-    /// Makes the tree of a machine that cached no reply and applied no entry.
+    /// Takes the tree of a machine that cached no reply and applied no entry.
     pub fn of(alloc: Global, machine: Machine) -> LocalTree
         requires whole { machine.is_broken ≡ false }
         requires bare { IsBare machine }
@@ -63,7 +68,7 @@ impl LocalTree {
         }
     }
 
-    /// Applies an update of client 0, and hands it back behind the reply.
+    /// Applies an update of client 0. Returns the reply and the update.
     ///
     /// After `Memory` each call returns `Memory`.
     pub fn apply(&mut self, update: Update) -> Result<(Reply, Update), Memory>
@@ -83,7 +88,7 @@ impl LocalTree {
         Ok((reply, update))
     }
 
-    /// Returns a machine that has its tree; or `Memory`.
+    /// Returns the machine that holds its tree.
     pub fn machine(&self) -> Result<&Machine, Memory>
         ensures tree { IfOk result (λ m. tree_in m.now ≡ self.now.tree) }
         ensures whole { IfOk result (λ m. m.now.is_broken ≡ false) }
@@ -95,8 +100,8 @@ impl LocalTree {
         Ok(&self.machine)
     }
 
-    /// Tells a caller's proof what holds of every tree: a service can begin with it. The function
-    /// does nothing.
+    /// A lemma for the caller's proof: a service can begin with this tree. The function does
+    /// nothing.
     pub fn keeps_held(&self)
         ensures { CanStart self.now.tree }
     {

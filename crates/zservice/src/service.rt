@@ -1,4 +1,9 @@
-//! What does calls on one tree.
+//! The contract of a service of one tree.
+//!
+//! # Why
+//!
+//! The contract says what a call does to the tree, and nothing of how. The front, its tables and
+//! its laws are proved against it alone, so another service can replace `LocalTree`.
 
 ghost use Rattle.std.specs.Prelude.{◌≡◌, IfOk};
 ghost use Rattle.std.specs.FinMap.{get, keys};
@@ -11,13 +16,13 @@ use zalloc::Memory;
 use zcalls::{Query, Reply, Update};
 use ztree::{Session, SessionId, Zxid};
 
-/// A service of one tree: it does calls, one after the other. Once a call ran out of memory, each
-/// call returns `Memory`.
+/// A service of one tree. Calls are served one after the other. Once a call has run out of memory,
+/// each call returns `Memory`.
 pub trait TreeService {
-    /// The tree that the calls so far left.
+    /// The tree after all calls so far.
     ghost tree: { Self → Tree };
 
-    /// Applies an update of client 0, and hands it back behind the reply.
+    /// Applies an update of client 0. Returns the reply and the update.
     fn apply(&mut self, update: Update) -> Result<(Reply, Update), Memory>
         ensures applied { IfOk result (λ did.
             (tree self.new, did.0) ≡ serve (tree self.old) 0 (Called update)) }

@@ -1,4 +1,4 @@
-//! One update of a machine, as that of client 0.
+//! One update of a machine, as client 0's.
 
 ghost use Rattle.std.specs.Prelude.{◌≡◌, ◌<◌, ◌+◌, IfOk, OnOk};
 ghost use Rattle.zops.specs.declared.limits.TheConstants.{MAX_APPLIED};
@@ -14,8 +14,8 @@ use zcalls::{CallNumber, Entry, Reply, Update};
 use zops::{MAX_APPLIED, Machine};
 use ztree::ClientId;
 
-/// Applies an update, and hands it back behind the reply. A machine that counted as many entries as
-/// it can is made anew before that.
+/// Applies an update. Returns the reply and the update. A machine whose count of entries is full is
+/// replaced first, by one with the same tree.
 pub(crate) fn step(
     alloc: Global,
     machine: &mut Machine,
@@ -31,7 +31,7 @@ pub(crate) fn step(
     enter(machine, update)
 }
 
-// Makes the machine anew if it counted as many entries as it can.
+// Replaces the machine if its count of entries is full.
 fn make_room(alloc: Global, machine: &mut Machine) -> Result<(), Memory>
     requires { IsReady machine.old }
     ensures ready { OnOk result (IsReady machine.new) }
@@ -45,7 +45,7 @@ fn make_room(alloc: Global, machine: &mut Machine) -> Result<(), Memory>
     Ok(())
 }
 
-// Applies an update, where the machine can count one more.
+// Applies an update. The machine must be able to count one more entry.
 fn enter(machine: &mut Machine, update: Update) -> Result<(Reply, Update), Memory>
     requires ready { IsReady machine.old }
     requires room { machine.old.state.applied < MAX_APPLIED }
@@ -68,7 +68,7 @@ fn enter(machine: &mut Machine, update: Update) -> Result<(Reply, Update), Memor
     }
 }
 
-// Returns the client that all updates are of.
+// Returns the client of all updates.
 fn first_client() -> ClientId
     ensures { result ≡ 0 }
 {

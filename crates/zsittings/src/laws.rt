@@ -1,8 +1,8 @@
-//! What holds of all sittings. Each function's contract is a law; its body does nothing.
+//! Laws of all attachments. Each function's contract is a law; its body does nothing.
 
 ghost use Rattle.zsittings.specs.Laws.{EachRests};
 
-/// A rest leaves each session where it is, with nothing asked for.
+/// A rest leaves each session attached as it was, with nothing requested since.
 pub fn each_rests()
     ensures { EachRests }
 {}

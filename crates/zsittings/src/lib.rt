@@ -1,8 +1,8 @@
-//! Which session has which connection.
+//! Attachments of sessions to connections.
 //!
-//! It consumes what a server's connections do to sessions: open one, take one up, leave it. It
-//! produces what is kept of each, and the ids of those that asked for anything.
-//! `specs/Sittings.antt` defines it.
+//! A connection opens a session, takes one, or leaves it, and this crate stores what each session
+//! then has beside the tree. It lists the sessions that sent requests since the last rest: a rest
+//! clears the mark of each session. `specs/Sittings.antt` defines it.
 #![tactic(auto)]
 
 pub mod laws;

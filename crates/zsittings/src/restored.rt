@@ -1,11 +1,11 @@
-//! The sitting of a session that was opened before.
+//! The attachment of a session that was opened earlier.
 
 ghost use Rattle.std.specs.Prelude.{◌≡◌};
 ghost use Rattle.zsittings.specs.Sittings.{restored_sitting};
 
 use crate::sitting::Sitting;
 
-/// Returns the sitting of a session that has no connection.
+/// Returns the attachment of a session without a connection.
 pub(crate) fn restored() -> Sitting
     ensures { result ≡ restored_sitting }
 {

@@ -7,7 +7,7 @@ ghost use Rattle.zsittings.specs.Sittings.{rested, restored_sitting, taken_up, t
 ghost use Rattle.zsittings.specs.Sittings.{touched_ids, with_changed, with_ephemeral, with_seat};
 ghost use Rattle.zsittings.specs.support.Samples.{some_sitting, some_sittings};
 
-/// One sitting: connection 3 opened the session.
+/// One attachment: connection 3 opened the session.
 pub fn one_sitting()
     ensures opened { new_sitting 3 ≡ record {
       connection = Some 3;
@@ -46,7 +46,7 @@ pub fn one_sitting()
     } }
 {}
 
-/// A session is taken up by connection 5. One that isn't here was opened before.
+/// Connection 5 takes a session. An unknown one was opened earlier.
 #[tactic(auto, using(crate::proofs::Entries::written))]
 pub fn sessions_are_taken_up()
     ensures here { with_seat some_sittings 7 5
@@ -54,7 +54,7 @@ pub fn sessions_are_taken_up()
     ensures not_here { with_seat empty 7 5 ≡ insert empty 7 (taken_up 5 restored_sitting) }
 {}
 
-/// What asked for anything.
+/// Sessions that sent a request.
 #[tactic(auto, using(crate::proofs::Entries::written))]
 pub fn touches_and_rests()
     ensures none { touched_ids some_sittings ≡ [] }

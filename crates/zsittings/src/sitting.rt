@@ -1,11 +1,16 @@
-//! What is kept of one session.
+//! The attachment of one session.
+//!
+//! # Why
+//!
+//! The mark of an ephemeral node is never cleared. To track deletions would need a mirror of the
+//! tree, and a wrong mark only costs a needless check of the watched nodes.
 
-/// What a server keeps of a session beside the tree.
+/// The attachment of a session: what a server stores of it beside the tree.
 #[derive(Clone, Copy)]
 pub struct Sitting {
-    /// The connection that has the session, if one does.
+    /// The connection that has the session, if any.
     pub connection: Option<u32>,
-    /// Whether it asked for anything since the last rest.
+    /// Whether it sent a request since the last rest.
     pub is_touched: bool,
     /// Whether it ever made an ephemeral node.
     pub made_ephemeral: bool,

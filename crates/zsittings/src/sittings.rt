@@ -1,4 +1,9 @@
-//! The sittings of all sessions.
+//! The attachments of all sessions.
+//!
+//! # Why
+//!
+//! The tree alone knows which sessions exist. A session that no connection named yet is added when
+//! one takes it. So a client can come back to a front that never opened its session.
 
 ghost use Rattle.std.specs.Prelude.{◌≡◌, IfOk, OnErr, OnOk};
 ghost use Rattle.std.specs.FinMap as finite;
@@ -15,8 +20,7 @@ use std::marker::Model;
 use zalloc::Memory;
 use ztree::SessionId;
 
-/// Which session has which connection. Only `open`, `restore`, `seat`, `touched` and
-/// `ids` allocate.
+/// The attachments of all sessions. Only `open`, `restore`, `seat`, `touched` and `ids` allocate.
 #[derive(Drop)]
 pub struct Sittings {
     table: SittingTable,
@@ -34,7 +38,7 @@ impl Model for Sittings {
 }
 
 impl Sittings {
-    /// Returns no sittings.
+    /// Returns an empty table.
     pub fn new(alloc: Global) -> Sittings
         ensures { result ≡ finite.empty }
     {
@@ -50,7 +54,7 @@ impl Sittings {
         self.table.len()
     }
 
-    /// Returns what is kept of a session, if it exists.
+    /// Returns the attachment of a session, if it exists.
     pub fn sitting(&self, id: SessionId) -> Option<Sitting>
         ensures { result ≡ finite.get self.now id }
     {
@@ -71,8 +75,8 @@ impl Sittings {
         self.table.insert(id, sitting)
     }
 
-    /// Adds a session that was opened before, and has no connection now. After `Memory` nothing has
-    /// changed.
+    /// Adds a session that was opened earlier, and has no connection now. After `Memory` nothing
+    /// has changed.
     pub fn restore(&mut self, id: SessionId) -> Result<(), Memory>
         ensures ok { OnOk result
             (self.new ≡ finite.insert self.old id restored_sitting) }
@@ -81,7 +85,7 @@ impl Sittings {
         self.table.insert(id, restored())
     }
 
-    /// Gives a session to a connection. One that isn't here was opened before. After `Memory`
+    /// Attaches a session to a connection. An unknown session was opened earlier. After `Memory`
     /// nothing has changed.
     pub fn seat(&mut self, id: SessionId, connection: u32) -> Result<(), Memory>
         ensures ok { OnOk result (self.new ≡ with_seat self.old id connection) }
@@ -99,7 +103,7 @@ impl Sittings {
         self.table.insert(id, taken_up)
     }
 
-    /// Notes that a session asked for something, if it exists.
+    /// Marks that a session sent a request, if it exists.
     pub fn touch(&mut self, id: SessionId)
         ensures { self.new ≡ with_changed touched self.old id }
     {
@@ -112,7 +116,7 @@ impl Sittings {
         }
     }
 
-    /// Notes that a session made an ephemeral node, if it exists.
+    /// Marks that a session made an ephemeral node, if it exists.
     pub fn note_ephemeral(&mut self, id: SessionId)
         ensures { self.new ≡ with_changed with_ephemeral self.old id }
     {
@@ -125,7 +129,7 @@ impl Sittings {
         }
     }
 
-    /// Takes a session from its connection, if it exists.
+    /// Detaches a session from its connection, if it exists.
     pub fn leave(&mut self, id: SessionId)
         ensures { self.new ≡ with_changed left self.old id }
     {
@@ -145,15 +149,14 @@ impl Sittings {
         self.table.remove(id);
     }
 
-    /// Returns the ids of the sessions that asked for anything since the last rest, in order; or
-    /// `Memory`.
+    /// Returns the ids of the sessions with a request since the last rest, in order; or `Memory`.
     pub fn touched(&self) -> Result<Vec<SessionId>, Memory>
         ensures { IfOk result (λ ids. ids.items ≡ touched_ids self.now) }
     {
         self.table.touched()
     }
 
-    /// Rests every session: it has asked for nothing since now.
+    /// Clears the mark of a request of each session.
     pub fn rest(&mut self)
         ensures { self.new ≡ all_rested self.old }
     {

@@ -1,4 +1,4 @@
-//! The table of sittings: a finite map from session ids.
+//! The table of attachments: a finite map from session ids.
 
 ghost use Rattle.std.specs.Prelude.{◌≡◌, IfOk, OnErr, OnOk};
 ghost use Rattle.std.specs.FinMap as finite;
@@ -12,7 +12,7 @@ use std::marker::Model;
 use zalloc::Memory;
 use ztree::SessionId;
 
-// A sitting under each session's id.
+// An attachment under each session's id.
 #[derive(Drop)]
 pub(crate) struct SittingTable {
     alloc: Global,
@@ -32,7 +32,7 @@ impl Model for SittingTable {
 }
 
 impl SittingTable {
-    // Returns a table without sittings. Allocates nothing.
+    // Returns an empty table. Allocates nothing.
     pub(crate) fn new(alloc: Global) -> SittingTable
         ensures { result ≡ finite.empty }
     {
@@ -42,21 +42,21 @@ impl SittingTable {
         }
     }
 
-    // Returns how many there are.
+    // Returns the number of attachments.
     pub(crate) fn len(&self) -> usize
         ensures { result ≡ finite.len self.now }
     {
         self.table.len()
     }
 
-    // Returns the sitting of a session, if it exists.
+    // Returns the attachment of a session, if it exists.
     pub(crate) fn get(&self, id: SessionId) -> Option<Sitting>
         ensures { result ≡ finite.get self.now id }
     {
         self.table.get(&id.number()).copied()
     }
 
-    // Adds a sitting. After `Memory` nothing has changed.
+    // Adds an attachment. After `Memory` nothing has changed.
     pub(crate) fn insert(&mut self, id: SessionId, sitting: Sitting) -> Result<(), Memory>
         ensures ok { OnOk result (self.new ≡ finite.insert self.old id sitting) }
         ensures err { OnErr result (self.new ≡ self.old) }
@@ -65,7 +65,7 @@ impl SittingTable {
         Ok(())
     }
 
-    // Writes the sitting of a session, if it exists. Allocates nothing.
+    // Replaces the attachment of a session, if it exists. Allocates nothing.
     pub(crate) fn put(&mut self, id: SessionId, sitting: Sitting)
         ensures { self.new ≡ with_changed (λ _. sitting) self.old id }
     {
@@ -74,14 +74,14 @@ impl SittingTable {
         }
     }
 
-    // Removes the sitting of a session, if it exists.
+    // Removes the attachment of a session, if it exists.
     pub(crate) fn remove(&mut self, id: SessionId)
         ensures { self.new ≡ finite.remove self.old id }
     {
         self.table.remove(&id.number());
     }
 
-    // Rests every sitting. Allocates nothing.
+    // Clears the mark of a request of each session. Allocates nothing.
     pub(crate) fn rest(&mut self)
         ensures { self.new ≡ all_rested self.old }
     {
@@ -91,14 +91,14 @@ impl SittingTable {
         });
     }
 
-    // Returns the ids of the sittings that are touched, in order; or `Memory`.
+    // Returns the ids of the touched sessions, in order; or `Memory`.
     pub(crate) fn touched(&self) -> Result<Vec<SessionId>, Memory>
         ensures { IfOk result (λ ids. ids.items ≡ touched_ids self.now) }
     {
         touched_among(self.alloc, &self.table)
     }
 
-    // Returns the ids of all sittings, in order; or `Memory`.
+    // Returns the ids of all sessions, in order; or `Memory`.
     pub(crate) fn ids(&self) -> Result<Vec<SessionId>, Memory>
         ensures { IfOk result (λ ids. ids.items ≡ finite.keys self.now) }
     {
@@ -106,7 +106,7 @@ impl SittingTable {
     }
 }
 
-// Returns the sitting with nothing asked for.
+// Returns the attachment without the mark of a request.
 fn rested(sitting: Sitting) -> Sitting
     ensures { result ≡ rested sitting }
 {

@@ -1,5 +1,5 @@
--- Which watches an event fires, and which connections it tells. The source is the ZooKeeper
--- Programmer's Guide, sections "ZooKeeper Watches" and "Semantics of Watches".
+-- The watches that an event fires, and the connections that it notifies. The source is the
+-- ZooKeeper Programmer's Guide, sections "ZooKeeper Watches" and "Semantics of Watches".
 use Rattle.std.specs.Prelude.{◌≡◌, ℕ, Bool, not, List, [], ◌∷◌, map, ◌==◌}
 use Rattle.std.specs.declared.cmp.Ordering.{Ordering}
 use Rattle.std.specs.List.{list_any}
@@ -13,11 +13,11 @@ use Rattle.zwatches.specs.declared.place.Place.{Place}
 use Rattle.zwatches.specs.declared.watch.Watch.{Watch}
 use Rattle.zwatches.specs.Watches.{Path, Watches, place, place_cmp, place_of}
 
--- the watch is at this place
+-- the watch is at this position
 abbrev pub is_at : Place → Watch → Bool
 is_at at w = is_eq (place_cmp (place_of w) at)
 
--- where the watches are that an event at a path fires
+-- the positions of the watches that an event at a path fires
 abbrev pub fired_at : EventKind → Path → List Place
 fired_at NodeCreated path = place path Data ∷ place path Missing ∷ []
 fired_at NodeDataChanged path = place path Data ∷ []
@@ -29,7 +29,7 @@ fired_at other path = []
 abbrev pub fires : EventKind → Path → Watch → Bool
 fires event path w = list_any (λ at. is_at at w) (fired_at event path)
 
--- the watches that stay
+-- the watches that remain
 abbrev pub unfired : Watches → EventKind → Path → Watches
 unfired table event path = retain table (λ w. not (fires event path w))
 
@@ -37,7 +37,7 @@ unfired table event path = retain table (λ w. not (fires event path w))
 abbrev pub connections : List Watch → FinSet nat_cmp
 connections ws = from_list (map (λ w. w.connection) ws)
 
--- the connections to tell
+-- the connections to notify
 abbrev pub told : Watches → EventKind → Path → FinSet nat_cmp
 told table event path = connections (items (retain table (fires event path)))
 

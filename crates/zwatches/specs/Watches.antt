@@ -13,11 +13,11 @@ use Rattle.zwatches.specs.declared.limits.TheConstants.{MAX_WATCHES}
 use Rattle.zwatches.specs.declared.place.Place.{Place}
 use Rattle.zwatches.specs.declared.watch.Watch.{Watch}
 
--- a path is its names from the root down
+-- a path: its names from the root down
 abbrev pub Path : Type 0
 Path = List (List ℕ)
 
--- a watch by its parts
+-- a watch from its parts
 abbrev pub watch : Path → Kind → ℕ → Watch
 watch path kind connection = record { path = path; kind = kind; connection = connection }
 
@@ -27,20 +27,20 @@ kind_number Data = 0
 kind_number Missing = 1
 kind_number Children = 2
 
--- a place by its parts
+-- a position from its parts
 abbrev pub place : Path → Kind → Place
 place path kind = record { path = path; kind = kind }
 
--- places in order: by path, and by kind
+-- positions in order: by path, then by kind
 abbrev pub place_cmp : Place → Place → Ordering
 place_cmp a b =
     ordering_then (path_cmp a.path b.path) (nat_cmp (kind_number a.kind) (kind_number b.kind))
 
--- where a watch is
+-- the position of a watch
 abbrev pub place_of : Watch → Place
 place_of w = place w.path w.kind
 
--- watches in order: by path, by kind, and by connection
+-- watches in order: by path, by kind, then by connection
 abbrev pub watch_cmp : Watch → Watch → Ordering
 watch_cmp a b =
     ordering_then (place_cmp (place_of a) (place_of b)) (nat_cmp a.connection b.connection)
@@ -49,11 +49,11 @@ watch_cmp a b =
 abbrev pub Watches : Type 0
 Watches = FinSet watch_cmp
 
--- there is no room for the watch, and it isn't there
+-- the watch isn't in the table, and there is no room for it
 abbrev pub is_full : Watches → Watch → Bool
 is_full table w = not (contains table w) && nat_le MAX_WATCHES (len table)
 
--- when each fault comes: a full table is told before want of memory
+-- when each fault is returned: a full table is checked before memory is
 abbrev pub IsSetFault : Bool → WatchFault → Type 0
 IsSetFault full Full = full ≡ true
 IsSetFault full Memory = full ≡ false

@@ -1,4 +1,4 @@
--- What serves the proofs alone: nobody has to believe it.
+-- For proofs and worked examples only.
 pub mod Codes
 pub mod Groups
 pub mod Listing

@@ -1,4 +1,4 @@
-//! The rows of the places of an event: whom they tell, and the rows without them.
+//! The rows that an event fires: their connections, and the table without them.
 
 ghost use Rattle.std.specs.Prelude.{◌≡◌, ◌≤◌, ◌++◌, not, map, IfOk, OnOk, ◌==◌, vec_len};
 ghost use Rattle.std.specs.List.{filter, remove_range};
@@ -16,7 +16,7 @@ use zalloc::Memory;
 use zjute::EventKind;
 use zpath::Name;
 
-// Adds the connections of the rows of a place.
+// Adds the connections of the rows at a position.
 fn tell_at(rows: &[Watch], told: &mut Vec<u32>, names: &[Name], kind: Kind) -> Result<(), Memory>
     requires { AreRows rows.now }
     ensures { OnOk result (told.new.items ≡ told.old.items
@@ -51,7 +51,7 @@ fn tell(rows: &[Watch], told: &mut Vec<u32>, event: EventKind, names: &[Name]) -
     }
 }
 
-// Sorts numbers, and leaves each once.
+// Sorts numbers and removes duplicates.
 fn make_rising(numbers: &mut Vec<u32>)
     ensures { Lists numbers.new.items (from_list {R = nat_cmp} numbers.old.items) }
 {
@@ -59,7 +59,7 @@ fn make_rising(numbers: &mut Vec<u32>)
     numbers.dedup();
 }
 
-// The connections that an event tells.
+// Returns the connections that an event notifies.
 pub(crate) fn told_of(
     alloc: Global,
     rows: &[Watch],
@@ -85,7 +85,7 @@ fn remove_between(rows: &mut Vec<Watch>, first: usize, end: usize)
     drop(rows.drain(first..end));
 }
 
-// Removes the rows of a place.
+// Removes the rows at a position.
 fn remove_at(rows: &mut Vec<Watch>, names: &[Name], kind: Kind)
     requires { AreRows rows.old.items }
     ensures { rows.new.items
@@ -95,7 +95,7 @@ fn remove_at(rows: &mut Vec<Watch>, names: &[Name], kind: Kind)
     remove_between(rows, first, end);
 }
 
-// Removes the rows of the places of an event.
+// Removes the rows at the positions of an event.
 fn remove_each(rows: &mut Vec<Watch>, event: EventKind, names: &[Name])
     requires { AreRows rows.old.items }
     ensures { rows.new.items ≡ kept rows.old.items (fired_at event names.now) }
@@ -125,7 +125,7 @@ pub(crate) fn remove_fired(rows: &mut Vec<Watch>, event: EventKind, names: &[Nam
     remove_each(rows, event, names);
 }
 
-// Leaves the rows of other connections.
+// Retains the rows of other connections.
 fn keep_others(rows: &mut Vec<Watch>, connection: u32)
     ensures { rows.new.items ≡ filter (λ row. not (row.connection == connection)) rows.old.items }
 {

@@ -2,7 +2,7 @@
 
 ghost use Rattle.zwatches.specs.Laws.{TellsWhoWaits, FiresOnce, HasEachNode};
 
-/// An event tells exactly the connections of the watches that it fires.
+/// An event notifies exactly the connections of the watches that it fires.
 pub fn who_waits_is_told()
     ensures { TellsWhoWaits }
 {}
@@ -12,7 +12,7 @@ pub fn watches_fire_once()
     ensures { FiresOnce }
 {}
 
-/// The places of nodes are exactly those of the watches that were set where the node was.
+/// The positions of nodes are exactly those of the watches that were set where the node existed.
 pub fn each_node_has_a_place()
     ensures { HasEachNode }
 {}

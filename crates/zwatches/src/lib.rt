@@ -1,18 +1,19 @@
-//! A table of watches, for a front that serves ZooKeeper's clients.
+//! A table of watches, for a front end that serves ZooKeeper's clients.
 //!
 //! A watch belongs to a connection, and waits for the next change of one kind at one path. An event
-//! at a path fires the watches there that wait for it: their connections are told, each once, and
-//! the watches are gone. An event tells nothing of the node above: that is an event of its own.
+//! at a path fires the watches that wait for it there. Their connections are notified, each once,
+//! and the watches are removed. The parent of the node has an event of its own.
 //!
-//! The end of a session deletes nodes, and no event says which. So a front asks for the places of
-//! nodes, and looks which of them are gone. A watch that waits for a node to be created has a kind
-//! of its own, so it isn't taken for one of these.
+//! The end of a session deletes nodes, and no event names them. So a front asks for the positions
+//! of nodes, and checks which nodes are gone. A watch for the creation of a node has its own kind,
+//! so it isn't among these.
 //!
-//! The rows of the table are sorted by path, kind and connection. So a call finds its rows by
-//! binary search, and moves the rows behind them.
+//! The rows of the table are sorted by path, kind and connection. A call finds its rows by binary
+//! search, and moves the rows after them.
 //!
-//! Contracts see a table as a set of watches (`specs/Watches.antt`). Which of them an event fires,
-//! and whom it tells, is in `specs/Events.antt`; where nodes are, in `specs/Places.antt`.
+//! Contracts see a table as a set of watches (`specs/Watches.antt`). `specs/Events.antt` defines
+//! which watches an event fires and whom it notifies, and `specs/Places.antt` the positions of
+//! nodes.
 #![tactic(auto)]
 
 mod fault;

@@ -1,4 +1,4 @@
-//! The places of nodes, from the rows of their watches.
+//! The positions of nodes, from the rows of their watches.
 
 ghost use Rattle.std.specs.Prelude.{◌≡◌, [], IfOk, OnOk};
 ghost use Rattle.zwatches.specs.Events.{Lists};
@@ -13,7 +13,7 @@ use crate::watch::Watch;
 use std::alloc::Global;
 use zalloc::Memory;
 
-// Whether a watch of the kind was set where the node was.
+// Returns whether a watch of this kind was set where the node existed.
 fn is_of_node(kind: Kind) -> bool
     ensures { result ≡ waits_at_node kind }
 {
@@ -23,7 +23,7 @@ fn is_of_node(kind: Kind) -> bool
     }
 }
 
-// Whether the place of the row is the last one.
+// Returns whether the row's position is the last one.
 fn is_last(places: &[Place], row: &Watch) -> bool
     ensures { result ≡ is_the_last places.now row.now }
 {
@@ -33,7 +33,7 @@ fn is_last(places: &[Place], row: &Watch) -> bool
     }
 }
 
-// Adds the place of a row, unless it is there or isn't a node's.
+// Adds the position of a row, unless it is there or isn't a node's.
 fn add_place(places: &mut Vec<Place>, row: &Watch) -> Result<(), Memory>
     ensures { OnOk result (places.new.items ≡ with_row places.old.items row.now) }
 {
@@ -46,7 +46,7 @@ fn add_place(places: &mut Vec<Place>, row: &Watch) -> Result<(), Memory>
     Ok(())
 }
 
-// The places of the rows, one after the other.
+// Returns the positions of the rows, in order.
 fn list_places(alloc: Global, rows: &[Watch]) -> Result<Vec<Place>, Memory>
     ensures { IfOk result (λ places. places.items ≡ listed [] rows.now) }
 {
@@ -57,7 +57,7 @@ fn list_places(alloc: Global, rows: &[Watch]) -> Result<Vec<Place>, Memory>
     Ok(places)
 }
 
-// The places of nodes.
+// Returns the positions of nodes.
 pub(crate) fn places_in(alloc: Global, rows: &[Watch]) -> Result<Vec<Place>, Memory>
     requires { AreRows rows.now }
     ensures { IfOk result (λ places. Lists places.items (node_places (set_of rows.now))) }

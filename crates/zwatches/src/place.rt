@@ -1,9 +1,9 @@
-//! A place of watches.
+//! A position of watches.
 
 use crate::kind::Kind;
 use zpath::Path;
 
-/// Where watches of a kind are.
+/// A position of watches: a path and a kind.
 #[derive(Debug, Drop)]
 pub struct Place {
     pub path: Path,

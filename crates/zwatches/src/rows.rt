@@ -23,8 +23,8 @@ pub fn watches_differ()
     ensures connection { watch_cmp (watch at_a Data 1) (watch at_a Data 2) ≡ Less }
 {}
 
-/// A created node fires the watches that waited for it and those of its data. It fires none of the
-/// node above: that its children changed is an event of its own.
+/// A created node fires the watches that waited for it, and those of its data. It fires none of its
+/// parent's: the change of the parent's children is an event of its own.
 pub fn created()
     ensures missing { fires NodeCreated at_a_b (watch at_a_b Missing 1) ≡ true }
     ensures node { fires NodeCreated at_a_b (watch at_a_b Data 1) ≡ true }
@@ -32,7 +32,7 @@ pub fn created()
     ensures above { fires NodeCreated at_a_b (watch at_a Children 1) ≡ false }
 {}
 
-/// A node whose data changed fires the watches of its data alone.
+/// A change of a node's data fires the watches of its data only.
 pub fn data_changed()
     ensures node { fires NodeDataChanged at_a (watch at_a Data 1) ≡ true }
     ensures missing { fires NodeDataChanged at_a (watch at_a Missing 1) ≡ false }
@@ -48,7 +48,7 @@ pub fn deleted()
     ensures above { fires NodeDeleted at_a (watch [] Children 1) ≡ false }
 {}
 
-/// A node whose children changed fires the watches of its children alone.
+/// A change of a node's children fires the watches of its children only.
 pub fn children_changed()
     ensures children { fires NodeChildrenChanged at_a (watch at_a Children 1) ≡ true }
     ensures node { fires NodeChildrenChanged at_a (watch at_a Data 1) ≡ false }
@@ -56,7 +56,7 @@ pub fn children_changed()
     ensures below { fires NodeChildrenChanged at_a (watch at_a_b Children 1) ≡ false }
 {}
 
-/// What else is told to watches fires none.
+/// Other kinds of events fire no watch.
 pub fn other_events()
     ensures none { fired_at event.None at_a ≡ [] }
     ensures of_data { fired_at event.DataWatchRemoved at_a ≡ [] }
@@ -64,7 +64,7 @@ pub fn other_events()
     ensures persistent { fired_at event.PersistentWatchRemoved at_a ≡ [] }
 {}
 
-/// Whom an event tells, and what it leaves.
+/// The connections that an event notifies, and the watches that remain.
 pub fn one_event()
     ensures told_of_both { contains (told some_table NodeDeleted at_a) 1 ≡ true }
     ensures told_of_one { contains (told some_table NodeDeleted at_a) 2 ≡ true }
@@ -76,27 +76,27 @@ pub fn one_event()
         ≡ true }
 {}
 
-/// The places of nodes: each once, and none where a node is waited for.
+/// The positions of nodes: each once, and none where only a creation is awaited.
 pub fn places_of_nodes()
     ensures listed { Lists (place [] Children ∷ place at_a Data ∷ place at_a Children ∷ [])
         (node_places some_table) }
     ensures missing { contains (node_places some_table) (place at_a_b Missing) ≡ false }
 {}
 
-/// What a connection leaves that is forgotten.
+/// What remains after a connection is forgotten.
 pub fn forgotten()
     ensures gone { contains (without some_table 1) (watch at_a Children 1) ≡ false }
     ensures stays { contains (without some_table 1) (watch at_a Children 2) ≡ true }
 {}
 
-/// Numbers that are listed, each once, in rising order.
+/// Lists of numbers, each once, in rising order.
 pub fn lists()
     ensures twice { Lists (1 ∷ 1 ∷ []) (from_list {R = nat_cmp} (1 ∷ [])) → ⊥ }
     ensures falling { Lists (2 ∷ 1 ∷ []) (from_list {R = nat_cmp} (1 ∷ 2 ∷ [])) → ⊥ }
     ensures another { Lists [] (from_list {R = nat_cmp} (1 ∷ [])) → ⊥ }
 {}
 
-/// The limit, and when each fault comes.
+/// The limit, and when each fault is returned.
 pub fn limits()
     ensures most { MAX_WATCHES ≡ 10000 }
     ensures full { IsSetFault false Full → ⊥ }

@@ -1,4 +1,4 @@
-//! Rows of watches, searched by their order.
+//! Binary search of the rows.
 
 ghost use Rattle.std.specs.Prelude.{◌≡◌, true, IfOk, IfErr};
 ghost use Rattle.std.specs.FinSet.{contains, len};
@@ -11,7 +11,7 @@ use crate::watch::Watch;
 use std::cmp::Ordering;
 use zpath::Name;
 
-// The place of a kind in the order of rows.
+// Returns the rank of a kind in the order of rows.
 fn kind_number(kind: Kind) -> u8
     ensures { result ≡ number_of kind }
 {
@@ -22,7 +22,7 @@ fn kind_number(kind: Kind) -> u8
     }
 }
 
-// How a row stands to a path and a kind.
+// Compares a row to a path and a kind.
 pub(crate) fn row_to_place(row: &Watch, names: &[Name], kind: Kind) -> Ordering
     ensures { result ≡ place_cmp (place_of row.now) (place names.now kind) }
 {
@@ -30,14 +30,14 @@ pub(crate) fn row_to_place(row: &Watch, names: &[Name], kind: Kind) -> Ordering
     paths.then(kind_number(row.kind).cmp(&kind_number(kind)))
 }
 
-// How a row stands to a watch.
+// Compares a row to a watch.
 fn row_to_watch(row: &Watch, names: &[Name], kind: Kind, connection: u32) -> Ordering
     ensures { result ≡ watch_cmp row.now (watch names.now kind connection) }
 {
     row_to_place(row, names, kind).then(row.connection.cmp(&connection))
 }
 
-// Where the watch is, or where it would be.
+// Finds the index of a watch, or the index where it belongs.
 pub(crate) fn find(
     rows: &[Watch],
     names: &[Name],
@@ -52,7 +52,7 @@ pub(crate) fn find(
     rows.binary_search_by(|row| row_to_watch(row, names, kind, connection))
 }
 
-// The number of the rows.
+// Returns the number of rows.
 pub(crate) fn count_of(rows: &[Watch]) -> usize
     requires { AreRows rows.now }
     ensures { result ≡ len (set_of rows.now) }
@@ -60,7 +60,7 @@ pub(crate) fn count_of(rows: &[Watch]) -> usize
     rows.len()
 }
 
-// The rows of a path and a kind: from the first index up to the second.
+// Returns the rows of a path and a kind: from the first index up to the second.
 pub(crate) fn rows_at(rows: &[Watch], names: &[Name], kind: Kind) -> (usize, usize)
     requires { AreRows rows.now }
     ensures { IsGroup (is_at (place names.now kind)) rows.now result.0 result.1 }

@@ -1,4 +1,4 @@
-//! A watch, set among the rows.
+//! Setting a watch among the rows.
 
 ghost use Rattle.std.specs.Prelude.{◌≡◌, true, false, IsOk, OnOk, OnErr, IfErr};
 ghost use Rattle.std.specs.FinSet.{contains, insert};
@@ -12,7 +12,7 @@ use crate::search::find;
 use crate::watch::Watch;
 use zpath::Path;
 
-// Sets a watch, unless it is there or the rows are full.
+// Sets a watch, unless it is already set or the rows are full.
 pub(crate) fn set_in(
     rows: &mut Vec<Watch>,
     path: &Path,

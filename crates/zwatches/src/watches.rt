@@ -60,8 +60,8 @@ impl Watches {
         count_of(&self.rows)
     }
 
-    /// Sets a watch. One that is there stays as it is, and that needs no memory. After a fault
-    /// nothing has changed.
+    /// Sets a watch. Setting one again does nothing and allocates nothing. After a fault nothing
+    /// has changed.
     pub fn set(&mut self, connection: u32, kind: Kind, path: &Path) -> Result<(), WatchFault>
         ensures ok { OnOk result
             (self.new ≡ insert self.old (watch path.now kind connection)) }
@@ -74,9 +74,9 @@ impl Watches {
         set_in(&mut self.rows, path, kind, connection)
     }
 
-    /// Removes the watches that an event at a path fires, and returns the connections to tell: each
-    /// once, in rising order. The event of the node above is one of its own. After `Memory` nothing
-    /// has changed.
+    /// Removes the watches that an event at a path fires. Returns the connections to notify, each
+    /// once, in rising order. The parent's event is a separate call. After `Memory` nothing has
+    /// changed.
     pub fn changed(&mut self, event: EventKind, path: &Path) -> Result<Vec<u32>, Memory>
         ensures told { IfOk result (λ connections. Lists connections.items
             (told self.old event path.now)) }
@@ -88,8 +88,8 @@ impl Watches {
         Ok(connections)
     }
 
-    /// Returns the places of nodes, each once, by path and kind: where watches of data or of
-    /// children are.
+    /// Returns the positions of nodes, each once, by path and kind: those with watches of data or
+    /// of children.
     pub fn places(&self) -> Result<Vec<Place>, Memory>
         ensures { IfOk result (λ places. Lists places.items (node_places self.now)) }
     {

@@ -10,15 +10,15 @@ use Rattle.zjute.specs.declared.request.Look.{Look}
 use Rattle.zanswering.specs.declared.clock.Clock.{Clock}
 use Rattle.zanswering.specs.declared.clock.Now.{Now}
 
--- a service that began at 1,000,000 milliseconds, whose ticks have 2,000
+-- a service that began at 1,000,000 milliseconds, with ticks of 2,000
 abbrev pub clock : Clock
 clock = record { tick = 2000; started = 1000000 }
 
--- behind change 20, at tick 21
+-- after change 20, at tick 21
 abbrev pub now : Now
 now = record { zxid = 20; time = 21 }
 
--- what is told of a stat no two of whose numbers are the same
+-- the stat for a client whose numbers all differ
 abbrev pub told_stat : ToldStat
 told_stat = record {
   czxid = pos 1;
@@ -34,14 +34,14 @@ told_stat = record {
   pzxid = pos 3;
 }
 
--- creates beneath /a: of an ephemeral of session 9, and with a TTL
+-- creates beneath /a: an ephemeral of session 9, and a node with a TTL
 abbrev pub create_b : Create
 create_b = record { path = at_a_b; kind = sequential (Ephemeral 9); bytes = 7 ∷ 8 ∷ 9 ∷ [] }
 
 abbrev pub timed_b : Create
 timed_b = record { path = at_a_b; kind = named (WithTtl 5); bytes = [] }
 
--- what is told of the nodes that they made
+-- the stats for a client of the nodes that they made
 abbrev pub told_of_b : ToldStat
 told_of_b = record {
   czxid = pos 20;

@@ -14,7 +14,7 @@ ghost use Rattle.zanswering.specs.Answers.{done, failed, answer_of, children_ans
 ghost use Rattle.zanswering.specs.Answering.{answer_in};
 ghost use Rattle.zanswering.specs.support.Samples.{clock, now, told_stat, create_b, told_of_b, text_a_b, asked_b, look_b};
 
-/// Answers by one reply.
+/// Answers from one reply.
 pub fn answers_by_one_reply()
     ensures created { answer_of clock (reply.Created at_a_b) ≡ done (body.Path text_a_b) }
     ensures deleted { answer_of clock reply.Deleted ≡ done body.Nothing }
@@ -28,7 +28,7 @@ pub fn answers_by_one_reply()
     ensures check { answer_of clock (reply.MultiRefused 1 BadVersion) ≡ failed code.BadVersion }
 {}
 
-/// Answers with a stat: of the node that was made, and not of its parent.
+/// Answers with a stat: that of the created node, and not of its parent.
 pub fn answers_with_a_stat()
     ensures create { answer_in clock now (asked.Create asked_b)
         (call.Update (act.Create create_b) ∷ []) (reply.Created at_a_b ∷ [])

@@ -10,7 +10,7 @@ use Rattle.zjute.specs.declared.request.Look.{Look}
 use Rattle.zasking.specs.declared.fault.Unasked.TheVariants.{Refused}
 use Rattle.zasking.specs.Asking.{Meaning}
 
--- refused with each code
+-- refusals, one for each code
 abbrev pub bad : {A : Type 0} → Meaning A
 bad = Err (Refused BadArguments)
 

@@ -1,4 +1,4 @@
-//! The calls of requests, for session 9, where a tick has 2,000 milliseconds.
+//! The calls of requests of session 9, with a tick of 2,000 milliseconds.
 
 ghost use Rattle.std.specs.Prelude.{◌≡◌, [], ◌∷◌, pos, codes, None, Some, Ok, replicate};
 ghost use Rattle.ztree.specs.support.Samples.{at_a};
@@ -17,7 +17,7 @@ ghost use Rattle.zasking.specs.Requests.{calls_in};
 ghost use Rattle.zasking.specs.support.Samples.{bad, unimplemented, invalid_acl, auth_failed, open_entry, text_a};
 ghost use Rattle.zasking.specs.support.Samples.{create_a, timed_a, at_version, set_a, look_a};
 
-/// Creates: of an ephemeral for the session, and of a node with a TTL.
+/// Creates: an ephemeral of the session, and a node with a TTL.
 #[tactic(auto, unfolding(zpath::specs::Faults::fault_of))]
 pub fn calls_of_creates()
     ensures create { calls_in 2000 9 (asked.Create create_a) ≡ Ok (Update (act.Create
@@ -33,7 +33,7 @@ pub fn calls_of_creates()
     ensures no_time { calls_in 2000 9 (asked.CreateTtl (record timed_a { ttl = pos 0 })) ≡ bad }
 {}
 
-/// Changes and a check of a node: version -2 is none that the node has, and -1 is any.
+/// Changes and a check of a node: version -1 matches any, and no node has version -2.
 #[tactic(auto, unfolding(zpath::specs::Faults::fault_of))]
 pub fn calls_of_changes()
     ensures delete { calls_in 2000 9 (asked.Delete at_version) ≡ Ok (Update (act.Delete
@@ -66,7 +66,7 @@ pub fn calls_of_reads()
     ensures null { calls_in 2000 9 (asked.GetAcl None) ≡ bad }
 {}
 
-/// Multis: without parts there is no call, and more than 64 parts are refused.
+/// Multis: an empty one makes no call, and more than 64 parts are refused.
 #[tactic(auto, unfolding(zpath::specs::Faults::fault_of))]
 pub fn calls_of_multis()
     ensures none { calls_in 2000 9 (asked.Multi []) ≡ Ok [] }
@@ -82,7 +82,7 @@ pub fn calls_of_multis()
         ≡ bad }
 {}
 
-/// Requests of the session, and those that mean nothing here.
+/// Requests of the session, and unsupported ones.
 pub fn calls_of_sessions()
     ensures close { calls_in 2000 9 asked.CloseSession ≡ Ok (Update (act.Close 9) ∷ []) }
     ensures ping { calls_in 2000 9 asked.Ping ≡ Ok [] }

@@ -6,7 +6,7 @@ ghost use Rattle.zcalls.specs.declared.refusal.Refusal.TheVariants.{SequenceFull
 ghost use Rattle.zjute.specs.declared.code.Code.TheVariants as code;
 ghost use Rattle.zasking.specs.Codes.{code_of};
 
-/// Refusals that ZooKeeper has too.
+/// Refusals that ZooKeeper also has.
 pub fn codes_of_ours()
     ensures no_node { code_of NoNode ≡ code.NoNode }
     ensures node_exists { code_of NodeExists ≡ code.NodeExists }
@@ -16,7 +16,7 @@ pub fn codes_of_ours()
     ensures session { code_of SessionGone ≡ code.SessionExpired }
 {}
 
-/// Refusals that only this service has: limits, and the root that stays.
+/// Refusals that only this service has: limits, and the root that can't be deleted.
 pub fn codes_of_limits()
     ensures sequence { code_of SequenceFull ≡ code.SystemError }
     ensures path { code_of PathLimit ≡ code.BadArguments }

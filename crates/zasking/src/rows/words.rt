@@ -9,7 +9,7 @@ ghost use Rattle.zasking.specs.Asking.{path_in, data_in, version_in, has_open_ac
 ghost use Rattle.zasking.specs.Timeouts.{ticks_asked, millis_told};
 ghost use Rattle.zasking.specs.support.Samples.{bad, unimplemented, open_entry};
 
-/// Paths: null, and a text with a fault, are refused.
+/// Paths: null and invalid ones are refused.
 #[tactic(auto, unfolding(zpath::specs::Faults::fault_of))]
 pub fn paths_of_requests()
     ensures path { path_in (Some (codes "/a/b")) ≡ Ok (codes "a" ∷ codes "b" ∷ []) }
@@ -21,14 +21,14 @@ pub fn paths_of_requests()
     ensures unicode { path_in (Some (47 ∷ 195 ∷ 164 ∷ [])) ≡ bad }
 {}
 
-/// Data: a null buffer is no bytes.
+/// Data: a null buffer means no bytes.
 pub fn data_of_requests()
     ensures null { data_in None ≡ Ok [] }
     ensures none { data_in (Some []) ≡ Ok [] }
     ensures bytes { data_in (Some (104 ∷ 105 ∷ [])) ≡ Ok (104 ∷ 105 ∷ []) }
 {}
 
-/// Versions: -1 is any, and -2 is none that a node has.
+/// Versions: -1 matches any, and no node has -2.
 pub fn versions_of_requests()
     ensures first { version_in (pos 0) ≡ Exactly 0 }
     ensures version { version_in (pos 7) ≡ Exactly 7 }
@@ -36,7 +36,7 @@ pub fn versions_of_requests()
     ensures none { version_in (negsuc 1) ≡ Exactly NO_VERSION }
 {}
 
-/// ACLs: the open one alone is taken.
+/// ACLs: only the open one is accepted.
 pub fn acls_of_requests()
     ensures open { has_open_acl (open_entry ∷ []) ≡ true }
     ensures nobody { has_open_acl [] ≡ false }
@@ -61,7 +61,7 @@ pub fn kinds_of_requests()
     ensures timed_ephemeral { timed_kind_in 8 (pos 1) ≡ bad }
 {}
 
-/// TTLs where a tick has 2,000 milliseconds: each part of a tick counts, and 0 is refused.
+/// TTLs with a tick of 2,000 milliseconds: a fraction of a tick is rounded up, and 0 is refused.
 pub fn ttls_of_requests()
     ensures nothing { ttl_in 2000 (pos 0) ≡ bad }
     ensures part { ttl_in 2000 (pos 1) ≡ Ok 1 }
@@ -72,7 +72,7 @@ pub fn ttls_of_requests()
     ensures negative { ttl_in 2000 (negsuc 0) ≡ bad }
 {}
 
-/// Timeouts where a tick has 2,000 milliseconds: one tick more is asked for than is told.
+/// Timeouts with a tick of 2,000 milliseconds: one tick more is asked for than is returned.
 pub fn timeouts_of_requests()
     ensures five { ticks_asked 2000 (pos 10000) ≡ 6 }
     ensures part { ticks_asked 2000 (pos 10001) ≡ 7 }

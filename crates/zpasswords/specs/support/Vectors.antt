@@ -1,5 +1,5 @@
--- Keys, and what other programs give for them. The first two digests stand in RFC 4231, sections
--- 4.2 and 4.3; the others are of Python's hmac module.
+-- Keys, and the digests that other programs compute with them. The first two are from RFC 4231,
+-- sections 4.2 and 4.3, the others from Python's hmac module.
 use Rattle.std.specs.Prelude.{ℕ, List, [], ◌∷◌, replicate}
 
 -- twenty bytes of 11, and their digest of "Hi There"

@@ -1,4 +1,4 @@
--- How streams are stored, by the codes of their parts: a proof tells two of them apart by them.
+-- Codes of streams and chunks: proofs distinguish two of them by their codes.
 use Rattle.std.specs.Prelude.{ℕ, Bool, List, refl}
 use Rattle.std.specs.Coded.{Coded, code_by, coded×, coded_ℕ, coded_bool, coded_list}
 use Rattle.std.specs.FinMap as finite
@@ -7,23 +7,23 @@ use Rattle.zpieces.specs.declared.phase.Phase.{Phase}
 use Rattle.zpieces.specs.Outbox.{PieceView}
 use Rattle.zpieces.specs.Streams.{StreamView, StreamRows}
 
--- how a stream is stored
+-- the codes of a stream
 abbrev pub coded_stream : Coded StreamView
 coded_stream =
     code_by (Phase × List ℕ) (coded× phase.the_row.coded (coded_list coded_ℕ))
     (λ s. (s.phase, s.bytes)) (λ p. record { phase = p.0; bytes = p.1 }) (λ _. refl)
 
--- how streams are stored
+-- the codes of all streams
 abbrev pub coded_rows : Coded StreamRows
 coded_rows = finite.code coded_ℕ coded_stream
 
--- how a piece is stored
+-- the codes of a chunk
 abbrev pub coded_piece : Coded PieceView
 coded_piece =
     code_by (ℕ × (List ℕ × Bool)) (coded× coded_ℕ (coded× (coded_list coded_ℕ) coded_bool))
     (λ p. (p.connection, (p.bytes, p.is_last)))
     (λ p. record { connection = p.0; bytes = p.1.0; is_last = p.1.1 }) (λ _. refl)
 
--- how pieces are stored
+-- the codes of a list of chunks
 abbrev pub coded_pieces : Coded (List PieceView)
 coded_pieces = coded_list coded_piece

@@ -6,11 +6,11 @@ use Rattle.std.specs.Map.{keys_of, values_of}
 use Rattle.std.specs.Ordering.{nat_cmp}
 use Rattle.zpieces.specs.Streams.{StreamView}
 
--- how many bytes a stream holds
+-- the number of bytes of a stream
 abbrev pub size_of : StreamView → ℕ
 size_of s = length s.bytes
 
--- how many bytes the entries hold together
+-- the number of bytes of all entries
 abbrev pub size_of_all : List (ℕ × StreamView) → ℕ
 size_of_all es = sum_by size_of (values_of es)
 

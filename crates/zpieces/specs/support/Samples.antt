@@ -1,4 +1,4 @@
--- Samples for the worked rows.
+-- Samples for the worked examples.
 use Rattle.std.specs.Prelude.{ℕ, List, [], ◌∷◌}
 use Rattle.std.specs.FinMap.{from_entries}
 use Rattle.zpieces.specs.declared.phase.Phase.{Phase}

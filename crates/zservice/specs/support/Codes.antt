@@ -1,5 +1,4 @@
--- How what a tree in memory stands for is stored, by the codes of its parts: a proof tells two of
--- them apart by them.
+-- The view of a tree in memory, coded by its parts: proofs distinguish two views by their codes.
 use Rattle.std.specs.Prelude.{Bool, refl}
 use Rattle.std.specs.Coded.{Coded, code_by, coded×, coded_bool}
 use Rattle.ztree.specs.Tree.{Tree}

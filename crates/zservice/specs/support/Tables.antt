@@ -1,4 +1,4 @@
--- What the fields of a tree in memory stand for, and what each step does to them.
+-- The view of a tree in memory, and what each step does to it.
 use Rattle.std.specs.Prelude.{◌≡◌, ◌≤◌, Bool, false, List, map, Some}
 use Rattle.std.specs.List.{AllByRecursion}
 use Rattle.std.specs.FinMap.{get}
@@ -15,16 +15,16 @@ use Rattle.zservice.specs.Machines.{machine_of, tree_in}
 abbrev pub view_in : MachineView → Bool → LocalTreeView
 view_in machine is_broken = record { tree = tree_in machine; is_broken = is_broken }
 
--- the machine answers, and no entry of client 0 had a number above its count
+-- the machine answers, and no entry of client 0 has a number above its count
 pub record IsReady (m : MachineView) : Type 0 where
   pub whole : m.is_broken ≡ false
   pub counted : last_of (get m.state.service.kept 0) ≤ m.state.applied
 
--- while memory lasts
+-- unless memory ran out, the machine is ready
 abbrev pub IsSound : MachineView → Bool → Type 0
 IsSound m is_broken = is_broken ≡ false → IsReady m
 
--- the nodes at these paths are still to be put: then the machine has this tree
+-- these paths are still to be restored; after that the machine has this tree
 pub record NodesAreLeft (t : Tree) (s : MachineState) (paths : List Path) : Type 0 where
   pub rows : List (Path × Node)
   pub named : paths ≡ map (λ e. e.0) rows

@@ -1,9 +1,9 @@
--- Samples for the worked rows.
+-- Samples for the worked examples.
 use Rattle.std.specs.FinMap.{empty, insert}
 use Rattle.zsittings.specs.declared.sitting.Sitting.{Sitting}
 use Rattle.zsittings.specs.Sittings.{SittingsView, new_sitting}
 
--- session 7, which connection 3 opened, and no other
+-- session 7, opened by connection 3, and no other
 abbrev pub some_sitting : Sitting
 some_sitting = new_sitting 3
 

@@ -1,4 +1,4 @@
--- How a table is stored: a proof tells tables apart by it.
+-- Codes of tables: proofs distinguish two tables by their codes.
 use Rattle.std.specs.Prelude.{◌≡◌, ℕ, zero, suc, refl}
 use Rattle.std.specs.Coded.{Coded, code_by, coded×, coded_ℕ, coded_list}
 use Rattle.std.specs.FinSet as sets

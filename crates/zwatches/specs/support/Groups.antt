@@ -1,4 +1,4 @@
--- Rows of watches, in their order.
+-- Rows of watches, in order.
 use Rattle.std.specs.Prelude.{◌≡◌, ℕ, ◌≤◌, Bool, true, false, not, List, [], ◌∷◌, ◌++◌, length, map}
 use Rattle.std.specs.List.{AllWithin, filter}
 use Rattle.std.specs.List.Sorted.{IsStrictlySortedBy, IsPartitionPoint}
@@ -13,11 +13,11 @@ use Rattle.zwatches.specs.Events.{is_at}
 abbrev pub AreRows : List Watch → Type 0
 AreRows rows = IsStrictlySortedBy watch_cmp rows
 
--- the table that rows stand for
+-- the table that the rows represent
 abbrev pub set_of : List Watch → Watches
 set_of rows = from_list rows
 
--- the watch isn't among the rows, and would go in before this one
+-- the watch isn't among the rows, and belongs at this index
 pub record IsGap (rows : List Watch) (w : Watch) (at : ℕ) : Type 0 where
   pub within : at ≤ length rows
   pub apart :
@@ -31,13 +31,13 @@ pub record IsGroup (test : Watch → Bool) (rows : List Watch) (first end : ℕ)
   pub inside : AllWithin (λ w. test w ≡ true) rows first end
   pub after : AllWithin (λ w. test w ≡ false) rows end (length rows)
 
--- the connections of the rows of each place, one place after the other
+-- the connections of the rows at each position, one position after the other
 abbrev pub told_by : List Watch → List Place → List ℕ
 told_by rows [] = []
 told_by rows (at ∷ places) =
     map (λ w. w.connection) (filter (is_at at) rows) ++ told_by rows places
 
--- the rows without those of each place
+-- the rows without those at each position
 abbrev pub kept : List Watch → List Place → List Watch
 kept rows [] = rows
 kept rows (at ∷ places) = kept (filter (λ w. not (is_at at w)) rows) places

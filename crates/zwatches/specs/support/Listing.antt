@@ -1,4 +1,4 @@
--- The places of nodes, listed by going over the rows.
+-- The positions of nodes, listed by a walk over the rows.
 use Rattle.std.specs.Prelude.{◌-◌, Bool, false, cond, not, ◌&&◌, List, [], ◌∷◌, ◌++◌, length, Option, None, Some}
 use Rattle.std.specs.List.{slice_get}
 use Rattle.zwatches.specs.declared.place.Place.{Place}
@@ -7,25 +7,25 @@ use Rattle.zwatches.specs.Watches.{place_of}
 use Rattle.zwatches.specs.Events.{is_at}
 use Rattle.zwatches.specs.Places.{is_of_node}
 
--- the row is at this place, if there is one
+-- the row is at this position, if there is one
 abbrev pub is_there : Option Place → Watch → Bool
 is_there None w = false
 is_there (Some at) w = is_at at w
 
--- the row is at the last of the places
+-- the row is at the last of the positions
 abbrev pub is_last : List Place → Watch → Bool
 is_last places w = is_there (slice_get places (length places - 1)) w
 
--- the row's place is to be listed behind this one
+-- the row's position is to be listed after this one
 abbrev pub is_next : Option Place → Watch → Bool
 is_next last w = is_of_node w.kind && not (is_there last w)
 
--- the places, and that of the row unless it is there or isn't a node's
+-- the positions, with the row's unless it is there or isn't a node's
 abbrev pub with_row : List Place → Watch → List Place
 with_row places w =
     cond (is_of_node w.kind && not (is_last places w)) (places ++ place_of w ∷ []) places
 
--- the places, and those of the rows
+-- the positions, with those of the rows
 abbrev pub listed : List Place → List Watch → List Place
 listed places [] = places
 listed places (w ∷ rows) = listed (with_row places w) rows
