@@ -13,16 +13,16 @@ use Rattle.zanswering.specs.declared.answer.Answer.{Answer}
 use Rattle.zanswering.specs.Answers.{failed}
 use Rattle.zanswering.specs.Stats.{long_of}
 
--- an answer to the request with this xid, behind its header, which has the zxid of the tree
+-- the answer to the request with this xid, after its header, which has the zxid of the tree
 abbrev pub answer_text : ℕ → ℤ → Answer → List ℕ
 answer_text zxid xid answer =
     reply_text (record { xid = xid; zxid = long_of zxid; code = answer.code; body = answer.body })
 
--- what is told in the place of an answer that no frame can hold
+-- the error for an answer that no frame can hold
 abbrev pub too_long : Answer
 too_long = failed code.MarshallingError
 
--- the text that a frame can hold
+-- the text of the answer, or of that error
 abbrev pub text_told : ℕ → ℤ → Answer → List ℕ
 text_told zxid xid answer =
     if nat_lt MAX_FRAME (length (answer_text zxid xid answer))
@@ -33,16 +33,16 @@ text_told zxid xid answer =
 abbrev pub answer_frame : ℕ → ℤ → Answer → List ℕ
 answer_frame zxid xid answer = frame (text_told zxid xid answer)
 
--- a client that isn't who it says is told so, and its connection is closed
+-- a client whose identity is refused gets that answer, and its connection is closed
 abbrev pub ends_connection : Code → Bool
 ends_connection code.AuthFailed = true
 ends_connection other = false
 
--- a server that doesn't only read says so to a client that knows the flag
+-- the server isn't read-only; a client that knows the flag gets it
 abbrev pub flag_told : ConnectRequest → Option Bool
 flag_told request = option_map (λ asked. false) request.read_only
 
--- the answer to a connection's first frame
+-- the connect response
 abbrev pub response : ConnectRequest → ℤ → ℤ → List ℕ → ConnectResponse
 response request timeout session password = record {
   protocol_version = pos 0;

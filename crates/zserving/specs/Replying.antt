@@ -1,5 +1,5 @@
--- What becomes of a call that was answered, and of an answer. The source is zookeeper.jute and the
--- ZooKeeper Programmer's Guide, "ZooKeeper Watches".
+-- The effect of a reply to a call, and of an answer. The source is zookeeper.jute and the ZooKeeper
+-- Programmer's Guide, "ZooKeeper Watches".
 use Rattle.std.specs.Prelude.{ℕ, ℤ, List, ◌∷◌, if◌then◌else◌}
 use Rattle.zcalls.specs.declared.call.Call.{Call}
 use Rattle.zcalls.specs.declared.call.Call.TheVariants as call
@@ -11,18 +11,18 @@ use Rattle.ztables.specs.Telling.{told_all}
 use Rattle.ztables.specs.Sweeping.{noted}
 use Rattle.zserving.specs.Frames.{answer_frame, ends_connection}
 
--- a call was answered: the events of an update are told, and whether it made an ephemeral node is
+-- a call has its reply: the events of an update are sent, and an ephemeral node that it made is
 -- noted
 abbrev pub absorbed : Call → Reply → TablesView → TablesView
 absorbed (call.Update update) reply t = told_all (events_of update reply) (record t { sittings = noted update reply t.sittings })
 absorbed (call.Query query) reply t = t
 
--- calls were answered, in this order
+-- the same for calls in order
 abbrev pub absorbed_all : List Call → List Reply → TablesView → TablesView
 absorbed_all (call ∷ calls) (reply ∷ replies) t = absorbed_all calls replies (absorbed call reply t)
 absorbed_all calls replies t = t
 
--- a connection is told an answer to the request with this xid
+-- the answer to the request with this xid is sent
 abbrev pub replied : ℕ → ℕ → ℤ → Answer → TablesView → TablesView
 replied zxid c xid answer t =
     if ends_connection answer.code

@@ -1,5 +1,5 @@
--- The watches that a connection asks for are set. The source is the ZooKeeper Programmer's Guide,
--- "ZooKeeper Watches". That a full table is told as an error is this project's profile.
+-- Setting the watches that a connection asks for. The source is the ZooKeeper Programmer's Guide,
+-- "ZooKeeper Watches". The error for a full table is this project's profile.
 use Rattle.std.specs.Prelude.{ℕ, Bool, false, ◌||◌, List, [], ◌∷◌, if◌then◌else◌}
 use Rattle.std.specs.FinSet.{insert}
 use Rattle.ztree.specs.Tree.{Path}
@@ -10,12 +10,12 @@ use Rattle.ztables.specs.Telling.{event_frame}
 use Rattle.zserving.specs.declared.wish.Wish.{Wish}
 use Rattle.zserving.specs.declared.wish.Wish.TheVariants.{Waits, Tells}
 
--- a watch waits, if there is room for it
+-- a watch is set, if there is room for it
 abbrev pub waiting : ℕ → Kind → Path → TablesView → TablesView
 waiting c kind path t =
     if is_full t.watches (watch path kind c) then t else record t { watches = insert t.watches (watch path kind c) }
 
--- a wish of a connection is granted: a watch waits, or its event is told
+-- a wish of a connection is granted: a watch is set, or its event is sent
 abbrev pub granted : ℕ → Wish → TablesView → TablesView
 granted c (Waits kind path) t = waiting c kind path t
 granted c (Tells event) t = sent c (event_frame event) t
@@ -25,7 +25,7 @@ abbrev pub lacks_room : ℕ → Wish → TablesView → Bool
 lacks_room c (Waits kind path) t = is_full t.watches (watch path kind c)
 lacks_room c (Tells event) t = false
 
--- wishes in their order
+-- wishes in order
 abbrev pub granted_all : ℕ → List Wish → TablesView → TablesView
 granted_all c [] t = t
 granted_all c (wish ∷ wishes) t = granted_all c wishes (granted c wish t)

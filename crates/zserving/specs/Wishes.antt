@@ -1,4 +1,4 @@
--- Which watches a request asks for, by the replies to its calls. The source is the ZooKeeper
+-- The watches that a request asks for, from the replies to its calls. The source is the ZooKeeper
 -- Programmer's Guide, "ZooKeeper Watches", and zookeeper.jute (`SetWatches`).
 use Rattle.std.specs.Prelude.{ℤ, List, [], ◌∷◌, ◌++◌, length, take, drop, int_lt, if◌then◌else◌}
 use Rattle.ztree.specs.Tree.{Path}
@@ -21,8 +21,8 @@ use Rattle.zwatches.specs.declared.kind.Kind.TheVariants.{Data, Missing, Childre
 use Rattle.zserving.specs.declared.wish.Wish.{Wish}
 use Rattle.zserving.specs.declared.wish.Wish.TheVariants.{Waits, Tells}
 
--- the watch of a query, by its reply. `exists` watches a node, or waits for it to be made; `getData`
--- and `getChildren` watch a node that is there
+-- the watch of a query, from its reply; `exists` watches a node or waits for its creation, and
+-- `getData` and `getChildren` watch an existing node
 abbrev pub query_wish : Question → Reply → List Wish
 query_wish (query.Exists path) (reply.Exists stat) = Waits Data path ∷ []
 query_wish (query.Exists path) (reply.Refused NoNode) = Waits Missing path ∷ []
@@ -39,8 +39,8 @@ first_wish calls replies = []
 abbrev pub look_wish : Look → List Call → List Reply → List Wish
 look_wish look calls replies = if look.watch then first_wish calls replies else []
 
--- a watch that is set again, by the zxid that its client has seen and the node as it is: one whose
--- event came meanwhile tells it
+-- a re-registered watch, from the zxid that its client has seen and the node's stat; if its event
+-- happened meanwhile, the event is sent at once
 abbrev pub wish_again : Kind → ℤ → Path → Reply → List Wish
 wish_again Data seen path (reply.Exists stat) =
     (if int_lt seen (long_of stat.mzxid) then Tells (event NodeDataChanged path) else Waits Data path) ∷ []
@@ -52,7 +52,7 @@ wish_again Children seen path (reply.Exists stat) =
 wish_again Children seen path (reply.Refused NoNode) = Tells (event NodeDeleted path) ∷ []
 wish_again kind seen path told = []
 
--- the same by its call, which asks whether the node exists
+-- the same from its call, which asks whether the node exists
 abbrev pub call_again : Kind → ℤ → Call → Reply → List Wish
 call_again kind seen (Query (query.Exists path)) told = wish_again kind seen path told
 call_again kind seen call told = []
@@ -62,7 +62,7 @@ abbrev pub wishes_again : Kind → ℤ → List Call → List Reply → List Wis
 wishes_again kind seen (call ∷ calls) (told ∷ replies) = call_again kind seen call told ++ wishes_again kind seen calls replies
 wishes_again kind seen calls replies = []
 
--- all of them: those of data come first, then those that wait for a node, then those of children
+-- all of them: data watches first, then those for a creation, then child watches
 abbrev pub all_again : SetWatches → List Call → List Reply → List Wish
 all_again set calls replies =
     let data_count = length set.data_watches in
@@ -72,7 +72,7 @@ all_again set calls replies =
     ++ (wishes_again Missing seen (take missing_count (drop data_count calls)) (take missing_count (drop data_count replies))
     ++ wishes_again Children seen (drop missing_count (drop data_count calls)) (drop missing_count (drop data_count replies)))
 
--- the watches that a request asks for, by its calls and their replies
+-- the watches that a request asks for, from its calls and their replies
 abbrev pub wishes : Asked → List Call → List Reply → List Wish
 wishes (asked.Exists look) calls replies = look_wish look calls replies
 wishes (asked.GetData look) calls replies = look_wish look calls replies

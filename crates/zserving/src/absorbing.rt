@@ -1,4 +1,4 @@
-//! What becomes of calls that were answered.
+//! The effect of replies to calls.
 
 ghost use Rattle.std.specs.Prelude.{◌≡◌, OnOk};
 ghost use Rattle.zserving.specs.Replying.{absorbed, absorbed_all};
@@ -9,7 +9,7 @@ use zcalls::{Call, Reply};
 use zevents::events_of;
 use ztables::Tables;
 
-/// Tells the events of a call that was answered, and notes whether it made an ephemeral node.
+/// Sends the events of a call, and notes an ephemeral node that it made.
 pub fn absorb(alloc: Global, tables: &mut Tables, call: &Call, reply: &Reply) -> Result<(), Memory>
     ensures { OnOk result (tables.new ≡ absorbed call.now reply.now tables.old) }
 {
@@ -21,7 +21,7 @@ pub fn absorb(alloc: Global, tables: &mut Tables, call: &Call, reply: &Reply) ->
     tables.tell_all(events.as_slice())
 }
 
-/// The same for calls in their order, each with its reply.
+/// The same for calls in order, each with its reply.
 pub(crate) fn absorb_all(
     alloc: Global,
     tables: &mut Tables,

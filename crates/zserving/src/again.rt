@@ -1,4 +1,4 @@
-//! The watches that a client sets again when it comes back.
+//! Watches that a client re-registers after it reconnects.
 
 ghost use Rattle.std.specs.Prelude.{◌≡◌, ◌++◌, take, drop, OnOk};
 ghost use Rattle.zserving.specs.Wishes as table;
@@ -14,8 +14,7 @@ use zjute::SetWatches;
 use zpath::Path;
 use zwatches::Kind;
 
-/// Adds the watches that are set again: those of data, those that wait for a node, and those of
-/// children.
+/// Adds the re-registered watches: data watches, those for a creation, and child watches.
 pub(crate) fn add_all_again(
     set: &SetWatches,
     calls: &[Call],
@@ -37,7 +36,7 @@ pub(crate) fn add_all_again(
     wishes_again(Kind::Children, seen, of_children, to_children, list)
 }
 
-// Returns the first so many, or all, and the others.
+// Splits a list after the first `count` elements.
 #[tactic(auto, using(std::proofs::lemmas::List::take_min, std::proofs::lemmas::List::drop_min))]
 fn split<T>(items: &[T], count: usize) -> (&[T], &[T])
     ensures first { result.0.now ≡ take count items.now }
@@ -46,7 +45,7 @@ fn split<T>(items: &[T], count: usize) -> (&[T], &[T])
     items.split_at(count.min(items.len()))
 }
 
-// Adds the watches of one kind, by their calls and the replies to them.
+// Adds the watches of one kind, from their calls and the replies to them.
 fn wishes_again(
     kind: Kind,
     seen: &i64,
@@ -63,7 +62,7 @@ fn wishes_again(
     Ok(())
 }
 
-// Adds a watch, by its call and the reply to it.
+// Adds a watch, from its call and the reply to it.
 fn add_again(
     kind: Kind,
     seen: &i64,
@@ -80,7 +79,7 @@ fn add_again(
     }
 }
 
-// Adds a watch of a node, by the node as it is.
+// Adds a watch of a node, from the node's stat.
 fn wish_again(
     kind: Kind,
     seen: &i64,

@@ -15,21 +15,21 @@ use zcalls::{Call, Reply};
 use zjute::{Body, Code, Request};
 use ztables::Tables;
 
-/// A request whose calls were all answered.
+/// A request whose calls all have replies.
 #[derive(Drop)]
 pub struct Done<'a> {
-    /// The connection that it came on.
+    /// The connection of the request.
     pub connection: u32,
-    /// What was asked.
+    /// The request.
     pub request: &'a Request,
-    /// The calls that it meant.
+    /// The calls that it made.
     pub calls: &'a [Call],
-    /// The reply to each of them.
+    /// The reply to each call.
     pub replies: &'a [Reply],
 }
 
-/// Tells the answer to a request whose calls were all answered. The events of its calls are told
-/// first, and then the watches that it asks for are set.
+/// Sends the answer to a request whose calls all have replies. The events of its calls are sent
+/// first, then its watches are set.
 pub fn answer(
     alloc: Global,
     tables: &mut Tables,
@@ -45,7 +45,7 @@ pub fn answer(
     grant_and_answer(alloc, tables, clock, now, done)
 }
 
-// Sets the watches of a request, and tells its answer.
+// Sets the watches of a request, and sends its answer.
 fn grant_and_answer(
     alloc: Global,
     tables: &mut Tables,
@@ -71,7 +71,7 @@ fn grant_and_answer(
     )
 }
 
-// Returns the answer to a request: an error, if there was no room for a watch.
+// Returns the answer to a request; an error, if there was no room for a watch.
 fn answer_unless(
     alloc: Global,
     lacked: bool,

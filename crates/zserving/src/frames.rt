@@ -1,4 +1,9 @@
 //! Answers as frames.
+//!
+//! # Why
+//!
+//! AuthFailed closes the connection, as in ZooKeeper. A client whose identity is refused has
+//! nothing more to ask for.
 
 ghost use Rattle.std.specs.Prelude.{◌≡◌, IfOk};
 ghost use Rattle.zserving.specs.Frames as table;
@@ -16,14 +21,14 @@ use zjute::{
 use zpasswords::Password;
 use ztree::Zxid;
 
-/// Returns whether a connection is closed behind an answer with this code.
+/// Returns whether an answer with this code closes the connection.
 pub(crate) fn ends_connection(code: Code) -> bool
     ensures { result ≡ table.ends_connection code }
 {
     matches!(code, Code::AuthFailed)
 }
 
-/// Returns an answer as a frame. One that no frame can hold is told as an error.
+/// Returns an answer as a frame. One that no frame can hold is replaced by an error.
 pub(crate) fn answer_frame(
     alloc: Global,
     zxid: Zxid,
@@ -46,7 +51,7 @@ pub(crate) fn answer_frame(
     }
 }
 
-// Returns what is told where no frame can hold an answer.
+// Returns the error for an answer that no frame can hold.
 fn too_long_frame(alloc: Global, zxid: Zxid, xid: i32) -> Result<Vec<u8>, Memory>
     ensures { IfOk result (λ bytes. bytes.items ≡ frame (answer_text zxid xid too_long)) }
 {
@@ -59,12 +64,12 @@ fn too_long_frame(alloc: Global, zxid: Zxid, xid: i32) -> Result<Vec<u8>, Memory
     match write_reply(alloc, &told) {
         Ok(bytes) => Ok(bytes),
         Err(WriteError::Memory) => Err(Memory),
-        // A header alone is short.
+        // A bare header is short.
         Err(WriteError::TooLong) => unreachable!(),
     }
 }
 
-/// Returns the answer to a connection's first frame as a frame.
+/// Returns the connect response as a frame.
 pub(crate) fn response_frame(
     alloc: Global,
     request: &ConnectRequest,
@@ -90,7 +95,7 @@ pub(crate) fn response_frame(
     }
 }
 
-// Returns that the server doesn't only read, to a client that knows the flag.
+// Returns that the server isn't read-only, to a client that knows the flag.
 fn told_flag(request: &ConnectRequest) -> Option<bool>
     ensures { result ≡ table.flag_told request.now }
 {

@@ -1,4 +1,4 @@
-//! The answer to a connection's first frame.
+//! Answers to connect requests.
 
 ghost use Rattle.std.specs.Prelude.{◌≡◌, OnOk};
 ghost use Rattle.zserving.specs.Greeting as table;
@@ -14,25 +14,25 @@ use zpasswords::Password;
 use ztables::Tables;
 use ztree::{SessionId, Zxid};
 
-/// Returns whether a client has seen changes that the tree hasn't.
+/// Returns whether a client has seen changes that the tree doesn't have.
 pub fn is_ahead(zxid: Zxid, request: &ConnectRequest) -> bool
     ensures { result ≡ table.is_ahead zxid request.now }
 {
     long_of(zxid.number()) < request.last_zxid_seen
 }
 
-/// A session of the tree, which a client may have.
+/// A session of the tree, which a client asks for.
 #[derive(Clone, Copy)]
 pub struct Granted {
     /// Its id.
     pub id: SessionId,
-    /// The timeout that was granted, in ticks.
+    /// The granted timeout, in ticks.
     pub ticks: u64,
     /// Its password.
     pub password: Password,
 }
 
-/// Tells a client its new session.
+/// Sends a client its new session.
 pub fn welcome(
     alloc: Global,
     tables: &mut Tables,
@@ -52,8 +52,8 @@ pub fn welcome(
     tables.send(connection, frame)
 }
 
-/// Lets a client come back to a session of the tree, if all bytes of its password are given. Else
-/// the client is told that it has none, and the connection is closed.
+/// Attaches a client to a session of the tree, if it gives the whole password. Else it gets a
+/// response without a session, and its connection is closed.
 pub fn come_back(
     alloc: Global,
     tables: &mut Tables,
@@ -76,7 +76,7 @@ pub fn come_back(
     tables.send(connection, frame)
 }
 
-// Returns the bytes of the password that a client gives.
+// Returns the bytes of the password in the request.
 fn given(request: &ConnectRequest) -> &[u8]
     ensures { result.now ≡ table.given request.now }
 {
@@ -86,7 +86,7 @@ fn given(request: &ConnectRequest) -> &[u8]
     }
 }
 
-/// Tells a client that it has no session, and closes its connection.
+/// Sends a client a response without a session, and closes its connection.
 pub fn turn_away(
     alloc: Global,
     tables: &mut Tables,

@@ -1,9 +1,10 @@
-//! What a server for ZooKeeper's clients does with the replies of the service.
+//! The effect of the service's replies on a server for ZooKeeper's clients.
 //!
-//! `answer` tells a request's answer, behind the events that its calls made and the watches that it
-//! sets. `welcome` and `come_back` answer the first frame of a connection. `look` tells which
-//! watched nodes went away with a session or at a tick. All of it changes tables
-//! alone: it knows no socket, no clock and no tree. `specs/` defines each, exactly.
+//! `answer` sends the answer to a request, after the events of its calls and the watches that it
+//! sets. `welcome` and `come_back` answer connect requests. `look` sends the events of watched
+//! nodes that a tick or the end of a session deleted. All of it changes only the tables: it knows
+//! no socket, no clock and no tree. Each function does exactly what its definition in `specs/`
+//! says.
 #![tactic(auto)]
 
 mod absorbing;

@@ -1,4 +1,9 @@
-//! Looking at watched nodes.
+//! The check of watched nodes.
+//!
+//! # Why
+//!
+//! All that a tick or the end of a session deletes is one change. So a parent whose pzxid is that
+//! change has lost a child in it.
 
 ghost use Rattle.std.specs.Prelude.{◌≡◌, OnOk};
 ghost use Rattle.ztables.specs.Telling.{told_all};
@@ -12,8 +17,8 @@ use ztables::Tables;
 use ztree::Zxid;
 use zwatches::Place;
 
-/// Tells the events of the nodes that went away, and of those whose children changed, with the
-/// change of this zxid. A reply for each place says whether its node exists.
+/// Sends the events of the nodes that the change of this zxid deleted, and of those that lost a
+/// child in it. The reply for each position says whether its node exists.
 pub fn look(
     alloc: Global,
     tables: &mut Tables,

@@ -1,4 +1,4 @@
-//! Replies.
+//! Sending answers.
 
 ghost use Rattle.std.specs.Prelude.{◌≡◌, OnOk};
 ghost use Rattle.zserving.specs.Replying.{replied};
@@ -10,8 +10,8 @@ use zanswering::Answer;
 use ztables::Tables;
 use ztree::Zxid;
 
-/// Tells the answer to the request with this number, as a frame. A client that isn't who it says is
-/// told so, and its connection is closed.
+/// Sends the answer to the request with this xid. A client whose identity is refused gets that
+/// answer, and its connection is closed.
 pub fn reply(
     alloc: Global,
     tables: &mut Tables,

@@ -1,4 +1,4 @@
-//! What is seen at watched places.
+//! Events at watched positions.
 
 ghost use Rattle.std.specs.Prelude.{◌≡◌, ◌++◌, ◌∷◌, [], IfOk, OnOk};
 ghost use Rattle.zevents.specs.Events.{event};
@@ -13,8 +13,8 @@ use zpath::Path;
 use ztree::Zxid;
 use zwatches::{Kind, Place};
 
-/// Returns the events of the nodes that went away, and of those whose children changed, with the
-/// change of this zxid.
+/// Returns the events of the nodes that the change of this zxid deleted, and of those that lost a
+/// child in it.
 pub(crate) fn seen(
     alloc: Global,
     zxid: Zxid,
@@ -30,7 +30,7 @@ pub(crate) fn seen(
     Ok(events)
 }
 
-// Adds what is seen at a place.
+// Adds the events at a position.
 fn see(zxid: Zxid, place: &Place, reply: &Reply, events: &mut Vec<Event>) -> Result<(), Memory>
     ensures { OnOk result
         (events.new.items ≡ events.old.items ++ seen_at zxid place.now reply.now) }
@@ -42,7 +42,7 @@ fn see(zxid: Zxid, place: &Place, reply: &Reply, events: &mut Vec<Event>) -> Res
     }
 }
 
-// Adds what is seen of a node that is there.
+// Adds the events of an existing node.
 fn see_node(zxid: Zxid, place: &Place, stat: &Stat, events: &mut Vec<Event>) -> Result<(), Memory>
     ensures { OnOk result (events.new.items
         ≡ events.old.items ++ table.node_seen zxid place.now.kind place.now stat.now) }

@@ -10,7 +10,7 @@ use zpath::Path;
 use ztables::Tables;
 use zwatches::{Kind, WatchFault};
 
-/// Grants the wishes of a connection, in their order. Returns whether there was no room for one.
+/// Grants the wishes of a connection, in order. Returns whether one lacked room.
 pub(crate) fn grant_all(
     tables: &mut Tables,
     connection: u32,
@@ -29,7 +29,7 @@ pub(crate) fn grant_all(
     Ok(lacked)
 }
 
-// Grants a wish of a connection. Returns whether there was no room for it.
+// Grants a wish of a connection. Returns whether it lacked room.
 fn grant(tables: &mut Tables, connection: u32, wish: &Wish) -> Result<bool, Memory>
     ensures granted { OnOk result (tables.new ≡ granted connection wish.now tables.old) }
     ensures lacked { IfOk result (λ lacked. lacked ≡ lacks_room connection wish.now tables.old) }
@@ -43,7 +43,7 @@ fn grant(tables: &mut Tables, connection: u32, wish: &Wish) -> Result<bool, Memo
     }
 }
 
-// Sets a watch of a connection. Returns whether there was no room for it.
+// Sets a watch of a connection. Returns whether it lacked room.
 fn wait(tables: &mut Tables, connection: u32, kind: Kind, path: &Path) -> Result<bool, Memory>
     ensures waits { OnOk result (tables.new ≡ waiting connection kind path.now tables.old) }
     ensures lacked { IfOk result

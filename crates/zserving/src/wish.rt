@@ -1,14 +1,14 @@
-//! What becomes of a watch that a request asks for.
+//! A wish: a watch that a request asks for.
 
 use zevents::Event;
 use zpath::Path;
 use zwatches::Kind;
 
-/// What becomes of a watch that a request asks for.
+/// A watch that a request asks for.
 #[derive(Drop)]
 pub(crate) enum Wish {
-    /// It waits.
+    /// It is set.
     Waits(Kind, Path),
-    /// Its event has come already, and is told.
+    /// Its event has happened already, and is sent.
     Tells(Event),
 }

@@ -15,7 +15,7 @@ use zjute::{Asked, Look};
 use zpath::Path;
 use zwatches::Kind;
 
-/// Returns the watches that a request asks for, by its calls and their replies.
+/// Returns the watches that a request asks for, from its calls and their replies.
 pub(crate) fn wishes(
     alloc: Global,
     asked: &Asked,
@@ -80,7 +80,7 @@ fn add_first(calls: &[Call], replies: &[Reply], list: &mut Vec<Wish>) -> Result<
     }
 }
 
-// Adds the watch of a query, by the reply to it.
+// Adds the watch of a query, from the reply to it.
 fn add_query(query: &Query, reply: &Reply, list: &mut Vec<Wish>) -> Result<(), Memory>
     ensures { OnOk result
         (list.new.items ≡ list.old.items ++ table.query_wish query.now reply.now) }
@@ -97,7 +97,7 @@ fn add_query(query: &Query, reply: &Reply, list: &mut Vec<Wish>) -> Result<(), M
     }
 }
 
-/// Adds that a watch waits.
+/// Adds that a watch is set.
 pub(crate) fn waits(kind: Kind, path: &Path, list: &mut Vec<Wish>) -> Result<(), Memory>
     ensures { OnOk result (list.new.items ≡ list.old.items ++ wish.Waits kind path.now ∷ []) }
 {
@@ -106,7 +106,7 @@ pub(crate) fn waits(kind: Kind, path: &Path, list: &mut Vec<Wish>) -> Result<(),
     Ok(())
 }
 
-/// Adds that the event of a watch is told.
+/// Adds that the event of a watch is sent.
 pub(crate) fn tells(kind: EventKind, path: &Path, list: &mut Vec<Wish>) -> Result<(), Memory>
     ensures { OnOk result
         (list.new.items ≡ list.old.items ++ wish.Tells (event kind path.now) ∷ []) }

@@ -26,7 +26,7 @@ restored_sitting =
 abbrev pub taken_up : ℕ → Sitting → Sitting
 taken_up connection s = record s { connection = Some connection; is_touched = true }
 
--- with a request since the last rest
+-- with a request since the last `rest`
 abbrev pub touched : Sitting → Sitting
 touched s = record s { is_touched = true }
 
@@ -38,7 +38,7 @@ with_ephemeral s = record s { made_ephemeral = true }
 abbrev pub left : Sitting → Sitting
 left s = record s { connection = None }
 
--- without a request since the last rest
+-- without a request since the last `rest`
 abbrev pub rested : Sitting → Sitting
 rested s = record s { is_touched = false }
 
@@ -50,10 +50,10 @@ with_seat m id connection = insert m id (taken_up connection (unwrap_or (get m i
 abbrev pub with_changed : (Sitting → Sitting) → SittingsView → ℕ → SittingsView
 with_changed change m id = option_map_or (λ s. insert m id (change s)) (get m id) m
 
--- the sessions with a request since the last rest, in the order of ids
+-- the sessions with a request since the last `rest`, in the order of ids
 abbrev pub touched_ids : SittingsView → List ℕ
 touched_ids m = filter_map (λ e. if e.1.is_touched then Some e.0 else None) (entries m)
 
--- the attachments, each of them rested
+-- the attachments, each after `rest`
 abbrev pub all_rested : SittingsView → SittingsView
 all_rested m = from_entries (map (λ e. (e.0, rested e.1)) (entries m))

@@ -2,7 +2,7 @@
 
 ghost use Rattle.zsittings.specs.Laws.{EachRests};
 
-/// A rest leaves each session attached as it was, with nothing requested since.
+/// `rest` leaves each session attached as it was, with nothing requested since.
 pub fn each_rests()
     ensures { EachRests }
 {}

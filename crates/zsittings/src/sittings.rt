@@ -103,7 +103,7 @@ impl Sittings {
         self.table.insert(id, taken_up)
     }
 
-    /// Marks that a session sent a request, if it exists.
+    /// Notes that a session sent a request, if it exists.
     pub fn touch(&mut self, id: SessionId)
         ensures { self.new ≡ with_changed touched self.old id }
     {
@@ -116,7 +116,7 @@ impl Sittings {
         }
     }
 
-    /// Marks that a session made an ephemeral node, if it exists.
+    /// Notes that a session made an ephemeral node, if it exists.
     pub fn note_ephemeral(&mut self, id: SessionId)
         ensures { self.new ≡ with_changed with_ephemeral self.old id }
     {
@@ -149,14 +149,14 @@ impl Sittings {
         self.table.remove(id);
     }
 
-    /// Returns the ids of the sessions with a request since the last rest, in order; or `Memory`.
+    /// Returns the ids of the sessions with a request since the last `rest`, in order; or `Memory`.
     pub fn touched(&self) -> Result<Vec<SessionId>, Memory>
         ensures { IfOk result (λ ids. ids.items ≡ touched_ids self.now) }
     {
         self.table.touched()
     }
 
-    /// Clears the mark of a request of each session.
+    /// Clears the flag of a request for each session.
     pub fn rest(&mut self)
         ensures { self.new ≡ all_rested self.old }
     {

@@ -81,7 +81,7 @@ impl SittingTable {
         self.table.remove(&id.number());
     }
 
-    // Clears the mark of a request of each session. Allocates nothing.
+    // Clears the flag of a request for each session. Allocates nothing.
     pub(crate) fn rest(&mut self)
         ensures { self.new ≡ all_rested self.old }
     {
@@ -106,7 +106,7 @@ impl SittingTable {
     }
 }
 
-// Returns the attachment without the mark of a request.
+// Returns the attachment without the flag of a request.
 fn rested(sitting: Sitting) -> Sitting
     ensures { result ≡ rested sitting }
 {

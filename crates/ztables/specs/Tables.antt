@@ -1,6 +1,6 @@
--- The state of a server for ZooKeeper's clients: the connections with what came on them, the
--- sessions with their connections, the watches, and what is still to be sent. The source is the
--- ZooKeeper Programmer's Guide, "ZooKeeper Sessions".
+-- The state of a server for ZooKeeper's clients: connections with their unread bytes, sessions with
+-- their connections, watches, and chunks to be sent. The source is the ZooKeeper Programmer's
+-- Guide, "ZooKeeper Sessions".
 use Rattle.std.specs.Prelude.{ℕ, Bool, true, false, List, [], ◌∷◌, ◌++◌, Option, None, Some, if◌then◌else◌}
 use Rattle.std.specs.Option.{option_map_or, option_and_then}
 use Rattle.std.specs.FinMap as finite
@@ -20,14 +20,14 @@ pub record TablesView : Type 0 where
   pub watches : Watches
   pub unsent : List PieceView
 
--- something may still be sent in this phase of a connection
+-- in this phase, bytes may still be sent on the connection
 abbrev pub may_send : Option Phase → Bool
 may_send (Some Silent) = true
 may_send (Some (Speaking session)) = true
 may_send (Some Closing) = false
 may_send None = false
 
--- the connection is there, and isn't closing
+-- the connection exists, and isn't closing
 abbrev pub is_open : TablesView → ℕ → Bool
 is_open t c = may_send (phase_of t.streams c)
 
@@ -38,26 +38,26 @@ session_in (Some (Speaking session)) = Some session
 session_in (Some Closing) = None
 session_in None = None
 
--- a piece that isn't the last of its connection, and one that is
+-- a chunk that isn't the last of its connection, and one that is
 abbrev pub piece : ℕ → List ℕ → PieceView
 piece c bytes = record { connection = c; bytes = bytes; is_last = false }
 
 abbrev pub last_piece : ℕ → PieceView
 last_piece c = record { connection = c; bytes = []; is_last = true }
 
--- a piece is to be sent, behind the others
+-- a chunk is queued at the end
 abbrev pub with_piece : PieceView → TablesView → TablesView
 with_piece p t = record t { unsent = t.unsent ++ p ∷ [] }
 
--- bytes are to be sent on a connection; on one that is closing nothing goes
+-- bytes are queued for a connection; nothing is queued if it is closing
 abbrev pub sent : ℕ → List ℕ → TablesView → TablesView
 sent c bytes t = if is_open t c then with_piece (piece c bytes) t else t
 
--- the session of a connection has no connection any more, if there is one
+-- the session of a connection, if it has one, is detached
 abbrev pub without_seat : Option ℕ → TablesView → SittingsView
 without_seat session t = option_map_or (λ s. with_changed left t.sittings s) session t.sittings
 
--- a connection leaves its session, and its watches are gone
+-- a connection is detached from its session, and its watches are removed
 abbrev pub parted : ℕ → TablesView → TablesView
 parted c t =
     record t {
@@ -65,7 +65,7 @@ parted c t =
       watches = watch.without t.watches c;
     }
 
--- nothing more is read on a connection, and it is to be closed behind what is to be sent on it
+-- nothing more is read on a connection, and it is closed once all queued chunks are sent
 abbrev pub closing : ℕ → TablesView → TablesView
 closing c t = with_piece (last_piece c) (record (parted c t) { streams = stream.closed t.streams c })
 
@@ -89,11 +89,11 @@ sitting session c t =
 abbrev pub connection_of : SittingsView → ℕ → Option ℕ
 connection_of rows session = option_and_then (λ s. s.connection) (finite.get rows session)
 
--- the connection that a session has is to be closed
+-- the connection that a session has is closed
 abbrev pub moved : ℕ → TablesView → TablesView
 moved session t = option_map_or (λ c. closed c t) (connection_of t.sittings session) t
 
--- a connection has a session, which a client took up on it
+-- a session is attached to a connection
 abbrev pub seated : ℕ → ℕ → TablesView → TablesView
 seated session c t =
     record t {
@@ -101,6 +101,6 @@ seated session c t =
       sittings = with_seat t.sittings session c;
     }
 
--- a session is taken up by a connection, and that which it had is to be closed
+-- a session is attached to a connection, and its old connection is closed
 abbrev pub taken_up : ℕ → ℕ → TablesView → TablesView
 taken_up session c t = seated session c (moved session t)

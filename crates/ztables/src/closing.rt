@@ -10,7 +10,7 @@ use zpieces::Piece;
 use ztree::SessionId;
 
 impl Tables {
-    /// Closes a connection behind what is to be sent on it. Nothing more is read.
+    /// Closes a connection once all queued chunks are sent. Nothing more is read.
     pub fn close(&mut self, connection: u32) -> Result<(), Memory>
         ensures { OnOk result (self.new ≡ closed connection self.old) }
     {
@@ -20,7 +20,7 @@ impl Tables {
         self.shut(connection)
     }
 
-    /// Removes a connection that ended, and what was to be sent on it.
+    /// Removes a connection that ended, and the chunks queued for it.
     pub fn end(&mut self, connection: u32)
         ensures { self.new ≡ ended connection self.old }
     {
@@ -47,7 +47,7 @@ impl Tables {
         sitting.connection
     }
 
-    // Closes a connection that is open.
+    // Closes a connection, if it is open.
     fn shut(&mut self, connection: u32) -> Result<(), Memory>
         ensures { OnOk result (self.new ≡ closing connection self.old) }
     {
@@ -60,7 +60,7 @@ impl Tables {
         })
     }
 
-    // Takes a connection's session and watches away.
+    // Detaches a connection from its session, and removes its watches.
     fn part(&mut self, connection: u32)
         ensures { self.new ≡ parted connection self.old }
     {
@@ -68,7 +68,7 @@ impl Tables {
         self.watches.forget(connection);
     }
 
-    // Takes a session from its connection, if there is one.
+    // Detaches a session, if there is one.
     fn unseat(&mut self, session: Option<SessionId>)
         ensures { self.new ≡ record self.old { sittings = without_seat session self.old } }
     {

@@ -1,4 +1,4 @@
-//! Connections, and the bytes that came on them.
+//! Connections, and their unread bytes.
 
 ghost use Rattle.std.specs.Prelude.{◌≡◌, ◌<◌, ◌^◌, [], OnOk};
 ghost use Rattle.std.specs.FinMap as finite;
@@ -20,7 +20,7 @@ impl Tables {
         self.streams.open(connection)
     }
 
-    /// Returns how far a connection is, if it is there.
+    /// Returns the phase of a connection, if it exists.
     pub fn phase(&self, connection: u32) -> Option<Phase>
         ensures { result ≡ phase_of self.now.streams connection }
     {
@@ -47,7 +47,7 @@ impl Tables {
         }
     }
 
-    /// Takes the bytes that came on a connection and weren't read yet.
+    /// Takes the unread bytes of a connection.
     pub fn take_bytes(&mut self, connection: u32) -> Vec<u8>
         ensures bytes { result.items ≡ bytes_of self.old.streams connection }
         ensures rest { self.new
@@ -56,7 +56,7 @@ impl Tables {
         self.streams.take(connection)
     }
 
-    /// Keeps these bytes in the place of those that came on a connection and weren't read yet.
+    /// Replaces the unread bytes of a connection.
     pub fn keep_bytes(&mut self, connection: u32, bytes: Vec<u8>)
         ensures { self.new
             ≡ record self.old { streams = with_bytes self.old.streams connection bytes.items } }
@@ -64,7 +64,7 @@ impl Tables {
         self.streams.keep(connection, bytes);
     }
 
-    /// Returns how many bytes are kept for all connections together: fewer than a machine can have.
+    /// Returns the number of unread bytes of all connections: fewer than a machine can have.
     pub fn kept(&self) -> usize
         ensures { held_of self.now.streams < 2 ^ 64 → result ≡ held_of self.now.streams }
     {

@@ -24,7 +24,7 @@ pub(crate) fn event_frame(alloc: Global, event: &Event) -> Result<Vec<u8>, Memor
     }
 }
 
-// Returns what a client is told of an event.
+// Returns an event as a client receives it.
 fn event_told(alloc: Global, event: &Event) -> Result<WatcherEvent, Memory>
     ensures told { IfOk result (λ told. told ≡ table.event_told event.now) }
     ensures short { IfOk result (λ told. length told.path ≤ MAX_TEXT_LEN) }
@@ -41,7 +41,7 @@ fn path_told(alloc: Global, path: &Path) -> Result<Bytes, Memory>
     ensures told { IfOk result (λ told. told ≡ text_of path.now) }
     ensures short { IfOk result (λ told. length told ≤ MAX_TEXT_LEN) }
 {
-    // So its text is short.
+    // The text of a path is short.
     path.keeps_its_form();
     let text = path.to_string(alloc)?;
     let told = Bytes::copied(alloc, text.as_bytes())?;

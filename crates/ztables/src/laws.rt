@@ -1,13 +1,13 @@
-//! What holds of all tables. The functions do nothing.
+//! Laws of all tables. The functions do nothing.
 
 ghost use Rattle.ztables.specs.Laws.{ClosedOnce, NothingGoesBehind};
 
-/// Behind the last piece of a connection nothing goes on it.
+/// After the last chunk of a connection, no other chunk is queued for it.
 pub fn nothing_goes_behind()
     ensures { NothingGoesBehind }
 {}
 
-/// A connection that is closed has one last piece.
+/// A connection that is closed has exactly one last chunk.
 pub fn closed_once()
     ensures { ClosedOnce }
 {}

@@ -1,7 +1,8 @@
-//! The state of a server for ZooKeeper's clients, without the service behind it.
+//! The state of a server for ZooKeeper's clients, without its tree.
 //!
-//! It knows the connections and the bytes that came on them, the sessions with their connections,
-//! the watches, and what is still to be sent. Each method is a definition of `specs/`, exactly. All of it is pure: it knows no socket, no clock, and no tree.
+//! It holds the connections with their unread bytes, the sessions with their connections, the
+//! watches, and the chunks to be sent. Each method does exactly what its definition in `specs/`
+//! says. All of it is pure: it knows no socket, no clock, and no tree.
 #![tactic(auto)]
 
 mod closing;

@@ -1,4 +1,4 @@
-//! Which sessions made ephemeral nodes.
+//! Sessions that made ephemeral nodes.
 
 ghost use Rattle.std.specs.Prelude.{◌≡◌};
 ghost use Rattle.ztables.specs.Sweeping.{made_by, made_by_parts, noted};
@@ -7,7 +7,7 @@ use crate::tables::Tables;
 use zcalls::{Lifetime, Part, Reply, Update};
 
 impl Tables {
-    /// Notes which sessions made an ephemeral node, by an update and its reply.
+    /// Notes the sessions that made an ephemeral node, from an update and its reply.
     pub fn note(&mut self, update: &Update, reply: &Reply)
         ensures { self.new
             ≡ record self.old { sittings = noted update.now reply.now self.old.sittings } }
@@ -19,7 +19,7 @@ impl Tables {
         }
     }
 
-    // Notes the owners of the nodes that parts of a multi made.
+    // Notes the owners of the nodes that the parts of a multi created.
     fn note_parts(&mut self, parts: &[Part])
         ensures { self.new
             ≡ record self.old { sittings = made_by_parts parts.now self.old.sittings } }
@@ -31,7 +31,7 @@ impl Tables {
         }
     }
 
-    // Notes the owner of a node of this lifetime that was made.
+    // Notes the owner of a created node of this lifetime.
     fn note_lifetime(&mut self, lifetime: Lifetime)
         ensures { self.new
             ≡ record self.old { sittings = made_by lifetime self.old.sittings } }

@@ -24,7 +24,7 @@ ghost use Rattle.ztables.specs.Tables.{seated, sent, session_in, taken_up};
 ghost use Rattle.ztables.specs.Telling.{event_frame, in_order, sent_on};
 ghost use Rattle.ztables.specs.Sweeping.{gone, made_by, noted, swept};
 
-/// What may be sent in each phase of a connection, and which session it has.
+/// Whether bytes may be sent in each phase of a connection, and its session.
 pub fn phases()
     ensures silent { may_send (Some Silent) ≡ true }
     ensures speaking { may_send (Some (Speaking 7)) ≡ true }
@@ -34,7 +34,7 @@ pub fn phases()
     ensures no_session { session_in (Some Silent) ≡ None }
 {}
 
-/// Pieces go behind those that are to be sent. Behind the last one of a connection nothing goes.
+/// A chunk is queued at the end. After the last chunk of a connection, no other is queued for it.
 pub fn pieces()
     ensures sent { (t : TablesView) → phase_of t.streams 3 ≡ Some (Speaking 7)
         → sent 3 (9 ∷ []) t ≡ record t {
@@ -50,7 +50,7 @@ pub fn pieces()
     ensures absent { (t : TablesView) → phase_of t.streams 3 ≡ None → closed 3 t ≡ t }
 {}
 
-/// Connection 5 takes up session 7, or the tree has it no more.
+/// Connection 5 takes session 7, or the tree no longer has it.
 pub fn sessions_move()
     ensures taken_up { (t : TablesView) → connection_of t.sittings 7 ≡ Some 3
         → taken_up 7 5 t ≡ seated 7 5 (closed 3 t) }
@@ -62,7 +62,7 @@ pub fn sessions_move()
         → swept 7 t ≡ record t { sittings = remove t.sittings 7 } }
 {}
 
-/// Which updates note that session 7 made an ephemeral node.
+/// The updates by which session 7 made an ephemeral node.
 pub fn ephemerals()
     ensures ephemeral { (m : SittingsView)
         → made_by (lifetime.Ephemeral 7) m ≡ with_changed with_ephemeral m 7 }
@@ -79,14 +79,14 @@ pub fn ephemerals()
         → noted (act.Multi (part.Create c ∷ [])) (reply.MultiRefused 1 why) m ≡ m }
 {}
 
-/// Session 7 is here. It is gone where the tree hasn't it.
+/// The tables have session 7. It is gone if the tree doesn't have it.
 pub fn who_is_gone()
     ensures none_there { gone empty some_sittings ≡ 7 ∷ [] }
     ensures there { (s : Session) → gone (insert empty 7 s) some_sittings ≡ [] }
 {}
 
-/// What a client is told whose watch waited for the data of `/a`: the length, the header with -1
-/// for the xid and for the zxid, the event's number, the state's, and the path.
+/// The notification of a watch of the data of `/a`: the length, the header with xid -1 and zxid -1,
+/// the number of the event, that of the state, and the path.
 pub fn one_event()
     ensures frame { event_frame (record { kind = NodeDataChanged; path = (97 ∷ []) ∷ [] })
         ≡ 0 ∷ 0 ∷ 0 ∷ 30 ∷ 255 ∷ 255 ∷ 255 ∷ 255

@@ -1,4 +1,4 @@
-//! Sessions.
+//! Sessions and their connections.
 
 ghost use Rattle.std.specs.Prelude.{◌≡◌, IfOk, OnOk};
 ghost use Rattle.std.specs.FinMap as finite;
@@ -12,7 +12,7 @@ use zpieces::Phase;
 use ztree::SessionId;
 
 impl Tables {
-    /// Notes a session that was opened on a connection.
+    /// Adds a session that was opened on a connection.
     pub fn sit(&mut self, session: SessionId, connection: u32) -> Result<(), Memory>
         ensures { OnOk result (self.new ≡ sitting session connection self.old) }
     {
@@ -20,7 +20,7 @@ impl Tables {
         self.sittings.open(session, connection)
     }
 
-    /// Notes a session that was opened before, and has no connection now.
+    /// Adds a session that was opened earlier, and has no connection now.
     pub fn restore(&mut self, session: SessionId) -> Result<(), Memory>
         ensures { OnOk result (self.new ≡ record self.old {
           sittings = finite.insert self.old.sittings session restored_sitting;
@@ -29,7 +29,7 @@ impl Tables {
         self.sittings.restore(session)
     }
 
-    /// Takes a session up on a connection. The connection that it had is closed then.
+    /// Attaches a session to a connection. Its old connection is closed.
     pub fn take_up(&mut self, session: SessionId, connection: u32) -> Result<(), Memory>
         ensures { OnOk result (self.new ≡ taken_up session connection self.old) }
     {
@@ -37,7 +37,7 @@ impl Tables {
         self.seat(session, connection)
     }
 
-    /// Notes that a session's client was heard.
+    /// Notes that a session sent a request.
     pub fn touch(&mut self, session: SessionId)
         ensures { self.new
             ≡ record self.old { sittings = with_changed touched self.old.sittings session } }
@@ -45,21 +45,21 @@ impl Tables {
         self.sittings.touch(session);
     }
 
-    /// Returns the sessions whose clients were heard since the last rest, in rising order.
+    /// Returns the sessions that sent a request since the last `rest`, in rising order.
     pub fn touched(&self) -> Result<Vec<SessionId>, Memory>
         ensures { IfOk result (λ ids. ids.items ≡ touched_ids self.now.sittings) }
     {
         self.sittings.touched()
     }
 
-    /// Begins anew to note whose clients are heard: none was.
+    /// Clears the flag of a request for each session.
     pub fn rest(&mut self)
         ensures { self.new ≡ record self.old { sittings = all_rested self.old.sittings } }
     {
         self.sittings.rest();
     }
 
-    // Gives a session to a connection.
+    // Attaches a session to a connection.
     fn seat(&mut self, session: SessionId, connection: u32) -> Result<(), Memory>
         ensures { OnOk result (self.new ≡ seated session connection self.old) }
     {

@@ -1,4 +1,4 @@
-//! What is to be sent.
+//! Chunks to be sent.
 
 ghost use Rattle.std.specs.Prelude.{◌≡◌, drop, OnOk};
 ghost use Rattle.std.specs.Option.{option_copied};
@@ -10,7 +10,7 @@ use zalloc::Memory;
 use zpieces::Piece;
 
 impl Tables {
-    /// Sends bytes on a connection. On one that is closing nothing goes.
+    /// Queues bytes for a connection. Nothing is queued if it is closing.
     pub fn send(&mut self, connection: u32, bytes: Vec<u8>) -> Result<(), Memory>
         ensures { OnOk result (self.new ≡ sent connection bytes.items self.old) }
     {
@@ -24,14 +24,14 @@ impl Tables {
         })
     }
 
-    /// Returns the piece to be sent first, if there is one.
+    /// Returns the chunk to be sent first, if there is one.
     pub fn first_piece(&self) -> Option<&Piece>
         ensures { option_copied result ≡ first_of self.now.unsent }
     {
         self.outbox.first()
     }
 
-    /// Takes the piece to be sent first, if there is one.
+    /// Removes and returns the chunk to be sent first, if there is one.
     pub fn next_piece(&mut self) -> Option<Piece>
         ensures first { result ≡ first_of self.old.unsent }
         ensures rest { self.new ≡ record self.old { unsent = drop 1 self.old.unsent } }

@@ -9,14 +9,14 @@ use zalloc::Memory;
 use ztree::SessionId;
 
 impl Tables {
-    /// Returns the sessions that are known here, in rising order.
+    /// Returns the sessions in the tables, in rising order.
     pub fn session_ids(&self) -> Result<Vec<SessionId>, Memory>
         ensures { IfOk result (λ ids. ids.items ≡ finite.keys self.now.sittings) }
     {
         self.sittings.ids()
     }
 
-    /// Closes the connections of these sessions, and forgets the sessions. Returns whether one of
+    /// Closes the connections of these sessions, and removes the sessions. Returns whether one of
     /// them had made an ephemeral node.
     pub fn sweep(&mut self, ids: &[SessionId]) -> Result<bool, Memory>
         ensures swept { OnOk result (self.new ≡ swept_all ids.now self.old) }
@@ -49,7 +49,7 @@ impl Tables {
         }
     }
 
-    // Closes the connections of these sessions, and forgets them.
+    // Closes the connections of these sessions, and removes the sessions.
     fn sweep_all(&mut self, ids: &[SessionId]) -> Result<(), Memory>
         ensures { OnOk result (self.new ≡ swept_all ids.now self.old) }
     {
@@ -59,7 +59,7 @@ impl Tables {
         Ok(())
     }
 
-    // Closes the connection of a session, and forgets it.
+    // Closes the connection of a session, and removes the session.
     fn sweep_one(&mut self, id: SessionId) -> Result<(), Memory>
         ensures { OnOk result (self.new ≡ swept id self.old) }
     {

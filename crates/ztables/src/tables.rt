@@ -10,9 +10,9 @@ use zpieces::{Outbox, Streams};
 use zsittings::Sittings;
 use zwatches::Watches;
 
-/// The connections, the sessions, the watches, and what is to be sent.
+/// The connections, the sessions, the watches, and the chunks to be sent.
 ///
-/// After a call ran out of memory nothing is promised of them.
+/// After a call ran out of memory, the contracts promise nothing of the tables.
 #[derive(Drop)]
 pub struct Tables {
     pub(crate) alloc: Global,
@@ -39,7 +39,7 @@ impl Model for Tables {
 }
 
 impl Tables {
-    /// Returns tables without connections. Allocates nothing.
+    /// Returns empty tables. Allocates nothing.
     pub fn new(alloc: Global) -> Tables
         ensures { result ≡ record {
           streams = finite.empty;

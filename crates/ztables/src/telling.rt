@@ -1,4 +1,4 @@
-//! Telling events.
+//! Notifications of events.
 
 ghost use Rattle.std.specs.Prelude.{◌≡◌, IfOk, OnOk};
 ghost use Rattle.zwatches.specs.Events as watch;
@@ -12,8 +12,8 @@ use zalloc::Memory;
 use zevents::Event;
 
 impl Tables {
-    /// Tells events, one after the other, to the connections whose watches they fire. Such a watch
-    /// is gone then.
+    /// Sends events, in order, to the connections whose watches they fire. These watches are
+    /// removed.
     pub fn tell_all(&mut self, events: &[Event]) -> Result<(), Memory>
         ensures { OnOk result (self.new ≡ told_all events.now self.old) }
     {
@@ -23,7 +23,7 @@ impl Tables {
         Ok(())
     }
 
-    /// Sends an event on a connection. On one that is closing nothing goes.
+    /// Queues an event for a connection. Nothing is queued if it is closing.
     pub fn send_event(&mut self, connection: u32, event: &Event) -> Result<(), Memory>
         ensures { OnOk result (self.new ≡ sent connection (event_frame event.now) self.old) }
     {
@@ -31,7 +31,7 @@ impl Tables {
         self.send(connection, frame)
     }
 
-    // Tells an event.
+    // Sends an event to the connections whose watches it fires.
     fn tell(&mut self, event: &Event) -> Result<(), Memory>
         ensures { OnOk result (self.new ≡ told event.now self.old) }
     {
@@ -48,7 +48,7 @@ impl Tables {
         self.watches.changed(event.kind, &event.path)
     }
 
-    // Sends an event on these connections.
+    // Queues an event for these connections.
     fn send_on(&mut self, connections: &[u32], event: &Event) -> Result<(), Memory>
         ensures { OnOk result
             (self.new ≡ sent_on connections.now (event_frame event.now) self.old) }

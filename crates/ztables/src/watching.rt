@@ -12,8 +12,8 @@ use zpath::Path;
 use zwatches::{Kind, Place, WatchFault};
 
 impl Tables {
-    /// Sets a watch. One that is there stays as it is, and that needs no memory. After a fault
-    /// nothing has changed.
+    /// Sets a watch. Setting one again does nothing and allocates nothing. After a fault nothing
+    /// has changed.
     pub fn watch(&mut self, connection: u32, kind: Kind, path: &Path) -> Result<(), WatchFault>
         ensures ok { OnOk result (self.new ≡ record self.old {
           watches = insert self.old.watches (watch path.now kind connection);
@@ -29,7 +29,7 @@ impl Tables {
         self.watches.set(connection, kind, path)
     }
 
-    /// Returns the places at which a watch waits for a node that is there.
+    /// Returns the positions at which a watch waits for an existing node.
     pub fn watched(&self) -> Result<Vec<Place>, Memory>
         ensures { IfOk result (λ places. Lists places.items (node_places self.now.watches)) }
     {

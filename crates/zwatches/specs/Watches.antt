@@ -1,5 +1,6 @@
 -- The table of watches: a set of watches, each of a connection, a kind and a path. The source is
--- the ZooKeeper Programmer's Guide, section "ZooKeeper Watches". The limit is this project's profile.
+-- the ZooKeeper Programmer's Guide, section "ZooKeeper Watches". The limit is this project's
+-- profile.
 use Rattle.std.specs.Prelude.{◌≡◌, ℕ, List, Bool, true, false, not, ◌&&◌, nat_le}
 use Rattle.std.specs.FinSet.{FinSet, contains, len}
 use Rattle.std.specs.Ordering.{nat_cmp, ordering_then}

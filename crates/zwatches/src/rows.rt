@@ -23,8 +23,8 @@ pub fn watches_differ()
     ensures connection { watch_cmp (watch at_a Data 1) (watch at_a Data 2) ≡ Less }
 {}
 
-/// A created node fires the watches that waited for it, and those of its data. It fires none of its
-/// parent's: the change of the parent's children is an event of its own.
+/// A created node fires the watches that waited for it, and those of its data. The parent's
+/// watches don't fire: the change of its children is a separate event.
 pub fn created()
     ensures missing { fires NodeCreated at_a_b (watch at_a_b Missing 1) ≡ true }
     ensures node { fires NodeCreated at_a_b (watch at_a_b Data 1) ≡ true }

@@ -1,4 +1,4 @@
--- Samples for the worked rows.
+-- Samples for the worked examples.
 use Rattle.std.specs.Prelude.{ℕ, pos, Bool, false, List, [], ◌∷◌, codes, replicate, Some}
 use Rattle.ztree.specs.support.Samples.{at_a, at_a_b}
 use Rattle.zcalls.specs.declared.call.Call.{Call}
@@ -13,7 +13,7 @@ use Rattle.zjute.specs.declared.request.SetWatches.{SetWatches}
 use Rattle.zwatches.specs.declared.kind.Kind.{Kind}
 use Rattle.zwatches.specs.declared.place.Place.{Place}
 
--- /a is looked at, with a watch or without
+-- a query of /a, with a watch or without
 abbrev pub look_a : Bool → Look
 look_a watch = record { path = Some (codes "/a"); watch = watch }
 
@@ -24,8 +24,8 @@ exists_a = Query (Exists at_a)
 abbrev pub exists_a_b : Call
 exists_a_b = Query (Exists at_a_b)
 
--- watches of the data of /a, of a node to come at /a, and of the children of /a/b are set again, by a
--- client that has seen change 1
+-- a client that has seen change 1 re-registers watches: of the data of /a, of the creation of /a,
+-- and of the children of /a/b
 abbrev pub set_again : SetWatches
 set_again = record {
   relative_zxid = pos 1;
@@ -38,7 +38,7 @@ set_again = record {
 abbrev pub request_9 : Asked → Request
 request_9 asked = record { xid = pos 9; asked = asked }
 
--- a place of watches at /a
+-- a position of watches at /a
 abbrev pub place_a : Kind → Place
 place_a kind = record { path = at_a; kind = kind }
 

@@ -1,4 +1,4 @@
-//! What calls and answers do to the tables.
+//! The effect of calls and answers on the tables.
 
 ghost use Rattle.std.specs.Prelude.{◌≡◌, ℕ, pos, true, false, [], ◌∷◌};
 ghost use Rattle.std.specs.FinSet.{insert};
@@ -27,7 +27,7 @@ ghost use Rattle.zserving.specs.Watching.{granted, granted_all, lacks_room, some
 ghost use Rattle.zserving.specs.Answering.{answered, now_of};
 ghost use Rattle.zserving.specs.support.Samples.{look_a, exists_a, now, request_9};
 
-/// Calls that were answered: the events of each are told.
+/// The events of each call are sent.
 pub fn calls_are_absorbed()
     ensures set { (t : TablesView) → absorbed (Update (act.SetData set_a_b)) (reply.Set some_stat) t
         ≡ told (event NodeDataChanged at_a_b) t }
@@ -42,7 +42,7 @@ pub fn calls_are_absorbed()
         → absorbed_all (Update (act.SetData set_a_b) ∷ []) [] t ≡ t }
 {}
 
-/// An answer is sent. Behind that to a client that isn't who it says the connection is closed.
+/// An answer is sent. After AuthFailed the connection is closed.
 pub fn answers_are_told()
     ensures done { (t : TablesView) → replied 8 1 (pos 9) (done body.Nothing) t
         ≡ sent 1 (answer_frame 8 (pos 9) (done body.Nothing)) t }
@@ -70,7 +70,7 @@ pub fn wishes_are_granted()
         (sent 1 (event_frame (event NodeDeleted at_a)) t) }
 {}
 
-/// A request is answered behind its events and its watches.
+/// The answer to a request is sent after its events, once its watches are set.
 pub fn requests_are_answered()
     ensures now { (t : Tree) → now_of (record t { zxid = 8; time = 4 }) ≡ now }
     ensures ping { (t : TablesView) → answered clock now 1 (request_9 asked.Ping) [] [] t

@@ -11,7 +11,7 @@ ghost use Rattle.zserving.specs.Frames.{answer_text, too_long, text_told, answer
 ghost use Rattle.zserving.specs.Frames.{flag_told, response_frame};
 ghost use Rattle.zserving.specs.support.Samples.{greeting, some_password};
 
-/// The answer to a ping, behind change 8: its xid is -2.
+/// The answer to a ping, after change 8: its xid is -2.
 #[tactic(auto, unfolding(zjute::specs::Replies::reply_text, zjute::specs::Jute::int, zjute::specs::Jute::long))]
 pub fn a_ping_is_answered()
     ensures frame { answer_frame 8 (neg 2) (done body.Nothing)
@@ -27,14 +27,14 @@ pub fn long_answers()
         → text_told zxid xid answer ≡ answer_text zxid xid too_long }
 {}
 
-/// The codes behind which a connection is closed.
+/// The codes after which a connection is closed.
 pub fn codes_that_end_connections()
     ensures auth { ends_connection code.AuthFailed ≡ true }
     ensures ok { ends_connection code.Ok ≡ false }
     ensures expired { ends_connection code.SessionExpired ≡ false }
 {}
 
-/// The answer to a first frame: session 7 with 8,000 milliseconds.
+/// A connect response: session 7 with 8,000 milliseconds.
 #[tactic(auto, unfolding(zjute::specs::Connecting::connect_response, zjute::specs::Jute::int, zjute::specs::Jute::long, zjute::specs::Jute::text))]
 pub fn a_first_frame_is_answered()
     ensures frame { response_frame greeting (pos 8000) (pos 7) some_password

@@ -1,4 +1,4 @@
-//! Clients that greet.
+//! Connect requests.
 
 ghost use Rattle.std.specs.Prelude.{◌≡◌, pos, true, false, [], replicate, None, Some};
 ghost use Rattle.zasking.specs.Timeouts.{millis_told};
@@ -15,7 +15,7 @@ pub fn clients_that_are_ahead()
     ensures ahead { is_ahead 8 (record greeting { last_zxid_seen = pos 9 }) ≡ true }
 {}
 
-/// A new session, and none.
+/// A new session, and a response without one.
 pub fn clients_are_welcomed()
     ensures welcome { (t : TablesView) → welcomed 2000 greeting 9 5 some_password 1 t
         ≡ sent 1 (response_frame greeting (pos 8000) (pos 9) some_password)
@@ -25,7 +25,7 @@ pub fn clients_are_welcomed()
     ensures null { given (record greeting { password = None }) ≡ [] }
 {}
 
-/// A client comes back to session 7, of 4 ticks. All bytes of its password must be given.
+/// A client comes back to session 7, of 4 ticks. It must give the whole password.
 pub fn clients_come_back()
     ensures back { (t : TablesView) → came_back 2000 greeting 7 4 some_password 3 t
         ≡ session_told greeting 7 (millis_told 2000 4) some_password 3 (taken_up 7 3 t) }

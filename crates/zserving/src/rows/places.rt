@@ -1,4 +1,4 @@
-//! What is seen at watched places.
+//! Events at watched positions.
 
 ghost use Rattle.std.specs.Prelude.{◌≡◌, [], ◌∷◌};
 ghost use Rattle.ztree.specs.support.Samples.{at_a, some_stat};
@@ -10,7 +10,7 @@ ghost use Rattle.zwatches.specs.declared.kind.Kind.TheVariants.{Data, Children};
 ghost use Rattle.zserving.specs.Looking.{seen_at, seen};
 ghost use Rattle.zserving.specs.support.Samples.{place_a};
 
-/// What is seen by change 3, with which the children of the node changed last.
+/// Events of change 3, in which the children of the node last changed.
 pub fn what_is_seen()
     ensures gone { seen_at 3 (place_a Data) (reply.Refused NoNode)
         ≡ event NodeDeleted at_a ∷ [] }

@@ -14,7 +14,7 @@ ghost use Rattle.zserving.specs.declared.wish.Wish.TheVariants.{Waits, Tells};
 ghost use Rattle.zserving.specs.Wishes.{query_wish, first_wish, wishes, wish_again, call_again, wishes_again};
 ghost use Rattle.zserving.specs.support.Samples.{look_a, exists_a, exists_a_b, set_again};
 
-/// The watch of a query, by what is there. `exists` alone waits for a node to come.
+/// The watch of a query, from its reply. Only `exists` waits for a creation.
 pub fn watches_of_queries()
     ensures there { query_wish (Exists at_a) (reply.Exists some_stat) ≡ Waits Data at_a ∷ [] }
     ensures missing { query_wish (Exists at_a) (reply.Refused NoNode) ≡ Waits Missing at_a ∷ [] }
@@ -43,8 +43,8 @@ pub fn watches_of_requests()
     ensures no_reply { first_wish (exists_a ∷ []) [] ≡ [] }
 {}
 
-/// A watch that is set again: its event is told where the client hasn't seen it. The node was
-/// written last by change 2, and its children changed last with change 3.
+/// A re-registered watch: its event is sent if the client hasn't seen the change. The node was last
+/// written by change 2, and its children last changed in change 3.
 pub fn watches_set_again()
     ensures seen { wish_again Data (pos 2) at_a (reply.Exists some_stat) ≡ Waits Data at_a ∷ [] }
     ensures written { wish_again Data (pos 1) at_a (reply.Exists some_stat)
@@ -64,7 +64,7 @@ pub fn watches_set_again()
     ensures no_query { call_again Data (pos 9) (Query (GetData at_a)) (reply.Refused NoNode) ≡ [] }
 {}
 
-/// All watches that are set again: those of data, those that wait for a node, and those of children.
+/// All re-registered watches: data watches, those for a creation, and child watches.
 pub fn all_watches_set_again()
     ensures each { wishes_again Missing (pos 1) (exists_a ∷ exists_a_b ∷ [])
         (reply.Refused NoNode ∷ reply.Exists some_stat ∷ [])

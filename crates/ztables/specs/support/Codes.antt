@@ -1,4 +1,4 @@
--- How the tables are stored, by the codes of their parts: a proof tells two of them apart by them.
+-- Codes of the tables: proofs distinguish two of them by their codes.
 use Rattle.std.specs.Prelude.{List, refl}
 use Rattle.std.specs.Coded.{Coded, code_by, coded×}
 use Rattle.zpieces.specs.Outbox.{PieceView}
@@ -10,7 +10,7 @@ use Rattle.zwatches.specs.Watches.{Watches}
 use Rattle.zwatches.specs.support.Codes.{coded_watches}
 use Rattle.ztables.specs.Tables.{TablesView}
 
--- how the tables are stored
+-- the codes of the tables
 abbrev pub coded_tables : Coded TablesView
 coded_tables =
     code_by (StreamRows × (SittingsView × (Watches × List PieceView)))
