@@ -1,5 +1,5 @@
--- A server for ZooKeeper's clients: one tree, and the tables of its connections. Here is what it does
--- once calls were answered. The sources are the ZooKeeper Programmer's Guide, "ZooKeeper Sessions"
+-- The state of a front end for ZooKeeper's clients, and the effect of its calls: one tree, and the
+-- tables of its connections. The sources are the ZooKeeper Programmer's Guide, "ZooKeeper Sessions"
 -- and "ZooKeeper Watches".
 use Rattle.std.specs.Prelude.{◌≡◌, ℕ, Bool, true, false, ◌||◌, nat_lt, List, [], ◌∷◌, ◌++◌, map, if◌then◌else◌}
 use Rattle.std.specs.List.{list_any}
@@ -22,8 +22,8 @@ use Rattle.ztables.specs.Telling.{told_all}
 use Rattle.ztables.specs.Sweeping.{gone, swept_all, some_made_one}
 use Rattle.zserving.specs.Looking.{seen}
 
--- the tree, the tables, whether updates are kept and those that are left to be taken, the secret of
--- passwords, and how ticks become times
+-- the tree, the tables, whether updates are recorded and those not yet taken, the secret of
+-- passwords, and the conversion of ticks to times
 pub record FrontView : Type 0 where
   pub tree : Tree
   pub tables : TablesView
@@ -32,65 +32,65 @@ pub record FrontView : Type 0 where
   pub secret : List ℕ
   pub clock : Clock
 
--- with these tables
+-- the same with these tables
 abbrev pub with_tables : TablesView → FrontView → FrontView
 with_tables t v = record v { tables = t }
 
 -- ---- calls
 
--- the updates among calls, in order
+-- the updates among the calls, in order
 abbrev pub updates_among : List Call → List Update
 updates_among [] = []
 updates_among (call.Update update ∷ calls) = update ∷ updates_among calls
 updates_among (call.Query query ∷ calls) = updates_among calls
 
--- what is left to be taken of calls that were made
+-- the updates of these calls that are recorded
 abbrev pub left_of : Bool → List Call → List Update
 left_of is_kept calls = if is_kept then updates_among calls else []
 
--- calls were made, one after the other: the tree is the one that they leave
+-- calls are made in order: the tree after them, and their recorded updates
 abbrev pub asked : List Call → FrontView → FrontView
 asked calls v = record v { tree = tree_after v.tree calls; made = v.made ++ left_of v.is_kept calls }
 
--- the replies to them
+-- the replies to these calls
 abbrev pub replies_to : List Call → FrontView → List Reply
 replies_to calls v = served v.tree calls
 
--- ---- sessions that end, and watched nodes that went with them
+-- ---- ended sessions, and watched nodes deleted with them
 
--- a call may end sessions
+-- the call may end sessions
 abbrev pub may_end : Call → Bool
 may_end (call.Update (act.Close session)) = true
 may_end (call.Update act.Tick) = true
 may_end other = false
 
--- the sessions here that the tree has no more
+-- the sessions in the tables that the tree no longer has
 abbrev pub gone_from : FrontView → List ℕ
 gone_from v = gone v.tree.sessions v.tables.sittings
 
--- they are swept
+-- these sessions are removed
 abbrev pub swept : FrontView → FrontView
 swept v = with_tables (swept_all (gone_from v) v.tables) v
 
--- a tick took nodes away
+-- a tick deleted nodes
 abbrev pub takes_nodes : Reply → Bool
 takes_nodes (reply.Ticked time ended removed) = nat_lt 0 removed
 takes_nodes told = false
 
--- nodes may have gone that no reply names: a tick took them, or they went with a session that made an
--- ephemeral node
+-- nodes may be gone that no reply names: a tick deleted them, or they went with a session that made
+-- an ephemeral node
 abbrev pub took_unnamed : List Reply → FrontView → Bool
 took_unnamed replies v = list_any takes_nodes replies || some_made_one v.tables.sittings (gone_from v)
 
--- what a look at places finds
+-- the stats of nodes at positions
 abbrev pub looks : Tree → List Place → List Reply
 looks t places = map (λ (p : Place). query_reply t (Exists p.path)) places
 
--- places are looked at; the watches whose nodes went away, or lost a child, are told
+-- these positions are checked: events are sent for nodes that are gone or lost a child
 abbrev pub looked : List Place → FrontView → FrontView
 looked places v = with_tables (told_all (seen v.tree.zxid places (looks v.tree places)) v.tables) v
 
--- each watched place is looked at
+-- all watched positions are checked
 abbrev pub Looks : FrontView → FrontView → Type 0
 Looks old new = (places : List Place) × Lists places (node_places old.tables.watches) × (new ≡ looked places old)
 
@@ -98,11 +98,11 @@ abbrev pub LooksIf : Bool → FrontView → FrontView → Type 0
 LooksIf false old new = new ≡ old
 LooksIf true old new = Looks old new
 
--- behind calls that may have ended sessions
+-- after calls, if they may have ended sessions
 abbrev pub TidiesIf : Bool → List Reply → FrontView → FrontView → Type 0
 TidiesIf false replies old new = new ≡ old
 TidiesIf true replies old new = LooksIf (took_unnamed replies old) (swept old) new
 
--- behind calls with these replies
+-- after calls with these replies
 abbrev pub Tidies : List Call → List Reply → FrontView → FrontView → Type 0
 Tidies calls replies old new = TidiesIf (list_any may_end calls) replies old new

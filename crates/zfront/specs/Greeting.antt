@@ -1,5 +1,5 @@
--- What becomes of the first frame of a connection. The source is zookeeper.jute (`ConnectRequest`)
--- and the ZooKeeper Programmer's Guide, "ZooKeeper Sessions".
+-- The effect of a connect request, the first frame of a connection. The source is zookeeper.jute
+-- (`ConnectRequest`) and the ZooKeeper Programmer's Guide, "ZooKeeper Sessions".
 use Rattle.std.specs.Prelude.{ℕ, ℤ, pos, negsuc, List, [], ◌∷◌, Result, Ok, Err, if◌then◌else◌}
 use Rattle.std.specs.Option.{option_map_or}
 use Rattle.std.specs.Ordering.{int_eq}
@@ -23,13 +23,14 @@ use Rattle.zfront.specs.Front.{FrontView, with_tables, asked, replies_to}
 abbrev pub opening : ℕ → ConnectRequest → Call
 opening tick greeting = Update (Open (ticks_asked tick greeting.timeout))
 
--- it was opened, and has the password that the secret gives it; or not: then the connection is closed
+-- the client gets the new session and the password derived for it; if none was opened, the
+-- connection is closed
 abbrev pub opened : ℕ → List ℕ → ConnectRequest → ℕ → List Reply → TablesView → TablesView
 opened tick secret greeting c (Opened session ticks ∷ replies) t =
     welcomed tick greeting session ticks (password_of secret session) c t
 opened tick secret greeting c replies t = closed c t
 
--- a session is to be opened
+-- a session is opened for a connection
 abbrev pub with_session : ConnectRequest → ℕ → FrontView → FrontView
 with_session greeting c v =
     let calls = opening v.clock.tick greeting ∷ [] in
@@ -42,8 +43,8 @@ returned greeting (pos session) c v =
     (get v.tree.sessions session) (turned_away greeting c v.tables)
 returned greeting (negsuc n) c v = turned_away greeting c v.tables
 
--- bytes that spell a greeting, or none. A client that has seen more than the tree has is closed. The
--- session number 0 asks for a new session
+-- a connect request, or invalid bytes: these close the connection, and so does a client that has
+-- seen more changes than the tree has. Session number 0 asks for a new session
 abbrev pub greeted_by : Result ConnectRequest Fault → ℕ → FrontView → FrontView
 greeted_by (Err fault) c v = with_tables (closed c v.tables) v
 greeted_by (Ok greeting) c v =

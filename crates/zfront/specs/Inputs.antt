@@ -1,4 +1,4 @@
--- The inputs of a server for ZooKeeper's clients, and what it does at each.
+-- The inputs of a front end for ZooKeeper's clients, and the effect of each.
 use Rattle.std.specs.Prelude.{◌≡◌, ℕ, Bool, false, drop}
 use Rattle.std.specs.FinMap as finite
 use Rattle.zpieces.specs.Inputs.{InputView}
@@ -9,12 +9,12 @@ use Rattle.zfront.specs.Front.{FrontView, with_tables}
 use Rattle.zfront.specs.Reading.{Comes}
 use Rattle.zfront.specs.Ticking.{Ticks}
 
--- a server, and whether it ran out of memory
+-- a front, and whether it has run out of memory
 pub record ServerView : Type 0 where
   pub front : FrontView
   pub is_broken : Bool
 
--- it had memory, and has
+-- memory ran out neither before nor now
 abbrev pub IsSound : ServerView → ServerView → Type 0
 IsSound old new = (old.is_broken ≡ false) × (new.is_broken ≡ false)
 
@@ -26,13 +26,13 @@ opened c v = with_tables (record v.tables { streams = finite.insert v.tables.str
 abbrev pub ended : ℕ → FrontView → FrontView
 ended c v = with_tables (tables.ended c v.tables) v
 
--- one input
+-- the effect of an input
 abbrev pub Does : InputView → FrontView → FrontView → Type 0
 Does (Opened c) old new = new ≡ opened c old
 Does (Came c bytes) old new = Comes bytes c old new
 Does (Ended c) old new = new ≡ ended c old
 Does Tick old new = Ticks old new
 
--- the first piece was sent
+-- the first chunk was sent
 abbrev pub without_first : FrontView → FrontView
 without_first v = with_tables (record v.tables { unsent = drop 1 v.tables.unsent }) v

@@ -1,4 +1,4 @@
--- What becomes of a request. The source is zookeeper.jute and the ZooKeeper Programmer's Guide.
+-- The effect of a request. The source is zookeeper.jute and the ZooKeeper Programmer's Guide.
 use Rattle.std.specs.Prelude.{◌≡◌, ℕ, List, Result, Ok, Err}
 use Rattle.zforms.specs.Readers.{whole}
 use Rattle.zforms.specs.declared.fault.Fault.{Fault}
@@ -15,32 +15,32 @@ use Rattle.zserving.specs.Answering.{answered, now_of}
 use Rattle.zserving.specs.Replying.{replied}
 use Rattle.zfront.specs.Front.{FrontView, with_tables, asked, replies_to, Tidies}
 
--- the session of the request was heard of
+-- the request's session sent a request
 abbrev pub touched_by : ℕ → FrontView → FrontView
 touched_by session v =
     with_tables (record v.tables { sittings = with_changed touched v.tables.sittings session }) v
 
--- the calls of a request were made, and it is answered
+-- the calls of a request are made, and its answer is sent
 abbrev pub with_answer : List Call → ℕ → Request → FrontView → FrontView
 with_answer calls c r v =
     let after = asked calls v in
     with_tables (answered v.clock (now_of after.tree) c r calls (replies_to calls v) v.tables) after
 
--- the calls of a request are made
+-- the same, and ended sessions are removed
 abbrev pub Makes : List Call → ℕ → Request → FrontView → FrontView → Type 0
 Makes calls c r old new = Tidies calls (replies_to calls old) (with_answer calls c r old) new
 
--- a request, by the calls that it means
+-- a request, from its calls or its refusal
 abbrev pub Acts : Meaning (List Call) → ℕ → Request → FrontView → FrontView → Type 0
 Acts (Err (Refused code)) c r old new = new ≡ with_tables (replied old.tree.zxid c r.xid (failed code) old.tables) old
 Acts (Err Memory) c r old new = ⊥
 Acts (Ok calls) c r old new = Makes calls c r old new
 
--- bytes that spell a request of a session, or no request: then the connection is closed
+-- a request, or invalid bytes, which close the connection
 abbrev pub Requests : Result Request Fault → ℕ → ℕ → FrontView → FrontView → Type 0
 Requests (Err fault) session c old new = new ≡ with_tables (closed c old.tables) old
 Requests (Ok r) session c old new = Acts (calls_in old.clock.tick session r.asked) c r (touched_by session old) new
 
--- a frame of a connection with a session
+-- a frame on a connection with a session
 abbrev pub Serves : List ℕ → ℕ → ℕ → FrontView → FrontView → Type 0
 Serves bytes session c old new = Requests (whole request bytes) session c old new

@@ -1,6 +1,6 @@
--- A server that begins with a tree: a new one, or one that goes on. It has no connection yet, and made
--- no call. Each session of the tree is there, without a connection. The source is the ZooKeeper
--- Programmer's Guide, "ZooKeeper Sessions". Such a beginning is this project's profile.
+-- A front begins with a tree: a new one, or that of an earlier incarnation. It has no connection,
+-- and all sessions of the tree, without connections. The source is the ZooKeeper Programmer's
+-- Guide, "ZooKeeper Sessions". Beginning with a given tree is this project's profile.
 use Rattle.std.specs.Prelude.{ℕ, Bool, List, [], ◌∷◌}
 use Rattle.std.specs.FinMap as finite
 use Rattle.std.specs.FinSet as sets
@@ -10,20 +10,20 @@ use Rattle.zsittings.specs.Sittings.{SittingsView, restored_sitting}
 use Rattle.ztables.specs.Tables.{TablesView}
 use Rattle.zfront.specs.Front.{FrontView}
 
--- each of these sessions is there, without a connection
+-- these sessions are added, without a connection
 abbrev pub seated : List ℕ → SittingsView → SittingsView
 seated [] m = m
 seated (session ∷ sessions) m = seated sessions (finite.insert m session restored_sitting)
 
--- tables without connections, and with no session
+-- empty tables
 abbrev pub no_tables : TablesView
 no_tables = record { streams = finite.empty; sittings = finite.empty; watches = sets.empty; unsent = [] }
 
--- and with these sessions
+-- tables with these sessions
 abbrev pub tables_of : List ℕ → TablesView
 tables_of sessions = record no_tables { sittings = seated sessions finite.empty }
 
--- a server that begins with this tree
+-- a front that begins with this tree
 abbrev pub beginning : Tree → List ℕ → Clock → Bool → FrontView
 beginning t secret times is_kept = record {
   tree = t;
@@ -34,6 +34,6 @@ beginning t secret times is_kept = record {
   clock = times;
 }
 
--- of the updates that were made none is left to be taken
+-- all recorded updates are taken
 abbrev pub all_taken : FrontView → FrontView
 all_taken v = record v { made = [] }

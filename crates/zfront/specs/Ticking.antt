@@ -1,5 +1,5 @@
--- What a tick does: the sessions that were heard of are renewed, and then time goes on. The source
--- is the ZooKeeper Programmer's Guide, "ZooKeeper Sessions".
+-- The effect of a tick: sessions that sent a request are renewed, then time advances. The source is
+-- the ZooKeeper Programmer's Guide, "ZooKeeper Sessions".
 use Rattle.std.specs.Prelude.{ℕ, List, [], ◌∷◌, ◌++◌, map}
 use Rattle.zcalls.specs.declared.call.Call.{Call}
 use Rattle.zcalls.specs.declared.call.Call.TheVariants.{Update}
@@ -15,11 +15,11 @@ ping session = Update (Ping session)
 abbrev pub tick_calls : List ℕ → List Call
 tick_calls sessions = map ping sessions ++ Update Tick ∷ []
 
--- nobody was heard of since then
+-- the flag of a request is cleared for each session
 abbrev pub rested : FrontView → FrontView
 rested v = with_tables (record v.tables { sittings = all_rested v.tables.sittings }) v
 
--- these calls of a tick are made
+-- a tick that makes these calls
 abbrev pub TicksBy : List Call → FrontView → FrontView → Type 0
 TicksBy calls old new = Tidies calls (replies_to calls old) (rested (asked calls old)) new
 

@@ -1,5 +1,5 @@
--- The words of four letters, which are asked for in the place of a greeting. The source is the
--- ZooKeeper Administrator's Guide, "The Four Letter Words". Latencies aren't told.
+-- The four letter words, which a client sends instead of a connect request. The source is the
+-- ZooKeeper Administrator's Guide, "The Four Letter Words". Latencies aren't returned.
 use Rattle.std.specs.Prelude.{ℕ, List, [], ◌∷◌, ◌++◌, codes, take, Option, None, Some, if◌then◌else◌}
 use Rattle.std.specs.Str.{bytes_eq}
 use Rattle.std.specs.FinMap as finite
@@ -10,7 +10,7 @@ use Rattle.zfront.specs.Front.{FrontView, with_tables}
 use Rattle.zfront.specs.declared.word.Word.{Word}
 use Rattle.zfront.specs.declared.word.Word.TheVariants.{Ruok, Isro, Envi, Srvr, Mntr}
 
--- the word that stands in front of what came
+-- the word at the beginning of these bytes
 abbrev pub word_in : List ℕ → Option Word
 word_in came =
     if bytes_eq (take 4 came) (codes "ruok") then Some Ruok else
@@ -24,7 +24,7 @@ word_in came =
 abbrev pub number_line : List ℕ → ℕ → List ℕ
 number_line name n = name ++ (decimal n ++ 10 ∷ [])
 
--- the server in lines
+-- the state of the server for people, one value a line
 abbrev pub srvr_text : FrontView → List ℕ
 srvr_text v =
     codes "Zookeeper version: jellqupas-0.1.0\n"
@@ -40,7 +40,7 @@ mntr_text v =
     ++ (number_line (codes "zk_global_sessions\t") (finite.len v.tables.sittings)
     ++ number_line (codes "zk_watch_count\t") (sets.len v.tables.watches)))
 
--- what is said to a word
+-- the answer to a word
 abbrev pub text_of_word : Word → FrontView → List ℕ
 text_of_word Ruok v = codes "imok"
 text_of_word Isro v = codes "rw"
@@ -48,6 +48,6 @@ text_of_word Envi v = codes "Environment:\nzookeeper.version=3.8.0-jellqupas\n"
 text_of_word Srvr v = srvr_text v
 text_of_word Mntr v = mntr_text v
 
--- a word is answered, and its connection is closed
+-- the answer to a word is sent, and the connection is closed
 abbrev pub said : Word → ℕ → FrontView → FrontView
 said word c v = with_tables (closed c (sent c (text_of_word word v) v.tables)) v

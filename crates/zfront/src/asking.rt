@@ -1,4 +1,9 @@
 //! Making calls.
+//!
+//! # Why
+//!
+//! Updates are recorded only if the caller stores them (`is_kept`), and the caller takes them. Else
+//! a front's memory would grow with each update.
 
 ghost use Rattle.std.specs.Prelude.{◌≡◌, ◌++◌, [], ◌∷◌, IfOk, OnOk};
 ghost use Rattle.zcalls.specs.declared.call.Call.TheVariants as call;
@@ -12,7 +17,7 @@ use zservice::TreeService;
 use ztree::Zxid;
 
 impl<T: TreeService> Inner<T> {
-    // Makes calls in their order, and returns their replies.
+    // Makes calls in order, and returns their replies.
     pub(crate) fn ask(&mut self, calls: &[Call]) -> Result<Vec<Reply>, Memory>
         ensures replies { IfOk result
             (λ replies. replies.items ≡ replies_to calls.now self.old) }
@@ -45,7 +50,7 @@ impl<T: TreeService> Inner<T> {
         }
     }
 
-    // Applies an update, and notes it where updates are kept.
+    // Applies an update. Records it if updates are recorded.
     fn apply(&mut self, update: &Update) -> Result<Reply, Memory>
         ensures reply { IfOk result
             (λ reply. reply ≡ (serve self.old.tree 0 (call.Update update.now)).1) }

@@ -1,4 +1,4 @@
-//! The sessions with which a server begins.
+//! The tables that a front begins with.
 
 ghost use Rattle.std.specs.Prelude.{◌≡◌, IfOk};
 ghost use Rattle.zfront.specs.Restoring.{tables_of};
@@ -8,7 +8,7 @@ use zalloc::Memory;
 use ztables::Tables;
 use ztree::SessionId;
 
-/// Returns tables in which each of these sessions is there, without a connection.
+/// Returns tables with these sessions, without connections.
 pub(crate) fn tables_of(alloc: Global, sessions: &[SessionId]) -> Result<Tables, Memory>
     ensures { IfOk result (λ tables. tables ≡ tables_of sessions.now) }
 {

@@ -1,4 +1,9 @@
-//! The server.
+//! The front end.
+//!
+//! # Why
+//!
+//! All inputs go through `take`, and one relation, `Does`, defines their effects. So the clauses on
+//! the effect, and on running out of memory, are written once.
 
 ghost use Rattle.std.specs.Prelude.{◌≡◌, true, false, IfOk, IsErr, OnErr, OnOk};
 ghost use Rattle.std.specs.Option.{option_copied};
@@ -17,9 +22,9 @@ use zpasswords::Secret;
 use zpieces::{Input, Piece};
 use zservice::TreeService;
 
-/// A server for ZooKeeper's clients, over a service of one tree.
+/// A front end for ZooKeeper's clients, over a service of one tree.
 ///
-/// Once it ran out of memory, every later input returns `Memory`. Pieces can be taken all the same.
+/// After it has run out of memory, every input returns `Memory`. Chunks can still be taken.
 #[derive(Drop)]
 pub struct Front<T: TreeService> {
     inner: Inner<T>,
@@ -38,8 +43,8 @@ impl<T: TreeService> Model for Front<T> {
 }
 
 impl<T: TreeService + Drop> Front<T> {
-    /// Returns a server that begins with the service's tree. It derives the passwords of sessions
-    /// from the secret. Where its updates are kept, they are handed out by `take_made`.
+    /// Returns a front that begins with the service's tree. It derives the passwords of sessions
+    /// from the secret. If `is_kept`, it records its updates, and `take_made` returns them.
     pub fn new(
         alloc: Global,
         service: T,
@@ -58,7 +63,7 @@ impl<T: TreeService + Drop> Front<T> {
         })
     }
 
-    /// Takes an input. After `Memory` the server takes none any more.
+    /// Handles an input. After `Memory` every later input fails.
     pub fn take(&mut self, input: Input<'_>) -> Result<(), Memory>
         ensures does { OnOk result
             (Does (input_of input.entry) self.old.front self.new.front) }
@@ -74,14 +79,14 @@ impl<T: TreeService + Drop> Front<T> {
         done
     }
 
-    /// Returns the piece to be sent first, if there is one.
+    /// Returns the chunk to be sent first, if there is one.
     pub fn first_piece(&self) -> Option<&Piece>
         ensures { option_copied result ≡ first_of self.now.front.tables.unsent }
     {
         self.inner.tables.first_piece()
     }
 
-    /// Takes the piece to be sent first, if there is one.
+    /// Removes and returns the chunk to be sent first, if there is one.
     pub fn next_piece(&mut self) -> Option<Piece>
         ensures first { result ≡ first_of self.old.front.tables.unsent }
         ensures rest { self.new ≡ record self.old { front = without_first self.old.front } }
@@ -89,14 +94,14 @@ impl<T: TreeService + Drop> Front<T> {
         self.inner.tables.next_piece()
     }
 
-    /// Returns the updates that were made and not yet taken, in order.
+    /// Returns the recorded updates, in order.
     pub fn made(&self) -> &[Update]
         ensures { result.now ≡ self.now.front.made }
     {
         &self.inner.made
     }
 
-    /// Takes these updates.
+    /// Removes and returns the recorded updates, in order.
     pub fn take_made(&mut self) -> Vec<Update>
         ensures all { result.items ≡ self.old.front.made }
         ensures taken { self.new ≡ record self.old { front = all_taken self.old.front } }

@@ -1,4 +1,4 @@
-//! The first frame of a connection.
+//! Connect requests.
 
 ghost use Rattle.std.specs.Prelude.{◌≡◌, OnOk};
 ghost use Rattle.std.specs.Prelude.{Ok as Read};
@@ -15,7 +15,7 @@ use zserving::{Granted, come_back, is_ahead, turn_away, welcome};
 use ztree::SessionId;
 
 impl<T: TreeService> Inner<T> {
-    // Does what the first frame of a connection asks for. One that is no greeting closes it.
+    // Handles the first frame of a connection. Invalid bytes close the connection.
     pub(crate) fn greet(&mut self, bytes: &[u8], connection: u32) -> Result<(), Memory>
         ensures { OnOk result (self.new ≡ greeted bytes.now connection self.old) }
     {
@@ -26,7 +26,7 @@ impl<T: TreeService> Inner<T> {
         }
     }
 
-    // The same for a greeting.
+    // Handles a connect request.
     fn greet_by(&mut self, greeting: &ConnectRequest, connection: u32) -> Result<(), Memory>
         ensures { OnOk result
             (self.new ≡ greeted_by (Read greeting.now) connection self.old) }
@@ -40,7 +40,7 @@ impl<T: TreeService> Inner<T> {
         self.take_up(greeting, connection)
     }
 
-    // Opens a session.
+    // Opens a session for a connection.
     fn open_session(&mut self, greeting: &ConnectRequest, connection: u32) -> Result<(), Memory>
         ensures { OnOk result (self.new ≡ with_session greeting.now connection self.old) }
     {
@@ -49,7 +49,7 @@ impl<T: TreeService> Inner<T> {
         self.tell_opened(greeting, connection, &replies)
     }
 
-    // Tells a client its new session, if it was opened, or closes the connection.
+    // Sends a client its new session, or closes the connection if none was opened.
     fn tell_opened(
         &mut self,
         greeting: &ConnectRequest,
@@ -80,7 +80,7 @@ impl<T: TreeService> Inner<T> {
         }
     }
 
-    // Lets a client come back to the session that it names, if the tree has it.
+    // Attaches a client to the session that it names, if the tree has it.
     fn take_up(&mut self, greeting: &ConnectRequest, connection: u32) -> Result<(), Memory>
         ensures { OnOk result (self.new ≡ with_tables
             (returned greeting.now greeting.now.session_id connection self.old) self.old) }

@@ -1,4 +1,4 @@
-//! The state of a server that has memory.
+//! The state of a front that has memory.
 
 ghost use Rattle.std.specs.Prelude.{◌≡◌, IfOk, OnOk};
 ghost use Rattle.zpieces.specs.Inputs.{input_of};
@@ -17,14 +17,14 @@ use zpieces::Input;
 use zservice::TreeService;
 use ztables::Tables;
 
-// The service of the tree, the tables, and what is left to be taken. After a call ran out of memory
-// nothing is promised of it.
+// The service of the tree, the tables, and the recorded updates. After a call ran out of memory,
+// the contracts promise nothing of it.
 #[derive(Drop)]
 pub(crate) struct Inner<T: TreeService> {
     pub(crate) alloc: Global,
     pub(crate) service: T,
     pub(crate) tables: Tables,
-    // Whether updates are kept, and those that were not taken yet.
+    // Whether updates are recorded, and those not yet taken.
     pub(crate) is_kept: bool,
     pub(crate) made: Vec<Update>,
     pub(crate) secret: Secret,
@@ -50,7 +50,7 @@ impl<T: TreeService> Model for Inner<T> {
 }
 
 impl<T: TreeService + Drop> Inner<T> {
-    // Returns a server that begins with the service's tree.
+    // Returns a front that begins with the service's tree.
     pub(crate) fn new(
         alloc: Global,
         service: T,
@@ -73,7 +73,7 @@ impl<T: TreeService + Drop> Inner<T> {
         })
     }
 
-    // Takes an input.
+    // Handles an input.
     pub(crate) fn take(&mut self, input: Input<'_>) -> Result<(), Memory>
         ensures { OnOk result (Does (input_of input.entry) self.old self.new) }
     {
@@ -88,7 +88,7 @@ impl<T: TreeService + Drop> Inner<T> {
         }
     }
 
-    // Takes the updates that were made.
+    // Removes and returns the recorded updates.
     pub(crate) fn take_made(&mut self) -> Vec<Update>
         ensures all { result.items ≡ self.old.made }
         ensures taken { self.new ≡ all_taken self.old }

@@ -1,11 +1,16 @@
-//! A server for ZooKeeper's clients, without sockets and without a clock.
+//! A front end for ZooKeeper's clients, without sockets and without a clock.
 //!
-//! It consumes what a host tells it: connections that come and go, the bytes that come on them, and
-//! ticks. It produces pieces of bytes to be sent. It is over any service of one tree (zservice). All
-//! calls of all connections are made on that tree, one after the other.
+//! A host passes it inputs: connections that open and end, the bytes that arrive on them, and
+//! ticks. It returns chunks to be sent. It works over any service of one tree (`zservice`), and
+//! makes the calls of all connections on that tree, one after the other.
 //!
-//! `specs/` says exactly what each input does. A server whose updates are kept hands them out
-//! (`Front::take_made`).
+//! `specs/` says exactly what each input does. `Front::take_made` returns the updates to be stored.
+//!
+//! # Why
+//!
+//! Calls are made one after the other, so all connections' calls have one order, that of the log.
+//! Each call returns its reply at once, or the front has run out of memory. So nothing is in flight
+//! between two inputs, and each definition speaks of one tree and the tables.
 #![tactic(auto)]
 
 mod asking;

@@ -1,4 +1,9 @@
-//! The limits of a server for ZooKeeper's clients: this project's own profile.
+//! The limits of a front end for ZooKeeper's clients. They are this project's profile.
+//!
+//! # Why
+//!
+//! A request has at most 1 MiB, so 16 MiB always holds some. The connection whose bytes don't fit
+//! is closed. To look for the largest would be code for a case that no honest client meets.
 
-/// The most bytes that are kept of all connections together, of requests that came in part.
+/// The most bytes of partial frames that are stored for all connections together.
 pub const MAX_KEPT: usize = 16_777_216;

@@ -1,4 +1,15 @@
-//! Sessions that ended, and watched nodes that went with them.
+//! Sessions that ended, and watched nodes deleted with them.
+//!
+//! # Why
+//!
+//! No reply names what a tick or the end of a session deletes. A mirror of all ephemeral nodes,
+//! parents and TTLs would be a second tree to prove. So the front checks each watched position, at
+//! most 10,000, and only when nodes may be gone.
+//!
+//! The check is made in the same input, so no flag says that one is due. Its queries are outside
+//! the log: they change nothing, and no client gets their replies.
+//!
+//! Only a close or a tick ends sessions (`may_end`). So after other calls nothing is checked.
 
 ghost use Rattle.std.specs.Prelude.{◌≡◌, IfOk, OnOk};
 ghost use Rattle.std.specs.List.{filter, list_any};
@@ -15,8 +26,7 @@ use ztree::SessionId;
 use zwatches::Place;
 
 impl<T: TreeService> Inner<T> {
-    // Sweeps the sessions that these calls ended, and looks at watched nodes where some may have
-    // gone.
+    // Removes the sessions that these calls ended. Checks watched nodes if some may be gone.
     pub(crate) fn tidy(&mut self, calls: &[Call], replies: &[Reply]) -> Result<(), Memory>
         ensures { OnOk result (Tidies calls.now replies.now self.old self.new) }
     {
@@ -26,7 +36,7 @@ impl<T: TreeService> Inner<T> {
         Ok(())
     }
 
-    // Sweeps the sessions that ended, and looks at watched nodes where some may have gone.
+    // Removes the ended sessions. Checks watched nodes if some may be gone.
     fn sweep_and_look(&mut self, replies: &[Reply]) -> Result<(), Memory>
         ensures { OnOk result
             (LooksIf (took_unnamed replies.now self.old) (swept self.old) self.new) }
@@ -39,7 +49,7 @@ impl<T: TreeService> Inner<T> {
         Ok(())
     }
 
-    // Returns the sessions here that the tree has no more.
+    // Returns the sessions in the tables that the tree no longer has.
     fn gone(&self) -> Result<Vec<SessionId>, Memory>
         ensures { IfOk result (λ ids. ids.items ≡ gone_from self.now) }
     {
@@ -47,7 +57,7 @@ impl<T: TreeService> Inner<T> {
         self.gone_among(&ids)
     }
 
-    // Returns those of these sessions that the tree has no more.
+    // Returns those of these sessions that the tree no longer has.
     fn gone_among(&self, ids: &[SessionId]) -> Result<Vec<SessionId>, Memory>
         ensures { IfOk result (λ gone. gone.items
             ≡ filter (is_gone self.now.tree.sessions) ids.now) }
@@ -61,7 +71,7 @@ impl<T: TreeService> Inner<T> {
         Ok(gone)
     }
 
-    // Looks at all watched nodes.
+    // Checks all watched nodes.
     fn look(&mut self) -> Result<(), Memory>
         ensures { OnOk result (Looks self.old self.new) }
     {
@@ -69,7 +79,7 @@ impl<T: TreeService> Inner<T> {
         self.look_at(&places)
     }
 
-    // Looks at places.
+    // Checks positions.
     fn look_at(&mut self, places: &[Place]) -> Result<(), Memory>
         ensures { OnOk result (self.new ≡ looked places.now self.old) }
     {
@@ -78,7 +88,7 @@ impl<T: TreeService> Inner<T> {
         look(self.alloc, &mut self.tables, zxid, places, &replies)
     }
 
-    // Returns what a look at places finds.
+    // Returns the stats of nodes at positions.
     fn seen_at(&self, places: &[Place]) -> Result<Vec<Reply>, Memory>
         ensures { IfOk result
             (λ replies. replies.items ≡ looks self.now.tree places.now) }
@@ -112,7 +122,7 @@ fn may_end(call: &Call) -> bool
     matches!(call, Call::Update(Update::Close(_) | Update::Tick))
 }
 
-// Returns whether a tick among these calls took nodes away.
+// Returns whether a tick among these calls deleted nodes.
 fn one_takes_nodes(replies: &[Reply]) -> bool
     ensures { result ≡ list_any takes_nodes replies.now }
 {
@@ -124,7 +134,7 @@ fn one_takes_nodes(replies: &[Reply]) -> bool
     false
 }
 
-// Returns whether a tick took nodes away.
+// Returns whether a tick deleted nodes.
 fn takes_nodes(reply: &Reply) -> bool
     ensures { result ≡ takes_nodes reply.now }
 {

@@ -1,4 +1,10 @@
-//! The bytes that come on connections.
+//! Bytes that arrive on connections.
+//!
+//! # Why
+//!
+//! The contract of `keep` speaks of fewer than 2^64 stored bytes: the count has 64 bits, and the
+//! table alone can't know that it is small. The law `every_front_keeps_few` proves it for each
+//! front.
 
 ghost use Rattle.std.specs.Prelude.{◌≡◌, None, Some, IfOk, OnOk};
 ghost use Rattle.zjute.specs.Frames.{next_of};
@@ -13,7 +19,7 @@ use zpieces::Phase;
 use zservice::TreeService;
 
 impl<T: TreeService> Inner<T> {
-    // Reads bytes that came on a connection. On one that isn't open they are dropped.
+    // Reads bytes that arrived on a connection. They are dropped unless it is open.
     pub(crate) fn came(&mut self, connection: u32, bytes: &[u8]) -> Result<(), Memory>
         ensures { OnOk result (Comes bytes.now connection self.old self.new) }
     {
@@ -25,7 +31,7 @@ impl<T: TreeService> Inner<T> {
         self.read(connection, came)
     }
 
-    // Reads bytes from the first that wasn't read yet.
+    // Reads all unread bytes of a connection.
     fn read(&mut self, connection: u32, came: Vec<u8>) -> Result<(), Memory>
         ensures { OnOk result (ComesBehind came.items connection self.old self.new) }
     {
@@ -35,8 +41,8 @@ impl<T: TreeService> Inner<T> {
         }
     }
 
-    // Handles the frames in front of what came, and keeps the rest. Where no frame is whole yet,
-    // nothing is copied: a long frame that comes in small pieces costs no more than one that doesn't.
+    // Handles the leading frames, and stores the rest. If no frame is whole yet, nothing is copied.
+    // So a long frame costs the same in many small chunks as in one.
     fn read_all(&mut self, connection: u32, came: Vec<u8>) -> Result<(), Memory>
         ensures { OnOk result (ComesBy None came.items connection self.old self.new) }
     {
@@ -48,7 +54,7 @@ impl<T: TreeService> Inner<T> {
         self.keep(connection, rest)
     }
 
-    // Handles the frames in front of what came, while the connection is open, and returns the rest.
+    // Handles the leading frames while the connection is open, and returns the rest.
     fn read_frames<'a>(&mut self, connection: u32, came: &'a [u8]) -> Result<&'a [u8], Memory>
         ensures { IfOk result (λ rest. Reads came.now connection self.old rest.now self.new) }
     {
@@ -65,7 +71,7 @@ impl<T: TreeService> Inner<T> {
         Ok(rest)
     }
 
-    // Handles a frame by the phase of its connection.
+    // Handles a frame, by the phase of its connection.
     fn handle(&mut self, connection: u32, frame: &[u8]) -> Result<(), Memory>
         ensures { OnOk result (Handles frame.now connection self.old self.new) }
     {
@@ -75,7 +81,7 @@ impl<T: TreeService> Inner<T> {
         }
     }
 
-    // Handles a frame of a connection in this phase.
+    // Handles a frame on a connection in this phase.
     fn handle_in(&mut self, phase: Phase, connection: u32, frame: &[u8]) -> Result<(), Memory>
         ensures { OnOk result
             (HandlesIn (Some phase) frame.now connection self.old self.new) }
@@ -87,8 +93,8 @@ impl<T: TreeService> Inner<T> {
         }
     }
 
-    // Keeps the rest of what came, if the connection is still open. It is closed where that can't be
-    // the front of a frame, and where too much is kept already.
+    // Stores the rest, if the connection is still open. Closes the connection if the rest can't
+    // begin a frame, or if too much would be stored.
     fn keep(&mut self, connection: u32, rest: Vec<u8>) -> Result<(), Memory>
         ensures { OnOk result (Keeps rest.items connection self.old self.new) }
     {
@@ -103,7 +109,7 @@ impl<T: TreeService> Inner<T> {
     }
 }
 
-// Returns whether a length that no frame has stands in front.
+// Returns whether the bytes begin with a length that no frame has.
 fn is_too_long(rest: &[u8]) -> bool
     ensures { result ≡ is_too_long (next_of rest.now) }
 {

@@ -1,4 +1,9 @@
 //! Requests.
+//!
+//! # Why
+//!
+//! A request is done whole before the next is read. So no call comes between the two of a
+//! getChildren2, and a create2 returns the stat that its node then has.
 
 ghost use Rattle.std.specs.Prelude.{◌≡◌, OnOk};
 ghost use Rattle.zasking.specs.Requests.{calls_in};
@@ -19,7 +24,7 @@ use zserving::{Done, answer, reply};
 use ztree::SessionId;
 
 impl<T: TreeService> Inner<T> {
-    // Does what a frame of a session asks for. One that is no request closes its connection.
+    // Handles a frame of a session. Invalid bytes close the connection.
     pub(crate) fn serve(
         &mut self,
         bytes: &[u8],
@@ -38,7 +43,7 @@ impl<T: TreeService> Inner<T> {
         }
     }
 
-    // Does what a request of a session asks for, once the session was heard of.
+    // Handles a request, after its session's flag is set.
     fn act(&mut self, request: &Request, session: SessionId, connection: u32) -> Result<(), Memory>
         ensures { OnOk result (Acts (calls_in self.old.clock.tick session request.now.asked)
             connection request.now self.old self.new) }
@@ -50,7 +55,7 @@ impl<T: TreeService> Inner<T> {
         }
     }
 
-    // Makes the calls of a request, and tells its answer.
+    // Makes the calls of a request, and sends its answer.
     fn make(&mut self, calls: &[Call], request: &Request, connection: u32) -> Result<(), Memory>
         ensures { OnOk result (Makes calls.now connection request.now self.old self.new) }
     {
@@ -59,7 +64,7 @@ impl<T: TreeService> Inner<T> {
         self.tidy(calls, &replies)
     }
 
-    // Tells the answer to a request whose calls were made.
+    // Sends the answer to a request whose calls were made.
     fn answer(
         &mut self,
         calls: &[Call],
@@ -82,7 +87,7 @@ impl<T: TreeService> Inner<T> {
         answer(self.alloc, &mut self.tables, &self.clock, &now, &done)
     }
 
-    // Tells why a request is refused at once.
+    // Sends the code with which a request is refused.
     fn refuse(&mut self, code: Code, xid: i32, connection: u32) -> Result<(), Memory>
         ensures { OnOk result (self.new ≡ with_tables
             (replied self.old.tree.zxid connection xid (failed code) self.old.tables) self.old) }

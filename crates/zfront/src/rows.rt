@@ -28,7 +28,7 @@ ghost use Rattle.zfront.specs.Restoring.{all_taken, beginning, no_tables, tables
 ghost use Rattle.zfront.specs.Ticking.{tick_calls};
 ghost use Rattle.zfront.specs.Words.{text_of_word, word_in};
 
-/// The words that stand in front of what came. They count in the place of a greeting alone.
+/// The word at the beginning of the bytes. It counts only instead of a connect request.
 pub fn words()
     ensures ruok { word_in (codes "ruok") ≡ Some word.Ruok }
     ensures with_more { word_in (codes "srvr\n") ≡ Some word.Srvr }
@@ -41,13 +41,13 @@ pub fn words()
     ensures absent { word_asked None (codes "mntr") ≡ None }
 {}
 
-/// What is said to words.
+/// The answers to words.
 pub fn words_are_answered()
     ensures ruok { (v : FrontView) → text_of_word word.Ruok v ≡ codes "imok" }
     ensures isro { (v : FrontView) → text_of_word word.Isro v ≡ codes "rw" }
 {}
 
-/// A tick renews sessions, and then time goes on. Whether it took nodes away.
+/// A tick renews sessions, then time advances. Whether it deleted nodes.
 pub fn ticks()
     ensures none { tick_calls [] ≡ Update Tick ∷ [] }
     ensures two { tick_calls (7 ∷ 9 ∷ [])
@@ -57,7 +57,7 @@ pub fn ticks()
     ensures other { takes_nodes (reply.Opened 9 5) ≡ false }
 {}
 
-/// A client asks for a session of 10,000 milliseconds, where a tick takes 2,000.
+/// A client asks for a session of 10,000 milliseconds, with a tick of 2,000.
 pub fn sessions_are_opened()
     ensures call { opening 2000 greeting ≡ Update (Open 6) }
     ensures below_0 { opening 2000 (record greeting { timeout = negsuc 0 }) ≡ Update (Open 1) }
@@ -68,7 +68,7 @@ pub fn sessions_are_opened()
         → opened 2000 secret greeting 1 (reply.Refused why ∷ []) t ≡ closed 1 t }
 {}
 
-/// A client comes back to session 7. The tree must have it, and its password must be given.
+/// A client comes back to session 7. The tree must have it, and the client must give its password.
 pub fn clients_come_back()
     ensures there { (v : FrontView) (s : Session) → get v.tree.sessions 7 ≡ Some s
         → returned greeting (pos 7) 1 v ≡ came_back v.clock.tick greeting 7 s.timeout
@@ -79,8 +79,8 @@ pub fn clients_come_back()
         → returned greeting (negsuc 6) 1 v ≡ turned_away greeting 1 v.tables }
 {}
 
-/// Calls leave the tree that the plain service leaves. Their updates are left to be taken where they
-/// are kept.
+/// Calls leave the tree that the plain service leaves. Their updates are recorded if that is asked
+/// for.
 pub fn calls_are_made()
     ensures none { (v : FrontView) → (asked [] v).tree ≡ v.tree }
     ensures two { (v : FrontView) (a b : Call)
@@ -92,7 +92,7 @@ pub fn calls_are_made()
     ensures let_go { left_of false (Update Tick ∷ []) ≡ [] }
 {}
 
-/// Which calls may end sessions: a close and a tick alone.
+/// The calls that may end sessions: a close and a tick.
 pub fn ends_of_sessions()
     ensures close { may_end (Update (Close 7)) ≡ true }
     ensures tick { may_end (Update Tick) ≡ true }
@@ -101,7 +101,7 @@ pub fn ends_of_sessions()
     ensures not_swept { (rs : List Reply) (v : FrontView) → Tidies (Update (Ping 7) ∷ []) rs v v }
 {}
 
-/// A length that no frame has, and what becomes of the rest of a connection.
+/// A length that no frame has, and the rest of the bytes of a connection.
 #[tactic(auto, unfolding(zjute::specs::Frames::next_of))]
 pub fn rests()
     ensures longest { is_too_long (next_of (0 ∷ 15 ∷ 255 ∷ 255 ∷ [])) ≡ false }
@@ -112,7 +112,7 @@ pub fn rests()
         → keeps rest 3 v ≡ v }
 {}
 
-/// The tables with which a server begins. Sessions 7 and 9 are there, without a connection.
+/// The tables that a front begins with: sessions 7 and 9, without connections.
 pub fn sessions_are_restored()
     ensures none { tables_of [] ≡ no_tables }
     ensures two { tables_of (7 ∷ 9 ∷ []) ≡ record no_tables {

@@ -1,4 +1,9 @@
 //! Ticks.
+//!
+//! # Why
+//!
+//! Sessions are renewed at ticks only, by one ping for each that sent a request. Deadlines are
+//! checked only there, so a call for each request would double the cost and change nothing.
 
 ghost use Rattle.std.specs.Prelude.{◌≡◌, IfOk, OnOk};
 ghost use Rattle.zfront.specs.Ticking.{tick_calls, Ticks, TicksBy};
@@ -11,7 +16,7 @@ use zservice::TreeService;
 use ztree::SessionId;
 
 impl<T: TreeService> Inner<T> {
-    // Renews the sessions that were heard of since the last tick, and lets time go on.
+    // Renews the sessions that sent a request since the last tick, then advances the time.
     pub(crate) fn tick(&mut self) -> Result<(), Memory>
         ensures { OnOk result (Ticks self.old self.new) }
     {
@@ -20,7 +25,7 @@ impl<T: TreeService> Inner<T> {
         self.make_tick(&calls)
     }
 
-    // Makes the calls of a tick, and begins anew to note whose clients are heard.
+    // Makes the calls of a tick, and clears the flag of a request for each session.
     fn make_tick(&mut self, calls: &[Call]) -> Result<(), Memory>
         ensures { OnOk result (TicksBy calls.now self.old self.new) }
     {

@@ -1,15 +1,15 @@
-//! The words of four letters.
+//! The four letter words.
 
-/// A word of four letters (ZooKeeper Administrator's Guide, "The Four Letter Words").
+/// A four letter word (ZooKeeper Administrator's Guide, "The Four Letter Words").
 #[derive(Clone, Copy, Debug, PartialEq, Eq)]
 pub(crate) enum Word {
     /// `ruok`: whether the server runs.
     Ruok,
-    /// `isro`: whether the server only reads.
+    /// `isro`: whether the server is read-only.
     Isro,
-    /// `envi`: the version of ZooKeeper that it stands for.
+    /// `envi`: the version of ZooKeeper that it reports.
     Envi,
-    /// `srvr`: the server in lines.
+    /// `srvr`: the state of the server for people, one value a line.
     Srvr,
     /// `mntr`: the same for monitoring.
     Mntr,

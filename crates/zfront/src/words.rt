@@ -1,4 +1,9 @@
-//! Answers to the words of four letters.
+//! Answers to the four letter words.
+//!
+//! # Why
+//!
+//! `envi` returns 3.8.0. Clients use the version to know which requests are understood. It is the
+//! version of Debian's ZooKeeper, which the answers were compared with.
 
 ghost use Rattle.std.specs.Prelude.{◌≡◌, string_bytes, IfOk, OnOk};
 ghost use Rattle.zlines.specs.Texts.{Writes};
@@ -13,7 +18,7 @@ use zpieces::Phase;
 use zservice::TreeService;
 
 impl<T: TreeService> Inner<T> {
-    // Returns the word that stands in front of what came, if nothing was read on the connection.
+    // Returns the word at the beginning of the bytes, if nothing was read on the connection.
     pub(crate) fn word_asked(&self, connection: u32, came: &[u8]) -> Option<Word>
         ensures { result
             ≡ word_asked (phase_of self.now.tables.streams connection) came.now }
@@ -24,7 +29,7 @@ impl<T: TreeService> Inner<T> {
         }
     }
 
-    // Answers a word, and closes the connection.
+    // Sends the answer to a word, and closes the connection.
     pub(crate) fn say(&mut self, word: Word, connection: u32) -> Result<(), Memory>
         ensures { OnOk result (self.new ≡ table.said word connection self.old) }
     {
@@ -33,7 +38,7 @@ impl<T: TreeService> Inner<T> {
         self.tables.close(connection)
     }
 
-    // Returns what is said to a word.
+    // Returns the answer to a word.
     fn text_of(&self, word: Word) -> Result<String, Memory>
         ensures { IfOk result
             (λ text. string_bytes text ≡ table.text_of_word word self.now) }
@@ -48,7 +53,7 @@ impl<T: TreeService> Inner<T> {
         }
     }
 
-    // Writes what is said to a word.
+    // Writes the answer to a word.
     fn write_answer(&self, word: Word, out: &mut String) -> Result<(), Memory>
         ensures { OnOk result (Writes out.old out.new (table.text_of_word word self.now)) }
     {
@@ -62,7 +67,7 @@ impl<T: TreeService> Inner<T> {
         Ok(())
     }
 
-    // Writes the server in lines.
+    // Writes the state of the server for people.
     fn write_srvr(&self, out: &mut String) -> Result<(), Memory>
         ensures { OnOk result (Writes out.old out.new (table.srvr_text self.now)) }
     {
@@ -74,7 +79,7 @@ impl<T: TreeService> Inner<T> {
         Ok(())
     }
 
-    // Writes the same for monitoring.
+    // Writes the state of the server for monitoring.
     fn write_mntr(&self, out: &mut String) -> Result<(), Memory>
         ensures { OnOk result (Writes out.old out.new (table.mntr_text self.now)) }
     {
@@ -98,7 +103,7 @@ fn write_number(name: &str, number: u64, out: &mut String) -> Result<(), Memory>
     Ok(())
 }
 
-// Returns the word that stands in front of what came.
+// Returns the word at the beginning of the bytes.
 fn word_in(came: &[u8]) -> Option<Word>
     ensures { result ≡ table.word_in came.now }
 {

@@ -1,4 +1,4 @@
--- What goes on each connection, whatever the steps are. The functions of `src/laws.rt` promise it.
+-- The chunks of each connection, whatever the steps are. The functions of `src/laws.rt` promise it.
 use Rattle.std.specs.Prelude.{◌≡◌, ◌≢◌, ℕ, Bool, true, not, ◌&&◌, List, [], ◌∷◌, ◌++◌, take, nat_eq, None, if◌then◌else◌}
 use Rattle.std.specs.List.{filter, AllByRecursion}
 use Rattle.ztree.specs.Tree.{Tree}
@@ -17,31 +17,31 @@ use Rattle.zfront_laws.specs.Logs.{run_log}
 use Rattle.zfront_laws.specs.Runs.{Step, Takes, Sent, Runs}
 use Rattle.zfront_frames.specs.Talk.{Talk, pieces_of, is_closed, IsTalk}
 
--- the pieces of one connection
+-- the chunks of one connection
 abbrev pub on : ℕ → List PieceView → List PieceView
 on c pieces = filter (λ p. nat_eq p.connection c) pieces
 
--- the bytes that a step gives to a connection; on one that isn't open they are dropped
+-- the bytes that a step brings to a connection; they are dropped unless it is open
 abbrev pub came_at : ℕ → Step → FrontView → List ℕ
 came_at c (Takes (Came d bytes)) v = if nat_eq d c && is_open v.tables c then bytes else []
 came_at c other v = []
 
--- the pieces of it that a step takes
+-- the chunks of it that a step sends
 abbrev pub sent_at : ℕ → Step → FrontView → List PieceView
 sent_at c Sent v = on c (take 1 v.tables.unsent)
 sent_at c other v = []
 
--- all bytes that came on a connection at these steps
+-- all bytes that arrived on a connection in these steps
 abbrev pub came_on : (c : ℕ) (steps : List Step) (old new : FrontView) → Runs steps old new → List ℕ
 came_on c [] old new is = []
 came_on c (step ∷ steps) old new has = came_at c step old ++ came_on c steps has.0 new has.2
 
--- all pieces that went on it, and those that are still to be sent
+-- all chunks that were sent on it, then those still to be sent
 abbrev pub went_on : (c : ℕ) (steps : List Step) (old new : FrontView) → Runs steps old new → List PieceView
 went_on c [] old new is = on c new.tables.unsent
 went_on c (step ∷ steps) old new has = sent_at c step old ++ went_on c steps has.0 new has.2
 
--- a number is given to a connection only while no other one has it
+-- a number is given to a connection only while no other has it
 abbrev pub IsFree : ℕ → Step → FrontView → Type 0
 IsFree c (Takes (Opened d)) v = d ≡ c → phase_of v.tables.streams c ≡ None
 IsFree c other v = Unit {0}
@@ -50,15 +50,14 @@ abbrev pub GivesOnce : (c : ℕ) (steps : List Step) (old new : FrontView) → R
 GivesOnce c [] old new is = Unit {0}
 GivesOnce c (step ∷ steps) old new has = IsFree c step old × GivesOnce c steps has.0 new has.2
 
--- a step doesn't give it again, nor tell its end
+-- a step neither opens the connection again nor ends it
 abbrev pub Stays : ℕ → Step → Type 0
 Stays c (Takes (Opened d)) = d ≢ c
 Stays c (Takes (Ended d)) = d ≢ c
 Stays c other = Unit {0}
 
--- what went on a connection of a server with this clock and this secret, by the bytes that came on it:
--- frames stand in front of these, and they are answered. While the connection is open, no whole frame
--- is left
+-- the chunks of a connection, for the bytes that arrived on it, with this clock and this secret:
+-- the leading frames are answered, and while the connection is open no whole frame remains
 pub record Talks (times : Clock) (secret : List ℕ) (c : ℕ) (log : Log) (came : List ℕ) (went : List PieceView) (on_now : Bool) : Type 0 where
   pub frames : List (List ℕ)
   pub rest : List ℕ
@@ -69,10 +68,9 @@ pub record Talks (times : Clock) (secret : List ℕ) (c : ℕ) (log : Log) (came
   pub ends : on_now ≡ true → IsEnd rest
   pub closes : is_closed talk ≡ not on_now
 
--- So it is on each connection, from its opening on, whatever the steps of a server were that began with
--- a tree which an earlier log left. The log is one for all connections: the earlier one, and behind it
--- that of the server's steps, call by call. It leaves the server's tree, and its replies are those of
--- one plain tree.
+-- This holds of each connection from its opening on. The front's steps may be any, and its tree
+-- that of any earlier log. One log serves all connections: the earlier one, then that of the steps,
+-- call by call. It leaves the front's tree, and its replies are those of one plain tree.
 abbrev pub EveryConnectionIsAnswered : Type 0
 EveryConnectionIsAnswered =
     (t : Tree) (secret : List ℕ) (times : Clock) (is_kept : Bool) (past : Log) (before behind : List Step) (old v : FrontView) (c : ℕ)

@@ -1,7 +1,7 @@
--- What goes on one connection of a server for ZooKeeper's clients: the answer to its greeting, then
--- one answer for each request, with events of watches between them. Behind a close nothing goes.
--- The sources are zookeeper.jute and the ZooKeeper Programmer's Guide, "ZooKeeper Sessions" and
--- "ZooKeeper Watches".
+-- The chunks that are sent on one connection: the connect response, then one answer for each
+-- request, with events of watches between them. After a close nothing is sent. The sources are
+-- zookeeper.jute and the ZooKeeper Programmer's Guide, "ZooKeeper Sessions" and "ZooKeeper
+-- Watches".
 use Rattle.std.specs.Prelude.{◌≡◌, ◌⊎◌, ℕ, ◌≤◌, pos, Bool, true, false, List, [], ◌∷◌, ◌++◌, length, replicate, Some, Ok, Err}
 use Rattle.std.specs.Option.{MatchOption}
 use Rattle.zforms.specs.Readers.{whole}
@@ -38,15 +38,15 @@ use Rattle.zfront.specs.Front.{FrontView}
 use Rattle.zfront.specs.Greeting.{opening}
 use Rattle.zfront.specs.Words.{word_in, text_of_word}
 
--- what a server does on a connection: so far nothing more; it tells an event, and goes on; it
--- answers, and goes on; it closes the connection, and that is all
+-- what a front does on a connection: nothing more so far; it sends an event and continues; it
+-- answers and continues; it closes the connection
 pub data Talk : Type 0 where
   Quiet : Talk
   Tells : Event → Talk → Talk
   Answers : List ℕ → Talk → Talk
   Closes : Talk
 
--- its pieces: an event is one frame, an answer one piece, and behind the last one nothing goes
+-- its chunks: one for each event, one for each answer, and one for the close, which is the last
 abbrev pub pieces_of : ℕ → Talk → List PieceView
 pieces_of c Quiet = []
 pieces_of c (Tells event talk) = piece c (event_frame event) ∷ pieces_of c talk
@@ -60,8 +60,8 @@ is_closed (Tells event talk) = is_closed talk
 is_closed (Answers bytes talk) = is_closed talk
 is_closed Closes = true
 
--- what a request is answered, by what it means: the code that refuses it, and no calls; or what the
--- replies to its calls say. One that asks for watches is told an error where there was no room
+-- the answer to a request: the code of its refusal, without calls; or that of the replies to its
+-- calls; only a request for watches may get an error since there was no room
 abbrev pub Says : Meaning (List Call) → Clock → Now → Asked → Log → Answer → Type 0
 Says (Err (Refused code)) clock now asked part answer = (part ≡ []) × (answer ≡ failed code)
 Says (Err Memory) clock now asked part answer = ⊥
@@ -69,21 +69,21 @@ Says (Ok calls) clock now asked part answer =
     (calls_of part ≡ calls)
     × ((lacked : Bool) × (wishes asked calls (replies_of part) ≡ [] → lacked ≡ false) × (answer ≡ answer_unless lacked clock now asked calls (replies_of part)))
 
--- the tree that the calls of a log leave
+-- the tree after the calls of a log
 abbrev pub tree_behind : Tree → Log → Tree
 tree_behind tree log = tree_after tree (calls_of log)
 
--- a client that greets is told that it has no session: the session 0
+-- the connect response says that there is no session: it has session 0
 pub record IsTurnedAway (bytes told : List ℕ) : Type 0 where
   pub greeting : ConnectRequest
   pub reads : whole connect_request bytes ≡ Ok greeting
   pub frames : told ≡ response_frame greeting (pos 0) (pos 0) (replicate 16 0)
 
--- ---- talks of a server with this clock and this secret
+-- ---- with this clock and this secret
 
 module _ (clock : Clock) (secret : List ℕ) where
-  -- these bytes answer a request, which acts for this session: a frame under its xid. Its calls with
-  -- their replies are the last ones of this log. Its header has the zxid of the tree that they left
+  -- these bytes answer a request of this session, in a frame under its xid. Its calls with their
+  -- replies are the last of this log, and the header has the zxid of the tree after them
   pub record IsAnswer (session : ℕ) (bytes told : List ℕ) (tree : Tree) (log : Log) : Type 0 where
     pub asked : Request
     pub answer : Answer
@@ -94,9 +94,9 @@ module _ (clock : Clock) (secret : List ℕ) where
     pub stands : log ≡ before ++ part
     pub says : Says (calls_in clock.tick session asked.asked) clock (now_of tree) asked.asked part answer
 
-  -- each frame of a session has one answer, in their order, and each answer has its frame. The calls
-  -- of a request stand in the log behind those of the requests before it. Where the connection was
-  -- closed, one frame may have no answer
+  -- each frame of a session has one answer, in order, and each answer has its frame. The calls of a
+  -- request come in the log after those of earlier requests. Before a close, one frame may have no
+  -- answer
   abbrev pub Answered : ℕ → Tree → Log → List (List ℕ) → Talk → Type 0
   Answered session tree log frames Quiet = frames ≡ []
   Answered session tree log frames (Tells event talk) = Answered session tree log frames talk
@@ -106,9 +106,9 @@ module _ (clock : Clock) (secret : List ℕ) where
       × Answered session (tree_behind tree front) behind rest talk
   Answered session tree log frames Closes = length frames ≤ 1
 
-  -- what a client is told that greets, and its session: one that it opens, whose reply is the last one
-  -- of this log; or one of the tree, whose password it gave. The password told is the one that the
-  -- secret gives the session
+  -- the connect response for this session. The client opened the session, by the last call of this
+  -- log; or the tree had it and the client gave its password. The response has the password that
+  -- the secret derives for the session
   abbrev pub IsOpened : ℕ → ConnectRequest → Log → List ℕ → Type 0
   IsOpened session greeting log told =
       (before : Log) × (ticks : ℕ) × (greeting.session_id ≡ pos 0)
@@ -121,14 +121,14 @@ module _ (clock : Clock) (secret : List ℕ) where
       × (given greeting ≡ password_of secret session)
       × (told ≡ response_frame greeting (millis_told clock.tick sits.timeout) (long_of session) (given greeting))
 
-  -- these bytes answer a greeting: its client is told that it has this session
+  -- these bytes are the connect response that gives this session
   pub record IsWelcome (session : ℕ) (bytes told : List ℕ) (tree : Tree) (log : Log) : Type 0 where
     pub greeting : ConnectRequest
     pub reads : whole connect_request bytes ≡ Ok greeting
     pub has : IsOpened session greeting log told ⊎ IsReturned session greeting tree told
 
-  -- the first frame is a greeting, and its answer goes first. Who is turned away is closed behind it;
-  -- and the frames of the others are answered for their session
+  -- the first frame is a connect request, and its response is sent first. After a response without
+  -- a session the connection is closed. Else the next frames are answered for the session
   abbrev pub Greeted : ℕ → Tree → Log → List (List ℕ) → Talk → Type 0
   Greeted session tree log frames Quiet = frames ≡ []
   Greeted session tree log frames (Tells event talk) = ⊥
@@ -138,15 +138,15 @@ module _ (clock : Clock) (secret : List ℕ) where
       ⊎ (IsTurnedAway bytes told × (rest ≡ []) × (talk ≡ Closes)))
   Greeted session tree log frames Closes = length frames ≤ 1
 
-  -- a text goes, and the close, and no frame is answered. The text is that of a server with this clock,
-  -- this secret, and the tree that a front of the log leaves
+  -- only a text is sent, then the close, and no frame is answered. The text is that of a front with
+  -- this clock, this secret, and the tree after a prefix of the log
   abbrev pub SaysText : (FrontView → List ℕ) → Log → List (List ℕ) → Talk → Type 0
   SaysText text log frames talk =
       (frames ≡ []) × ((v : FrontView) × (front behind : Log) × (log ≡ front ++ behind) × (v.tree ≡ tree_behind opening_tree front)
       × (v.clock ≡ clock) × (v.secret ≡ secret) × (talk ≡ Answers (text v) Closes))
 
-  -- what goes on a connection, by the frames in front of what came on it. Where a word of four
-  -- letters stands in front, its text goes in the place of the answer to a greeting
+  -- the chunks of a connection, from the leading frames of its bytes. If these begin with a four
+  -- letter word, its text is sent instead of a connect response
   abbrev pub IsTalk : List ℕ → Log → List (List ℕ) → Talk → Type 0
   IsTalk came log frames talk =
       MatchOption (word_in came) ((session : ℕ) × Greeted session opening_tree log frames talk) (λ word. SaysText (text_of_word word) log frames talk)

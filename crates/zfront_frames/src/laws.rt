@@ -1,12 +1,12 @@
-//! The laws. No body does anything.
+//! The laws. Each function's contract is a law; its body does nothing.
 
 ghost use Rattle.zfront_frames.specs.Laws.{EveryConnectionIsAnswered};
 
-/// On each connection goes the answer to its greeting, and then one frame for each request, in
-/// order, under its xid; events stand between them. Up to a close each whole frame that came is
-/// answered, and behind it nothing goes. What is told are the replies that stand in one log of all
-/// connections, which is one plain tree's. A session is told to whom it opened, or to whom gave the
-/// password that the secret gives it.
+/// Each connection gets the connect response, then one frame for each request, in order, under its
+/// xid. Events come between them. Until a close, each whole frame that arrived is answered, and
+/// after the close nothing is sent. The answers come from the replies of one log of all
+/// connections, which is one plain tree's. A session is given only to a client that opened it, or
+/// that gave the password which the secret derives for it.
 pub fn every_connection_is_answered()
     ensures { EveryConnectionIsAnswered }
 {}

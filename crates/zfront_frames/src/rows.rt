@@ -32,7 +32,7 @@ ghost use Rattle.zfront_frames.specs.Talk.{Quiet, SaysText, Talk, Tells, is_clos
 ghost use Rattle.zfront_frames.specs.Talk.{tree_behind};
 ghost use Rattle.zfront_frames.specs.Laws.{on};
 
-/// An event and an answer are one piece each, in order, and a close is the last piece.
+/// An event and an answer are one chunk each, in order, and a close is the last chunk.
 pub fn pieces_are_in_order()
     ensures all { (event : Event) (bytes : List ℕ)
         → pieces_of 3 (Tells event (Answers bytes Closes))
@@ -41,14 +41,14 @@ pub fn pieces_are_in_order()
     ensures closed { (bytes : List ℕ) → is_closed (Answers bytes Closes) ≡ true }
 {}
 
-/// The pieces of one connection are picked out of those of all.
+/// The chunks of one connection are selected from those of all.
 pub fn pieces_of_one_are_picked()
     ensures own { (bytes : List ℕ) → on 3 (piece 3 bytes ∷ (piece 5 bytes ∷ []))
         ≡ piece 3 bytes ∷ [] }
 {}
 
-/// An answer is a frame under the xid of its own request. Its header has the zxid of the tree that
-/// the calls left, and these are the last ones of the log.
+/// An answer is a frame under the xid of its own request. Its header has the zxid of the tree after
+/// its calls, which are the last of the log.
 pub fn answers_are_under_their_xid()
     ensures reads { (clock : Clock) (secret : List ℕ) (session : ℕ) (bytes told : List ℕ)
         (tree : Tree) (log : Log) (answer : IsAnswer clock secret session bytes told tree log)
@@ -61,7 +61,7 @@ pub fn answers_are_under_their_xid()
         → log ≡ answer.before ++ answer.part }
 {}
 
-/// A request that is refused at once has its code as its answer, and no calls.
+/// A request that is refused at once gets its code, and makes no call.
 pub fn a_refusal_makes_no_call()
     ensures answer { (code : Code) (clock : Clock) (now : Now) (asked : Asked) (part : Log)
         (answer : Answer) → Says (Err (Refused code)) clock now asked part answer
@@ -70,8 +70,7 @@ pub fn a_refusal_makes_no_call()
         (answer : Answer) → Says (Err (Refused code)) clock now asked part answer → part ≡ [] }
 {}
 
-/// A frame without an answer stands only where the connection was closed, and no answer is without
-/// its frame.
+/// Only before a close may a frame have no answer, and each answer has its frame.
 pub fn each_frame_has_one_answer()
     ensures event { (clock : Clock) (secret : List ℕ) (session : ℕ) (tree : Tree) (log : Log)
         (event : Event) → Answered clock secret session tree log [] (Tells event Quiet) }
@@ -90,7 +89,7 @@ pub fn each_frame_has_one_answer()
         → ⊥ }
 {}
 
-/// Nothing goes in front of the answer to a greeting.
+/// Nothing is sent before the connect response.
 pub fn the_greeting_is_answered_first()
     ensures event { (clock : Clock) (secret : List ℕ) (session : ℕ) (tree : Tree) (log : Log)
         (frames : List (List ℕ)) (event : Event)
@@ -99,8 +98,8 @@ pub fn the_greeting_is_answered_first()
         (bytes : List ℕ) → Greeted clock secret session tree log (bytes ∷ []) Closes }
 {}
 
-/// A session that is told was opened by the call of its greeting, the last one of the log, and its
-/// password is told. Or it is one of the tree, whose client asked for it and gave its password.
+/// A session in a connect response was opened by the last call of the log, and the response has its
+/// password. Or it is one of the tree, whose client asked for it and gave its password.
 pub fn a_session_is_told_that_is_there()
     ensures opened { (clock : Clock) (secret : List ℕ) (session : ℕ) (greeting : ConnectRequest)
         (log : Log) (told : List ℕ) (has : IsOpened clock secret session greeting log told)
@@ -123,8 +122,8 @@ pub fn a_session_is_told_that_is_there()
         → given greeting ≡ password_of secret session }
 {}
 
-/// The text of a word is that of a server with this clock, this secret, and a tree that a front of
-/// the log leaves. No frame is answered.
+/// The text of a word is that of a front with this clock, this secret, and the tree after a prefix
+/// of the log. No frame is answered.
 pub fn a_text_is_that_of_a_tree_of_the_log()
     ensures frames { (clock : Clock) (secret : List ℕ) (text : FrontView → List ℕ) (log : Log)
         (frames : List (List ℕ)) (talk : Talk)

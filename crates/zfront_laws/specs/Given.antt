@@ -1,5 +1,5 @@
--- How a connection gets a session: it opens one, or it gives the password of one. Whoever speaks
--- for a session speaks for one that the tree has. The source is the ZooKeeper Programmer's Guide,
+-- How a connection gets a session: it opens one, or it gives the password of one. A connection only
+-- ever acts for a session that the tree has. The source is the ZooKeeper Programmer's Guide,
 -- "ZooKeeper Sessions".
 use Rattle.std.specs.Prelude.{◌≡◌, ◌⊎◌, ℕ, pos, Bool, true, false, List, [], ◌∷◌, ◌++◌, Option, None, Some, Ok, nat_eq, if◌then◌else◌}
 use Rattle.std.specs.FinMap as finite
@@ -25,7 +25,7 @@ use Rattle.zfront.specs.Reading.{Comes, HandlesAll, emptied}
 use Rattle.zfront.specs.Restoring.{beginning}
 use Rattle.zfront_laws.specs.Runs.{Step, Takes, Sent, Took, Runs}
 
--- the bytes that came on a connection since it was opened, behind one more step
+-- the bytes that arrived on a connection since it was opened, after one more step
 abbrev pub since_step : ℕ → Step → Option (List ℕ) → Option (List ℕ)
 since_step c (Takes (Opened d)) since = if nat_eq d c then Some [] else since
 since_step c (Takes (Came d bytes)) since = if nat_eq d c then option_map (λ came. came ++ bytes) since else since
@@ -34,7 +34,7 @@ since_step c (Takes Tick) since = since
 since_step c Sent since = since
 since_step c Took since = since
 
--- and behind steps
+-- the same after several steps
 abbrev pub since_opened : ℕ → List Step → Option (List ℕ) → Option (List ℕ)
 since_opened c [] since = since
 since_opened c (step ∷ steps) since = since_opened c steps (since_step c step since)
@@ -44,17 +44,17 @@ abbrev pub IsNoOpening : ℕ → Step → Type 0
 IsNoOpening c (Takes (Opened d)) = nat_eq d c ≡ false
 IsNoOpening c other = Unit {0}
 
--- a greeting gives its connection a session. It asks for a new one, which the tree opens now. Or it
--- names one that the tree has, with all bytes of the password that the secret gives this session
+-- a connect request gives its connection a session. It asks for a new one, which the tree opens
+-- now. Or it names one that the tree has, with the whole password that the secret derives for it
 abbrev pub Gains : ℕ → ConnectRequest → FrontView → Type 0
 Gains session greeting v =
     ((greeting.session_id ≡ pos 0) × (ticks : ℕ) × ((serve v.tree 0 (opening v.clock.tick greeting)).1 ≡ reply.Opened session ticks))
     ⊎ ((greeting.session_id ≡ pos session) × (finite.contains_key v.tree.sessions session ≡ true)
     × (given greeting ≡ password_of v.secret session))
 
--- a connection got a session among these steps, when the first frame on it was whole
+-- among these steps a connection got a session, once its first frame was whole
 pub record HasGot (c session : ℕ) (steps : List Step) (first v : FrontView) : Type 0 where
-  -- the bytes by which it was whole, with the steps before and behind them
+  -- the input that completed the frame, with the steps before and after it
   pub before : List Step
   pub bytes : List ℕ
   pub behind : List Step
@@ -68,9 +68,9 @@ pub record HasGot (c session : ℕ) (steps : List Step) (first v : FrontView) : 
   pub since : List ℕ
   pub opened : since_opened c (before ++ Takes (Came c bytes) ∷ []) None ≡ Some since
   pub once : AllByRecursion (IsNoOpening c) behind
-  -- it had no session until then
+  -- it had no session before
   pub silent : phase_of before_it.tables.streams c ≡ Some Silent
-  -- its first frame is a greeting that gives it the session, of the tree as it was then
+  -- its first frame is a connect request that gives it the session, in the tree of that moment
   pub frame : List ℕ
   pub more : List ℕ
   pub whole_is : next_of since ≡ Whole frame more
@@ -78,14 +78,14 @@ pub record HasGot (c session : ℕ) (steps : List Step) (first v : FrontView) : 
   pub spelled : whole connect_request frame ≡ Ok greeting
   pub gains : Gains session greeting before_it
 
--- whatever the steps of a server were, a connection that speaks for a session got it so
+-- whatever the steps of a front were, each connection that has a session got it that way
 abbrev pub EverySessionIsGot : Type 0
 EverySessionIsGot =
     (t : Tree) (secret : List ℕ) (times : Clock) (is_kept : Bool) (steps : List Step) (v : FrontView) (c session : ℕ)
     → Runs steps (beginning t secret times is_kept) v
     → phase_of v.tables.streams c ≡ Some (Speaking session) → HasGot c session steps (beginning t secret times is_kept) v
 
--- a server stands before a frame of a connection: behind steps, and behind frames of it
+-- a front before it handles a frame: after steps, and after earlier frames of the same input
 pub record StandsBefore (c : ℕ) (first at : FrontView) : Type 0 where
   pub steps : List Step
   pub stood : FrontView
@@ -93,8 +93,8 @@ pub record StandsBefore (c : ℕ) (first at : FrontView) : Type 0 where
   pub frames : List (List ℕ)
   pub handled : HandlesAll frames c (emptied c stood) at
 
--- then whoever speaks for a session speaks for one that the tree has, if a service can begin with the
--- first tree. So nobody acts for a session that ended
+-- If a service can begin with the first tree, each connection that then has a session has one of
+-- the tree. So no client acts for a session that ended
 abbrev pub WhoSpeaksIsAlive : Type 0
 WhoSpeaksIsAlive =
     (t : Tree) (secret : List ℕ) (times : Clock) (is_kept : Bool) (at : FrontView) (c d session : ℕ)

@@ -1,4 +1,4 @@
--- What holds of every server for ZooKeeper's clients. The functions of `src/laws.rt` promise it.
+-- Laws of every front end for ZooKeeper's clients. The functions of `src/laws.rt` promise them.
 use Rattle.std.specs.Prelude.{◌≡◌, ◌⊎◌, ℕ, Bool, List, ◌++◌, Ok, Err}
 use Rattle.std.specs.List.{AllByRecursion}
 use Rattle.zforms.specs.Readers.{whole}
@@ -17,52 +17,52 @@ use Rattle.zfront.specs.Requests.{Serves, Makes, touched_by}
 use Rattle.zfront_laws.specs.Runs.{Step, Does, KeepsFew, Runs}
 use Rattle.zfront_laws.specs.Logs.{step_log, run_log}
 
--- at each step the log of its calls leads from the tree before to the tree behind, with that tree's
--- replies; and few bytes are kept
+-- the log of each step leads from the tree before it to the tree after it, with that tree's
+-- replies; and the bound on stored bytes is preserved
 abbrev pub EveryStepGoesOn : Type 0
 EveryStepGoesOn =
     (step : Step) (old new : FrontView) → KeepsFew old → (does : Does step old new)
     → Leads old.tree (step_log step old new does) new.tree × KeepsFew new
 
--- and at steps, one after the other
+-- the same for steps in order
 abbrev pub EveryRunGoesOn : Type 0
 EveryRunGoesOn =
     (steps : List Step) (old new : FrontView) → KeepsFew old → (runs : Runs steps old new)
     → Leads old.tree (run_log steps old new runs) new.tree × KeepsFew new
 
--- a server keeps few bytes, whatever tree it began with
+-- a front stores few bytes, whatever tree it began with
 abbrev pub EveryFrontKeepsFew : Type 0
 EveryFrontKeepsFew =
     (t : Tree) (secret : List ℕ) (times : Clock) (is_kept : Bool) (steps : List Step) (v : FrontView)
     → Runs steps (beginning t secret times is_kept) v → KeepsFew v
 
--- so all calls of all connections stand in one log: that of its steps, behind any earlier log that
--- left the tree with which the server began. Its replies are those of one plain tree
+-- the calls of all connections form one log: that of the steps, after any earlier log that left the
+-- first tree; its replies are those of one plain tree
 abbrev pub EveryFrontIsOneTree : Type 0
 EveryFrontIsOneTree =
     (t : Tree) (secret : List ℕ) (times : Clock) (is_kept : Bool) (before : Log) (steps : List Step) (v : FrontView)
     → Leaves before t → (runs : Runs steps (beginning t secret times is_kept) v)
     → Leaves (before ++ run_log steps (beginning t secret times is_kept) v runs) v.tree
 
--- and whatever tree it began with, the log since then is that tree's
+-- whatever tree a front began with, the log since then is that tree's
 abbrev pub EveryFrontIsItsTrees : Type 0
 EveryFrontIsItsTrees =
     (t : Tree) (secret : List ℕ) (times : Clock) (is_kept : Bool) (steps : List Step) (v : FrontView)
     → (runs : Runs steps (beginning t secret times is_kept) v) → Leads t (run_log steps (beginning t secret times is_kept) v runs) v.tree
 
--- the secret, the clock and whether updates are kept stay
+-- the secret, the clock, and whether updates are recorded never change
 abbrev pub StaysAsItBegan : Type 0
 StaysAsItBegan =
     (steps : List Step) (old new : FrontView) → KeepsFew old → Runs steps old new
     → (new.secret ≡ old.secret) × (new.clock ≡ old.clock) × (new.is_kept ≡ old.is_kept)
 
--- bytes that spell no request close their connection, and no call is made
+-- bytes that are no valid request close their connection and make no call
 abbrev pub NoRequestMakesNoCall : Type 0
 NoRequestMakesNoCall =
     (bytes : List ℕ) (session c : ℕ) (fault : Fault) (old new : FrontView) → whole request bytes ≡ Err fault → Serves bytes session c old new
     → (new ≡ with_tables (closed c old.tables) old) × (new.tree ≡ old.tree)
 
--- a frame makes calls that act for the session of its connection alone, or it makes none
+-- a frame makes calls that act for the session of its connection only, or it makes none
 abbrev pub RequestsAreForTheirSession : Type 0
 RequestsAreForTheirSession =
     (bytes : List ℕ) (session c : ℕ) (old new : FrontView) → Serves bytes session c old new

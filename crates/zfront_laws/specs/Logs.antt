@@ -1,5 +1,5 @@
--- The log of a server for ZooKeeper's clients: the calls that its steps made, in order, each with
--- its reply. All connections' calls stand in this one log.
+-- The log of a front end for ZooKeeper's clients: the calls that its steps made, in order, each
+-- with its reply. It is one log for all connections.
 use Rattle.std.specs.Prelude.{ℕ, pos, Bool, true, false, List, [], ◌∷◌, ◌++◌, zip, Option, None, Some, Result, Ok, Err, if◌then◌else◌}
 use Rattle.std.specs.Ordering.{int_eq}
 use Rattle.zforms.specs.Readers.{whole}
@@ -29,14 +29,14 @@ use Rattle.zfront_laws.specs.Runs.{Step, Takes, Sent, Took, Does, Runs}
 
 -- ---- calls
 
--- a greeting makes the call that opens a session, or none
+-- a connect request makes one call, which opens a session, or none
 abbrev pub greeting_calls : Result ConnectRequest Fault → FrontView → List Call
 greeting_calls (Err fault) v = []
 greeting_calls (Ok greeting) v =
     if is_ahead v.tree.zxid greeting then [] else
     if int_eq greeting.session_id (pos 0) then opening v.clock.tick greeting ∷ [] else []
 
--- the calls that a request means, if it means any
+-- the calls of a request, unless it is refused
 abbrev pub meant : Meaning (List Call) → List Call
 meant (Ok calls) = calls
 meant (Err why) = []
@@ -45,7 +45,7 @@ abbrev pub request_calls : Result Request Fault → ℕ → FrontView → List C
 request_calls (Err fault) session v = []
 request_calls (Ok r) session v = meant (calls_in v.clock.tick session r.asked)
 
--- the calls of a frame of a connection in this phase
+-- the calls of a frame on a connection in this phase
 abbrev pub frame_calls : Option Phase → List ℕ → FrontView → List Call
 frame_calls (Some Silent) bytes v = greeting_calls (whole connect_request bytes) v
 frame_calls (Some (Speaking session)) bytes v = request_calls (whole request bytes) session v
@@ -54,11 +54,11 @@ frame_calls None bytes v = []
 
 -- ---- logs
 
--- calls that are made now, each with its reply
+-- calls made in this state, each with its reply
 abbrev pub done_by : List Call → FrontView → Log
 done_by calls v = zip calls (replies_to calls v)
 
--- a frame, and frames one after the other
+-- the log of a frame, and of frames in order
 abbrev pub frame_log : List ℕ → ℕ → FrontView → Log
 frame_log bytes c v = done_by (frame_calls (phase_of v.tables.streams c) bytes v) v
 
@@ -66,7 +66,7 @@ abbrev pub frames_log : (frames : List (List ℕ)) (c : ℕ) (old new : FrontVie
 frames_log [] c old new is = []
 frames_log (bytes ∷ frames) c old new has = frame_log bytes c old ++ frames_log frames c has.1 new has.3
 
--- bytes that came
+-- the log of bytes that arrived
 abbrev pub bytes_log : (word : _) (came : List ℕ) (c : ℕ) (old new : FrontView) → ComesBy word came c old new → Log
 bytes_log (Some word) came c old new is = []
 bytes_log None came c old new has = frames_log has.2.frames c old has.1 has.2.handles
@@ -77,14 +77,14 @@ came_log true bytes c old new has =
     let came = bytes_of old.tables.streams c ++ bytes in
     bytes_log (word_asked (phase_of (emptied c old).tables.streams c) came) came c (emptied c old) new has
 
--- an input
+-- the log of an input
 abbrev pub input_log : (input : InputView) (old new : FrontView) → inputs.Does input old new → Log
 input_log (Opened c) old new is = []
 input_log (Came c bytes) old new has = came_log (is_open old.tables c) bytes c old new has
 input_log (Ended c) old new is = []
 input_log Tick old new has = done_by (tick_calls (touched_ids old.tables.sittings)) old
 
--- a step, and steps one after the other
+-- the log of a step, and of steps in order
 abbrev pub step_log : (step : Step) (old new : FrontView) → Does step old new → Log
 step_log (Takes input) old new has = input_log input old new has
 step_log Sent old new is = []

@@ -1,5 +1,4 @@
--- What a server made: the updates of its log. First stand those that were taken of it, and last
--- those that are left to be taken.
+-- The updates of a front's log: first those already taken, then those still recorded.
 use Rattle.std.specs.Prelude.{◌≡◌, ℕ, Bool, true, List, [], ◌∷◌, ◌++◌, None, Some}
 use Rattle.std.specs.FinMap.{contains_key, get}
 use Rattle.ztree.specs.Tree.{Tree}
@@ -16,11 +15,11 @@ use Rattle.zfront_laws.specs.Logs.{step_log, run_log}
 abbrev pub updates_in : Log → List Update
 updates_in log = updates_among (calls_of log)
 
--- what is made is kept until it is taken
+-- updates are recorded until they are taken
 abbrev pub KeepsMade : FrontView → Type 0
 KeepsMade v = v.is_kept ≡ true
 
--- what a step takes, and what is taken at steps, in order
+-- the updates that a step takes, and those that steps take, in order
 abbrev pub took_at : Step → FrontView → List Update
 took_at Took v = v.made
 took_at other v = []
@@ -29,19 +28,19 @@ abbrev pub took_in : (steps : List Step) (old new : FrontView) → Runs steps ol
 took_in [] old new is = []
 took_in (step ∷ steps) old new has = took_at step old ++ took_in steps has.0 new has.2
 
--- at each step the updates of its log come behind those that were left to be taken
+-- at each step the updates of its log come after those that were recorded before
 abbrev pub EveryStepMakesMore : Type 0
 EveryStepMakesMore =
     (step : Step) (old new : FrontView) → KeepsFew old → KeepsMade old → (does : Does step old new)
     → (old.made ++ updates_in (step_log step old new does) ≡ took_at step old ++ new.made) × KeepsMade new
 
--- each session of the tree with which a server begins is there, without a connection
+-- a front begins with each session of its tree, without a connection
 abbrev pub EverySessionIsRestored : Type 0
 EverySessionIsRestored =
     (t : Tree) (secret : List ℕ) (times : Clock) (is_kept : Bool) (session : ℕ) → contains_key t.sessions session ≡ true
     → (s : Sitting) × (get (beginning t secret times is_kept).tables.sittings session ≡ Some s) × (s.connection ≡ None)
 
--- the updates of the log are those that were taken, and those that are left: each once, in order
+-- the updates of the log are those taken and those still recorded: each once, in order
 abbrev pub EveryChangeIsMade : Type 0
 EveryChangeIsMade =
     (t : Tree) (secret : List ℕ) (times : Clock) (steps : List Step) (v : FrontView)

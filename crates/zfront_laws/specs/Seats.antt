@@ -1,5 +1,6 @@
--- Which connection speaks for a session: that which has the session's seat, so no two of them do.
--- The source is the ZooKeeper Programmer's Guide, "ZooKeeper Sessions".
+-- The connection that has a session is the one that the session is attached to, so no two
+-- connections have the same session. The source is the ZooKeeper Programmer's Guide, "ZooKeeper
+-- Sessions".
 use Rattle.std.specs.Prelude.{◌≡◌, ℕ, Bool, List, None, Some}
 use Rattle.ztree.specs.Tree.{Tree}
 use Rattle.zevents.specs.declared.event.Event.{Event}
@@ -14,22 +15,22 @@ use Rattle.zfront.specs.Front.{FrontView}
 use Rattle.zfront.specs.Restoring.{beginning}
 use Rattle.zfront_laws.specs.Runs.{Step, Runs}
 
--- each connection that speaks for a session has the seat of this session
+-- for each connection that has a session, this session is attached to it
 abbrev pub IsSeated : TablesView → Type 0
 IsSeated t = (c session : ℕ) → phase_of t.streams c ≡ Some (Speaking session) → connection_of t.sittings session ≡ Some c
 
--- so no two connections speak for one session
+-- so no two connections have the same session
 abbrev pub OneSpeaks : Type 0
 OneSpeaks =
     (t : TablesView) (c d session : ℕ) → IsSeated t → phase_of t.streams c ≡ Some (Speaking session)
     → phase_of t.streams d ≡ Some (Speaking session) → c ≡ d
 
--- it stays so
+-- the change preserves this
 abbrev pub Seats : (TablesView → TablesView) → TablesView → Type 0
 Seats change t = IsSeated t → IsSeated (change t)
 
--- where a connection is closed or ends, where something is sent, where events are told, where
--- sessions are gone, where a session is taken up, and where a new one is opened
+-- these changes: a connection is closed or ends, bytes are queued, events are sent, sessions are
+-- removed, a session is attached, and a new one is opened
 pub record SeatsAreKept : Type 0 where
   pub closed : (c : ℕ) (t : TablesView) → Seats (closed c) t
   pub ended : (c : ℕ) (t : TablesView) → Seats (ended c) t
@@ -39,7 +40,7 @@ pub record SeatsAreKept : Type 0 where
   pub taken_up : (session c : ℕ) (t : TablesView) → Seats (taken_up session c) t
   pub opened : (session c : ℕ) (t : TablesView) → connection_of t.sittings session ≡ None → Seats (sitting session c) t
 
--- of every server that began with a tree with which a service can begin, whatever its steps were
+-- it holds of every front, whatever its steps, if a service can begin with the first tree
 abbrev pub EveryFrontIsSeated : Type 0
 EveryFrontIsSeated =
     (t : Tree) (secret : List ℕ) (times : Clock) (is_kept : Bool) (steps : List Step) (v : FrontView)

@@ -1,4 +1,4 @@
-//! The laws. No body does anything.
+//! The laws. Each function's contract is a law; its body does nothing.
 
 ghost use Rattle.zfront_laws.specs.Given.{EverySessionIsGot, WhoSpeaksIsAlive};
 ghost use Rattle.zfront_laws.specs.Laws.{EveryFrontIsItsTrees, EveryFrontIsOneTree};
@@ -9,93 +9,91 @@ ghost use Rattle.zfront_laws.specs.Making.{EveryChangeIsMade, EverySessionIsRest
 ghost use Rattle.zfront_laws.specs.Making.{EveryStepMakesMore};
 ghost use Rattle.zfront_laws.specs.Seats.{EveryFrontIsSeated, OneSpeaks, SeatsAreKept};
 
-/// At each step the log of its calls leads from the tree before to the tree behind. The replies are
-/// that tree's. The steps are connections, their bytes and ends, and ticks; pieces that were sent;
-/// and updates that were taken.
+/// The log of each step leads from the tree before it to the tree after it, with that tree's
+/// replies. A step is an input, the sending of a chunk, or the taking of recorded updates.
 pub fn every_step_goes_on()
     ensures { EveryStepGoesOn }
 {}
 
-/// So it is at any number of steps, whatever they are.
+/// The same for any number of steps, whatever they are.
 pub fn every_run_goes_on()
     ensures { EveryRunGoesOn }
 {}
 
-/// Of frames that aren't whole yet, a server keeps no more than `MAX_KEPT` bytes of all connections
-/// together, whatever its steps are.
+/// A front stores at most `MAX_KEPT` bytes of partial frames for all connections together, whatever
+/// its steps are.
 pub fn every_front_keeps_few()
     ensures { EveryFrontKeepsFew }
 {}
 
-/// Whatever the steps of a server were, all its calls stand in one log, behind any earlier one that
-/// left the tree with which it began. The replies are those of one plain tree that does these calls
-/// in their order. No connection sees another tree. The log since the server began is that of the
-/// tree with which it began, whether an earlier log left that tree or not.
+/// Whatever the steps of a front were, all its calls form one log, after any earlier log that left
+/// the first tree. The replies are those of one plain tree that serves these calls in order, so no
+/// connection sees another tree. With or without an earlier log, the log since the beginning is
+/// that of the first tree.
 pub fn every_front_is_one_tree()
     ensures log { EveryFrontIsOneTree }
     ensures since { EveryFrontIsItsTrees }
 {}
 
-/// The secret, the clock and whether updates are kept stay, whatever the steps are.
+/// The secret, the clock, and whether updates are recorded never change.
 pub fn stays_as_it_began()
     ensures { StaysAsItBegan }
 {}
 
-/// Bytes that spell no request close their connection, and no call is made.
+/// Bytes that are no valid request close their connection and make no call.
 pub fn no_request_makes_no_call()
     ensures { NoRequestMakesNoCall }
 {}
 
-/// A frame makes calls for the session of its own connection alone, or it makes none.
+/// A frame makes calls for the session of its own connection only, or it makes none.
 pub fn requests_are_for_their_session()
     ensures { RequestsAreForTheirSession }
 {}
 
-/// Where each connection that speaks for a session has this session's seat, no two connections
-/// speak for one session.
+/// If each connection that has a session is the one attached to it, no two connections have the
+/// same session.
 pub fn one_speaks()
     ensures { OneSpeaks }
 {}
 
-/// Each connection that speaks for a session has this session's seat, and it stays so. A connection
-/// is closed or ends, something is sent or told, sessions are gone, taken up, or opened.
+/// All changes of the tables preserve that each connection that has a session is the one attached
+/// to it. They are: close, end, send, notify, and remove, attach or open a session.
 pub fn seats_are_kept()
     ensures { SeatsAreKept }
 {}
 
-/// Whatever the steps of a server were, each connection that speaks for a session has this
-/// session's seat, if a service can begin with the first tree. So no two connections ever speak for
-/// one session.
+/// Each connection that has a session is the one attached to it, whatever the steps of a front
+/// were, if a service can begin with the first tree. So no two connections ever have the same
+/// session.
 pub fn every_front_is_seated()
     ensures { EveryFrontIsSeated }
 {}
 
-/// Whatever the steps of a server were, a connection that speaks for a session got it by its first
-/// frame. That frame asked for a new session, which the tree opened. Or it named one of the tree,
-/// and gave all bytes of the password that the secret gives this session.
+/// Whatever the steps of a front were, each connection that has a session got it by its first
+/// frame. It asked for a new session, which the tree opened. Or it named one of the tree, and gave
+/// the whole password that the secret derives for it.
 pub fn every_session_is_got()
     ensures { EverySessionIsGot }
 {}
 
-/// Wherever a server stands before a frame, whoever speaks for a session speaks for one that the
-/// tree has, if a service can begin with the first tree. So nobody acts for a session that ended.
+/// Whenever a front is about to handle a frame, each connection that has a session has one of the
+/// tree, if a service can begin with the first tree. So no client acts for a session that ended.
 pub fn who_speaks_is_alive()
     ensures { WhoSpeaksIsAlive }
 {}
 
-/// At each step the updates of its log come behind those that are left to be taken.
+/// At each step the updates of its log come after those that were recorded before.
 pub fn every_step_makes_more()
     ensures { EveryStepMakesMore }
 {}
 
-/// Each session of the tree with which a server begins is there, without a connection. So a client
-/// can take it up.
+/// A front begins with each session of its tree, without a connection. So a client can come back to
+/// it.
 pub fn every_session_is_restored()
     ensures { EverySessionIsRestored }
 {}
 
-/// The updates of a server's log are those that were taken, and those that are left: each once, in
-/// order.
+/// The updates of a front's log are those taken and those still recorded: each once, in order.
 pub fn every_change_is_made()
     ensures { EveryChangeIsMade }
 {}

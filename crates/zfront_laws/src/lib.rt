@@ -1,8 +1,8 @@
-//! What holds of every server for ZooKeeper's clients (`zfront`), whatever its steps are. It may
-//! begin with the initial tree, or with one that an earlier server left.
+//! Laws of every front end for ZooKeeper's clients (`zfront`), whatever its steps are. It may begin
+//! with the initial tree, or with one that an earlier front left.
 //!
-//! Every call that it makes stands in one log, and the replies of that log are those of one plain
-//! tree (`specs/Laws.antt`). Each law is the contract of a function whose body does nothing.
+//! All its calls form one log, and the replies of that log are those of one plain tree
+//! (`specs/Laws.antt`). Each law is the contract of a function whose body does nothing.
 #![tactic(auto)]
 
 pub mod laws;

@@ -28,7 +28,7 @@ ghost use Rattle.zfront_laws.specs.Making.{KeepsMade, took_at, took_in, updates_
 ghost use Rattle.zfront_laws.specs.Runs.{Step, Takes, Sent, Took, Does, Runs};
 ghost use Rattle.zfront_laws.specs.Seats.{IsSeated};
 
-/// Steps are done one after the other, and each is done.
+/// Steps are done in order, and none is skipped.
 pub fn runs()
     ensures none { (v : FrontView) → Runs [] v v }
     ensures only { (v w : FrontView) → Runs [] v w → w ≡ v }
@@ -36,7 +36,7 @@ pub fn runs()
         → Runs (step ∷ steps) u w → (v : FrontView) × Does step u v × Runs steps v w }
 {}
 
-/// Calls stand in the log in their order. Each has the reply of the tree that those before it left.
+/// The log has the calls in order. Each has the reply of the tree after the calls before it.
 pub fn calls_are_logged()
     ensures none { (v : FrontView) → done_by [] v ≡ [] }
     ensures one { (call : Call) (v : FrontView)
@@ -45,7 +45,7 @@ pub fn calls_are_logged()
         ≡ (one, (serve v.tree 0 one).1) ∷ (two, (serve (serve v.tree 0 one).0 0 two).1) ∷ [] }
 {}
 
-/// The calls of frames. Only a greeting for a new session makes one, which opens it.
+/// The calls of frames. Of connect requests, only one for a new session makes a call.
 pub fn frames_call()
     ensures no_greeting { (fault : Fault) (v : FrontView) → greeting_calls (Err fault) v ≡ [] }
     ensures opens { (greeting : ConnectRequest) (v : FrontView) → greeting.session_id ≡ pos 0
@@ -60,7 +60,7 @@ pub fn frames_call()
     ensures closing { (bytes : List ℕ) (v : FrontView) → frame_calls (Some Closing) bytes v ≡ [] }
 {}
 
-/// The logs of steps. A tick renews the sessions that were heard of, and then time goes on.
+/// The logs of steps. A tick renews the sessions that sent a request, then time advances.
 pub fn steps_are_logged()
     ensures ticks { tick_calls (3 ∷ 5 ∷ []) ≡ ping 3 ∷ ping 5 ∷ Update act.Tick ∷ [] }
     ensures opened { (u v : FrontView) (does : Does (Takes (Opened 1)) u v)
@@ -71,13 +71,13 @@ pub fn steps_are_logged()
         ≡ step_log one u runs.0 runs.1 ++ (step_log two runs.0 runs.2.0 runs.2.1 ++ []) }
 {}
 
-/// Who speaks for a session is the one that the session has.
+/// The connection that has a session is the one attached to it.
 pub fn seats()
     ensures { (t : TablesView) → IsSeated t → phase_of t.streams 3 ≡ Some (Speaking 7)
         → connection_of t.sittings 7 ≡ Some 3 }
 {}
 
-/// What came on connection 1 since it was opened.
+/// The bytes that arrived on connection 1 since it was opened.
 pub fn bytes_since()
     ensures opened { since_opened 1 (Takes (Opened 1) ∷ []) None ≡ Some [] }
     ensures pieces { since_opened 1 (Takes (Opened 1) ∷ Takes (Came 1 (7 ∷ [])) ∷
@@ -90,14 +90,14 @@ pub fn bytes_since()
     ensures never { since_opened 1 (Takes (Came 1 (7 ∷ [])) ∷ []) None ≡ None }
 {}
 
-/// What opens connection 1.
+/// The steps that open connection 1.
 pub fn openings()
     ensures other { IsNoOpening 1 (Takes (Opened 2)) }
     ensures bytes { IsNoOpening 1 (Takes (Came 1 [])) }
     ensures itself { IsNoOpening 1 (Takes (Opened 1)) → true ≡ false }
 {}
 
-/// A greeting that names session 7 gives the whole password that the secret gives it.
+/// A connect request that names session 7 gives the whole password that the secret derives for it.
 pub fn names_gain()
     ensures names { (greeting : ConnectRequest) (v : FrontView) → greeting.session_id ≡ pos 7
         → Gains 7 greeting v → given greeting ≡ password_of v.secret 7 }
@@ -105,7 +105,7 @@ pub fn names_gain()
         → Gains 7 greeting v → true ≡ false }
 {}
 
-/// The updates of a log. A query is none.
+/// The updates of a log. A query isn't one.
 pub fn updates()
     ensures { (update : Act) (asked : Asked) (one two : Reply)
         → updates_in ((Update update, one) ∷ (Query asked, two) ∷ []) ≡ update ∷ [] }

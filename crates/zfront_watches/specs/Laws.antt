@@ -1,4 +1,4 @@
--- What holds of the watches of every server. The functions of `src/laws.rt` promise it.
+-- Laws of the watches of every front end. The functions of `src/laws.rt` promise them.
 use Rattle.std.specs.Prelude.{◌≡◌, ℕ, Bool, List, [], ◌∷◌, ◌++◌, drop}
 use Rattle.std.specs.FinMap as finite
 use Rattle.ztree.specs.Tree.{Tree}
@@ -18,8 +18,8 @@ use Rattle.zfront_watches.specs.Watching.{Scene, Happening, Happens, Stands, IsU
 abbrev pub opening_scene : Log → TablesView → Scene
 opening_scene log t = record { log = log; set_at = λ w. finite.empty; tables = t }
 
--- what a step brings: a connection is there, or is gone with its watches; the first piece was sent;
--- nothing, where updates were taken; or things happen
+-- the effect of a step on a scene: a connection is added, or removed with its watches; the first
+-- chunk is sent; nothing, when updates are taken; or happenings
 abbrev pub Brings : Step → Scene → Scene → Type 0
 Brings (Takes (Opened c)) s t = t ≡ record s { tables = record s.tables { streams = finite.insert s.tables.streams c opened } }
 Brings (Takes (Ended c)) s t = t ≡ record s { tables = ended c s.tables }
@@ -28,15 +28,15 @@ Brings (Takes Tick) s t = (happenings : List Happening) × Happens happenings s 
 Brings Sent s t = t ≡ record s { tables = record s.tables { unsent = drop 1 s.tables.unsent } }
 Brings Took s t = t ≡ s
 
--- steps, one after the other
+-- the same for steps in order
 abbrev pub BringsAll : List Step → Scene → Scene → Type 0
 BringsAll [] s t = t ≡ s
 BringsAll (step ∷ steps) s t = (middle : Scene) × Brings step s middle × BringsAll steps middle t
 
--- Whatever the steps of a server were, its tables and its log are those of a scene that they bring by
--- what may happen. The scene begins with any earlier log that left the tree with which the server
--- began. Its log is that and behind it the log of the steps, call by call. Each watch that stands was
--- told all.
+-- Whatever the steps of a front were, its tables and its log are those of a scene that allowed
+-- happenings led to. The scene begins with any earlier log that left the first tree. Its log is
+-- that one, then the log of the steps, call by call. No watch that is still set has missed a
+-- change.
 abbrev pub EveryWatchIsTold : Type 0
 EveryWatchIsTold =
     (t : Tree) (secret : List ℕ) (times : Clock) (is_kept : Bool) (before : Log) (steps : List Step) (v : FrontView)

@@ -1,6 +1,6 @@
--- What happens at the inputs of a server for ZooKeeper's clients, one thing after the other, and
--- what of it may happen while watches wait. The source is the ZooKeeper Programmer's Guide,
--- "ZooKeeper Watches" and "Semantics of Watches".
+-- A model of what a front does at its inputs, one happening after the other, and which happenings
+-- are allowed while watches are set. The source is the ZooKeeper Programmer's Guide, "ZooKeeper
+-- Watches" and "Semantics of Watches".
 use Rattle.std.specs.Prelude.{◌≡◌, ◌⊎◌, ℕ, ℤ, Bool, true, false, not, ◌&&◌, List, [], ◌∷◌, ◌++◌, Some, None, if◌then◌else◌}
 use Rattle.std.specs.FinMap.{get}
 use Rattle.std.specs.FinSet.{contains}
@@ -36,19 +36,20 @@ use Rattle.ztables.specs.Telling.{event_frame, told}
 use Rattle.zserving.specs.Frames.{answer_frame, response_frame}
 use Rattle.zserving.specs.Watching.{waiting}
 
--- the calls that were answered, the tables, and the nodes that were there when each watch was set
+-- the log of answered calls, the tables, and the nodes that existed when each watch was set
 pub record Scene : Type 0 where
   pub log : Log
   pub set_at : Watch → Nodes
   pub tables : TablesView
 
--- the tree that the log leaves
+-- the tree after the log
 abbrev pub tree_of : Scene → Tree
 tree_of s = tree_after opening_tree (calls_of s.log)
 
--- a call is answered; an event is told to the watches that it fires; a watch is set; a watch that is
--- set again is told what it missed; a request is answered; a greeting is answered; a word is answered,
--- and its connection closed; a connection is closed; connections and sessions change otherwise
+-- A call is answered. An event is sent to the watches that it fires. A watch is set. A
+-- re-registered watch gets the event that it missed. A request is answered. A connect request is
+-- answered. A word is answered and its connection closed. A connection is closed. Connections and
+-- sessions change otherwise
 pub data Happening : Type 0 where
   Served : Call → Reply → Happening
   Fired : Event → Happening
@@ -60,12 +61,12 @@ pub data Happening : Type 0 where
   Closed : ℕ → Happening
   Moved : TablesView → Happening
 
--- a watch is set with the nodes that are there now; one that stands was set before
+-- the nodes at the setting of each watch, after one is set; a watch already set is unchanged
 abbrev pub set_now : Watch → Scene → Watch → Nodes
 set_now w s other =
     if eq_by_cmp watch_cmp other w && not (contains s.tables.watches w) then (tree_of s).nodes else s.set_at other
 
--- what happens to a scene
+-- the effect of a happening on a scene
 abbrev pub after : Happening → Scene → Scene
 after (Served call reply) s = record s { log = s.log ++ (call, reply) ∷ [] }
 after (Fired e) s = record s { tables = told e s.tables }
@@ -78,12 +79,12 @@ after (Said c bytes) s = record s { tables = closed c (sent c bytes s.tables) }
 after (Closed c) s = record s { tables = closed c s.tables }
 after (Moved t) s = record s { tables = t }
 
--- the watch stands
+-- the watch is set
 abbrev pub Stands : Scene → Watch → Type 0
 Stands s w = contains s.tables.watches w ≡ true
 
--- what a watch of this kind waits for is the same at the path: the node but for its children, or
--- when its children changed last
+-- what a watch of this kind waits for is the same at the path: the node without its children, or
+-- when its children last changed
 abbrev pub IsSameAt : Kind → Path → Nodes → Nodes → Type 0
 IsSameAt Data path before now = data_at now path ≡ data_at before path
 IsSameAt Missing path before now = data_at now path ≡ data_at before path
@@ -93,57 +94,58 @@ IsSameAt Children path before now = children_at now path ≡ children_at before 
 abbrev pub IsUnchanged : Scene → Watch → Type 0
 IsUnchanged s w = IsSameAt w.kind w.path (s.set_at w) (tree_of s).nodes
 
--- no watch of the connection waits in vain: none has a change that wasn't told
+-- no watch of the connection has missed a change
 abbrev pub HasToldAll : Scene → ℕ → Type 0
 HasToldAll s c = (w : Watch) → Stands s w → w.connection ≡ c → IsUnchanged s w
 
--- the event is one of the update that was answered last
+-- the event is one of the last update
 abbrev pub IsOfTheLast : Scene → Event → Type 0
 IsOfTheLast s e =
     (log : Log) × (update : Act) × (reply : Reply) × (s.log ≡ log ++ (Update update, reply) ∷ []) × Among e (events_of update reply)
 
--- it is a multi: one part may make a node that another part removes
+-- the last update is a multi: one part may create a node that another part deletes
 abbrev pub IsMulti : Scene → Type 0
 IsMulti s = (log : Log) × (parts : List Part) × (reply : Reply) × (s.log ≡ log ++ (Update (Multi parts), reply) ∷ [])
 
--- something has changed for the watch since it was set
+-- something has changed for the watch since it was set; or it waits for a creation and the last
+-- update is a multi, which may have deleted the node again
 abbrev pub HasChanged : Scene → Watch → Type 0
 HasChanged s w = (IsUnchanged s w → ⊥) ⊎ ((w.kind ≡ Missing) × IsMulti s)
 
--- so it is for each watch that the event fires
+-- something has changed for each watch that the event fires
 abbrev pub FiresChanged : Scene → Event → Type 0
 FiresChanged s e = (w : Watch) → Stands s w → fires e.kind e.path w ≡ true → HasChanged s w
 
--- no node is at the event's path
+-- the event is a deletion, and no node is at its path
 abbrev pub IsGone : Scene → Event → Type 0
 IsGone s e = (e.kind ≡ NodeDeleted) × (get (tree_of s).nodes e.path ≡ None)
 
--- the children of the node there changed with the last change of the tree
+-- the children of the node at the path changed in the last change of the tree
 abbrev pub LostChild : Scene → Event → Type 0
 LostChild s e = (e.kind ≡ NodeChildrenChanged) × (children_at (tree_of s).nodes e.path ≡ Some (tree_of s).zxid)
 
--- watches and what is to be sent stay, and no open connection shuts
+-- watches and queued chunks are unchanged, and no open connection is closed
 pub record IsMoved (old new : TablesView) : Type 0 where
   pub watches : new.watches ≡ old.watches
   pub unsent : new.unsent ≡ old.unsent
   pub opens : (c : ℕ) → is_open old c ≡ true → is_open new c ≡ true
 
--- the session of the connection was closed just now: the answer to that shows no node, and the
--- connection is closed behind it
+-- the session of the connection was closed just now; the answer shows no node, and the connection
+-- is closed after it
 abbrev pub IsClose : Scene → ℕ → Type 0
 IsClose s c =
     (log : Log) × (session : ℕ) × (s.log ≡ log ++ (Update (Close session), reply.Closed) ∷ [])
     × (phase_of s.tables.streams c ≡ Some (Speaking session))
 
--- of an event that a watch missed: the node is there, or it is gone
+-- whether the node exists, for an event that a watch missed
 abbrev pub tells_node : EventKind → Bool
 tells_node NodeDeleted = false
 tells_node other = true
 
--- when each may happen: a reply is the tree's; an event has its cause, and fires watches that have a
--- change; a watch is set where its node is, or where it isn't; and a connection is answered only
--- where all its watches were told what changed. A word is answered where nothing was read yet, so no
--- watch of that connection stands
+-- when each happening is allowed. A reply is the tree's. An event has a cause, and fires watches
+-- with a change. A watch is set where its node exists, or where it doesn't. A connection gets an
+-- answer only if no watch of it has missed a change. A word is answered where nothing was read yet,
+-- so that connection has no watch
 abbrev pub May : Happening → Scene → Type 0
 May (Served call reply) s = reply ≡ (serve (tree_of s) 0 call).1
 May (Fired e) s = ((IsOfTheLast s e ⊎ IsGone s e) × FiresChanged s e) ⊎ LostChild s e
@@ -155,7 +157,7 @@ May (Said c bytes) s = phase_of s.tables.streams c ≡ Some Silent
 May (Closed c) s = Unit {0}
 May (Moved t) s = IsMoved s.tables t
 
--- things happen, one after the other
+-- happenings in order, each allowed
 abbrev pub Happens : List Happening → Scene → Scene → Type 0
 Happens [] s t = t ≡ s
 Happens (h ∷ hs) s t = May h s × Happens hs (after h s) t

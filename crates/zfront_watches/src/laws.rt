@@ -2,9 +2,10 @@
 
 ghost use Rattle.zfront_watches.specs.Laws.{EveryWatchIsTold};
 
-/// Whatever the steps of a server were, what it did to its tables is a list of things that may
-/// happen. So an answer goes to a connection only where each watch of it was told what changed. The
-/// log of these things is that of the steps.
+/// Whatever the steps of a front were, its effect on the tables is a list of allowed happenings. So
+/// a connection gets an answer only after events for all changes that its watches waited for. The
+/// one exception is the answer to the close of its session. The log of the happenings is that of
+/// the steps.
 pub fn every_watch_is_told()
     ensures { EveryWatchIsTold }
 {}

@@ -21,8 +21,8 @@ ghost use Rattle.zfront_watches.specs.Watching.{Answered, Fired, Missed, Moved, 
 ghost use Rattle.zfront_watches.specs.Watching.{IsClose, IsGone, IsOfTheLast, IsSameAt, IsUnchanged, LostChild};
 ghost use Rattle.zfront_watches.specs.Watching.{May, Scene, Stands, tree_of};
 
-/// What a watch waits for, by its kind. One of children doesn't look at the data, and one of data
-/// doesn't look at the children.
+/// What a watch waits for, by its kind. A child watch ignores the data, and a data watch ignores
+/// the children.
 pub fn what_is_waited_for()
     ensures data { (before now : Nodes) → data_at now [] ≡ data_at before []
         → IsSameAt Data [] before now }
@@ -32,8 +32,8 @@ pub fn what_is_waited_for()
         → children_at now [] ≡ Some 5 → IsSameAt Children [] before now → ⊥ }
 {}
 
-/// `exists` sets a watch that waits for a node only where none is. Of a watch that is set again,
-/// only what is gone is told as deleted.
+/// `exists` sets a watch for a creation only where no node exists. For a re-registered watch,
+/// NodeDeleted is sent only if the node is gone.
 pub fn where_watches_are_set()
     ensures missing { (s : Scene) → has_node (tree_of s).nodes [] ≡ true
         → May (Set 1 Missing []) s → ⊥ }
@@ -43,9 +43,9 @@ pub fn where_watches_are_set()
         → May (Missed 1 (event NodeDeleted [])) s → ⊥ }
 {}
 
-/// A connection isn't answered while a watch of it has a change that wasn't told, unless that is
-/// the answer to the end of its own session. No event is told without a cause, or to a watch
-/// without a change. No connection shuts unseen, and none that has a session is told a word.
+/// A connection gets no answer while one of its watches has missed a change, except the answer to
+/// the close of its session. No event is sent without a cause, or to a watch without a change. No
+/// connection closes silently, and a connection with a session gets no word's text.
 pub fn what_may_not_happen()
     ensures answered { (s : Scene) (w : Watch) (xid : ℤ) (answer : Answer) → Stands s w
         → w.connection ≡ 1 → (IsUnchanged s w → ⊥) → (IsClose s 1 → ⊥)
@@ -62,8 +62,8 @@ pub fn what_may_not_happen()
         → is_open t 1 ≡ false → May (Moved t) s → ⊥ }
 {}
 
-/// A scene opens with the log and the tables that are there. Where updates are taken, it stays.
-/// Where a connection is there, or a piece was sent, no call was made.
+/// A scene begins with the given log and tables. Taking updates leaves it unchanged. Opening a
+/// connection and sending a chunk make no call.
 pub fn what_opens()
     ensures log { (log : Log) (t : TablesView) → (opening_scene log t).log ≡ log }
     ensures tables { (log : Log) (t : TablesView) → (opening_scene log t).tables ≡ t }

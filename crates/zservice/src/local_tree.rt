@@ -88,7 +88,7 @@ impl LocalTree {
         Ok((reply, update))
     }
 
-    /// Returns the machine that holds its tree.
+    /// Returns the machine that holds its tree; or `Memory`.
     pub fn machine(&self) -> Result<&Machine, Memory>
         ensures tree { IfOk result (λ m. tree_in m.now ≡ self.now.tree) }
         ensures whole { IfOk result (λ m. m.now.is_broken ≡ false) }

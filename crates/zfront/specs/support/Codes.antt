@@ -1,4 +1,4 @@
--- How a server is stored, by the codes of its parts.
+-- Codes of a front, by its parts.
 use Rattle.std.specs.Prelude.{ℕ, Bool, List, refl}
 use Rattle.std.specs.Coded.{Coded, code_by, coded×, coded_ℕ, coded_bool, coded_list}
 use Rattle.ztree.specs.Tree.{Tree}
