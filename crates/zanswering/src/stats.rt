@@ -25,8 +25,8 @@ pub fn made_stat(at: &Now, create: &Create) -> Stat
     }
 }
 
-/// Returns a stat for a client: times in milliseconds since 1970, and numbers in the bits that they
-/// have there.
+/// Returns a stat for a client: times in milliseconds since 1970, and each number in 32 or 64 bits,
+/// as in zookeeper.jute.
 pub fn stat_told(clock: &Clock, stat: &Stat) -> zjute::Stat
     ensures { result ≡ told.stat_told clock.now stat.now }
 {

@@ -2,8 +2,8 @@
 //!
 //! # Why
 //!
-//! The host draws it. A server in memory has a new one at each start. Its session ids begin anew
-//! there, and an old password must not open another client's session.
+//! The host draws it. A server in memory has a new one at each start. Its session ids begin anew,
+//! and an old password must not open another client's session.
 
 ghost use Rattle.std.specs.Prelude.{◌≡◌};
 ghost use Rattle.zpasswords.specs.Passwords.{password_of as derived};

@@ -33,7 +33,7 @@ text_told zxid xid answer =
 abbrev pub answer_frame : ℕ → ℤ → Answer → List ℕ
 answer_frame zxid xid answer = frame (text_told zxid xid answer)
 
--- a client whose identity is refused gets that answer, and its connection is closed
+-- after an answer with this code the connection is closed: the client's identity was refused
 abbrev pub ends_connection : Code → Bool
 ends_connection code.AuthFailed = true
 ends_connection other = false

@@ -31,7 +31,7 @@ sent_on (c ∷ cs) bytes t = sent_on cs bytes (sent c bytes t)
 abbrev pub unwatched : Event → TablesView → TablesView
 unwatched e t = record t { watches = watch.unfired t.watches e.kind e.path }
 
--- numbers in rising order, each once, as the keys of a map are
+-- numbers in rising order, each once
 abbrev pub in_order : FinSet nat_cmp → List ℕ
 in_order set = keys (from_entries {R = nat_cmp} (map (λ x. (x, tt {0})) (items set)))
 

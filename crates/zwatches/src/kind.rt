@@ -2,9 +2,9 @@
 //!
 //! # Why
 //!
-//! ZooKeeper has two tables, and here are three kinds. An exists watch at a path without a node
-//! waits for its creation only. A check for deleted nodes must skip it, or it would get NodeDeleted
-//! for a node that never existed.
+//! ZooKeeper has two tables of watches; this table has three kinds. An exists watch at a path
+//! without a node waits for its creation only. A check for deleted nodes must skip it, or it would
+//! get NodeDeleted for a node that never existed.
 
 /// What a watch waits for.
 #[derive(Clone, Copy, Debug, PartialEq, Eq)]
