@@ -1,4 +1,4 @@
-//! The laws. No body does anything.
+//! The law. Its body does nothing.
 
 ghost use Rattle.zlogs.specs.Lives.{LivesAreOneTrees, LivesAreOneTreesFrom};
 ghost use Rattle.zlogs.specs.Lives.{LivesLeaveOneTree, TreesCanStartAgain};

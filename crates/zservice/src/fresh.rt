@@ -31,7 +31,7 @@ pub(crate) fn fresh(alloc: Global, machine: &Machine) -> Result<Machine, Memory>
     Ok(restoring.finish())
 }
 
-// Begins with the root alone.
+// Begins with only the root.
 fn rooted(alloc: Global, machine: &Machine) -> Result<Restoring, Memory>
     requires whole { machine.now.is_broken ≡ false }
     requires settled { IsSettled (tree_in machine.now) }

@@ -35,7 +35,7 @@ abbrev pub first_wish : List Call → List Reply → List Wish
 first_wish (Query query ∷ calls) (told ∷ replies) = query_wish query told
 first_wish calls replies = []
 
--- if it asks for one
+-- the watch of a request, if it asks for one
 abbrev pub look_wish : Look → List Call → List Reply → List Wish
 look_wish look calls replies = if look.watch then first_wish calls replies else []
 

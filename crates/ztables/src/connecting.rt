@@ -64,7 +64,7 @@ impl Tables {
         self.streams.keep(connection, bytes);
     }
 
-    /// Returns the number of unread bytes of all connections: fewer than a machine can have.
+    /// Returns the number of unread bytes of all connections. No machine has 2^64 of them.
     pub fn kept(&self) -> usize
         ensures { held_of self.now.streams < 2 ^ 64 → result ≡ held_of self.now.streams }
     {

@@ -16,6 +16,6 @@ entries_with phase bytes = (3, record { phase = phase; bytes = bytes }) ∷ (5, 
 abbrev pub streams_with : Phase → List ℕ → StreamRows
 streams_with phase bytes = from_entries (entries_with phase bytes)
 
--- it has session 7, and two bytes came
+-- it has session 7, and two bytes arrived
 abbrev pub streams : StreamRows
 streams = streams_with (Speaking 7) (1 ∷ 2 ∷ [])
