@@ -82,7 +82,7 @@ takes_nodes told = false
 abbrev pub took_unnamed : List Reply → FrontView → Bool
 took_unnamed replies v = list_any takes_nodes replies || some_made_one v.tables.sittings (gone_from v)
 
--- the stats of nodes at positions
+-- the reply to an exists query at each position
 abbrev pub looks : Tree → List Place → List Reply
 looks t places = map (λ (p : Place). query_reply t (Exists p.path)) places
 

@@ -15,7 +15,7 @@ use Rattle.zserving.specs.Answering.{answered, now_of}
 use Rattle.zserving.specs.Replying.{replied}
 use Rattle.zfront.specs.Front.{FrontView, with_tables, asked, replies_to, Tidies}
 
--- the request's session sent a request
+-- the flag of the request's session is set
 abbrev pub touched_by : ℕ → FrontView → FrontView
 touched_by session v =
     with_tables (record v.tables { sittings = with_changed touched v.tables.sittings session }) v

@@ -88,7 +88,7 @@ impl<T: TreeService> Inner<T> {
         look(self.alloc, &mut self.tables, zxid, places, &replies)
     }
 
-    // Returns the stats of nodes at positions.
+    // Returns the reply to an exists query at each position.
     fn seen_at(&self, places: &[Place]) -> Result<Vec<Reply>, Memory>
         ensures { IfOk result
             (λ replies. replies.items ≡ looks self.now.tree places.now) }

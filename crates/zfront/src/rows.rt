@@ -47,7 +47,7 @@ pub fn words_are_answered()
     ensures isro { (v : FrontView) → text_of_word word.Isro v ≡ codes "rw" }
 {}
 
-/// A tick renews sessions, then time advances. Whether it deleted nodes.
+/// A tick renews sessions, then time advances. Its reply says whether it deleted nodes.
 pub fn ticks()
     ensures none { tick_calls [] ≡ Update Tick ∷ [] }
     ensures two { tick_calls (7 ∷ 9 ∷ [])

@@ -30,7 +30,7 @@ abbrev pub Seats : (TablesView → TablesView) → TablesView → Type 0
 Seats change t = IsSeated t → IsSeated (change t)
 
 -- these changes: a connection is closed or ends, bytes are queued, events are sent, sessions are
--- removed, a session is attached, and a new one is opened
+-- removed, a session is attached, and a session without a connection is opened
 pub record SeatsAreKept : Type 0 where
   pub closed : (c : ℕ) (t : TablesView) → Seats (closed c) t
   pub ended : (c : ℕ) (t : TablesView) → Seats (ended c) t

@@ -4,9 +4,9 @@
 //! at a path fires the watches that wait for it there. Their connections are notified, each once,
 //! and the watches are removed. The parent of the node has an event of its own.
 //!
-//! The end of a session deletes nodes, and no event names them. So a front asks for the positions
-//! of nodes, and checks which nodes are gone. A watch for the creation of a node has its own kind,
-//! so it isn't among these.
+//! The end of a session deletes nodes, and its reply doesn't name them. So a front asks for the
+//! positions of nodes, and checks which nodes are gone. A watch for the creation of a node has its
+//! own kind, so it isn't among these.
 //!
 //! The rows of the table are sorted by path, kind and connection. A call finds its rows by binary
 //! search, and moves the rows after them.
