@@ -1,4 +1,4 @@
--- What becomes of a line that is told: this project's own profile.
+-- What a device took of a line that a program reports: this project's profile.
 use Rattle.std.specs.Prelude.{ℕ, ◌⊎◌, List, [], ◌∷◌, ◌++◌}
 use Rattle.zdevices.specs.Device.{SinkRun, Failed, TookBeginning}
 

@@ -1,4 +1,4 @@
--- What a program's words come to: this project's own profile.
+-- The faults of a program's words: this project's profile.
 use Rattle.std.specs.Prelude.{ℕ, List, codes}
 use Rattle.std_io.specs.declared.io.kind.ErrorKind.{ErrorKind}
 use Rattle.std_io.specs.declared.io.kind.ErrorKind.TheVariants.{OutOfMemory}
@@ -15,7 +15,7 @@ abbrev pub words_fault_status : WordsFault → ℕ
 words_fault_status Memory = 1
 words_fault_status BadWords = 2
 
--- Why a program's words could not be had: one that is not text is a bad word.
+-- Why a program's words could not be read: one that is not text is a bad word.
 abbrev pub fault_of_kind : ErrorKind → WordsFault
 fault_of_kind OutOfMemory = Memory
 fault_of_kind _ = BadWords

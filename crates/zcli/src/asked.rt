@@ -12,8 +12,8 @@ use clap::error::ErrorKind;
 use std::alloc::{AllocError, Global};
 
 /// Reads `zk NAME [--OPTION N] ..`, whose first word may be any. Returns the numbers of the
-/// options, in their order. An option may stand in the words at most once. Returns `None` where the
-/// words ask for anything else, also for help.
+/// options, in their order. An option may be given at most once. Returns `None` for all other
+/// words, also for a request for help.
 ///
 /// `Err` means out of memory, and nothing else.
 pub fn numbers_asked<'a>(
@@ -38,7 +38,7 @@ pub fn numbers_asked<'a>(
     }
 }
 
-// Distinguishes out of memory from all other faults of a parse, which lie in the words.
+// Distinguishes out of memory from all other faults of a parse, which are the words' own.
 fn told_apart(kind: ErrorKind) -> Result<(), AllocError>
     ensures memory { IsErr result → kind ≡ ErrorKind.OutOfMemory }
     ensures words { IsOk result → kind ≢ ErrorKind.OutOfMemory }

@@ -1,4 +1,4 @@
-//! Why a program's words ask for nothing.
+//! Why a program's words are no command.
 
 ghost use Rattle.std.specs.Prelude.{◌≡◌};
 
@@ -12,14 +12,14 @@ use thiserror::Error;
 pub enum WordsFault {
     /// Memory ran out.
     Memory,
-    /// They are no command of this program.
+    /// They are no command of this program, or one of them isn't text.
     BadWords,
 }
 
 impl WordsFault {
     ghost use Rattle.zcli.specs.Words.{words_fault_text, words_fault_status};
 
-    /// Returns what a program says of it.
+    /// Returns the text that a program prints.
     pub fn text(self) -> &'static str
         ensures { result.now ≡ words_fault_text self }
     {
@@ -40,8 +40,8 @@ impl WordsFault {
     }
 }
 
-// By hand: the `Display` that `thiserror` derives has no `output`, so that no clause could cite
-// what it writes.
+// By hand: the `Display` that `thiserror` derives has no `output`, so no clause could say what it
+// writes.
 impl fmt::Display for WordsFault {
     ghost use Rattle.std.specs.Prelude.{Some};
     ghost use Rattle.zcli.specs.Words.{words_fault_text};
@@ -63,7 +63,7 @@ impl From<AllocError> for WordsFault {
     }
 }
 
-// Converts the reason why the words could not be had: out of memory, or one of them is not text.
+// Converts the reason why the words could not be read: out of memory, or one of them is not text.
 impl From<io::Error> for WordsFault {
     ghost use Rattle.std_io.specs.IoError.{error_kind};
     ghost use Rattle.zcli.specs.Words.{fault_of_kind};

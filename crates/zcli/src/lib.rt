@@ -1,8 +1,13 @@
-//! What programs of a command line share: the numbers that words give, and how a fault is told.
+//! What command line programs share: the numbers of their options, and the report of a fault.
 //!
-//! `numbers_asked` reads `zk NAME [--OPTION N] ..` with `clap`. What it returns is an exact
-//! function of the words, `asked_of` (specs/Asked.antt), by what `clap` specifies of its parse. An
-//! `Err` is out of memory. `refuse` reports why words ask for nothing, and returns the exit status.
+//! `numbers_asked` reads `zk NAME [--OPTION N] ..` with `clap`. Its result is an exact function of
+//! the words, `asked_of` (specs/Asked.antt), by what `clap` specifies of its parse. An `Err` is out
+//! of memory. `refuse` reports why words are no command, and returns the exit status.
+//!
+//! # Why
+//!
+//! No subcommand, an option given twice and a request for help are all bad words: status 2. How a
+//! number is spelled (`+1`, `01`) is left to `clap`'s reader of integers.
 #![tactic(auto)]
 
 mod asked;

@@ -1,4 +1,4 @@
-//! The command line of a subcommand with options, as it is described to `clap`.
+//! The command line of a subcommand with options, as `clap` takes it.
 
 ghost use Rattle.std.specs.Prelude.{◌≡◌, IfOk, false};
 ghost use Rattle.clap.specs.Words.{app_of, rule_of};

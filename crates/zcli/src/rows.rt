@@ -1,4 +1,4 @@
-//! Worked rows of the definitions: each clause is one, and the bodies do nothing.
+//! Worked examples of the definitions. Each clause is one; the bodies do nothing.
 
 ghost use Rattle.std.specs.Prelude.{◌≡◌, [], ◌∷◌, codes, Some, None};
 ghost use Rattle.zcli.specs.support.Rows.{race_asked};

@@ -1,4 +1,4 @@
-//! How a program tells a fault.
+//! How a program reports a fault.
 
 ghost use Rattle.std.specs.Prelude.{◌≡◌};
 ghost use Rattle.zdevices.specs.Device.{sink_run};
@@ -8,7 +8,7 @@ ghost use Rattle.zcli.specs.Words.{words_fault_status, words_fault_text};
 use crate::fault::WordsFault;
 use zdevices::{Sink, write_all};
 
-/// Reports why there are no words to do, and returns the exit status.
+/// Reports why the words are no command, and returns the exit status.
 pub fn refuse<F: Sink>(fault: WordsFault, faults: &mut F) -> u8
     ensures status { result ≡ words_fault_status fault }
     ensures told { IsTold
@@ -18,7 +18,7 @@ pub fn refuse<F: Sink>(fault: WordsFault, faults: &mut F) -> u8
     fault.status()
 }
 
-/// Writes a line. Only a fault of the device ends it early.
+/// Writes a line. Only a fault of the device cuts it.
 pub fn tell<F: Sink>(faults: &mut F, text: &str)
     ensures { IsTold (sink_run F.took F.failed faults.old faults.new) text.now }
 {

@@ -61,8 +61,8 @@ Plays script new line Pending = ⊥
 Plays script new line Memory = new ≡ OutOfMemory
 Plays script new line NoServers = ⊥
 
--- A service is handed a line. It is executed if no answer is pending, and else nothing is done.
--- Running out of memory is for good.
+-- A service receives a line. It is executed if no answer is pending, else nothing is done.
+-- Running out of memory is permanent.
 abbrev pub Hears : Service → Service → List ℕ → Status → Type 0
 Hears (Open script answer) new line status =
     (string_bytes answer ≡ [] → Plays script new line status)
@@ -82,7 +82,7 @@ HasTold (Open script answer) Refused = ⊥
 HasTold OutOfMemory new = new ≡ OutOfMemory
 HasTold Refused new = new ≡ Refused
 
--- The pending answer is copied whole if the buffer has room for it, and the bytes behind it stay.
+-- The pending answer is copied whole if the buffer has room for it, and the bytes after it stay.
 -- Otherwise nothing is done. The count is the answer's length either way.
 abbrev pub Tells : Service → Service → List ℕ → List ℕ → ℕ → Type 0
 Tells old new before after count =

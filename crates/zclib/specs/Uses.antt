@@ -30,7 +30,7 @@ played_by (Hear line Memory) = []
 played_by (Hear line NoServers) = []
 played_by (Tell before after count) = []
 
--- the answer that a call delivered: the front of its buffer, if there was room
+-- the answer that a call delivered: the beginning of its buffer, if there was room
 abbrev pub told_by : Call → List ℕ
 told_by (Hear line status) = []
 told_by (Tell before after count) = if nat_lt (length before) count then [] else take count after

@@ -1,5 +1,10 @@
-//! The C exports. C holds a service by a pointer to bytes. The type itself reaches numbers of 128
-//! bits, which no export may lead to.
+//! The C exports.
+//!
+//! # Why
+//!
+//! C holds a service by a pointer to bytes, and each export casts it. The type itself contains
+//! numbers of 128 bits, which an export's type may not reach, not even through a pointer. The
+//! status of an opening is a second loan: a pair would be more to prove by hand.
 
 ghost use Rattle.std.specs.Prelude.{◌≡◌, ℕ, ◌^◌, ◌<◌, List, length};
 ghost use Rattle.std.specs.Mem.{type_size};
@@ -59,7 +64,7 @@ pub unsafe extern "C" fn jellqupas_hear(at: *mut u8, from: *const u8, len: usize
 }
 
 /// Returns the length of the pending answer in bytes. If the buffer has room for it, it is copied
-/// there, and is pending no more. Otherwise nothing is done.
+/// there, and is no longer pending. Otherwise nothing is done.
 #[unsafe(no_mangle)]
 pub unsafe extern "C" fn jellqupas_tell(at: *mut u8, to: *mut u8, len: usize) -> usize
     ghost g: { Service × List ℕ }
@@ -76,7 +81,7 @@ pub unsafe extern "C" fn jellqupas_tell(at: *mut u8, to: *mut u8, len: usize) ->
     )
 }
 
-/// Closes a service. The memory in which it lay is C's to free.
+/// Closes a service. Its memory is C's to free.
 #[unsafe(no_mangle)]
 pub unsafe extern "C" fn jellqupas_close(at: *mut u8)
     ghost g: { Service }

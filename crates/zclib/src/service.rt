@@ -1,4 +1,10 @@
 //! A service, and the safe half of each export.
+//!
+//! # Why
+//!
+//! Only an open service has an answer, so none can be pending where there are no servers. Running
+//! out of memory drops the world at once: every later call would fail too. A line is not executed
+//! while an answer is pending, so a program that forgets to read one loses none.
 
 ghost use Rattle.std.specs.Prelude.{◌≡◌};
 ghost use Rattle.zclib.specs.Service.{IsOpened, IsStatusOf, Hears, HearsAs, Tells};

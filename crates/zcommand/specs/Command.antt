@@ -1,4 +1,4 @@
--- What a run of the program comes to, by its words and by what its devices did.
+-- How a run of the program ends, by its words and by what its devices did.
 use Rattle.std.specs.Prelude.{ℕ, ◌≡◌, ◌⊎◌, List, Ok}
 use Rattle.zdevices.specs.Device.{SourceRun, SinkRun}
 use Rattle.zcli.specs.Telling.{IsTold}

@@ -1,7 +1,7 @@
-//! A program's words, and what they do: `command` is main without its devices.
+//! The program `zk script` without its devices.
 //!
-//! `settings` reads the words with `clap`. `command` does what they ask for, reports a fault in one
-//! line, and returns the exit status.
+//! `settings` reads the words with `clap`. `command` plays a script as they say, reports a fault in
+//! one line, and returns the exit status.
 #![tactic(auto)]
 
 mod program;

@@ -1,4 +1,4 @@
-//! Worked rows of the definitions: each clause is one, and the bodies do nothing.
+//! Worked examples of the definitions. Each clause is one; the bodies do nothing.
 
 ghost use Rattle.std.specs.Prelude.{◌≡◌, codes, Err, Ok};
 ghost use Rattle.zcommand.specs.support.Rows.{text_asked};

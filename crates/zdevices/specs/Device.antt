@@ -33,7 +33,7 @@ sink_run took failed before after = record {
   failed = Between failed before after;
 }
 
--- Front is a prefix of whole.
+-- One text is a prefix of another.
 abbrev pub IsBeginning : List ℕ → List ℕ → Type 0
 IsBeginning front whole = (more : List ℕ) × (whole ≡ front ++ more)
 

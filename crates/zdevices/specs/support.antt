@@ -1,3 +1,3 @@
--- What serves the proofs alone: nobody has to believe it.
+-- Definitions for the proofs alone. A reader of the contracts needs none of them.
 pub mod DeviceLaws
 pub mod Seen

@@ -1,8 +1,8 @@
 //! Devices over the readers and writers of std, such as a program's own input and output.
 //!
-//! What bytes such a reader has left, or such a writer holds, is std's `remaining` and `contents`
+//! The bytes that a reader has left, or that a writer holds, are std's `remaining` and `contents`
 //! where these are known, as for a slice or a vector. For a terminal, a file or a pipe they aren't
-//! known, and the relations then hold for all bytes.
+//! known, and the relations then hold for all bytes. An interrupted read is a failure.
 
 ghost use Rattle.std.specs.Prelude.{◌≡◌, ◌<◌, IsTrue, false, ◌^◌, ◌-◌};
 ghost use Rattle.std.specs.Io.KnownBytes.{Consumes, Appends, IsAtEnd};
@@ -13,7 +13,7 @@ use crate::device::{DeviceFault, Sink, Source};
 use std::io::{Read, Write};
 use std::marker::Model;
 
-/// A source over any reader. After `u64::MAX` reads it fails, so that no reader can keep a player
+/// A source over any reader. After `u64::MAX` reads it fails, so that no reader can hold a player
 /// forever.
 #[derive(Drop)]
 pub struct ReaderSource<R> {

@@ -1,4 +1,4 @@
-//! Bytes that are written whole.
+//! Writes all bytes, in as many writes as the sink needs.
 
 ghost use Rattle.std.specs.Prelude.{OnOk, OnErr};
 ghost use Rattle.zdevices.specs.Device.{Between, TookBeginning, Failed};

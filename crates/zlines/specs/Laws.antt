@@ -1,4 +1,4 @@
--- Laws of the definitions: a number and its decimal text stand for each other.
+-- Laws of the definitions: a number and its decimal text represent each other.
 use Rattle.std.specs.Prelude.{◌≡◌, ℕ, ◌<◌, Some}
 use Rattle.std.specs.Fmt.{decimal}
 use Rattle.zlines.specs.declared.limits.TheConstants.{NUMBER_BOUND}

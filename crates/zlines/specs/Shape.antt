@@ -1,5 +1,5 @@
 -- The shape of a part, and of a multi: it is tested before any path or data is. Words are taken
--- from the left, as many as the verb needs, so `;` may stand in the place of a path or data.
+-- from the left, as many as the verb needs, so `;` may be taken as a path or data.
 use Rattle.std.specs.Prelude.{ℕ, zero, suc, nat_eq, nat_lt, nat_le, ◌&&◌, List, [], ◌∷◌, drop, codes, Option, None, Some, if◌then◌else◌}
 use Rattle.std.specs.Option.{option_map, option_and_then}
 use Rattle.std.specs.List.{starts_with}
@@ -97,7 +97,7 @@ lone_shape None = None
 lone_shape (Some (shape, [])) = Some shape
 lone_shape (Some (shape, word ∷ words)) = None
 
--- a part, then the parts of the remaining words if `;` stands between
+-- a part, then the parts of the remaining words if `;` is between
 abbrev pub and_parts : Shape PartWords → (List Word → Option (List PartWords)) → Option (List PartWords)
 and_parts None next = None
 and_parts (Some (part, [])) next = Some (part ∷ [])

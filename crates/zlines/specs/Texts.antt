@@ -1,4 +1,4 @@
--- Writing text, piece by piece.
+-- Writing text, part by part.
 use Rattle.std.specs.Prelude.{◌≡◌, ℕ, List, ◌++◌, String, string_bytes}
 use Rattle.std.specs.Fmt.{decimal}
 

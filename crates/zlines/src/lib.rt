@@ -3,6 +3,12 @@
 //!
 //! `read_line` parses a line, and `write_reply` writes a reply. The definitions are `line_of`
 //! (`specs/Line.antt`) and `reply_text` (`specs/Reply.antt`).
+//!
+//! # Why
+//!
+//! `;` and other marks are words like any others: one where a path or data is expected is read as
+//! such. Data is what the `base64` crate's standard engine encodes and decodes. A test shows that
+//! its alphabet is RFC 4648's.
 #![tactic(auto)]
 
 mod cursor;

@@ -1,5 +1,10 @@
 //! Tests the bytes and the spaces of a line, many bytes at a time. Two overlapping loads cover a
 //! short line.
+//!
+//! # Why
+//!
+//! One test of 4, 8 or 16 pairs of neighbours at once costs far less than a test of each byte.
+//! Words are found by a scan of their own: they are too short for a search that has to be set up.
 
 ghost use Rattle.std.specs.Prelude.{◌≡◌, ◌+◌, ◌-◌, ◌<◌, ◌≤◌, length, true};
 ghost use Rattle.zlines.specs.support.Spaced.{is_spaced, IsOddAmong};

@@ -1,5 +1,5 @@
 //! The text of a stat. The numbers are written into one buffer from the last to the first, since
-//! then the place of each is known.
+//! the position of each is then known.
 
 ghost use Rattle.std.specs.Prelude.{◌≡◌, ◌+◌, ◌*◌, ◌≤◌, ◌++◌, ◌∷◌, length, drop, OnOk, IsAscii};
 ghost use Rattle.std.specs.Fmt.{decimal};

@@ -1,4 +1,4 @@
--- What holds of the text over the world: its lines tell the history of one run.
+-- What holds of the text over the world: its lines have the history of one run.
 use Rattle.std.specs.Prelude.{◌≡◌, ◌⊎◌, ℕ, List, Some, codes}
 use Rattle.ztree.specs.declared.limits.TheConstants.{MAX_CLIENTS}
 use Rattle.zcalls.specs.Lists.{Among}

@@ -1,6 +1,6 @@
--- What a line does in a world of servers, master and clients, and what it is answered with. The
--- lines and their texts are this project's own profile. A line's answer is read off what its events
--- added to the history.
+-- What a line does in a world of servers, master and clients, and its answer. The lines and their
+-- texts are this project's profile. A line's answer depends only on what its events added to the
+-- history.
 use Rattle.std.specs.Prelude.{ℕ, ◌+◌, Bool, false, ◌&&◌, ◌==◌, nat_lt, List, [], ◌∷◌, ◌++◌, codes, Option, None, Some, Ok, Err, if◌then◌else◌}
 use Rattle.std.specs.Option.{option_map_or}
 use Rattle.std.specs.List.{flat_map}

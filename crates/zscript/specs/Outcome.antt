@@ -1,5 +1,5 @@
--- What a run of the player comes to, by what its devices did from its start to its end. Each names
--- the outcomes of the run's events, in turn, under which the text was the one that was written.
+-- How a run of the player ends, by what its devices did from its start to its end. Each names the
+-- outcomes of the run's events, in order, under which the text was the one that was written.
 use Rattle.std.specs.Prelude.{◌≡◌, ℕ, ◌<◌, ◌⊎◌, List, [], ◌++◌, length, codes}
 use Rattle.zdevices.specs.Device.{SourceRun, SinkRun, Failed, TookBeginning}
 use Rattle.zworld_model.specs.declared.outcome.Outcome.{Outcome}

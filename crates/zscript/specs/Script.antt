@@ -1,6 +1,5 @@
--- What a script's bytes are answered with: line by line, each on the state that the lines before it
--- left. The outcomes of the events, where processes can run out of memory, are given beside the
--- bytes.
+-- The answer to a script's bytes: line by line, each on the state that the lines before it left.
+-- The outcomes of the events, where processes can run out of memory, are given beside the bytes.
 use Rattle.std.specs.Prelude.{ℕ, List, [], ◌∷◌, ◌==◌, if◌then◌else◌}
 use Rattle.std.specs.List.{onto_first}
 use Rattle.ztree.specs.declared.limits.TheConstants.{MAX_CLIENTS}
@@ -14,7 +13,7 @@ abbrev pub lines_of : List ℕ → List (List ℕ)
 lines_of [] = []
 lines_of (b ∷ bs) = if b == 10 then [] ∷ lines_of bs else onto_first b (lines_of bs)
 
--- A byte in front of the first of some lines, if there is one.
+-- A byte before the first of some lines, if there is one.
 abbrev pub onto_line : ℕ → List (List ℕ) → List (List ℕ)
 onto_line b [] = []
 onto_line b (line ∷ lines) = (b ∷ line) ∷ lines

@@ -1,4 +1,4 @@
--- What serves the proofs alone: nobody has to believe it.
+-- Definitions for the proofs alone. A reader of the contracts needs none of them.
 pub mod Lines
 pub mod PlayerView
 pub mod Played

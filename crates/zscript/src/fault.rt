@@ -7,7 +7,7 @@ use std::alloc::{AllocError, AllocFailed};
 use std::fmt;
 use thiserror::Error;
 
-/// What ended the playing of a script before its end.
+/// What stopped a script before its end.
 #[derive(Clone, Copy, Debug, PartialEq, Eq, Error)]
 pub enum PlayFault {
     /// The source failed.
@@ -21,7 +21,7 @@ pub enum PlayFault {
 impl PlayFault {
     ghost use Rattle.zscript.specs.Outcome.{play_fault_text};
 
-    /// Returns what a program says of it.
+    /// Returns the text that a program prints.
     pub fn text(self) -> &'static str
         ensures { result.now ≡ play_fault_text self }
     {
@@ -33,8 +33,8 @@ impl PlayFault {
     }
 }
 
-// By hand: the `Display` that `thiserror` derives has no `output`, so that no clause could cite
-// what it writes.
+// By hand: the `Display` that `thiserror` derives has no `output`, so no clause could say what it
+// writes.
 impl fmt::Display for PlayFault {
     ghost use Rattle.zscript.specs.Outcome.{play_fault_text};
 

@@ -1,12 +1,11 @@
-//! What holds of the definitions themselves. Each function's contract is a law, and its body does
-//! nothing.
+//! Laws of the definitions. Each function's contract is a law; its body does nothing.
 
 ghost use Rattle.zscript.specs.Histories.{LinesTellOneRun, CallsAreAnsweredByTheirReplies};
 ghost use Rattle.zscript.specs.Laws.{UnendedLinesHaveNoAnswer};
 ghost use Rattle.zscript.specs.Promise.{EveryScriptIsExplained};
 
 /// For every number of servers, all bytes of a script and whatever becomes of its events: the
-/// history that its lines tell, one after the other, is linearizable.
+/// history of its lines, one after the other, is linearizable.
 ///
 /// The text of a line is read off the same history (`effect_text` of specs/Line.antt). A call is
 /// answered with a reply to it from that history (`calls_are_answered_by_their_replies`).
@@ -14,9 +13,9 @@ pub fn every_script_is_explained()
     ensures { EveryScriptIsExplained }
 {}
 
-/// Whatever a script's lines are and whatever becomes of their events, what they tell, line by
-/// line, is the history of one run of the world from its initial state. So all that holds of every
-/// run holds of a script.
+/// Whatever a script's lines are and whatever becomes of their events, their histories, one after
+/// the other, are the history of one run of the world from its initial state. So all that holds of
+/// every run holds of a script.
 pub fn lines_tell_one_run()
     ensures { LinesTellOneRun }
 {}

@@ -11,7 +11,13 @@
 //! ```
 //!
 //! `answer_line` plays one line on a `World` of the caller's, which `script_world` makes. What a
-//! line does and what it is answered with is in specs/Line.antt.
+//! line does and its answer are defined in specs/Line.antt.
+//!
+//! # Why
+//!
+//! An answer is a function of the history that its line added, so the text says no more than
+//! clients observe. Each event of a line, a call's invocation among them, takes the next outcome.
+//! So the text also covers servers that run out of memory.
 #![tactic(auto)]
 
 mod fault;

@@ -6,7 +6,7 @@ use zlines::limits::MAX_LINE;
 /// The bytes that are read at once. Replies are written once they fill as many.
 pub const BLOCK: usize = 65_536;
 
-/// The bytes that are kept of a line: one more than a line may have, so that a longer one shows.
+/// The most bytes stored of a line: one more than a line may have, so that a longer one shows.
 pub const KEPT: usize = MAX_LINE + 1;
 
 /// The most events that are done while the world settles at one line.

@@ -38,8 +38,8 @@ pub fn answer_line(world: &mut World, line: &[u8], out: &mut String) -> Result<(
     answer(world, line, false, out)
 }
 
-/// Does the same, but is out of memory as soon as a server is. So the same line on the same world
-/// does the same again.
+/// Does the same, but returns out of memory as soon as a server runs out of memory. So the same
+/// line on the same world does the same again.
 pub fn answer_line_strictly(world: &mut World, line: &[u8], out: &mut String) -> Result<(), Memory>
     ensures done { OnOk result (AnswersLineActing line.now world.old world.new out.old out.new) }
 {
@@ -103,7 +103,7 @@ fn begin(world: &mut World, request: Request, strict: bool, out: &mut String) ->
     write_begun(did, out)
 }
 
-// Does another event. Where it is strict, it is out of memory if a server is.
+// Does another event. Where it is strict, it fails if a server runs out of memory.
 fn do_event(world: &mut World, event: Event, strict: bool, out: &mut String) -> Result<(), Memory>
     ensures { OnOk result
         (IsEventDone strict world.old world.new event (Writes out.old out.new)) }

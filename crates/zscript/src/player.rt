@@ -1,5 +1,10 @@
-//! What plays a script: it is fed with bytes, block by block, and answers each line as soon as its
-//! LF is there.
+//! The player of a script: it takes bytes block by block, and answers each line as soon as its LF
+//! is read.
+//!
+//! # Why
+//!
+//! The history is cleared between two lines, as a program does. A line is stored cut at one byte
+//! more than its limit, so that an endless line takes no more memory.
 
 ghost use Rattle.std.specs.Prelude.{◌≡◌, ◌<◌, ◌≤◌, [], ◌++◌, length, IfOk, IfErr, OnOk, OnErr};
 ghost use Rattle.zdevices.specs.Device.{Between, TookBeginning, Failed};
@@ -56,7 +61,7 @@ impl Player {
     }
 
     /// Plays the lines that end in these bytes, and writes their replies. What follows the last LF
-    /// is kept.
+    /// is stored.
     pub(crate) fn hear<K: Sink>(&mut self, sink: &mut K, bytes: &[u8]) -> Result<(), PlayFault>
         requires { self.old.held ≡ [] }
         ensures done { OnOk result
@@ -111,7 +116,7 @@ impl Player {
     }
 
     // Ends the line with these bytes, plays it, and writes the held replies once they fill a block.
-    // Where nothing of the line is kept, it is not copied.
+    // Where nothing of the line is stored, it is not copied.
     fn end_line<K: Sink>(&mut self, sink: &mut K, end: &[u8]) -> Result<(), PlayFault>
         ensures done { OnOk result (TellsLine self.old end.now self.new K.took sink.old sink.new) }
         ensures line { OnOk result (self.new.line ≡ []) }
@@ -132,7 +137,7 @@ impl Player {
         Ok(())
     }
 
-    // Appends these bytes to the line that has begun, as far as they are kept.
+    // Appends these bytes to the line that has begun, up to the limit.
     fn keep(&mut self, part: &[u8]) -> Result<(), Memory>
         ensures line { OnOk result (self.new.line ≡ kept_front (self.old.line ++ part.now)) }
         ensures world { OnOk result (world_now self.new ≡ world_now self.old) }

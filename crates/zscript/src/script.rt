@@ -1,4 +1,10 @@
 //! Plays a script from a source to a sink.
+//!
+//! # Why
+//!
+//! A line counts as played only where its LF was read, or the source reported its end: after a
+//! fault an unfinished last line has no answer. That a line is played as soon as its LF is read is
+//! tested, not stated: the contract speaks of the devices before and after the run.
 
 ghost use Rattle.std.specs.Prelude.{◌≡◌, ◌<◌, length, OnOk, OnErr, IfErr};
 ghost use Rattle.zscript.specs.Devices.{source_did, sink_did};

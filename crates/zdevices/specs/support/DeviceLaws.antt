@@ -22,11 +22,11 @@ raises_both a b c m n first second = record {
     some_raised some zero e = second.raised (omega arith)
     some_raised some (suc k) e = second.kept (first.raised (omega arith))
 
--- what is left after two pieces is what is left after both together
+-- what is left after two chunks is what is left after both together
 pub left_after_both : (s t u a b : List ℕ) → s ≡ a ++ t → t ≡ b ++ u → s ≡ (a ++ b) ++ u
 left_after_both s t u a b first second = first ∙ ap (λ x. a ++ x) second ∙ sym (append_assoc a b u)
 
--- what is held after two pieces is what was held, and both pieces
+-- what is held after two chunks is what was held, and both chunks
 pub held_after_both : (s t u a b : List ℕ) → t ≡ s ++ a → u ≡ t ++ b → u ≡ s ++ (a ++ b)
 held_after_both s t u a b first second = second ∙ ap (λ x. x ++ b) first ∙ append_assoc s a b
 

@@ -1,4 +1,4 @@
--- What the worked rows of lines and texts speak of.
+-- Values for the worked examples of lines and texts.
 use Rattle.std.specs.Prelude.{ℕ, [], ◌∷◌, Result, Ok}
 use Rattle.zcalls.specs.declared.call.Call.{Call}
 use Rattle.zcalls.specs.declared.call.Call.TheVariants.{Update, Query}
@@ -16,7 +16,7 @@ use Rattle.zlines.specs.declared.line.Line.{Line}
 use Rattle.zlines.specs.declared.line.Line.TheVariants as line
 use Rattle.zlines.specs.declared.request.LineFault.{LineFault}
 
--- a line that asks for a client's call, and one that lets it begin alone
+-- a line that is a client's call, and one that only invokes it
 abbrev pub asks : ℕ → Call → Result Line LineFault
 asks client call = Ok (line.Call (record { client = client; call = call }))
 
@@ -30,7 +30,7 @@ get_a = Query (GetData ((97 ∷ []) ∷ []))
 abbrev pub create_root : Call
 create_root = Update (Create (record { path = []; kind = named Persistent; bytes = [] }))
 
--- what is told of a node with two bytes that the first change made
+-- the stat of a node with two bytes that the first change made
 abbrev pub first_stat : Stat
 first_stat =
     record { czxid = 1; mzxid = 1; pzxid = 1; ctime = 0; mtime = 0; version = 0; cversion = 0; owner = 0; length = 2; children = 0 }

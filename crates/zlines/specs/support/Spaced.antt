@@ -3,20 +3,21 @@ use Rattle.std.specs.Prelude.{◌≡◌, ℕ, ◌+◌, ◌<◌, ◌≤◌, Bool,
 use Rattle.std.specs.Bool.{MatchBool}
 use Rattle.zlines.specs.LineWords.{is_plain}
 
--- the bytes that follow a space or the line's beginning, or don't, are plain, with no space behind another or at an end
+-- bytes after a space or the line's beginning, or after another byte: all are plain, and no space
+-- follows another or is at an end of the line
 abbrev pub is_spaced : Bool → List ℕ → Bool
 is_spaced after_space [] = not after_space
 is_spaced after_space (byte ∷ line) = is_plain byte && not ((byte == 0x20) && after_space) && is_spaced (byte == 0x20) line
 
--- a byte may not stand behind another: it is not plain, or a space behind a space
+-- a byte may not follow another: it is not plain, or a space after a space
 abbrev pub is_odd : ℕ → ℕ → Bool
 is_odd before byte = not (is_plain byte && not ((byte == 0x20) && (before == 0x20)))
 
--- the byte behind this place is odd there
+-- the byte after this position is odd there
 abbrev pub is_odd_behind : List ℕ → ℕ → Bool
 is_odd_behind line place = is_odd (slice_index line place) (slice_index line (place + 1))
 
--- whether a byte is odd behind one of the places from one up to another
+-- whether a byte is odd after one of the positions from one up to another
 abbrev pub IsOddAmong : List ℕ → ℕ → ℕ → Bool → Type 0
 IsOddAmong line from to found =
     MatchBool found ((place : ℕ) × (from ≤ place) × (place < to) × (is_odd_behind line place ≡ true))

@@ -1,4 +1,4 @@
--- What a world brings about of a line's effect, and the text that is written for it.
+-- The part of a line's effect that happens on a world, and the text that is written for it.
 use Rattle.std.specs.Prelude.{◌≡◌, ℕ, Bool, true, false, List, [], ◌∷◌, ◌++◌, codes, Option, None, Some, String}
 use Rattle.std.specs.List.{flat_map}
 use Rattle.zworld_model.specs.declared.event.Event.{Event}
@@ -52,7 +52,7 @@ called_text history =
     let own = own_call history in
     flat_map (taken_text own) history ++ own_reply_text own history
 
--- the effect led to a world, and used up none of the outcomes that follow
+-- the effect led to a world, and used up no outcome of those that follow
 pub record LeadsTo (effect : LineEffect) (new : ServiceWorld) (own : Option (ℕ × ℕ)) (result : List ℕ) (later : List Outcome) : Type 0 where
   pub led : effect.did.world ≡ new
   pub left : effect.did.outcomes ≡ later

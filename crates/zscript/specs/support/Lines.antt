@@ -1,4 +1,4 @@
--- Lines as a player meets them: a line that has begun goes on from block to block.
+-- Lines as a player reads them: a line that has begun continues from block to block.
 use Rattle.std.specs.Prelude.{◌≡◌, ℕ, false, List, [], ◌∷◌, ◌++◌, ◌==◌, if◌then◌else◌}
 use Rattle.zworld_model.specs.declared.outcome.Outcome.{Outcome}
 use Rattle.zscript.specs.Line.{ServiceWorld, ScriptState, script_state, after, answers}
@@ -9,7 +9,7 @@ whole_lines_after line [] = []
 whole_lines_after line (b ∷ bs) =
     if b == 10 then line ∷ whole_lines_after [] bs else whole_lines_after (line ++ b ∷ []) bs
 
--- The line that has begun, and not ended, behind those bytes.
+-- The line that has begun, and not ended, after those bytes.
 abbrev pub line_left : List ℕ → List ℕ → List ℕ
 line_left line [] = line
 line_left line (b ∷ bs) = if b == 10 then line_left [] bs else line_left (line ++ b ∷ []) bs

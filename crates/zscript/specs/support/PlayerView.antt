@@ -1,4 +1,4 @@
--- What a player keeps between two blocks of a script.
+-- What a player holds between two blocks of a script.
 use Rattle.std.specs.Prelude.{◌≡◌, ℕ, List, [], ◌++◌, take}
 use Rattle.std.specs.Coded.{Coded, code_by, coded×, coded_ℕ, coded_list}
 use Rattle.std.proofs.Common.{refl}
@@ -8,7 +8,7 @@ use Rattle.zscript.specs.Line.{ServiceWorld}
 use Rattle.zscript.specs.Done.{world_between}
 use Rattle.zscript.specs.declared.limits.TheConstants.{KEPT}
 
--- What its world holds, what is kept of the line that has begun, and the replies that are not
+-- What its world holds, what is stored of the line that has begun, and the replies that are not
 -- written yet.
 pub record PlayerView : Type 0 where
   pub world : Held
@@ -25,19 +25,19 @@ coded_player_view = code_by (Held × (List ℕ × List ℕ)) (coded× coded_held
     (λ p. (p.world, (p.line, p.held)))
     (λ q. record { world = q.0; line = q.1.0; held = q.1.1 }) (λ _. refl)
 
--- The world that it stands for, between two lines.
+-- The world that it represents, between two lines.
 abbrev pub world_now : PlayerView → ServiceWorld
 world_now p = world_between p.world
 
--- A player that has read nothing yet, or keeps nothing of what it has read.
+-- A player that has read nothing yet, or holds nothing of what it has read.
 abbrev pub IsFresh : PlayerView → Type 0
 IsFresh p = (p.line ≡ []) × (p.held ≡ [])
 
--- What is kept of a line: no more than shows that it is too long.
+-- What is stored of a line: no more than shows that it is too long.
 unfoldable pub kept_front : List ℕ → List ℕ
 kept_front line = take KEPT line
 
--- The front of a text was written, and the rest is held.
+-- The beginning of a text was written, and the rest is held.
 pub record Tells (took : List ℕ → Type 0) (text held : List ℕ) : Type 0 where
   pub front : List ℕ
   pub taken : took front

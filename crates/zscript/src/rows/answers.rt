@@ -1,4 +1,4 @@
-//! Worked rows of a line's answer.
+//! Worked examples of a line's answer.
 
 ghost use Rattle.std.specs.Prelude.{◌≡◌, [], ◌∷◌, codes, Some, None};
 ghost use Rattle.zpath.specs.declared.fault.PathFault.TheVariants.{Empty};

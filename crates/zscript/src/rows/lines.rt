@@ -1,9 +1,9 @@
-//! Worked rows of a script's lines.
+//! Worked examples of a script's lines.
 
 ghost use Rattle.std.specs.Prelude.{◌≡◌, [], ◌∷◌, codes};
 ghost use Rattle.zscript.specs.Script.{lines_of, whole_lines_of};
 
-/// Worked rows of a script's lines.
+/// Worked examples of a script's lines.
 pub fn lines()
     ensures two_lines { lines_of (97 ∷ 10 ∷ 98 ∷ []) ≡ codes "a" ∷ codes "b" ∷ [] }
     ensures last_end { lines_of (97 ∷ 10 ∷ []) ≡ codes "a" ∷ [] }
