@@ -1,4 +1,4 @@
--- The texts of what an audit finds wrong: this project's own profile.
+-- The names of an audit's faults: this project's profile.
 use Rattle.std.specs.Prelude.{ℕ, List, codes}
 use Rattle.zaudit.specs.declared.faults.AuditFault.{AuditFault}
 use Rattle.zaudit.specs.declared.faults.AuditFault.TheVariants.{Cut, Disorder, Mismatch, Memory}

@@ -26,7 +26,7 @@ fn opened(alloc: Global, traces: &Traces) -> Result<World, zalloc::Memory>
     World::new(alloc, traces.last, traces.clients.len() as u8)
 }
 
-// Makes the audit, except what lawful traces guarantee; returns the world at the end of the run.
+// Makes the audit, except what lawful traces guarantee. Returns the world at the end of the run.
 fn examined(alloc: Global, traces: &Traces) -> Result<World, AuditFault>
     ensures found { IfOk result (λ world. IsFound traces.now world.history) }
     ensures whole { IfOk result (λ world. world.has_forgotten ≡ false) }
@@ -60,8 +60,8 @@ fn examined(alloc: Global, traces: &Traces) -> Result<World, AuditFault>
 /// the clients saw. Returns that history, which is linearizable.
 ///
 /// The tests are made in the order of the faults. A cut trace is `Cut`; else timestamps of a trace
-/// that don't rise are `Disorder`. Both are tested before anything is allocated. The audit of
-/// lawful traces of which none is cut can only fail with `Memory`.
+/// that don't rise are `Disorder`. Both are tested before anything is allocated. If all traces are
+/// lawful and uncut, the audit can only fail with `Memory`.
 pub fn audit(alloc: Global, traces: &Traces) -> Result<Vec<CallEvent>, AuditFault>
     ensures found { IfOk result (λ history. IsFound traces.now history.items) }
     ensures explained { IfOk result (λ history. IsExplained history.items) }

@@ -13,7 +13,7 @@ use ztraces::Act;
 use zworld::{Did, World};
 use zworld_model::{Event, Outcome};
 
-// Returns the event of the world that a step stands for, if it stands for one.
+// Returns the event of the world that a step represents, if there is one.
 fn event_for(alloc: Global, process: Process, act: &Act) -> Result<Option<Event>, zalloc::Memory>
     ensures { IfOk result (λ event. event ≡ event_of process act.now) }
 {
@@ -34,7 +34,7 @@ fn event_for(alloc: Global, process: Process, act: &Act) -> Result<Option<Event>
     }
 }
 
-// Returns whether the master is asked for it, which may refuse.
+// Returns whether it is an order to the master, which may refuse it.
 fn asks_the_master(event: &Event) -> bool
     ensures { result ≡ asks_the_master event.now }
 {
@@ -61,7 +61,7 @@ fn judge(may_be_refused: bool, did: Did) -> Result<(), AuditFault>
     }
 }
 
-// Does an event, if it is in its place.
+// Does an event, if it is enabled at this position.
 fn place(world: &mut World, event: Event) -> Result<(), AuditFault>
     ensures ok { OnOk result (HappensInPlace world.old event world.new) }
     ensures disorder { IfErr result (λ fault. fault ≡ Disorder → CannotHappen world.old event) }
@@ -75,7 +75,7 @@ fn place(world: &mut World, event: Event) -> Result<(), AuditFault>
     }
 }
 
-/// Does the event of the world that a step stands for, if it is in its place.
+/// Does the event of the world that a step represents, if it is enabled at this position.
 pub(crate) fn replay_act(
     alloc: Global,
     world: &mut World,

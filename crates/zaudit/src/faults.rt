@@ -9,11 +9,11 @@ use thiserror::Error;
 /// Why an audit fails: the first that holds, in this order, except `Memory`.
 #[derive(Clone, Copy, Debug, PartialEq, Eq, Error)]
 pub enum AuditFault {
-    /// A trace is cut: the audit can say nothing of the run.
+    /// A trace is cut: nothing is known of the run.
     Cut,
-    /// The timestamps of a trace don't rise, or an event isn't enabled in its place.
+    /// The timestamps of a trace don't rise, or an event isn't enabled at its position.
     Disorder,
-    /// A client's record differs from what the run's history tells of that client.
+    /// A client's record differs from the events of that client in the run's history.
     Mismatch,
     /// Memory ran out.
     Memory,

@@ -12,8 +12,8 @@ use std::collections::BinaryHeap;
 use zalloc::Memory;
 use ztraces::{TraceEvent, Traces};
 
-/// The next event of a trace: its timestamp, and the place of the trace. A heap of them has the
-/// least on top.
+/// The next event of a trace: its timestamp, and the trace's index. A heap of them has the least on
+/// top.
 pub(crate) type Head = Reverse<(u64, usize)>;
 
 /// Adds the next event of that trace, if it has one.
@@ -51,7 +51,7 @@ pub(crate) fn heads_of(
     Ok(heads)
 }
 
-// Removes the earliest and returns its timestamp and place.
+// Removes the earliest and returns its timestamp and index.
 fn take_first(heads: &mut BinaryHeap<Head>) -> Option<(u64, usize)>
     requires { IsHeap head_cmp (heap_items heads.old) }
     ensures heap { IsHeap head_cmp (heap_items heads.new) }
@@ -64,7 +64,7 @@ fn take_first(heads: &mut BinaryHeap<Head>) -> Option<(u64, usize)>
     }
 }
 
-/// Removes the place whose next event is the earliest, and returns it with that event.
+/// Removes the trace whose next event is the earliest. Returns its index with that event.
 pub(crate) fn next_event<'a>(
     heads: &mut BinaryHeap<Head>,
     traces: &'a Traces,

@@ -1,4 +1,5 @@
-//! The audit of a run: its traces, replayed on one world.
+//! The audit of a run: its traces are replayed on one world, merged by their timestamps, and the
+//! history is compared with what the clients saw.
 #![tactic(auto)]
 
 mod auditing;

@@ -1,4 +1,4 @@
-//! The traces by place: the master's first, then the servers', then the clients'.
+//! The traces by index: the master's first, then the servers', then the clients'.
 
 ghost use Rattle.std.specs.Prelude.{◌≡◌, ◌<◌, ◌≤◌, ◌+◌, ◌^◌, length, get_or};
 ghost use Rattle.zprotocol.specs.declared.limits.TheConstants.{PROCESSES};

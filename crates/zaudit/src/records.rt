@@ -19,7 +19,7 @@ fn client_of(event: &CallEvent) -> u8
     }
 }
 
-// Returns whether the history tells of the client exactly what the record does.
+// Returns whether the history has exactly the record's events of the client.
 fn tells(history: &[CallEvent], client: u8, seen: &[CallEvent]) -> bool
     ensures yes { result ≡ true → told_of client history.now ≡ seen.now }
     ensures no { result ≡ false → told_of client history.now ≡ seen.now → ⊥ }
@@ -39,7 +39,7 @@ fn tells(history: &[CallEvent], client: u8, seen: &[CallEvent]) -> bool
     at == seen.len()
 }
 
-/// Returns whether the history tells of each client exactly what its record does.
+/// Returns whether the history has, of each client, exactly the events of its record.
 pub(crate) fn agree(traces: &Traces, history: &[CallEvent]) -> bool
     ensures yes { result ≡ true → AgreesWithRecords traces.now history.now }
     ensures no { result ≡ false → DiffersFromRecord traces.now history.now }

@@ -1,4 +1,4 @@
--- What a clause says of bells. No clause says who sleeps, or that a ring wakes it.
+-- What a clause says of bells. No clause says which thread sleeps, or that it is woken.
 use Rattle.std.specs.Prelude.{ℕ, length}
 use Rattle.std.specs.Arc.{arc_value}
 use Rattle.std.specs.Duration.{as_nanos}
@@ -8,6 +8,6 @@ use Rattle.zbells.specs.declared.bells.Bells.{Bells}
 abbrev pub bell_count : Bells → ℕ
 bell_count b = length (arc_value b.words).items
 
--- how long a thread sleeps at most, in nanoseconds
+-- the longest sleep of a thread, in nanoseconds
 abbrev pub longest_of : Bells → ℕ
 longest_of b = as_nanos b.longest

@@ -1,4 +1,9 @@
-//! The bells of the threads of a run.
+//! One word per thread of a run, which says whether the thread sleeps.
+//!
+//! # Why
+//!
+//! A sleep ends after 20 milliseconds at the latest, so a lost wake-up costs no more. Nothing wakes
+//! a thread once memory is available again, so it also tries again that often.
 
 ghost use Rattle.std.specs.Prelude.{◌≡◌};
 ghost use Rattle.zbells.specs.declared.bells.TheConstants.{SLEEP_MILLIS};
@@ -11,8 +16,7 @@ use std::sync::{Arc, Wait};
 use std::time::Duration;
 use zalloc::Memory;
 
-/// How long a thread of a cluster sleeps at most, in milliseconds. So a ring that is lost costs no
-/// more.
+/// The longest sleep of a cluster's thread, in milliseconds.
 pub const SLEEP_MILLIS: u64 = 20;
 
 /// The limit is this number.
@@ -20,12 +24,13 @@ pub fn limits_are_numbers()
     ensures sleep { SLEEP_MILLIS ≡ 20 }
 {}
 
-// what the word of a bell says of its thread
+// The thread is awake.
 const UP: u64 = 0;
 
+// The thread sleeps, or is about to.
 const LYING: u64 = 1;
 
-/// A bell for each thread of a run, by place. A copy rings the same bells.
+/// Wakes the threads of a run, each by its index. A copy wakes the same threads.
 #[derive(Drop)]
 pub struct Bells {
     pub(crate) words: Arc<Vec<CachePadded<AtomicU64>>, Global>,
@@ -37,7 +42,7 @@ impl Bells {
     ghost use Rattle.std.specs.Duration.{as_nanos};
     ghost use Rattle.zbells.specs.Bells.{bell_count, longest_of};
 
-    /// Returns `count` bells, of threads that are up. None of these sleeps for more than `longest`
+    /// Returns the bells of `count` threads, which are awake. A thread sleeps for at most `longest`
     /// at a time. The only error is out of memory.
     pub fn new(alloc: Global, count: usize, longest: Duration) -> Result<Bells, Memory>
         ensures count { IfOk result (λ bells. bell_count bells ≡ count) }
@@ -63,7 +68,8 @@ impl Bells {
         })
     }
 
-    /// Wakes the thread of that place, if it is lying down. A place without a bell is passed over.
+    /// Wakes the thread at this index, if it sleeps or is about to. An index out of range is
+    /// ignored.
     pub fn ring(&self, place: usize) {
         if place >= self.words.len() {
             return;
@@ -75,35 +81,35 @@ impl Bells {
         }
     }
 
-    /// Rings each bell.
+    /// Wakes all threads.
     pub fn ring_all(&self) {
         for place in 0..self.words.len() {
             self.ring(place);
         }
     }
 
-    /// The thread of that place lies down: from now on a ring wakes it. It looks once more whether
-    /// there is something to do before it sleeps.
+    /// Marks the thread at this index as about to sleep: from now on `ring` wakes it. It has to
+    /// look once more for work before it sleeps.
     pub fn lie_down(&self, place: usize) {
         if place < self.words.len() {
             self.words[place].store(LYING, SeqCst);
         }
     }
 
-    /// The thread of that place is up: a ring is nothing to it.
+    /// Marks the thread at this index as awake: `ring` then does nothing.
     pub fn get_up(&self, place: usize) {
         if place < self.words.len() {
             self.words[place].store(UP, SeqCst);
         }
     }
 
-    /// The thread of that place sleeps until it is rung, but no longer than the longest time. It
-    /// doesn't sleep if it was rung since it lay down, and it may wake for no reason.
+    /// Sleeps until `ring` wakes the thread at this index, but no longer than the longest time. It
+    /// returns at once if `ring` was called since `lie_down`, and it may wake for no reason.
     pub fn sleep<R: Wait>(&self, rt: &R, place: usize) {
         self.nap(rt, place, self.longest);
     }
 
-    /// The same, but it sleeps no longer than `at_most`.
+    /// Does the same, but sleeps no longer than `at_most`.
     pub fn nap<R: Wait>(&self, rt: &R, place: usize, at_most: Duration) {
         if place < self.words.len() {
             self.words[place].park_timeout(rt, LYING as u32, at_most);

@@ -1,9 +1,17 @@
-//! Bells, by which threads that found nothing to do are woken.
+//! Wakes threads that sleep because they found nothing to do.
 //!
-//! A thread that is about to sleep lies down first, and looks once more whether there is something
-//! to do. Whoever makes something for it to do rings its bell after that. All steps on bells, rings
-//! and halts are in one order (`SeqCst`). So the thread sees what was made for it, or the ring
-//! finds it lying down. No clause says that it wakes: tests see it.
+//! This crate begins the wing "threads", which runs each server in a thread of its own. `zshared`
+//! has the channels between processes, `zhost` a process in its thread, `zrun` a cluster, `zaudit`
+//! the audit of its traces. Read `zrun` next.
+//!
+//! A thread stores that it will sleep, then looks once more for work. A sender stores its message,
+//! then loads whether the receiver sleeps. All these steps are `SeqCst`, so one of the two sees the
+//! other.
+//!
+//! # Why
+//!
+//! A thread without work sleeps, so spare servers cost the others no time. Waking costs a sender
+//! one load if the receiver is awake. No clause says that a thread is woken: tests see it.
 #![tactic(auto)]
 
 mod bells;

@@ -16,15 +16,15 @@ ordered c = (view c.pass).put
 abbrev pub taken_of : Inbox → List Order
 taken_of i = (view i.pass).taken
 
--- what the master said, oldest first
+-- the outcomes that the master sent, oldest first
 abbrev pub said : Inbox → List OrderOutcome
 said i = ring.put_of i.outcomes
 
--- what of it was returned to whoever orders, oldest first
+-- the outcomes that were returned to the console's owner, oldest first
 abbrev pub heard : Console → List OrderOutcome
 heard c = ring.taken_of c.outcomes
 
--- what was said waits only for want of room
+-- an outcome waits only for room
 abbrev pub IsFlushed : Inbox → Type 0
 IsFlushed i = ring.IsFlushed i.outcomes
 

@@ -1,4 +1,4 @@
--- What the master said to which orders.
+-- The outcomes of orders.
 use Rattle.std.specs.Prelude.{◌≡◌, List, ◌++◌, map}
 use Rattle.zprotocol.specs.declared.master.order.Order.{Order}
 use Rattle.zshared.specs.declared.outcome.OrderOutcome.{OrderOutcome}
@@ -6,11 +6,11 @@ use Rattle.zshared.specs.declared.outcome.OrderOutcome.TheVariants.{Obeyed, Refu
 use Rattle.zshared.specs.declared.console.Inbox.{Inbox}
 use Rattle.zshared.specs.Console.{said, taken_of}
 
--- the order that an outcome is said to
+-- the order of an outcome
 abbrev pub order_of : OrderOutcome → Order
 order_of (Obeyed order) = order
 order_of (Refused order fault) = order
 
--- each order that was received has its outcome, said in turn, but for the last ones
+-- each order that was received has its outcome, in order, except the last ones
 abbrev pub AreSaid : Inbox → List Order → Type 0
 AreSaid i unsaid = taken_of i ≡ map order_of (said i) ++ unsaid

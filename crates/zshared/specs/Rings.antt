@@ -52,6 +52,6 @@ module _ {M : Type 0} where
   abbrev pub free_places : Tx M → ℕ
   free_places t = known_free t.ring
 
-  -- a message waits only for want of room: while a free slot is known, nothing waits
+  -- a message waits only for room: while a free slot is known, nothing waits
   abbrev pub IsFlushed : Tx M → Type 0
   IsFlushed t = 0 < free_places t → waiting t ≡ []

@@ -8,11 +8,11 @@ use Rattle.zshared.specs.declared.rings.Tx.{Tx}
 use Rattle.zshared.specs.declared.rings.Rx.{Rx}
 use Rattle.zshared.specs.Rings.{put_of, taken_of}
 
--- what each process sent, by the place of the other
+-- what each process sent, by the index of the other
 abbrev pub out_lists : {M : Type 0} → List (Vec (Tx M) Global) → List (List (List M))
 out_lists rows = map (λ row. map put_of row.items) rows
 
--- what each process received, by the place of the other
+-- what each process received, by the index of the other
 abbrev pub in_lists : {M : Type 0} → List (Vec (Rx M) Global) → List (List (List M))
 in_lists columns = map (λ column. map taken_of column.items) columns
 
@@ -24,7 +24,7 @@ IsToldAt {M} outs ins i j =
     → get_elem? ins j ≡ some column → get_elem? column i ≡ some taken
     → (rest : List M) × (put ≡ taken ++ rest)
 
--- the ends of the channel from the one to the other tell this of it
+-- the ends of the channel from the one to the other show this
 abbrev pub TellIt : {M : Type 0} → List (Vec (Tx M) Global) → List (Vec (Rx M) Global) → ℕ → ℕ → Type 0
 TellIt outs ins from to = IsToldAt (out_lists outs) (in_lists ins) from to
 

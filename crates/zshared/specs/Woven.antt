@@ -48,6 +48,6 @@ with_row [] row = []
 with_row (column ∷ columns) [] = column ∷ columns
 with_row (column ∷ columns) (ring ∷ row) = (column ++ ring ∷ []) ∷ with_row columns row
 
--- each column has one more end, that of the ring at its place in the row
+-- each column has one more end, that of the ring at its index in the row
 abbrev pub HasRowMore : {M : Type 0} → List (Vec (Rx M) Global) → List (Vec (Rx M) Global) → List (Tx M) → Type 0
 HasRowMore old new row = in_rings new ≡ with_row (in_rings old) (map ring_of_tx row)

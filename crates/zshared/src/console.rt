@@ -1,4 +1,9 @@
 //! The two ends of the console's channel.
+//!
+//! # Why
+//!
+//! An outcome goes into a ring, and waits in an outbox where that is full. So a console whose owner
+//! asks for no outcome blocks no one, and loses none.
 
 ghost use Rattle.std.specs.Prelude.{◌≡◌, true, List, [], ◌∷◌, ◌++◌, map, option_to_list};
 ghost use Rattle.std.specs.Prelude.{IfErr, IfOk, IsTrue, OnErr, OnOk};
@@ -24,19 +29,19 @@ pub const ROOM: usize = 32;
 #[error("Closed")]
 pub struct Closed;
 
-/// The sending end, from which servers are ordered to join and to leave.
+/// The sending end, which orders servers to join and to leave.
 #[derive(Drop)]
 pub struct Console {
     pub(crate) to: RuledSender<Order, Log, Fifo>,
     pub(crate) pass: Pass<Order, Log>,
-    // that of the master's thread is rung
+    // wakes the master's thread
     pub(crate) bells: Bells,
     pub(crate) outcomes: Rx<OrderOutcome>,
     ghost seat: { IsSeatAt (sends_on to) pass },
     ghost puts: { (view pass).puts ≡ true },
 }
 
-/// The receiving end, where the master's thread receives the orders, and says what became of them.
+/// The receiving end, where the master's thread receives the orders, and returns their outcomes.
 #[derive(Drop)]
 pub struct Inbox {
     pub(crate) from: RuledReceiver<Order, Log, Fifo>,
@@ -103,11 +108,10 @@ impl Console {
         self.put(rt, Order::Retire(server))
     }
 
-    /// Returns what the master said to the first order whose outcome wasn't returned yet. None if
-    /// it has said nothing to that yet. It doesn't wait.
+    /// Returns the outcome of the first order whose outcome wasn't returned yet, or `None` if the
+    /// master hasn't decided that one yet. It doesn't wait.
     ///
-    /// Each order has one outcome, and none is lost. Those that nobody asks for are kept, a few
-    /// bytes each.
+    /// Outcomes that no one asks for are stored, a few bytes each.
     pub fn outcome(&mut self) -> Option<OrderOutcome>
         ensures heard { heard self.new ≡ heard self.old ++ option_to_list result }
         ensures ordered { ordered self.new ≡ ordered self.old }
@@ -137,9 +141,9 @@ impl Console {
         }
     }
 
-    /// With both ends in one thread again: what was received is a prefix of what was ordered. Where
-    /// it returns true, what was heard is a prefix of what was said. So if each order had its
-    /// outcome said in turn, the outcomes that were heard are those of the first orders, in order.
+    /// With both ends in one thread again: the orders received are a prefix of the orders sent. If
+    /// it returns true, the outcomes received are a prefix of the outcomes sent. So if each order's
+    /// outcome was sent in order, the outcomes received are those of the first orders, in order.
     pub fn told(self, inbox: Inbox) -> bool
         requires { AreEnds self inbox }
         ensures orders { (left : List Order) × (ordered self ≡ taken_of inbox ++ left) }
@@ -180,8 +184,8 @@ impl Inbox {
         self.from.try_recv_as::<Takes, R>(rt, &mut self.pass).ok()
     }
 
-    /// Says what became of an order. Hands it back if there is no memory. It doesn't wait for the
-    /// console to hear it.
+    /// Sends an order's outcome, or returns it if there is no memory. It doesn't wait for the
+    /// console to receive it.
     pub fn say(&mut self, outcome: OrderOutcome) -> Result<(), OrderOutcome>
         ensures ok { OnOk result (said self.new ≡ said self.old ++ outcome ∷ []) }
         ensures err { IfErr result (λ back. (back ≡ outcome) × (said self.new ≡ said self.old)) }
@@ -191,7 +195,7 @@ impl Inbox {
         self.outcomes.put(outcome)
     }
 
-    /// Moves what was said into the ring, while that has room. What still waits found none.
+    /// Moves outcomes from the outbox into the ring while it has room. What still waits found none.
     pub fn flush(&mut self)
         ensures flushed { IsFlushed self.new }
         ensures said { said self.new ≡ said self.old }

@@ -1,4 +1,4 @@
-//! Bits that are set for good, by one atomic step on a shared word.
+//! Bits that are set, and never cleared, by one atomic step on a shared word.
 ghost use Rattle.std.specs.Prelude.{◌≡◌, ◌^◌, ◌≤◌, bit_or, vec_len, All, IfOk, IsTrue, ◌↔◌};
 ghost use Rattle.zshared.specs.declared.limits.TheConstants.{LAST_BIT};
 

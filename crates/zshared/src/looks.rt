@@ -1,10 +1,15 @@
-//! What one look at a halt found.
+//! What one load of a halt found.
+//!
+//! # Why
+//!
+//! A thread passes on one look for each message that it receives. Nothing copies a look, and the
+//! receiving call consumes it. So a thread that tests another bit isn't proved.
 ghost use Rattle.std.specs.Prelude.{◌≡◌, ◌≤◌, IsTrue, ◌↔◌};
 ghost use Rattle.zshared.specs.declared.limits.TheConstants.{LAST_BIT};
 ghost use Rattle.zshared.specs.HaltSeats.{Found, found_by};
 
 /// The bits that one load found. Only `Halt::look` makes one, and nothing copies it.
-/// So a function that consumes one was given a look of its own.
+/// So a function that consumes one has a look of its own.
 #[derive(Drop)]
 pub struct Look {
     found: u64,

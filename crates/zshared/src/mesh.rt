@@ -8,7 +8,7 @@ use crate::rings::{Rx, Tx, link};
 use std::alloc::Global;
 use zalloc::Memory;
 
-/// The ends of all channels, by process and then by the place of the other process.
+/// The ends of all channels, by process and then by the index of the other process.
 #[derive(Drop)]
 pub struct Mesh<M: Drop> {
     /// The sending ends of each process.
@@ -34,7 +34,7 @@ pub fn weave<M: Drop>(alloc: Global, count: usize) -> Result<Mesh<M>, Memory>
     Ok(Mesh { outs, ins })
 }
 
-// Returns `count` processes that receive from nobody yet.
+// Returns `count` processes without a receiving end yet.
 fn columns<M: Drop>(alloc: Global, count: usize) -> Result<Vec<Vec<Rx<M>>>, Memory>
     ensures rings { IfOk result (λ columns. in_rings columns.items ≡ replicate count []) }
     ensures blank { IfOk result (λ columns. AreBlankIns columns.items) }

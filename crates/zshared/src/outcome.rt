@@ -1,13 +1,13 @@
-//! What the master says to the orders of the console.
+//! The outcomes of the console's orders.
 
 use zprotocol::{Order, OrderFault};
 
-/// What the master said to an order.
+/// The outcome of an order.
 #[derive(Clone, Copy, Debug, PartialEq, Eq)]
 pub enum OrderOutcome {
-    /// It obeyed. A server that joins is a member from now on, and the tail once it has the state.
-    /// A member that was told to leave stays one until the master hears that it is gone.
+    /// The master obeyed. A server that joins is a member from now on, and the tail once it has the
+    /// state. A member that is to leave remains one until the master hears that it is gone.
     Obeyed(Order),
-    /// It refused. Nothing has changed.
+    /// The master refused. Nothing has changed.
     Refused(Order, OrderFault),
 }

@@ -1,4 +1,10 @@
 //! The two ends of a channel.
+//!
+//! # Why
+//!
+//! `put` moves a message straight into the ring if no other waits, and an empty channel costs one
+//! look. `put_last` has a slot of its own, which no `put` can take: a server's failure notice needs
+//! no memory. A message is any type, so a refused `put` returns the timestamp too.
 ghost use Rattle.std.specs.Prelude.{◌≡◌, ◌≢◌, ◌<◌, ◌++◌, [], ◌∷◌, length, option_to_list};
 ghost use Rattle.std.specs.Prelude.{IfErr, IfOk, IfSome, IsFalse, IsOk, IsTrue, OnErr, OnOk};
 ghost use mathlib.Core.List.{IsPrefix};
@@ -19,7 +25,7 @@ pub fn limits_are_numbers()
     ensures ring { RING ≡ 64 }
 {}
 
-/// The sending end. It keeps a slot for one last message, so that one takes no memory.
+/// The sending end. It has a slot for one last message, which then takes no memory.
 #[derive(Drop)]
 pub struct Tx<M: Drop> {
     pub(crate) outbox: VecDeque<M>,
@@ -53,7 +59,7 @@ pub fn link<M: Drop>(alloc: Global) -> Result<(Tx<M>, Rx<M>), Memory>
 
 impl<M: Drop> Tx<M> {
     /// Sends a message: it goes into the ring, or waits in the outbox for a flush, if others wait
-    /// there or the ring is full. Hands it back if there is no memory, or if a last message waits.
+    /// there or the ring is full. Returns it if there is no memory, or if a last message waits.
     pub fn put(&mut self, message: M) -> Result<(), M>
         ensures ok { OnOk result (put_of self.new ≡ put_of self.old ++ message ∷ []) }
         ensures err { IfErr result (λ m. (m ≡ message) × (put_of self.new ≡ put_of self.old)) }
@@ -78,7 +84,7 @@ impl<M: Drop> Tx<M> {
         }
     }
 
-    /// Sends a last message, or hands it back if one waits already. It takes no memory.
+    /// Sends a last message, or returns it if one waits already. It takes no memory.
     pub fn put_last(&mut self, message: M) -> Result<(), M>
         ensures ok { OnOk result (put_of self.new ≡ put_of self.old ++ message ∷ []) }
         ensures err { IfErr result (λ m. (m ≡ message) × (put_of self.new ≡ put_of self.old)) }

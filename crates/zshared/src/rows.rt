@@ -1,4 +1,4 @@
-//! Worked rows of the definitions: each clause is one, and the bodies do nothing.
+//! Worked examples of the definitions. Each clause is one; the bodies do nothing.
 
 ghost use Rattle.std.specs.Prelude.{◌≡◌};
 ghost use Rattle.zprotocol.specs.declared.master.order.Order.TheVariants.{Join, Retire};
@@ -12,7 +12,7 @@ pub fn limits_are_numbers()
     ensures { ROOM ≡ 32 }
 {}
 
-/// An outcome is said to the order that it speaks of.
+/// The order of an outcome.
 pub fn outcomes_are_of_orders()
     ensures joins { order_of (Obeyed (Join 3)) ≡ Join 3 }
     ensures join_refused { order_of (Refused (Join 3) Used) ≡ Join 3 }

@@ -8,7 +8,7 @@ use crossbeam_channel::protocol::{Join, Lesson, Outcome, Protocol, Split};
 use std::collections::LinkedList;
 use zprotocol::Order;
 
-/// What an end may do, and what it has sent or received. No value of it is made.
+/// What an end may do, and what it has sent or received. It is never constructed.
 pub struct Log {
     pub puts: bool,
     pub takes: bool,
@@ -71,7 +71,7 @@ impl Lesson<Order, Log> for Takes {
     ghost fact = { λ v items. Unit {0} };
 }
 
-/// What both ends together know.
+/// What follows from both ends.
 pub struct Law;
 
 impl Lesson<Order, Log> for Law {

@@ -1,5 +1,5 @@
-//! What was received on each channel is a prefix of what was sent on it. Its two ends can tell,
-//! once they are in one thread again.
+//! Whether what was received on each channel is a prefix of what was sent on it. The two ends of a
+//! channel show this once they are in one thread again.
 
 ghost use Rattle.std.specs.Prelude.{◌≡◌, ◌<◌, IsTrue, length};
 ghost use Rattle.zshared.specs.Woven.{AreWoven, in_rings, out_rings};
@@ -8,7 +8,7 @@ ghost use Rattle.zshared.specs.Told.{AreTold, in_lists, out_lists, TellIt};
 use crate::mesh::Mesh;
 use crate::rings::{Rx, Tx, told};
 
-/// Returns whether every channel can tell that what was received is a prefix of what was sent.
+/// Returns whether every channel shows that what was received is a prefix of what was sent.
 pub fn are_told<M: Drop>(mesh: Mesh<M>) -> bool
     requires { AreWoven (length mesh.outs.items) mesh.outs.items mesh.ins.items }
     ensures { IsTrue result → AreTold (out_lists mesh.outs.items) (in_lists mesh.ins.items) }
@@ -25,7 +25,7 @@ pub fn are_told<M: Drop>(mesh: Mesh<M>) -> bool
     true
 }
 
-// Returns whether the channel from one process to another can tell so.
+// Returns whether the channel from one process to another shows that.
 fn is_told<M: Drop>(
     outs: &mut Vec<Vec<Tx<M>>>,
     ins: &mut Vec<Vec<Rx<M>>>,

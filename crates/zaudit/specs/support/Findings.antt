@@ -15,7 +15,7 @@ is_any_server_cut t = list_any (λ (trace : Trace). trace.is_cut) t.servers.item
 abbrev pub is_any_client_cut : Traces → Bool
 is_any_client_cut t = list_any (λ (client : ClientTrace). client.trace.is_cut) t.clients.items
 
--- a client's record differs from what the history tells of the client
+-- a client's record differs from the client's events in the history
 abbrev pub DiffersFromRecord : Traces → History → Type 0
 DiffersFromRecord t history =
     (c : ℕ) × (nat_lt c (client_count t) ≡ true) × (told_of c history ≡ record_of t c → ⊥)

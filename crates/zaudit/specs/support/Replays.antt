@@ -1,4 +1,4 @@
--- What is replayed on a world: an event, the event that a step stands for, and all events of the
+-- What is replayed on a world: an event, the event that a step represents, and all events of the
 -- traces.
 use Rattle.std.specs.Prelude.{◌≡◌, ◌<◌, ℕ, true, false, List}
 use Rattle.zprotocol.specs.declared.process.Process.{Process}
@@ -11,22 +11,22 @@ use Rattle.ztraces.specs.declared.trace.Traces.{Traces}
 use Rattle.ztraces.specs.Traces.{event_of, is_in_place, is_step_in_place, step_happens}
 use Rattle.ztraces.specs.support.Places.{place_count, unread, HasReplayed, IsAllRead}
 
--- an event is in its place, and happens
+-- an event is enabled at its position, and happens
 abbrev pub HappensInPlace : WorldView → Event → WorldView → Type 0
 HappensInPlace old event new =
     (is_in_place (world_in old) event ≡ true) × (happens kept_tree (world_in old) event ≡ world_in new)
 
--- it isn't in its place
+-- it isn't enabled there
 abbrev pub CannotHappen : WorldView → Event → Type 0
 CannotHappen world event = is_in_place (world_in world) event ≡ false
 
--- a step of a process stands for an event in its place, which happens
+-- a step of a process represents an event that is enabled at its position, which happens
 abbrev pub ActsInPlace : WorldView → Process → Act → WorldView → Type 0
 ActsInPlace old process act new =
     (is_step_in_place (world_in old) (event_of process act) ≡ true)
     × (step_happens kept_tree (world_in old) (event_of process act) ≡ world_in new)
 
--- the step stands for none, or for one that isn't in its place
+-- the step represents no event, or one that isn't enabled there
 abbrev pub CannotAct : WorldView → Process → Act → Type 0
 CannotAct world process act = is_step_in_place (world_in world) (event_of process act) ≡ false
 

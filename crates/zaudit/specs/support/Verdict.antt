@@ -7,7 +7,7 @@ use Rattle.zworld.specs.declared.did.Did.TheVariants as did
 use Rattle.zaudit.specs.declared.faults.AuditFault.{AuditFault}
 use Rattle.zaudit.specs.declared.faults.AuditFault.TheVariants.{Disorder, Memory}
 
--- the master is asked for the event, and may refuse it
+-- the event is an order to the master, which may refuse it
 abbrev pub asks_the_master : Event → Bool
 asks_the_master (Order order) = true
 asks_the_master other = false
