@@ -1,4 +1,4 @@
--- What a clause says of a client with its desk.
+-- What a clause says of a client with its endpoint.
 use Rattle.std.specs.Prelude.{◌≡◌, ◌⊎◌, ◌<◌, ℕ, Bool, true, false, Option, Some, max, is_some}
 use Rattle.zcalls.specs.declared.call.Call.{Call}
 use Rattle.zcalls.specs.declared.reply.Reply.{Reply}
@@ -15,7 +15,7 @@ use Rattle.zhost.specs.Hosts.{host_desk, host_learnt, host_stamp, host_standing}
 use Rattle.zhost.specs.Standings.{client_known}
 use Rattle.zhost.specs.declared.caller.Caller.{Caller}
 
--- its number, desk and view, and the last stamp that it knows
+-- its number, endpoint and view, and the last timestamp that it knows
 abbrev pub caller_id : Caller → ℕ
 caller_id c = c.id
 
@@ -28,11 +28,11 @@ caller_view c = client_known (host_standing c.host)
 abbrev pub caller_stamp : Caller → ℕ
 caller_stamp c = host_stamp c.host
 
--- the last stamp that it was told of
+-- the last timestamp that it learned
 abbrev pub learnt_of : Caller → ℕ
 learnt_of c = host_learnt c.host
 
--- it was told of no other stamp, and forgot none
+-- it learned no other timestamp, and forgot none
 abbrev pub SameLearnt : Caller → Caller → Type 0
 SameLearnt a b = learnt_of b ≡ learnt_of a
 
@@ -44,16 +44,17 @@ SameCaller a b = SameBooks (caller_desk a) (caller_desk b) × (caller_view b ≡
 abbrev pub IsLater : Caller → Caller → Type 0
 IsLater a b = is_cut_of (caller_desk b) ≡ false → caller_stamp a < stamp_of_desk (caller_desk b)
 
--- the event has the stamp behind all that it knew
+-- the event has the timestamp after all that it knew
 abbrev pub IsNext : Caller → Caller → Type 0
 IsNext a b = stamp_of_desk (caller_desk b) ≡ next_stamp (caller_stamp a)
 
--- why a call isn't begun, by the first test that holds; or want of memory, where the client waits for no call
+-- why a call isn't invoked, by the first test that holds; or out of memory, where no call is
+-- outstanding
 abbrev pub MayRefuse : ClientView → BeginFault → Type 0
 MayRefuse v Memory = is_some v.outstanding ≡ false
 MayRefuse v fault = begin_fault v ≡ Some fault
 
--- it began the call with that number
+-- it invoked the call with that number
 abbrev pub Began : Caller → Caller → Call → ℕ → Type 0
 Began a b call number = Begins a.id (caller_desk a) (caller_view a) (caller_desk b) (caller_view b) call number × IsNext a b × IsLater a b
 
@@ -62,7 +63,8 @@ abbrev pub Retried : Caller → Caller → Bool → Type 0
 Retried a b true = SendsAgain (caller_desk a) (caller_view a) (caller_desk b) (caller_view b) × IsNext a b × IsLater a b
 Retried a b false = (is_some (caller_view a).outstanding ≡ false) × SameCaller a b
 
--- it took its turn: it heard a message, with the stamp behind that of the message and all that it knew, or nothing
+-- one `turn`: it heard a message, with the timestamp after that of the message and all that it
+-- knew, or it heard nothing
 abbrev pub Turned : Caller → Caller → Option Reply → Type 0
 Turned a b reply =
     HeardNothing (caller_desk a) (caller_view a) (caller_desk b) (caller_view b) reply

@@ -1,8 +1,6 @@
--- What a clause says of an endpoint: that its process went by its table, through its trace if it
--- keeps one. What was received from its channels, and sent on them, is what its steps received and
+-- What a clause says of an endpoint: that its process followed its table, through its trace if it
+-- has one. What was received from its channels, and sent on them, is what its steps received and
 -- sent.
--- Van Renesse and Schneider, "Chain Replication for Supporting High Throughput and Availability"
--- (OSDI 2004), section 3.
 use Rattle.std.specs.Prelude.{◌≡◌, ◌<◌, ℕ, Bool, true, false, List, [], ◌∷◌, ◌++◌, Option, None, Some, length, map, option_to_list, if◌then◌else◌}
 use Rattle.std.specs.Option.{option_map}
 use Rattle.std.specs.Vec.{vec_len, vec_capacity}
@@ -28,7 +26,7 @@ use Rattle.zshared.specs.Rings.{ring_of_tx, ring_of_rx, put_of, taken_of}
 use Rattle.zhost.specs.declared.desk.Desk.{Desk}
 use Rattle.zhost.specs.declared.limits.TheConstants.{MAX_EVENTS}
 
--- steps, standings, messages and posts over the machine of the service
+-- steps, states, messages and posts over the machine of the service
 abbrev pub TreeDeed : Type 0
 TreeDeed = Deed (KeptState Tree)
 
@@ -69,13 +67,13 @@ abbrev pub took_from : Process → TreeTaken → List TreeStamped
 took_from p None = []
 took_from p (Some t) = if is_same p t.0 then t.1 ∷ [] else []
 
--- who the process is, and where it stood in the initial state
+-- who the process is, and its initial state
 pub record Self : Type 0 where
   pub me : Process
   pub opening : TreeStanding
 
--- where a process stands in the initial state: the chain is the servers up to the last one, and
--- there are that many clients
+-- the initial state of a process: the chain is the servers up to the last one, and there are that
+-- many clients
 unfoldable pub opening_of : ℕ → ℕ → Process → TreeStanding
 opening_of last clients p = standing_in (opening_world kept_tree last clients) p
 
@@ -133,11 +131,11 @@ books_of d = record {
   is_cut = d.is_cut;
 }
 
--- the process is at none of the first n places
+-- the process has no index below n
 abbrev pub IsOutside : Process → ℕ → Type 0
 IsOutside p n = (i : ℕ) → i < n → is_same p (process_at i) ≡ false
 
--- the steps of a process account for its books, and it stands at `s` now; beside what they
+-- the steps of a process account for its books, and its state is `s` now; besides what they
 -- received, `t` was received; of what they sent, `waits` is on no channel yet; they are its trace
 -- and its record, unless the trace is cut
 pub record Accounts (who : Self) (b : Books) (s : TreeStanding) (t : TreeTaken) (waits : List TreePost) (deeds : List TreeDeed) : Type 0 where
@@ -150,8 +148,8 @@ pub record Accounts (who : Self) (b : Books) (s : TreeStanding) (t : TreeTaken) 
   pub others : (p : Process) → IsOutside p (length b.ins) → (takes p deeds ≡ []) × (took_from p t ≡ [])
   pub put : Each (λ i x. put_of x ++ stamped b.stamp (messages_to (process_at i) waits) ≡ puts (process_at i) deeds) b.outs
 
--- unless what it did is lost, the process went by its table to where it stands; it is never lost
--- where its trace isn't cut
+-- unless what it did is lost, the process followed its table to its state; it is never lost where
+-- its trace isn't cut
 abbrev pub Stands : Desk → TreeStanding → TreeTaken → List TreePost → Type 0
 Stands d s t waits =
     d.is_lost ≡ false → ∥ ((deeds : List TreeDeed) × Accounts (self_of d) (books_of d) s t waits deeds) ∥₁
@@ -167,11 +165,11 @@ StandsToTell d told s t waits =
 abbrev pub IsAt : Desk → TreeStanding → Type 0
 IsAt d s = Stands d s None (pending d)
 
--- what was accounted for still is
+-- all that was accounted for still is
 abbrev pub Keeps : Desk → Desk → Type 0
 Keeps a b = (s : TreeStanding) (t : TreeTaken) (waits : List TreePost) → Stands a s t waits → Stands b s t waits
 
--- the same, with `u` as the received message in the place of `t`
+-- the same, with `u` as the received message instead of `t`
 abbrev pub HasTaken : Desk → Desk → TreeTaken → TreeTaken → Type 0
 HasTaken a b t u = (s : TreeStanding) (waits : List TreePost) → Stands a s t waits → Stands b s u waits
 
@@ -194,7 +192,7 @@ pub record SameDesk (a b : Desk) : Type 0 where
   pub ins : map ring_of_rx b.ins.items ≡ map ring_of_rx a.ins.items
   pub outs : map ring_of_tx b.outs.items ≡ map ring_of_tx a.outs.items
 
--- there is room for one event in trace and record, if it keeps them
+-- there is room for one event in trace and record, if it has them
 abbrev pub HasSeenRoom : Desk → Type 0
 HasSeenRoom d = vec_len d.seen < vec_capacity d.seen
 
@@ -214,7 +212,8 @@ pub record SameBooks (a b : Desk) : Type 0 where
 abbrev pub HasSeen : Desk → Desk → History → Type 0
 HasSeen a b told = b.seen.items ≡ a.seen.items ++ told
 
--- an event was appended to a trace that isn't cut, with its timestamp, and what the caller saw of it
+-- an event was appended to a trace that isn't cut, with its timestamp, and what the caller saw of
+-- it
 pub record HasEntered (a b : Desk) (event : TraceEvent) (told : History) : Type 0 where
   pub whole : is_cut_of a ≡ false
   pub trace : b.trace.items ≡ a.trace.items ++ event ∷ []
@@ -226,7 +225,7 @@ pub record HasEntered (a b : Desk) (event : TraceEvent) (told : History) : Type 
 abbrev pub IsEntered : Desk → Desk → ℕ → Act → History → Type 0
 IsEntered a b stamp act told = is_cut_of b ≡ false → HasEntered a b (record { stamp = stamp; act = act }) told
 
--- an event cuts the trace only if that has as many events as there may be, or at the last timestamp
+-- an event cuts the trace only if the trace is full, or at the last timestamp
 abbrev pub IsCutForNeed : Desk → Desk → ℕ → Type 0
 IsCutForNeed a b stamp = length (trace_of a) < MAX_EVENTS → stamp < MAX_STAMP → is_cut_of b ≡ is_cut_of a
 
@@ -243,8 +242,8 @@ IsLostForNeed a b stamp = stamp < MAX_STAMP → is_lost_of b ≡ is_lost_of a
 abbrev pub AreKeptBelow : ℕ → Type 0
 AreKeptBelow last = (a b : Desk) (stamp : ℕ) → IsLostForNeed a b stamp → stamp < last → is_lost_of b ≡ is_lost_of a
 
--- an event: the process stood at `s` with its last timestamp, had received `t`, and did `act`;
--- then it stands at `s'`, it has sent `posts`, and its caller has seen `told`
+-- an event: the process was in state `s` with its last timestamp, had received `t`, and did `act`;
+-- then its state is `s'`, it has sent `posts`, and its caller has seen `told`
 pub record IsEvent (me : Process) (last : ℕ) (s : TreeStanding) (t : TreeTaken) (act : Act) (stamp : ℕ) (s' : TreeStanding) (posts : List TreePost) (told : History) : Type 0 where
   pub row : Row kept_tree me s act (option_map (λ x. x.1) t) s' posts told
   pub from : (p : Process) → taken_from p act (option_map (λ x. x.1) t) ≡ took_from p t
@@ -257,14 +256,14 @@ StandsAfter a b act stamp told =
     → (stamp < MAX_STAMP → IsEvent a.me a.stamp s t act stamp s' posts told)
     → Stands b s' None posts
 
--- the same by an event that received nothing: `t` is kept beside it
+-- the same by an event that received nothing: `t` remains received
 abbrev pub StandsBeside : Desk → Desk → Act → ℕ → History → Type 0
 StandsBeside a b act stamp told =
     (s s' : TreeStanding) (t : TreeTaken) (posts : List TreePost) → Stands a s t []
     → (stamp < MAX_STAMP → IsEvent a.me a.stamp s None act stamp s' posts told)
     → Stands b s' t posts
 
--- of what an endpoint has beside its channels, nothing is changed
+-- nothing of the endpoint is changed, except its channels
 pub record SameRest (a b : Desk) : Type 0 where
   pub desk : SameDesk a b
   pub books : SameBooks a b

@@ -1,4 +1,4 @@
--- What a clause says of a process at its desk that was given an input.
+-- What a clause says of a process with its endpoint that was given an input.
 use Rattle.std.specs.Prelude.{◌≡◌, ◌<◌, ℕ, Bool, true, false, [], Option, None, Some, if◌then◌else◌, List}
 use Rattle.std.specs.Option.{option_map}
 use Rattle.zprotocol.specs.declared.process.Process.{Process}
@@ -23,7 +23,7 @@ use Rattle.zhost.specs.Desks.{HasRoom, IsCutForNeed, IsEntered, IsLostForNeed, K
 use Rattle.zhost.specs.Desks.{TreeStanding, TreeTaken}
 use Rattle.zhost.specs.Told.{act_heard, told_at, told_begun, told_heard}
 
--- the process of the desk can stand there
+-- the state is one of the endpoint's process
 abbrev pub Fits : Desk → TreeStanding → Type 0
 Fits d s = can_stand (process_of d) s ≡ true
 
@@ -33,7 +33,7 @@ took_of (Hear from m) stamp = Some (from, (stamp, m))
 took_of input stamp = None
 
 -- what was received before and after the event: that message, and nothing; or something else, which
--- stays
+-- remains
 abbrev pub before_of : Input → ℕ → TreeTaken → TreeTaken
 before_of (Hear from m) stamp t = Some (from, (stamp, m))
 before_of input stamp t = t
@@ -51,21 +51,21 @@ CanBeStamped d input stamp next =
 abbrev pub only : List TreePost → TreeOut
 only posts = record { posts = posts; room = 0 }
 
--- a process went by its definition. It had nothing to send, and what it put then waits to be sent
+-- a process followed its definition: it had nothing to send, and what it put then waits to be sent
 abbrev pub ActsAt : Desk → TreeStanding → Desk → TreeStanding → Input → Done → Type 0
 ActsAt a s b s' input done = HasActed (process_of a) s s' input (only []) (only (pending b)) done
 
--- what it sent that isn't on its channels yet. The failure notice of a process that has stopped is
--- none of what waits
+-- what it sent that isn't on its channels yet, without the failure notice of a process that has
+-- stopped
 abbrev pub unsent : Desk → Done → List TreePost
 unsent d done = if is_end done then last_post else pending d
 
--- an event that received the message of the input led from one standing to another
+-- an event that received the message of the input led from one state to another
 abbrev pub GoesTo : Desk → TreeStanding → Desk → TreeStanding → Input → ℕ → List TreePost → Type 0
 GoesTo a s b s' input stamp posts =
     (t : TreeTaken) → Stands a s (before_of input stamp t) [] → Stands b s' (after_of input t) posts
 
--- why nothing was done, for a process that keeps a trace: memory may be wanted for that too
+-- why nothing was done, for a traced process: the trace may be out of memory too
 abbrev pub IsUndone : TreeStanding → Input → ActFault → Type 0
 IsUndone standing input (Refused why) = refusal_of standing input ≡ Some why
 IsUndone standing input Memory = Unit {0}
@@ -96,9 +96,9 @@ abbrev pub EntersDone : Desk → Desk → Input → Done → Type 0
 EntersDone a b input done =
     IsEntered a b (stamp_of_desk b) (act_noted (note_of (process_of a) input) done) (told_by (process_of a) input done)
 
--- a process that stood there was given an input: it went by its definition, and the event was
--- entered with that timestamp. If the process goes on, its trace isn't cut without need, and what it
--- did isn't lost
+-- a process in that state was given an input: it followed its definition, and the event was entered
+-- with that timestamp. If the process continues, its trace isn't cut without need, and what it did
+-- isn't lost
 pub record Did (a : Desk) (s : TreeStanding) (b : Desk) (s' : TreeStanding) (input : Input) (next : ℕ) (done : Done) : Type 0 where
   pub acted : ActsAt a s b s' input done
   pub entered : EntersDone a b input done
@@ -119,12 +119,12 @@ abbrev pub is_client : Process → Bool
 is_client (Client c) = true
 is_client p = false
 
--- a process other than a client was told of no timestamp
+-- a process other than a client learned no timestamp
 abbrev pub LearnsNothing : Process → ℕ → Type 0
 LearnsNothing p learnt = is_client p ≡ false → learnt ≡ 0
 
--- the desk is that of a process which stands there. It was told of that timestamp, and a message
--- that it received may count as still in its ring
+-- the endpoint is that of a process in this state. It learned that timestamp, and a message that it
+-- received may count as still in its ring
 pub record IsHosted (d : Desk) (s : TreeStanding) (learnt : ℕ) (front : TreeTaken) : Type 0 where
   pub fits : Fits d s
   pub at : Stands d s front (pending d)

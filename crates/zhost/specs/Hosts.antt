@@ -1,4 +1,4 @@
--- What a clause says of a process at its desk.
+-- What a clause says of a process with its endpoint.
 use Rattle.std.specs.Prelude.{◌≡◌, ℕ, [], max, Ok}
 use Rattle.zprotocol.specs.declared.master.order.Order.{Order}
 use Rattle.zprotocol.specs.declared.process.Process.{Process}
@@ -16,7 +16,7 @@ use Rattle.zhost.specs.declared.host.Host.{Host}
 use Rattle.zhost.specs.Desks.{IsEntered, process_of, SameBooks, stamp_of_desk, TreeStamped, TreeStanding, TreeTaken}
 use Rattle.zhost.specs.Hosting.{Did, IsUndone}
 
--- its desk, where it stands, and the last timestamp that it was told of
+-- its endpoint, its state, and the last timestamp that it learned
 abbrev pub host_desk : Host → Desk
 host_desk h = h.desk
 
@@ -38,7 +38,7 @@ host_stamp h = max (stamp_of_desk h.desk) h.learnt
 abbrev pub IsClientHost : Host → Type 0
 IsClientHost h = (c : ℕ) × (process_of h.desk ≡ Client c)
 
--- nothing was done: it stands where it stood, and trace, record and timestamps are as they were
+-- nothing was done: its state, trace, record and timestamps are as they were
 pub record DidIdle (a b : Host) : Type 0 where
   pub books : SameBooks a.desk b.desk
   pub stands : b.actor ≡ a.actor
@@ -49,18 +49,18 @@ pub record Acted (a b : Host) (input : Input) (stamp : ℕ) (done : Done) : Type
   pub did : Did a.desk a.actor b.desk b.actor input stamp done
   pub learnt : b.learnt ≡ a.learnt
 
--- it received a message: its event comes behind that of the message, and all that it knew. What it
--- hands over is in the place that was lent
+-- it received a message: its event comes after that of the message, and all that it knew; what it
+-- returns is in `handed`
 abbrev pub Received : Host → Host → Handed → Handed → Done → Type 0
 Received a b before after done =
     (from : Process) × (m : TreeStamped) × Acted a b (Hear from m.1) (next_stamp (max (stamp_of_desk a.desk) (max a.learnt m.0))) done
     × (after ≡ handed_by (Hear from m.1) (Ok done) before)
 
--- it was given an input from outside: its event comes behind all that it knew
+-- it was given an input from outside: its event comes after all that it knew
 abbrev pub Gave : Host → Host → Input → Done → Type 0
 Gave a b input done = Acted a b input (next_stamp (host_stamp a)) done
 
--- it wasn't, for that
+-- it wasn't, for that reason
 abbrev pub GaveUp : Host → Host → Input → ActFault → Type 0
 GaveUp a b input fault = DidIdle a b × IsUndone a.actor input fault
 

@@ -1,4 +1,4 @@
--- What the master says to an order, and what it owes the console.
+-- The outcome of an order, and what the master's thread has still to do for the console.
 use Rattle.std.specs.Prelude.{Bool, true, false, List, [], ◌∷◌, Option, None, Some}
 use Rattle.zprotocol.specs.declared.master.order_fault.OrderFault.{OrderFault}
 use Rattle.zprotocol.specs.master.View.{MasterView}
@@ -15,11 +15,11 @@ abbrev pub outcome_by : Order → Option OrderFault → OrderOutcome
 outcome_by order None = Obeyed order
 outcome_by order (Some fault) = Refused order fault
 
--- what the master's table says to an order, where the master stands at that view
+-- the outcome of an order by the master's table, where the master has that view
 abbrev pub outcome_at : MasterView → Order → OrderOutcome
 outcome_at v order = outcome_by order (order_fault v order)
 
--- whether something is owed
+-- whether anything is to be done
 abbrev pub owes : Owed → Bool
 owes Nothing = false
 owes (Deed order) = true
@@ -31,7 +31,7 @@ unfollowed Nothing = None
 unfollowed (Deed order) = Some order
 unfollowed (Word outcome) = None
 
--- the order whose outcome wasn't said yet
+-- the order whose outcome wasn't sent yet
 abbrev pub unsaid : Owed → List Order
 unsaid Nothing = []
 unsaid (Deed order) = order ∷ []

@@ -8,7 +8,7 @@ use Rattle.zhost.specs.Standings.{master_known}
 use Rattle.zhost.specs.declared.server_thread.ServerThread.{ServerThread}
 use Rattle.zhost.specs.declared.master_thread.MasterThread.{MasterThread}
 
--- its desk
+-- its endpoint
 abbrev pub server_desk : ServerThread → Desk
 server_desk t = host_desk t.host
 
@@ -19,6 +19,6 @@ master_desk t = host_desk t.host
 abbrev pub master_view : MasterThread → MasterView
 master_view t = master_known (host_standing t.host)
 
--- whether it is over: it was halted, it left, or it stopped
+-- whether it has ended: it was halted, it left, or it stopped
 abbrev pub is_over_of : ServerThread → Bool
 is_over_of t = has_stopped (host_standing t.host)

@@ -19,7 +19,7 @@ bit_of other = None
 abbrev pub LetsTake : Look → Option ℕ → Type 0
 LetsTake look bit = (Found look 0 → ⊥) × IfSome bit (λ s. Found look s → ⊥)
 
--- the same endpoint, and its trace goes on, unless it is cut; no order was followed meanwhile
+-- the same endpoint, and its trace continues, unless it is cut; no order was followed meanwhile
 pub record WentOn (a b : Desk) : Type 0 where
   pub same : SameDesk a b
   pub goes : GoesOn a b

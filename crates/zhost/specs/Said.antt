@@ -1,4 +1,4 @@
--- What the master said to the orders that it followed, and when.
+-- The outcomes of the orders that the master followed, and when it sent them.
 use Rattle.std.specs.Prelude.{◌≡◌, false, List, [], ◌∷◌, ◌++◌}
 use Rattle.zprotocol.specs.master.View.{MasterView}
 use Rattle.ztraces.specs.declared.trace.TraceEvent.{TraceEvent}
@@ -13,7 +13,7 @@ use Rattle.zhost.specs.declared.owed.Owed.TheVariants.{Nothing, Deed, Word}
 use Rattle.zhost.specs.Acts.{orders_in}
 use Rattle.zhost.specs.Outcomes.{outcome_at}
 
--- from the one endpoint to the other the trace, which isn't cut, goes on
+-- from the one endpoint to the other the trace, which isn't cut, continues
 pub record IsContinued (a b : Desk) : Type 0 where
   pub whole : is_cut_of a ≡ false
   pub rest : List TraceEvent
@@ -23,14 +23,15 @@ pub record IsContinued (a b : Desk) : Type 0 where
 abbrev pub GoesOn : Desk → Desk → Type 0
 GoesOn a b = is_cut_of b ≡ false → IsContinued a b
 
--- before its trace went on to what it is now, it had followed just these orders
+-- at that earlier endpoint it had followed exactly these orders
 pub record HadFollowed (at now : Desk) (before : List Order) : Type 0 where
   pub rest : List TraceEvent
   pub trace : trace_of now ≡ trace_of at ++ rest
   pub followed : orders_in (trace_of at) ≡ before
 
--- The master's thread, whose endpoint is this now, said this once: it stood at a view where its
--- table says so. It had followed just these orders before, unless its trace is cut.
+-- The master's thread, whose endpoint is this now, returned this outcome once: its view was then
+-- one where its table says so. It had followed exactly these orders before, unless its trace is
+-- cut.
 pub record WasSaid (now : Desk) (before : List Order) (outcome : OrderOutcome) : Type 0 where
   pub at : Desk
   pub view : MasterView
@@ -39,12 +40,12 @@ pub record WasSaid (now : Desk) (before : List Order) (outcome : OrderOutcome) :
   pub table : outcome ≡ outcome_at view (order_of outcome)
   pub had : is_cut_of now ≡ false → HadFollowed at now before
 
--- each of these was said so, one after the other, once those orders were followed
+-- each of these was returned so, one after the other, once those orders were followed
 abbrev pub WereSaid : Desk → List Order → List OrderOutcome → Type 0
 WereSaid now before [] = Unit {0}
 WereSaid now before (o ∷ os) = WasSaid now before o × WereSaid now (before ++ order_of o ∷ []) os
 
--- what was said, with what is still to be said
+-- the outcomes that were sent, with the one that is still to be sent
 abbrev pub spoken : List OrderOutcome → Owed → List OrderOutcome
 spoken outcomes Nothing = outcomes
 spoken outcomes (Deed order) = outcomes

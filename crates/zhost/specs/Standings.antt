@@ -1,4 +1,4 @@
--- What is read off where a process stands, and what became of an input.
+-- What the state of a process shows, and what became of an input.
 use Rattle.std.specs.Prelude.{◌≡◌, ℕ, Option, None, Some}
 use Rattle.zcalls.specs.declared.reply.Reply.{Reply}
 use Rattle.zprotocol.specs.declared.client.begin_fault.BeginFault.{BeginFault}
@@ -15,12 +15,12 @@ use Rattle.zactor.specs.Acting.{reply_in}
 use Rattle.zserver.specs.Server.{TreeMessage}
 use Rattle.zhost.specs.Desks.{TreeStanding}
 
--- what the master knows; of another process this tells nothing
+-- what the master knows; of another process this says nothing
 abbrev pub master_known : TreeStanding → MasterView
 master_known (AtMaster v) = v
 master_known other = opening_master 0 0
 
--- what a client knows; of another process this tells nothing
+-- what a client knows; of another process this says nothing
 abbrev pub client_known : TreeStanding → ClientView
 client_known (AtClient v) = v
 client_known other = opening_client 0 0 0

@@ -1,4 +1,4 @@
--- What a clause says of a client that had this desk and stood there, and then has that desk and stands there.
+-- What a clause says of a step of a client, from one endpoint and view to another.
 use Rattle.std.specs.Prelude.{◌≡◌, ℕ, ◌+◌, true, [], ◌∷◌, Option, None, Some, is_some}
 use Rattle.std.specs.Option.{option_map}
 use Rattle.ztree.specs.Tree.{Tree}
@@ -19,24 +19,24 @@ use Rattle.zworld_model.specs.Does.{answer_told}
 use Rattle.zhost.specs.declared.desk.Desk.{Desk}
 use Rattle.zhost.specs.Desks.{IsEntered, pending, SameBooks, stamp_of_desk, TreeStamped}
 
--- the answer that a message brings
+-- the reply that a message brings
 abbrev pub answer_event : ℕ → TreeMessage → Option CallEvent
 answer_event c (message.Answer number reply) = Some (call_event.Answer c number reply)
 answer_event c other = None
 
--- it heard the message, and acted by its table: the reply that it gives out is the table's, and what the table puts is put or
--- waits to be put
+-- it heard the message, and acted by its table: it returns the table's reply, and what the table
+-- sends is sent or waits to be sent
 pub record Heard (c : ℕ) (a : Desk) (v : ClientView) (b : Desk) (w : ClientView) (from : Process) (m : TreeStamped) (reply : Option Reply) : Type 0 where
   pub view : w ≡ (client_step v from m.1).0
   pub given : reply ≡ option_map (λ given. given.1) (client_step v from m.1).2
   pub posts : pending b ≡ (client_step v from m.1).1
   pub entered : IsEntered a b (stamp_of_desk b) (act.Took from Acted) (answer_told c (client_step v from m.1).2)
 
--- it heard nothing: it is as it was, and gives out no reply
+-- it heard nothing: it is as it was, and returns no reply
 abbrev pub HeardNothing : Desk → ClientView → Desk → ClientView → Option Reply → Type 0
 HeardNothing a v b w reply = SameBooks a b × (w ≡ v) × (reply ≡ None)
 
--- it began the call with that number, by its table
+-- it invoked the call with that number, by its table
 pub record Begins (c : ℕ) (a : Desk) (v : ClientView) (b : Desk) (w : ClientView) (call : Call) (number : ℕ) : Type 0 where
   pub numbered : number ≡ v.number + 1
   pub view : w ≡ (begin_step {T = Transfer (KeptState Tree)} v call).0

@@ -1,4 +1,4 @@
--- What a process enters into trace and record, by what became of an input.
+-- What is entered into trace and record, by what became of an input.
 use Rattle.std.specs.Prelude.{Option, None, Some}
 use Rattle.zcalls.specs.declared.call.Call.{Call}
 use Rattle.zprotocol.specs.declared.process.Process.{Process}

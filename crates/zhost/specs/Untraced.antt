@@ -1,4 +1,4 @@
--- What an endpoint keeps that isn't traced.
+-- What an untraced endpoint has.
 use Rattle.std.specs.Prelude.{◌≡◌, Bool, true, []}
 use Rattle.std.specs.Vec.{vec_capacity}
 use Rattle.std.specs.declared.alloc.Global.{Global}

@@ -19,7 +19,7 @@ module _ {M : Type 0} where
   abbrev pub NothingWaits : List (Tx M) → Type 0
   NothingWaits outs = (i : ℕ) (t : Tx M) → get_elem? outs i ≡ some t → IsEmpty t
 
-  -- a message waits only for want of room in its ring
+  -- a message waits only for room in its ring
   abbrev pub AreFlushed : List (Tx M) → Type 0
   AreFlushed outs = (i : ℕ) (t : Tx M) → get_elem? outs i ≡ some t → IsFlushed t
 

@@ -1,4 +1,4 @@
-//! A process is given an input at its desk.
+//! A process is given an input at its endpoint.
 
 ghost use Rattle.std.specs.Prelude.{◌≡◌, [], None, Some, Err, Ok, false, IfErr, IfNone, IfOk};
 ghost use Rattle.std.specs.Prelude.{IfSome, OnErr, OnOk};
@@ -19,8 +19,8 @@ use zprotocol::{Message, Process};
 use zserver::Snapshot;
 use ztraces::Stamp;
 
-/// The process of a desk is given an input. What it did is entered, if it keeps a trace. What it
-/// sends waits in the desk, and the failure notice of a server that stops is on its channel.
+/// Gives an input to the process of an endpoint. What it did is entered, if it has a trace. What it
+/// sends waits in the endpoint, and the failure notice of a server that stops is on its channel.
 pub(crate) fn act(
     desk: &mut Desk,
     actor: &mut Actor,
@@ -52,7 +52,7 @@ pub(crate) fn act(
     }
 }
 
-// The same, but the failure notice of a server that stops is on no channel yet.
+// Does the same, but the failure notice of a server that stops is on no channel yet.
 fn enter(
     desk: &mut Desk,
     actor: &mut Actor,
@@ -100,7 +100,7 @@ fn enter(
     }
 }
 
-// The same for a process that isn't traced. Nothing is copied for a trace and a record.
+// Does the same for a process that isn't traced. Nothing is copied for a trace and a record.
 fn enter_untraced(
     desk: &mut Desk,
     actor: &mut Actor,
@@ -138,7 +138,7 @@ fn enter_untraced(
     }
 }
 
-// A message that was to be heard is handed back.
+// Writes the message of an input that was to be heard back to `handed`.
 fn hand_back(input: Input, handed: &mut Handed)
     ensures { handed.new ≡ handed_by input (Err Memory) handed.old }
 {
@@ -149,8 +149,8 @@ fn hand_back(input: Input, handed: &mut Handed)
     }
 }
 
-/// The process hears a message that was received, and hasn't stopped. Where there is no memory for
-/// the message, it is kept, and counts as still in its ring.
+/// Gives a received message to a process that hasn't stopped. If there is no memory for the
+/// message, it remains here, and counts as still in its ring.
 pub(crate) fn hear(
     desk: &mut Desk,
     actor: &mut Actor,
@@ -188,7 +188,7 @@ pub(crate) fn hear(
         Ok(done) => Some(done),
         Err(ActFault::Memory) => {
             let Some(message) = handed.take_message() else {
-                // What couldn't be heard is handed back.
+                // A message that couldn't be heard is in `handed`.
                 unreachable!();
             };
             drop(replace(front, handed_back(&from, stamp, message)));
@@ -201,7 +201,7 @@ pub(crate) fn hear(
     }
 }
 
-// A message that is handed back.
+// Returns a message that couldn't be heard, with its sender and timestamp.
 fn handed_back(
     from: &Process,
     stamp: Stamp,

@@ -1,4 +1,4 @@
-//! What became of a client's inputs, as its caller is told.
+//! What became of a client's inputs, as returned to its caller.
 
 ghost use Rattle.std.specs.Prelude.{◌≡◌};
 ghost use Rattle.zactor.specs.declared.done.Done.TheVariants.{Began};
@@ -8,19 +8,19 @@ use zactor::{ActFault, Done, Refusal};
 use zcalls::CallNumber;
 use zclient::BeginFault;
 
-/// The number of a call that was invoked.
+/// Returns the number of a call that was invoked.
 pub(crate) fn number_of(done: Done) -> CallNumber
     requires { HasBegun done }
     ensures { done ≡ Began result }
 {
     let Done::Began(number) = done else {
-        // What a client makes of a call is this.
+        // A client that accepts a call returns this.
         unreachable!();
     };
     number
 }
 
-/// Why a call wasn't invoked.
+/// Returns why a call wasn't invoked.
 pub(crate) fn begin_fault_of(fault: ActFault) -> BeginFault
     ensures { result ≡ begin_fault_of fault }
 {

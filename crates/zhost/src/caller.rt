@@ -1,4 +1,9 @@
 //! What a caller's thread owns.
+//!
+//! # Why
+//!
+//! A client's thread doesn't sleep: its calls take no handle of `Wait`, and none lasts longer than
+//! its caller says. So no bell is its own.
 
 ghost use Rattle.std.specs.Prelude.{◌≡◌, IfErr, IfOk, OnErr, OnOk, max, true, false};
 ghost use Rattle.zprotocol.specs.declared.process.Process.TheVariants.{Client};
@@ -21,8 +26,8 @@ use zclient::{BeginFault, ClientCore};
 use zprotocol::ServerId;
 use ztraces::Stamp;
 
-/// A client with its desk. It went by the client table from its opening view, through its trace if
-/// it keeps one.
+/// A client with its endpoint. It followed the client table from its opening view, through its
+/// trace if it has one.
 #[derive(Drop)]
 pub struct Caller {
     pub(crate) host: Host,
@@ -37,7 +42,7 @@ impl Caller {
     ghost use Rattle.zhost.specs.Callers.{caller_desk, caller_id, caller_stamp, caller_view};
     ghost use Rattle.zhost.specs.Callers.{learnt_of, MayRefuse, SameLearnt};
 
-    /// The client with a desk that has done nothing.
+    /// Returns the client with an endpoint that has done nothing.
     pub fn new(id: ClientId, desk: Desk, core: ClientCore) -> Caller
         requires me { process_of desk ≡ Client id }
         requires at { IsAt desk (AtClient core) }
@@ -52,7 +57,7 @@ impl Caller {
         }
     }
 
-    /// Its number.
+    /// Returns its number.
     pub fn id(&self) -> ClientId
         ensures { result ≡ caller_id self.now }
     {
@@ -60,28 +65,28 @@ impl Caller {
         *id
     }
 
-    /// The head of the chain, as the master last told it.
+    /// Returns the head of the chain, by the master's last message to it.
     pub fn head(&self) -> Option<ServerId>
         ensures { result ≡ (caller_view self.now).head }
     {
         self.core().head()
     }
 
-    /// The tail of the chain, as the master last told it.
+    /// Returns the tail of the chain, by the master's last message to it.
     pub fn tail(&self) -> Option<ServerId>
         ensures { result ≡ (caller_view self.now).tail }
     {
         self.core().tail()
     }
 
-    /// The last stamp of its events, or a later one that it was told of.
+    /// Returns the last timestamp of its events, or a later one that it learned.
     pub fn stamp(&self) -> Stamp
         ensures { result ≡ caller_stamp self.now }
     {
         self.host.stamp()
     }
 
-    /// From now on its events have later stamps than this one. No later call forgets that.
+    /// From now on its events have later timestamps than this one, through all later calls.
     pub fn learn(&mut self, stamp: Stamp)
         ensures stamp { caller_stamp self.new ≡ max (caller_stamp self.old) stamp }
         ensures learnt { learnt_of self.new ≡ max (learnt_of self.old) stamp }
@@ -91,8 +96,8 @@ impl Caller {
         self.host.learn(stamp);
     }
 
-    /// Invokes a call, and returns its number. Busy where a call is outstanding, Exhausted where no
-    /// numbers are left, Memory where there is none: then nothing is begun.
+    /// Invokes a call, and returns its number. Returns `Busy` where a call is outstanding,
+    /// `Exhausted` where no numbers are left, and `Memory` out of memory: then nothing is invoked.
     #[tactic(auto, unfolding(zprotocol::specs::client::Table::begin_fault))]
     pub fn begin(&mut self, call: Call) -> Result<CallNumber, BeginFault>
         ensures same { SameDesk (caller_desk self.old) (caller_desk self.new) }
@@ -117,7 +122,7 @@ impl Caller {
         }
     }
 
-    /// Sends the outstanding call once more. False where there is none.
+    /// Sends the outstanding call once more. Returns false where there is none.
     pub fn retry(&mut self) -> Result<bool, Memory>
         ensures same { SameDesk (caller_desk self.old) (caller_desk self.new) }
         ensures retried { IfOk result (Retried self.old self.new) }
@@ -146,7 +151,7 @@ impl Caller {
 
     /// Moves what waits into the rings and receives at most one message. Returns the reply of the
     /// outstanding call, if the message brings it. A message for which there is no memory counts as
-    /// still in its ring, and comes first at the next turn.
+    /// still in its ring, and comes first at the next `turn`.
     pub fn turn(&mut self) -> Option<Reply>
         ensures same { SameDesk (caller_desk self.old) (caller_desk self.new) }
         ensures turned { Turned self.old self.new result }
@@ -170,7 +175,7 @@ impl Caller {
         reply
     }
 
-    /// What it leaves, with its number.
+    /// Returns what it leaves, with its number.
     pub fn into_ending(self) -> (ClientId, Ending)
         ensures id { result.0 ≡ caller_id self }
         ensures ended { HasEnded (self_of (caller_desk self)) result.1 }
@@ -186,7 +191,7 @@ impl Caller {
         (id, host.into_ending())
     }
 
-    // What the client knows.
+    // Returns what the client knows.
     fn core(&self) -> &ClientCore
         ensures { result.now ≡ caller_view self.now }
     {

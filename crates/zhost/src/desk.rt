@@ -1,4 +1,11 @@
 //! The endpoint of a process.
+//!
+//! # Why
+//!
+//! Servers, the master and clients share one endpoint and one invariant. An untraced run is the
+//! same code with one flag: its trace is cut from the start. A cut trace and lost steps are two
+//! flags, since a trace that is full, or has no memory, is cut while the process still follows its
+//! table.
 
 ghost use Rattle.std.specs.Prelude.{◌≡◌, [], true, false, length, not};
 ghost use Rattle.zhost.specs.Untraced.{RecordsNothing};
@@ -15,7 +22,7 @@ use zworld_model::CallEvent;
 /// A message with the timestamp of the event that sent it.
 pub type Stamped = (Stamp, Message<Snapshot>);
 
-/// The endpoint of a process in a thread: what it has beside its view.
+/// The endpoint of a process in a thread: all that it has except its view.
 #[derive(Drop)]
 pub struct Desk {
     pub(crate) alloc: Global,
@@ -23,24 +30,24 @@ pub struct Desk {
     // the last server of the initial chain, and how many clients there are
     pub(crate) last: ServerId,
     pub(crate) clients: u8,
-    // by place: the channel from each process, and to each
+    // by index: the channel from each process, and to each
     pub(crate) ins: Vec<Rx<Stamped>>,
     pub(crate) outs: Vec<Tx<Stamped>>,
     /// The last event's messages that aren't on their channels yet, except one that is held.
     pub out: Out<Snapshot>,
     // the first of those, if there was no memory for it
     pub(crate) held: Option<(Process, Message<Snapshot>)>,
-    // whether something may wait before a ring
+    // whether a message may wait before a ring
     pub(crate) waits: bool,
     pub(crate) stamp: Stamp,
-    // whether it keeps a trace and a record; if not, its trace is cut from the start
+    // whether it has a trace and a record; if not, its trace is cut from the start
     pub(crate) is_traced: bool,
     pub(crate) trace: Vec<TraceEvent>,
     pub(crate) seen: Vec<CallEvent>,
     pub(crate) is_cut: bool,
     // whether a message of an event is on no channel, or an event has the last timestamp
     pub(crate) is_lost: bool,
-    // rung where a message goes onto a channel
+    // wakes the receiver where a message goes onto a channel
     pub(crate) bells: Bells,
     ghost sides: { length ins.items ≡ length outs.items },
     ghost noticed: { waits ≡ false → NothingWaits outs.items },
@@ -51,16 +58,16 @@ pub struct Desk {
 /// What an endpoint leaves: the process's channels, its trace, and what its caller saw.
 #[derive(Drop)]
 pub struct Ending {
-    /// The receiving ends, by place.
+    /// The receiving ends, by index.
     pub ins: Vec<Rx<Stamped>>,
-    /// The sending ends, by place.
+    /// The sending ends, by index.
     pub outs: Vec<Tx<Stamped>>,
     /// What it did. It is cut if a message of it is on no channel.
     pub trace: Trace,
     /// What its caller saw.
     pub seen: Vec<CallEvent>,
     /// Whether a message of an event is on no channel, or an event has the last timestamp. Then
-    /// nothing can be said of the process.
+    /// nothing is known of the process's steps.
     pub is_lost: bool,
     ghost kept: { trace.is_cut ≡ false → is_lost ≡ false },
 }
@@ -73,7 +80,7 @@ impl Desk {
     ghost use Rattle.zhost.specs.Endings.{LeavesNothing, SameWires};
 
     /// Returns the endpoint of a process that has done nothing, with unused channels. If it isn't
-    /// to be traced it keeps no trace and no record, and takes no memory for them.
+    /// traced, it has no trace and no record, and takes no memory for them.
     pub fn new(
         alloc: Global,
         me: Process,

@@ -1,4 +1,9 @@
 //! The trace of an endpoint.
+//!
+//! # Why
+//!
+//! A traced client copies a call for its trace and for its record. An untraced one copies no call
+//! and no reply: a copy is one more owner of the path, and a shared block would cost an allocation.
 
 ghost use Rattle.std.specs.Prelude.{◌≡◌, true, false, IsFalse, IsTrue, max, option_to_list};
 ghost use Rattle.zworld_model.specs.History.{History};
@@ -30,8 +35,8 @@ impl Desk {
         self.stamp.later(taken).next()
     }
 
-    /// Reserves room for one event in trace and record, if it keeps them. False if there is no
-    /// memory for it.
+    /// Reserves room for one event in trace and record, if it has them. Returns false if there is
+    /// no memory for it.
     pub fn reserve(&mut self) -> bool
         ensures room { IsTrue result → HasRoom self.new }
         ensures needed { IsFalse result → HasRoom self.old → ⊥ }
@@ -47,8 +52,8 @@ impl Desk {
         self.seen.reserve(1).is_ok()
     }
 
-    /// Appends an event to the trace, and what the caller saw of it to the record, if it keeps
-    /// them. The trace is cut if the timestamp is the last one, or if there is no room for the
+    /// Appends an event to the trace, and what the caller saw of it to the record, if it has them.
+    /// The trace is cut if the timestamp is the last one, or if there is no room for the
     /// event.
     pub fn enter(&mut self, act: Act, stamp: Stamp, told: Option<CallEvent>)
         ensures stands { StandsAfter self.old self.new act stamp (option_to_list told) }
@@ -89,15 +94,15 @@ impl Desk {
         }
     }
 
-    /// Returns whether it keeps a trace and a record.
+    /// Returns whether it has a trace and a record.
     pub fn is_traced(&self) -> bool
         ensures { result ≡ is_traced_of self.now }
     {
         self.is_traced
     }
 
-    /// Notes the timestamp of an event, if it keeps no trace and no record. So whoever calls it
-    /// makes no copy of what was done and seen.
+    /// Notes the timestamp of an event, if it has no trace and no record. So the caller makes no
+    /// copy of what was done and seen.
     pub fn enter_untraced(&mut self, stamp: Stamp)
         requires { is_traced_of self.old ≡ false }
         ensures stands { (act : Act) (told : History)

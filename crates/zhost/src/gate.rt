@@ -1,4 +1,4 @@
-//! What stands between taking a message and acting on it.
+//! A hook between receiving a message and acting on it.
 
 use zprotocol::{Message, Process};
 use zserver::Snapshot;
@@ -10,7 +10,7 @@ pub trait Gate: Drop {
     fn pass(&mut self, from: &Process, message: &Message<Snapshot>);
 }
 
-/// The gate that lets all pass at once.
+/// The gate that passes each message at once.
 #[derive(Clone, Copy)]
 pub struct Open;
 

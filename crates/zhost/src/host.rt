@@ -1,4 +1,10 @@
-//! A process at its desk.
+//! A process with its endpoint.
+//!
+//! # Why
+//!
+//! All messages of an event are sent before the next message is received, so a server that is held
+//! at a message doesn't hold back what it has forwarded. A message that the process had no memory
+//! for remains in the host, since a ring can't return it.
 
 ghost use Rattle.std.specs.Prelude.{◌≡◌, ◌<◌, IfErr, IfNone, IfOk, IfSome, IsFalse, IsTrue};
 ghost use Rattle.std.specs.Prelude.{false, is_some, max, None, true};
@@ -19,13 +25,13 @@ use zactor::{ActFault, Actor, Done, Handed, Input};
 use zprotocol::{Order, Process};
 use ztraces::{Act, Stamp};
 
-/// A process with its desk, whichever kind it is. It went by its definition from the initial state,
-/// through its trace if it keeps one.
+/// A process with its endpoint, whichever kind it is. It followed its definition from the initial
+/// state, through its trace if it has one.
 #[derive(Drop)]
 pub struct Host {
     pub(crate) desk: Desk,
     pub(crate) actor: Actor,
-    // the last timestamp that it was told of, as only a client is
+    // the last timestamp that it learned from its caller, as only a client does
     pub(crate) learnt: Stamp,
     // a message that was received, and counts as still in its ring: no memory was found for it
     pub(crate) front: Option<(Process, Stamped)>,
@@ -37,7 +43,7 @@ impl Host {
     ghost use Rattle.zhost.specs.Hosts.{host_stamp, host_standing, IsClientHost, Received};
     ghost use Rattle.zhost.specs.Hosts.{RefusesOrder};
 
-    /// A process with a desk that has done nothing.
+    /// Returns a process with an endpoint that has done nothing.
     pub fn new(desk: Desk, actor: Actor) -> Host
         requires fits { Fits desk actor }
         requires at { IsAt desk actor }
@@ -53,36 +59,36 @@ impl Host {
         }
     }
 
-    /// How many links it takes from.
+    /// Returns how many links it receives from.
     pub fn links(&self) -> usize
         ensures { result ≡ link_count (host_desk self.now) }
     {
         self.desk.links()
     }
 
-    /// Whether it has stopped for good.
+    /// Returns whether it has stopped, which is final.
     pub fn has_stopped(&self) -> bool
         ensures { result ≡ has_stopped (host_standing self.now) }
     {
         self.actor.has_stopped()
     }
 
-    /// Whether a message that it received counts as still in its ring. The next turn begins with
-    /// that one.
+    /// Returns whether a message that it received counts as still in its ring. The next `turn`
+    /// begins with that one.
     pub fn has_front(&self) -> bool
         ensures { result ≡ is_some (host_front self.now) }
     {
         self.front.is_some()
     }
 
-    /// The last timestamp of its events, or a later one that it was told of.
+    /// Returns the last timestamp of its events, or a later one that it learned.
     pub fn stamp(&self) -> Stamp
         ensures { result ≡ host_stamp self.now }
     {
         self.desk.stamp().later(self.learnt)
     }
 
-    /// From now on the events of a client come behind this timestamp.
+    /// From now on the events of a client come after this timestamp.
     pub fn learn(&mut self, stamp: Stamp)
         requires { IsClientHost self.old }
         ensures learnt { host_learnt self.new ≡ max (host_learnt self.old) stamp }
@@ -92,18 +98,18 @@ impl Host {
         self.learnt = self.learnt.later(stamp);
     }
 
-    /// Sends what the last event sent, and moves what waits into the rings. So none of it waits for
+    /// Sends what the last event sent, and moves what waits into the rings. So nothing waits for
     /// the next message.
     pub fn flush(&mut self)
         ensures idle { DidIdle self.old self.new }
         ensures same { SameDesk (host_desk self.old) (host_desk self.new) }
     {
-        // What finds no memory now is kept for the next time.
+        // A message without memory is tried again the next time.
         let _ = self.desk.settle();
         self.desk.flush();
     }
 
-    /// Whether it finds no message in the ring of a link.
+    /// Returns whether it finds no message in the ring of a link.
     pub fn is_empty(&mut self, link: usize) -> bool
         requires { link < link_count (host_desk self.old) }
         ensures none { IsTrue result → SeesNothing link (wires_of (host_desk self.new)).0 }
@@ -114,7 +120,7 @@ impl Host {
         self.desk.is_empty(link)
     }
 
-    /// Whether a turn at this link finds nothing to receive.
+    /// Returns whether a `turn` at this link finds nothing to receive.
     pub fn finds_nothing(&mut self, link: usize) -> bool
         requires { link < link_count (host_desk self.old) }
         ensures idle { DidIdle self.old self.new }
@@ -126,8 +132,8 @@ impl Host {
         self.is_empty(link)
     }
 
-    /// Reserves room for one event in trace and record, if it keeps them. False if there is no
-    /// memory for it.
+    /// Reserves room for one event in trace and record, if it has them. Returns false if there is
+    /// no memory for it.
     pub fn reserve(&mut self) -> bool
         ensures room { IsTrue result → HasRoom (host_desk self.new) }
         ensures idle { DidIdle self.old self.new }
@@ -137,10 +143,9 @@ impl Host {
     }
 
     /// Receives one message of a link and acts on it, once all is sent that the last event sent.
-    /// Returns what became of it. None where nothing was received, as by a process that has
+    /// Returns what became of it, or `None` where nothing was received, as by a process that has
     /// stopped. A message for which there is no memory counts as still in its ring, and comes first
-    /// at the next turn, whatever the link. A reply that a client hands out is put in the place that
-    /// is lent.
+    /// at the next `turn`, whatever the link. A client's reply is written to `handed`.
     pub fn turn<G: Gate>(&mut self, link: usize, gate: &mut G, handed: &mut Handed) -> Option<Done>
         ensures idle { IfNone result (DidIdle self.old self.new) }
         ensures received { IfSome result (Received self.old self.new handed.old handed.new) }
@@ -195,8 +200,8 @@ impl Host {
         done
     }
 
-    /// The master refuses an order, which is an event of its trace. False where what the last event
-    /// sent waits for memory.
+    /// The master refuses an order, which is an event of its trace. Returns false where a message
+    /// of the last event waits for memory.
     pub fn refuse(&mut self, order: &Order) -> bool
         requires { refuses (process_of (host_desk self.old)) (host_standing self.old) order.now
             ≡ true }
@@ -212,7 +217,7 @@ impl Host {
         true
     }
 
-    /// What it leaves, once it does nothing more.
+    /// Returns what it leaves, once it does nothing more.
     pub fn into_ending(self) -> Ending
         ensures ended { HasEnded (self_of (host_desk self)) result }
         ensures wires { SameWires (host_desk self) result }

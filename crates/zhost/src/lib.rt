@@ -1,18 +1,22 @@
-//! A process in a thread of its own: the endpoint that all have, the bodies of the servers' threads
-//! and of the master's, and a client that its caller's thread owns.
+//! A process in a thread of its own: its endpoint, the loops of the servers' threads and of the
+//! master's, and a client that its caller's thread owns.
 //!
-//! A desk is the endpoint: channels, trace, timestamp, and the messages that aren't on their
-//! channels yet. It has one invariant. The process went by its table from the initial state through
-//! its trace. What was received from each channel, and sent on it, is what the process's steps
-//! received and sent.
+//! The endpoint (`Desk`) has channels, trace, timestamp, and the messages that aren't on their
+//! channels yet. It has one invariant: the process followed its table from the initial state
+//! through its trace. What was received from each channel, and sent on it, is what the process's
+//! steps received and sent.
 //!
-//! A host is a process with its desk, whichever kind it is. It gives the process its inputs, and
-//! what the process did is one event of the desk. Servers, the master and clients stand over it.
+//! A `Host` is a process with its endpoint, whichever kind it is. It gives the process its inputs,
+//! and each input is one event of the endpoint. Servers, the master and clients are built on it.
 //!
-//! What a thread owns is one value with that invariant. The bodies only go round. A thread receives
-//! a message only after a look at the halt's bits that found neither the run ended nor its server
-//! halted. The master says to the console what became of each of its orders. None of a client's
-//! calls waits.
+//! A thread owns one value with that invariant, and its loop only calls it. A thread receives a
+//! message only after a look at the halt's bits that found neither the run ended nor its server
+//! halted. The master returns the outcome of each order to the console. No call of a client blocks.
+//!
+//! # Why
+//!
+//! Each call of an endpoint promises an implication over all states of its process (`Stands`). So
+//! the promises compose, and no ghost value is passed.
 #![tactic(auto)]
 
 mod acting;

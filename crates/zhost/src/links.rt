@@ -27,7 +27,8 @@ impl Desk {
         self.ins[link].is_empty()
     }
 
-    /// Receives the next message of a channel, with its sender. None if its ring has none.
+    /// Receives the next message of a channel, with its sender. Returns `None` if its ring has
+    /// none.
     pub fn take(&mut self, link: usize) -> Option<(Process, Stamped)>
         requires { link < link_count self.old }
         ensures taken { HasTaken self.old self.new None result }

@@ -19,8 +19,8 @@ use zmaster::Master;
 use zprotocol::Order;
 use zshared::outcome::OrderOutcome;
 
-/// The master with its desk. It went by the master table from its opening view, through its trace
-/// if it keeps one.
+/// The master with its endpoint. It followed the master table from its opening view, through its
+/// trace if it has one.
 #[derive(Drop)]
 pub struct MasterThread {
     pub(crate) host: Host,
@@ -30,7 +30,7 @@ pub struct MasterThread {
 impl MasterThread {
     ghost use Rattle.zhost.specs.Owned.{master_desk, master_view};
 
-    /// The master with a desk that has done nothing.
+    /// Returns the master with an endpoint that has done nothing.
     pub fn new(desk: Desk, master: Master) -> MasterThread
         requires me { process_of desk ≡ process.Master }
         requires at { IsAt desk (AtMaster master) }
@@ -41,8 +41,8 @@ impl MasterThread {
         }
     }
 
-    /// Obeys an order of the console, or refuses it, and returns which. None where that has to be
-    /// tried again, for memory.
+    /// Obeys an order of the console, or refuses it, and returns which. Returns `None` where that
+    /// has to be tried again, for memory.
     pub fn follow(&mut self, order: &Order) -> Option<OrderOutcome>
         ensures idle { IfNone result
             (SameBooks (master_desk self.old) (master_desk self.new)) }
@@ -54,7 +54,7 @@ impl MasterThread {
             (IsAt (master_desk self.old) (AtMaster (master_view self.old))) }
         ensures same { SameDesk (master_desk self.old) (master_desk self.new) }
     {
-        // A message that there was no memory for comes first.
+        // A message without memory comes first.
         if self.host.has_front() {
             return None;
         }
@@ -76,7 +76,7 @@ impl MasterThread {
         }
     }
 
-    /// What it leaves, once its thread has ended.
+    /// Returns what it leaves, once its thread has ended.
     pub fn into_ending(self) -> Ending
         ensures ended { HasEnded (self_of (master_desk self)) result }
         ensures wires { SameWires (master_desk self) result }

@@ -17,7 +17,7 @@ use zworld_model::{CallEvent, Outcome};
 /// be entered whatever memory is left then.
 #[derive(Drop)]
 pub(crate) enum Note {
-    /// It receives a message from this process, and the caller may see this.
+    /// It receives a message from this process, and the caller may see these events.
     Heard(Process, Option<CallEvent>),
     /// It invokes this call, which is also its copy.
     Begun(Call, Call),
@@ -70,7 +70,7 @@ impl Note {
     }
 }
 
-// What the caller may see of a message that a process receives.
+// Returns what the caller may see of a message that a process receives.
 fn told_of(
     alloc: Global,
     me: &Process,
@@ -84,7 +84,7 @@ fn told_of(
     }
 }
 
-// The answer that a message brings.
+// Returns the reply that a message brings.
 fn answer_of(
     alloc: Global,
     id: ClientId,
@@ -101,7 +101,7 @@ fn answer_of(
     }
 }
 
-// What is entered of a message.
+// Returns what is entered of a message.
 fn heard(from: Process, told: Option<CallEvent>, done: &Done) -> (Act, Option<CallEvent>)
     ensures act { result.0 ≡ act_heard from done.now }
     ensures told { result.1 ≡ told_heard told done.now }
@@ -127,7 +127,7 @@ fn heard(from: Process, told: Option<CallEvent>, done: &Done) -> (Act, Option<Ca
     }
 }
 
-// What the caller sees of a call that was invoked.
+// Returns what the caller sees of a call that was invoked.
 fn begun(me: &Process, done: &Done, copy: Call) -> Option<CallEvent>
     ensures { result ≡ told_begun me.now copy done.now }
 {

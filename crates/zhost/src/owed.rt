@@ -1,4 +1,4 @@
-//! What the master owes the console.
+//! What the master's thread has still to do for the console.
 
 ghost use Rattle.std.specs.Prelude.{◌≡◌};
 
@@ -10,16 +10,16 @@ use zshared::outcome::OrderOutcome;
 pub(crate) enum Owed {
     /// Nothing.
     Nothing,
-    /// To follow this order.
+    /// It has to follow this order.
     Deed(Order),
-    /// To say this.
+    /// It has to send this outcome.
     Word(OrderOutcome),
 }
 
 impl Owed {
     ghost use Rattle.zhost.specs.Outcomes.{owes};
 
-    /// Whether there is something.
+    /// Returns whether there is anything to do.
     pub(crate) fn is_some(&self) -> bool
         ensures { result ≡ owes self.now }
     {

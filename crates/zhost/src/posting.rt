@@ -10,8 +10,8 @@ use zprotocol::{Message, Process};
 use zserver::Snapshot;
 
 impl Desk {
-    /// Sends the last event's messages. False if there was no memory for all of them: the rest is
-    /// kept for later.
+    /// Sends the last event's messages. Returns false if there was no memory for all of them: the
+    /// rest waits.
     pub fn settle(&mut self) -> bool
         ensures stands { HasPut self.old self.new (pending self.old) (pending self.new) }
         ensures all { IsTrue result → IsSettled self.new }
@@ -42,7 +42,7 @@ impl Desk {
         self.held.take()
     }
 
-    // Sends one message, or holds it for later. A process that has no place isn't part of this run:
+    // Sends one message, or holds it for later. A process without an index isn't part of this run:
     // its message is dropped.
     fn put_on_link(&mut self, to: Process, message: Message<Snapshot>) -> bool
         requires { self.old.held ≡ None }
@@ -72,7 +72,7 @@ impl Desk {
         }
     }
 
-    /// Sends the failure notice of a server, for which its channel to the master keeps a slot. It
+    /// Sends the failure notice of a server, for which its channel to the master has a slot. It
     /// takes no memory.
     pub fn put_gone(&mut self)
         ensures stands { HasPut self.old self.new last_post [] }

@@ -1,4 +1,10 @@
-//! The body of the master's thread.
+//! The loop of the master's thread.
+//!
+//! # Why
+//!
+//! The thread has at most one order that it received and hasn't followed. So the orders in its
+//! trace are those that it received, except the last one. It returns its end of the console's
+//! channel, so that at the join both ends are in one thread.
 
 ghost use Rattle.std.specs.Prelude.{◌≡◌, ◌≤◌, ◌++◌, [], length, List, map, None, Option};
 ghost use Rattle.std.specs.Prelude.{option_to_list};
@@ -23,10 +29,10 @@ use zprotocol::Order;
 use zshared::console::Inbox;
 use zshared::halts::{Halt, HaltSeat};
 
-/// Goes over the links in turn, and takes the console's orders, until bit 0 is set. It sends what
-/// waits, and looks at the bit, once a round and before each message. Of a link without a message
-/// it only asks whether it has one. It follows the orders in turn, each once, and says what became
-/// of each. What there is no memory for is tried again, before another order is received.
+/// Goes over the links, round after round, and receives the console's orders, until bit 0 is set.
+/// It sends what waits, and looks at the bit, once a round and before each message. A link without
+/// a message costs one look. It follows the orders in sequence, each once, and returns the outcome
+/// of each. Where memory was missing, it tries again before it receives another order.
 pub fn preside<R: Wait>(
     rt: &R,
     mut chief: MasterThread,
@@ -64,7 +70,7 @@ pub fn preside<R: Wait>(
     unreachable!()
 }
 
-// Receives an order, unless something is owed for the last one.
+// Receives an order, unless the last one isn't followed or its outcome isn't sent.
 fn next_order<R: Wait>(rt: &R, inbox: &mut Inbox, owed: Owed) -> Owed
     ensures ends { IsSameInbox inbox.old inbox.new }
     ensures taken { (before : List Order)
@@ -82,7 +88,7 @@ fn next_order<R: Wait>(rt: &R, inbox: &mut Inbox, owed: Owed) -> Owed
     }
 }
 
-// Follows the order that waits. Where there is no memory it waits on.
+// Follows the order that waits. Out of memory, it still waits.
 fn obey(chief: &mut MasterThread, owed: Owed) -> Owed
     ensures same { SameDesk (master_desk chief.old) (master_desk chief.new) }
     ensures followed { (received : List Order)
@@ -103,7 +109,7 @@ fn obey(chief: &mut MasterThread, owed: Owed) -> Owed
     }
 }
 
-// Says the outcome that waits. Where there is no memory it waits on.
+// Sends the outcome that waits. Out of memory, it still waits.
 fn say(inbox: &mut Inbox, owed: Owed) -> Owed
     ensures ends { IsSameInbox inbox.old inbox.new }
     ensures taken { taken_of inbox.new ≡ taken_of inbox.old }

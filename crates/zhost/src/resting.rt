@@ -1,26 +1,31 @@
-//! How the thread of a process rests until there is something to do.
+//! How the thread of a process sleeps until there is something to do.
+//!
+//! # Why
+//!
+//! A receiver wakes no sender, and a halted receiver never makes room. So a thread with a message
+//! that waits for room sleeps only for a short time.
 
 use crate::host::Host;
 use std::sync::Wait;
 use std::time::Duration;
 
-// A receiver rings for no one. So a message that waits for room in a ring is looked after so often.
+// The sleep of a thread with a message that waits for room in a ring.
 const WAITING_MICROS: u64 = 100;
 
 impl Host {
-    /// Lies down: from now on whoever sends a message to the process wakes its thread. It has to
-    /// look once more whether there is something to do before it sleeps.
+    /// Marks the thread as about to sleep: from now on a sender of a message to the process wakes
+    /// it. It has to look once more for work before it sleeps.
     pub fn lie_down(&self) {
         self.desk.bells.lie_down(self.desk.me.place());
     }
 
-    /// Gets up: from now on nobody wakes it.
+    /// Marks the thread as awake: from now on no one wakes it.
     pub fn get_up(&self) {
         self.desk.bells.get_up(self.desk.me.place());
     }
 
     /// Sleeps until it is woken, or for a time: a short one if a message waits, before a ring or
-    /// for memory. It doesn't sleep if it was to be woken since it lay down.
+    /// for memory. It returns at once if it was woken since `lie_down`.
     pub fn sleep<R: Wait>(&self, rt: &R) {
         let place = self.desk.me.place();
         if self.desk.waits | self.desk.held.is_some() | self.front.is_some() {

@@ -19,9 +19,9 @@ use zactor::{Handed, Input};
 use zshared::halts::{Halt, HaltSeat};
 use zshared::looks::Look;
 
-/// Goes over the links once, with the bit at which the process stops, if it has one. Whether a
-/// message was received; None where bit 0 is set. It sends what waits, and looks at the bits, once
-/// a round and before each message. Of a link without a message it only asks whether it has one.
+/// Goes over the links once, with the bit at which the process stops, if it has one. Returns
+/// whether a message was received, or `None` where bit 0 is set. It sends what waits, and looks at
+/// the bits, once a round and before each message. A link without a message costs one look.
 pub(crate) fn go_round<G: Gate>(
     host: &mut Host,
     gate: &mut G,
@@ -50,8 +50,8 @@ pub(crate) fn go_round<G: Gate>(
     Some(is_busy)
 }
 
-// Sends what waits, and looks at the bits. None where bit 0 is set. At its own bit the process
-// stops; else a look is returned, for one message.
+// Sends what waits, and looks at the bits. Returns `None` where bit 0 is set. At its own bit the
+// process stops; else a look is returned, for one message.
 fn watch(
     host: &mut Host,
     halt: &Halt,
@@ -70,14 +70,14 @@ fn watch(
         return None;
     }
     if is_halted(&look, bit) {
-        // Where there is no memory for the notice, the next look tries again.
+        // If there is no memory for the notice, the next look tries again.
         let _ = stop(host);
         return Some(None);
     }
     Some(Some(look))
 }
 
-// Whether the look found this bit, if there is one.
+// Returns whether the look found this bit, if there is one.
 fn is_halted(look: &Look, bit: Option<u32>) -> bool
     requires small { IfSome bit (λ s. s ≤ LAST_BIT) }
     ensures { IsFalse result → IfSome bit (λ s. Found look.now s → ⊥) }
@@ -88,9 +88,9 @@ fn is_halted(look: &Look, bit: Option<u32>) -> bool
     }
 }
 
-// Receives one message of a link and acts on it, once all is sent that the last event sent. False
-// where nothing was received, as by a process that has stopped. It uses up a look, which found
-// neither the run ended nor this process halted.
+// Receives one message of a link and acts on it, once all is sent that the last event sent. Returns
+// false where nothing was received, as by a process that has stopped. It consumes a look, which
+// found neither the run ended nor this process halted.
 fn receive<G: Gate>(host: &mut Host, link: usize, gate: &mut G, look: Look) -> bool
     requires look { LetsTake look (bit_of (process_of (host_desk host.old))) }
     ensures idle { IsFalse result → DidIdle host.old host.new }
@@ -110,8 +110,8 @@ fn receive<G: Gate>(host: &mut Host, link: usize, gate: &mut G, look: Look) -> b
     true
 }
 
-// A server sends its failure notice, once all is sent that the last event sent. True once it has
-// stopped. False where it has to be tried again, for memory.
+// A server sends its failure notice, once all is sent that the last event sent. Returns true once
+// it has stopped, and false where it has to be tried again, for memory.
 fn stop(host: &mut Host) -> bool
     ensures idle { IsFalse result → DidIdle host.old host.new }
     ensures over { IsTrue result → has_stopped (host_standing host.new) ≡ true }

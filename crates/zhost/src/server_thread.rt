@@ -16,8 +16,8 @@ use zactor::Actor;
 use zprotocol::ServerId;
 use zserver::Server;
 
-/// A server with its desk. It went by the server table from its opening view, through its trace if
-/// it keeps one.
+/// A server with its endpoint. It went by the server table from its opening view, through its trace
+/// if it has one.
 #[derive(Drop)]
 pub struct ServerThread {
     pub(crate) host: Host,
@@ -28,7 +28,7 @@ pub struct ServerThread {
 impl ServerThread {
     ghost use Rattle.zhost.specs.Owned.{is_over_of, server_desk};
 
-    /// A server with a desk that has done nothing.
+    /// Returns a server with an endpoint that has done nothing.
     pub fn new(id: ServerId, desk: Desk, server: Server) -> ServerThread
         requires me { process_of desk ≡ ServerProcess id }
         requires at { IsAt desk (AtServer server.view) }
@@ -42,7 +42,7 @@ impl ServerThread {
         }
     }
 
-    /// The bit of a halt at which it stops: its number.
+    /// Returns the bit of a halt at which it stops: its number.
     pub(crate) fn bit(&self) -> u32
         ensures own { Some result ≡ bit_of (process_of (server_desk self.now)) }
         ensures small { result ≤ LAST_BIT }
@@ -50,7 +50,7 @@ impl ServerThread {
         self.id.number() as u32
     }
 
-    /// What it leaves, once its thread has ended.
+    /// Returns what it leaves, once its thread has ended.
     pub fn into_ending(self) -> Ending
         ensures ended { HasEnded (self_of (server_desk self)) result }
         ensures wires { SameWires (server_desk self) result }

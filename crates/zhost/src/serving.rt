@@ -1,4 +1,4 @@
-//! The body of a server's thread.
+//! The loop of a server's thread.
 
 ghost use Rattle.zshared.specs.HaltSeats.{IsSeatOf};
 ghost use Rattle.zhost.specs.Desks.{SameDesk};
@@ -11,9 +11,9 @@ use crate::server_thread::ServerThread;
 use std::sync::Wait;
 use zshared::halts::{Halt, HaltSeat};
 
-/// Goes over the links in turn until bit 0 is set. At its own bit the server sends its failure
-/// notice, and from then on it receives nothing. It sends what waits, and looks at both bits, once
-/// a round and before each message. Of a link without a message it only asks whether it has one.
+/// Goes over the links, round after round, until bit 0 is set. At its own bit the server sends its
+/// failure notice, and from then on it receives nothing. It sends what waits, and looks at both
+/// bits, once a round and before each message. A link without a message costs one look.
 pub fn serve<G: Gate, R: Wait>(
     rt: &R,
     mut member: ServerThread,

@@ -1,4 +1,4 @@
-//! Worked rows of the definitions: each clause is one, and the bodies do nothing.
+//! Worked examples of the definitions. Each clause is one; the bodies do nothing.
 
 ghost use Rattle.std.specs.Prelude.{◌≡◌};
 ghost use Rattle.zprotocol.specs.declared.master.order.Order.TheVariants.{Join, Retire};
@@ -8,8 +8,7 @@ ghost use Rattle.zprotocol.specs.master.View.{opening_master};
 ghost use Rattle.zshared.specs.declared.outcome.OrderOutcome.TheVariants.{Obeyed, Refused};
 ghost use Rattle.zhost.specs.Outcomes.{outcome_at};
 
-/// What the master says to an order, where the chain is servers 1 and 2, and once where it is
-/// server 1.
+/// The outcome of an order, where the chain is servers 1 and 2, and once where it is server 1.
 pub fn orders_have_outcomes()
     ensures joins { outcome_at (opening_master 2 1) (Join 3) ≡ Obeyed (Join 3) }
     ensures used { outcome_at (opening_master 2 1) (Join 2) ≡ Refused (Join 2) Used }
