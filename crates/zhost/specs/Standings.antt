@@ -25,7 +25,7 @@ abbrev pub client_known : TreeStanding → ClientView
 client_known (AtClient v) = v
 client_known other = opening_client 0 0 0
 
--- the reply that a client hands out at a message, by what became of it
+-- the reply that a client returns at a message, by what became of it
 abbrev pub reply_heard : TreeMessage → Done → Option Reply
 reply_heard m (Answered number) = reply_in m
 reply_heard m done = None

@@ -15,7 +15,7 @@ use Rattle.zrun.specs.Clients.{BeganThen, caller_of, TurnedInVain, TurnedUntil}
 abbrev pub SentAgain : Caller → Caller → Type 0
 SentAgain a b = Retried a b true ⊎ SameCaller a b
 
--- n times it sent the call again and took `turns` turns, and no turn returned a reply
+-- n times it sent the call again and called `turn` `turns` times, and no call returned a reply
 abbrev pub InsistedInVain : ℕ → ℕ → Caller → Caller → Type 0
 InsistedInVain turns zero a b = b ≡ a
 InsistedInVain turns (suc n) a b =
@@ -27,23 +27,23 @@ InsistedUntil patience a b reply =
     (n : ℕ) × (n < patience.retries) × (m sent : Caller) × InsistedInVain patience.turns n a m
     × SentAgain m sent × TurnedUntil patience.turns sent b reply
 
--- it took its turns, and sent the call again as often as it may, and no turn returned a reply
+-- it called `turn` as often as it may after the first send and after each resend, in vain
 abbrev pub AskedInVain : Patience → Caller → Caller → Type 0
 AskedInVain patience a b =
     (m : Caller) × TurnedInVain patience.turns a m × InsistedInVain patience.turns patience.retries m b
 
--- one of these turns returned this reply
+-- one of these calls of `turn` returned this reply
 abbrev pub AskedUntil : Patience → Caller → Caller → Reply → Type 0
 AskedUntil patience a b reply =
     TurnedUntil patience.turns a b reply
     ⊎ ((m : Caller) × TurnedInVain patience.turns a m × InsistedUntil patience m b reply)
 
--- it invoked the call, and went on like this until this reply came
+-- it invoked the call, and continued like this until this reply came
 abbrev pub CalledPatientlyUntil : Patience → Call → Client → Client → Reply → Type 0
 CalledPatientlyUntil patience call a b reply =
     BeganThen (caller_of a) call (λ begun. AskedUntil patience begun (caller_of b) reply)
 
--- if the fault is that there is no reply, it invoked the call, and went on like this in vain
+-- if the fault is that there is no reply, it invoked the call, and continued like this in vain
 abbrev pub CalledPatientlyInVain : Patience → Call → Client → Client → Unanswered → Type 0
 CalledPatientlyInVain patience call a b fault =
     fault ≡ NoAnswer → BeganThen (caller_of a) call (λ begun. AskedInVain patience begun (caller_of b))
@@ -53,11 +53,11 @@ abbrev pub GaveUp : Patience → Client → Client → Unanswered → Type 0
 GaveUp patience a b fault =
     (fault ≡ NoAnswer) × InsistedInVain patience.turns patience.retries (caller_of a) (caller_of b)
 
--- the same by a clock: it sent the call again some number of times, with `TURNS` turns for each
+-- the patience of n resends, with `TURNS` calls of `turn` after each send
 abbrev pub so_often : ℕ → Patience
 so_often n = record { turns = TURNS; retries = n }
 
--- one of these turns returned this reply
+-- one of these calls of `turn` returned this reply
 abbrev pub InsistedWithinUntil : Caller → Caller → Reply → Type 0
 InsistedWithinUntil a b reply = (n : ℕ) × InsistedUntil (so_often n) a b reply
 

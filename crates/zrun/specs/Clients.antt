@@ -22,12 +22,12 @@ use Rattle.zrun.specs.Origins.{desk_wiring, IsOneOf, Run, Wiring}
 abbrev pub caller_of : Client → Caller
 caller_of c = c.caller
 
--- it took that many turns, and none of them returned a reply
+-- it called `turn` that many times, and no call returned a reply
 abbrev pub TurnedInVain : ℕ → Caller → Caller → Type 0
 TurnedInVain zero a b = b ≡ a
 TurnedInVain (suc n) a b = (m : Caller) × TurnedInVain n a m × Turned m b None
 
--- it took at most that many turns, and the last one returned this reply
+-- it called `turn` at most that many times, and the last call returned this reply
 abbrev pub TurnedUntil : ℕ → Caller → Caller → Reply → Type 0
 TurnedUntil turns a b reply = (n : ℕ) × (n < turns) × (m : Caller) × TurnedInVain n a m × Turned m b (Some reply)
 
@@ -39,11 +39,11 @@ IsRefused v fault = (by : BeginFault) × (fault ≡ unanswered_by by) × MayRefu
 abbrev pub BeganThen : Caller → Call → (Caller → Type 0) → Type 0
 BeganThen a call P = (m : Caller) × (number : ℕ) × Began a m call number × P m
 
--- it invoked the call, and took at most that many turns, the last of which returned this reply
+-- it invoked the call, and called `turn` at most that many times; the last one returned this reply
 abbrev pub CalledUntil : ℕ → Call → Client → Client → Reply → Type 0
 CalledUntil turns call a b reply = BeganThen (caller_of a) call (λ begun. TurnedUntil turns begun (caller_of b) reply)
 
--- if the fault is that there is no reply, it invoked the call, and took that many turns in vain
+-- if the fault is that there is no reply, it invoked the call, and called `turn` that often in vain
 abbrev pub CalledInVain : ℕ → Call → Client → Client → Unanswered → Type 0
 CalledInVain turns call a b fault =
     fault ≡ NoAnswer → BeganThen (caller_of a) call (λ begun. TurnedInVain turns begun (caller_of b))
@@ -53,7 +53,7 @@ abbrev pub BeganNothing : Client → Client → Unanswered → Type 0
 BeganNothing a b fault =
     fault ≢ NoAnswer → IsRefused (caller_view (caller_of a)) fault × SameCaller (caller_of a) (caller_of b)
 
--- there is no reply: it took that many turns in vain
+-- there is no reply: it called `turn` that many times in vain
 abbrev pub WaitedInVain : ℕ → Client → Client → Unanswered → Type 0
 WaitedInVain turns a b fault = (fault ≡ NoAnswer) × TurnedInVain turns (caller_of a) (caller_of b)
 
@@ -84,7 +84,7 @@ pub record SameClient (a b : Client) : Type 0 where
 abbrev pub IsClientOf : Run → ℕ → Client → Type 0
 IsClientOf run number c = BelongsTo run c × (number_of c ≡ number)
 
--- each is at the place of its number, and belongs to the run
+-- each is at the index of its number, and belongs to the run
 abbrev pub AreIn : Run → List (Option Client) → Type 0
 AreIn run places = Each (λ i place. (c : Client) → place ≡ Some c → IsClientOf run i c) places
 

@@ -20,10 +20,10 @@ client_count c = c.opening.clients
 abbrev pub cluster_run : Cluster → Run
 cluster_run c = c.run.value.items
 
--- the endpoints that its processes were started with, by place
+-- the endpoints that its processes were started with, by index
 abbrev pub cluster_desks : Cluster → List Desk
 cluster_desks c = given_desks c.master c.servers.items c.run.value.items
 
--- whether its processes keep traces
+-- whether its processes have traces
 abbrev pub cluster_is_traced : Cluster → Bool
 cluster_is_traced c = c.opening.is_traced

@@ -1,4 +1,4 @@
--- Why a call wasn't invoked, and what a reply is to a program that wanted another one.
+-- Why a call wasn't invoked, and the fault of a reply of an unexpected kind.
 use Rattle.zcalls.specs.declared.reply.Reply.{Reply}
 use Rattle.zcalls.specs.declared.reply.Reply.TheVariants as reply
 use Rattle.zprotocol.specs.declared.client.begin_fault.BeginFault.{BeginFault}

@@ -1,4 +1,4 @@
--- What the processes of a run did, told by what they left, with or without traces.
+-- What the processes of a run did, by what they left, with or without traces.
 use Rattle.std.specs.Prelude.{◌≡◌, ℕ, true, false, List, length}
 use Rattle.zprotocol.specs.declared.process.Process.{Process}
 use Rattle.zprotocol.specs.server.Machine.{kept_tree}
@@ -12,7 +12,7 @@ use Rattle.zrun.specs.Left.{AreLeft, self_at}
 
 -- the steps (deeds) of all processes account for what they left
 pub record Went (last clients : ℕ) (endings : List Ending) (deeds : Process → List TreeDeed) : Type 0 where
-  -- each process goes by its table from the initial state
+  -- each process follows its table from the initial state
   pub goes : (p : Process) → GoesBy kept_tree p (opening_of last clients p) 0 (deeds p)
   -- what was received from each channel is a prefix of what was sent there
   pub linked : (from to : Process) → Begins (takes from (deeds to)) (puts to (deeds from))
@@ -23,6 +23,6 @@ pub record Went (last clients : ℕ) (endings : List Ending) (deeds : Process �
 abbrev pub HasGone : ℕ → ℕ → List Ending → Type 0
 HasGone last clients endings = (deeds : Process → List TreeDeed) × Went last clients endings deeds
 
--- there are, if each is what the process of its place left
+-- there are, if each is what the process of its index left
 abbrev pub GoesIfLeft : List Ending → ℕ → Type 0
 GoesIfLeft endings clients = (last : ℕ) → AreLeft last clients endings → ∥ HasGone last clients endings ∥₁

@@ -23,6 +23,6 @@ given_server h = server_desk h.promise.0.value
 abbrev pub given_master : MasterHandle → Desk
 given_master h = master_desk h.promise.0.value
 
--- the endpoints of all processes, by place
+-- the endpoints of all processes, by index
 abbrev pub given_desks : MasterHandle → List ServerHandle → Run → List Desk
 given_desks master servers run = given_master master ∷ (map given_server servers ++ client_desks run)

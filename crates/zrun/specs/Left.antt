@@ -15,15 +15,15 @@ use Rattle.zhost.specs.declared.desk.Ending.{Ending}
 use Rattle.zhost.specs.Desks.{Each, opening_of, Self, TreeStamped}
 use Rattle.zhost.specs.Endings.{HasEnded}
 
--- all of them, by place
+-- all of them, by index
 abbrev pub by_place : Ending → List Ending → List Ending → List Ending
 by_place master servers clients = master ∷ (servers ++ clients)
 
--- the process at a place of a run with this many clients, whose chain ends with that server
+-- the process at an index of a run with this many clients, whose chain ends with that server
 abbrev pub self_at : ℕ → ℕ → ℕ → Self
 self_at last clients i = record { me = process_at i; opening = opening_of last clients (process_at i) }
 
--- each is what the process of its place left
+-- each is what the process of its index left
 abbrev pub AreLeft : ℕ → ℕ → List Ending → Type 0
 AreLeft last clients endings = Each (λ i e. HasEnded (self_at last clients i) e) endings
 

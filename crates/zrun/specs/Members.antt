@@ -10,7 +10,7 @@ use Rattle.zrun.specs.declared.clients.Clients.{Clients}
 use Rattle.zrun.specs.Origins.{Run}
 use Rattle.zrun.specs.Clients.{client_desk}
 
--- the place of each client, by number
+-- the slot of each client, by number
 abbrev pub places_of : Clients → List (Option Client)
 places_of cs = cs.places.items
 
@@ -30,8 +30,8 @@ HasAll n cs = (i : ℕ) → i < n → IsSome (client_at cs i)
 abbrev pub is_cut_client : Traces → ℕ → Bool
 is_cut_client t i = get_or (map (λ (c : ClientTrace). c.trace.is_cut) t.clients.items) i false
 
--- the client's trace and record stand in the traces of the run; the trace of one that isn't there
--- is cut
+-- the client's trace and record are in the traces of the run; the trace of one that isn't there is
+-- cut
 abbrev pub IsTold : Traces → ℕ → Option Client → Type 0
 IsTold t i None = is_cut_client t i ≡ true
 IsTold t i (Some c) = (trace_of t (process.Client i) ≡ desk.trace_of (client_desk c)) × (record_of t i ≡ desk.seen_of (client_desk c))

@@ -10,8 +10,8 @@ use Rattle.zhost.specs.Callers.{caller_desk}
 use Rattle.zrun.specs.declared.posts.ClientPost.{ClientPost}
 use Rattle.zrun.specs.Runs.{in_rings_of, out_rings_of}
 
--- who a process is, in which run, on which rings it receives and sends, and whether it keeps a
--- trace: no call changes it
+-- who a process is, in which run, on which rings it receives and sends, and whether it has a trace:
+-- no call changes it
 pub record Wiring : Type 0 where
   pub me : Process
   pub last : ℕ

@@ -10,7 +10,7 @@ use Rattle.zrun.specs.Origins.{client_desks, Run}
 abbrev pub post_desks : List ServerPost → List Desk
 post_desks posts = map (λ (p : ServerPost). server_desk p.member) (reverse posts)
 
--- all endpoints, by place
+-- all endpoints, by index
 abbrev pub desks_in : Posts → List Desk
 desks_in p = master_desk p.master.chief ∷ (post_desks p.servers.items ++ client_desks p.run.value.items)
 

@@ -1,4 +1,4 @@
--- The endpoints of a run, by place, and what they left.
+-- The endpoints of a run, by index, and what they left.
 use Rattle.std.specs.Prelude.{◌≡◌, ◌⊎◌, ℕ, ◌+◌, Bool, true, false, List, [], ◌∷◌, length, map}
 use Rattle.zprotocol.specs.Places.{process_at}
 use Rattle.zshared.specs.Rings.{Ring, ring_of_rx, ring_of_tx}
@@ -15,7 +15,7 @@ out_rings_of d = map ring_of_tx (wires_of d).1
 abbrev pub in_rings_of : Desk → List Ring
 in_rings_of d = map ring_of_rx (wires_of d).0
 
--- they are the endpoints of the processes from that place on
+-- they are the endpoints of the processes from that index on
 abbrev pub AreDesks : ℕ → ℕ → ℕ → List Desk → Type 0
 AreDesks last clients place desks = Each (λ i d. IsDeskOf (process_at (place + i)) last clients d) desks
 
@@ -33,13 +33,13 @@ pub record IsRun (last clients : ℕ) (desks : List Desk) : Type 0 where
 abbrev pub IsLeftBy : Desk → Ending → Type 0
 IsLeftBy d e = (e.is_lost ≡ true) ⊎ (HasEnded (self_of d) e × SameWires d e × (is_traced_of d ≡ false → LeavesNothing e))
 
--- the lists have the same length, and the relation holds place by place
+-- the lists have the same length, and the relation holds index by index
 abbrev pub Pairs : {X Y : Type 0} → (X → Y → Type 0) → List X → List Y → Type 0
 Pairs R [] [] = Unit {0}
 Pairs R [] (y ∷ ys) = ⊥
 Pairs R (x ∷ xs) [] = ⊥
 Pairs R (x ∷ xs) (y ∷ ys) = R x y × Pairs R xs ys
 
--- each is what the endpoint of its place left, or what that did is lost
+-- each is what the endpoint of its index left, or what that did is lost
 abbrev pub AreLeftBy : List Desk → List Ending → Type 0
 AreLeftBy desks endings = Pairs IsLeftBy desks endings

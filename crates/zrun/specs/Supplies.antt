@@ -23,12 +23,12 @@ in_rings_left s = in_rings s.ins.items
 abbrev pub IsWovenFor : ℕ → Supply → Type 0
 IsWovenFor n s = AreWoven n s.outs.items s.ins.items
 
--- it handed out the last channels
+-- it returned the last channels
 abbrev pub HandsEnds : Supply → Supply → Ends → Type 0
 HandsEnds a b e =
     (out_rings_left a ≡ out_rings_left b ++ out_rings_in e ∷ []) × (in_rings_left a ≡ in_rings_left b ++ in_rings_in e ∷ [])
 
--- it handed out the last channels, for these endpoints
+-- it returned the last channels, for these endpoints
 abbrev pub HandsOut : Supply → Supply → List Desk → Type 0
 HandsOut a b desks =
     (out_rings_left a ≡ out_rings_left b ++ map out_rings_of desks) × (in_rings_left a ≡ in_rings_left b ++ map in_rings_of desks)

@@ -1,4 +1,4 @@
--- What a clause says of a cluster that keeps no traces.
+-- What a clause says of a cluster without traces.
 use Rattle.std.specs.Prelude.{ℕ, false, List}
 use Rattle.zhost.specs.declared.desk.Ending.{Ending}
 use Rattle.zhost.specs.Desks.{Each}
@@ -19,7 +19,7 @@ untraced_count u = client_count u.cluster
 abbrev pub untraced_run : Untraced → Run
 untraced_run u = cluster_run u.cluster
 
--- none of its processes keeps a trace or a record
+-- no process of it has a trace or a record
 abbrev pub KeepsNoTrace : Untraced → Type 0
 KeepsNoTrace u = AreTraced false (cluster_desks u.cluster)
 

@@ -1,4 +1,9 @@
-//! A call whose reply is waited for by a clock.
+//! A call that waits for its reply up to a time limit.
+//!
+//! # Why
+//!
+//! No clause says that a call is sent again: a body that never tries looks like one out of memory.
+//! So a test counts the resends in the trace.
 
 ghost use Rattle.std.specs.Prelude.{IfErr, IfOk};
 ghost use Rattle.zhost.specs.Callers.{SameLearnt};
@@ -11,13 +16,13 @@ use crate::faults::Unanswered;
 use std::time::{Clock, Duration, Instant};
 use zcalls::{Call, Reply};
 
-/// How many turns a client takes between two looks at the clock. Then it sends the call again.
+/// How often a client calls `turn` between two looks at the clock. Then it sends the call again.
 pub const TURNS: u64 = 2_000;
 
 impl Client {
-    /// Invokes a call, and waits for its reply as long as the clock allows. Meanwhile it sends the
-    /// same call again, which takes effect at most once. It may come back later than the limit, by
-    /// `TURNS` turns. Where the clock fails it waits no longer.
+    /// Invokes a call, and waits for its reply up to this limit. Meanwhile it sends the same call
+    /// again, which takes effect at most once. It may return later than the limit, by `TURNS` calls
+    /// of `turn`. If the clock fails, it waits no longer.
     pub fn ask_within<C: Clock>(
         &mut self,
         clock: &C,
@@ -64,7 +69,7 @@ impl Client {
     }
 }
 
-// Whether so much time has gone by since then, or the clock fails.
+// Returns whether that much time has passed since then, or the clock fails.
 fn is_over<C: Clock>(clock: &C, began: Option<Instant>, limit: Duration) -> bool {
     match began {
         Some(began) => match began.elapsed(clock) {

@@ -1,4 +1,10 @@
 //! A client, as its caller's thread owns it.
+//!
+//! # Why
+//!
+//! A client's `Wiring` says who it is and on which rings it sends and receives, and so of which run
+//! it is. A `Snapshot` of the run in the client would say the same, but then the prover doesn't
+//! find that a client may be sent to another thread.
 
 ghost use Rattle.std.specs.Prelude.{◌≡◌, IfErr, IfOk, OnErr, OnOk, Some, max};
 ghost use Rattle.std.specs.Arc.{arc_value};
@@ -20,7 +26,7 @@ use zprotocol::{Process, ServerId};
 use zshared::halts::{Halt, HaltSeat};
 use ztraces::Stamp;
 
-/// A client of one run, which it stays through all calls. None of its calls blocks.
+/// A client of one run, through all its calls. No call blocks.
 #[derive(Drop)]
 pub struct Client {
     pub(crate) caller: Caller,
@@ -49,7 +55,8 @@ impl Client {
         self.caller.begin(call)
     }
 
-    /// Receives at most one message. Returns the reply of the outstanding call, if that is it.
+    /// Receives at most one message. Returns the reply of the outstanding call, if the message is
+    /// it.
     pub fn turn(&mut self) -> Option<Reply>
         ensures turned { Turned (caller_of self.old) (caller_of self.new) result }
         ensures whole { IsUncut (caller_of self.old) (caller_of self.new) }
@@ -88,15 +95,15 @@ impl Client {
         self.caller.id()
     }
 
-    /// Returns the head of the chain, as the master last told this client. None if it told that no
-    /// server is left. The client hears what the master tells at a turn.
+    /// Returns the head of the chain, by the master's last message that this client received, or
+    /// `None` if that said that no server is left. The client receives messages only in `turn`.
     pub fn head(&self) -> Option<ServerId>
         ensures { result ≡ (caller_view (caller_of self.now)).head }
     {
         self.caller.head()
     }
 
-    /// Returns the tail of the chain, as the master last told this client.
+    /// Returns the tail of the chain, by the master's last message that this client received.
     pub fn tail(&self) -> Option<ServerId>
         ensures { result ≡ (caller_view (caller_of self.now)).tail }
     {
@@ -110,8 +117,8 @@ impl Client {
         self.caller.stamp()
     }
 
-    /// From now on its events are later than this timestamp, through whatever calls. So a client
-    /// that learns another's timestamp sees all that the other one saw.
+    /// From now on its events are later than this timestamp, through all calls. So a client that
+    /// learns another's timestamp sees all that the other one saw.
     pub fn learn(&mut self, stamp: Stamp)
         ensures stamp { caller_stamp (caller_of self.new)
             ≡ max (caller_stamp (caller_of self.old)) stamp }
@@ -121,7 +128,7 @@ impl Client {
         self.caller.learn(stamp);
     }
 
-    /// Invokes a call, and takes at most `turns` turns for its reply.
+    /// Invokes a call, and calls `turn` at most `turns` times for its reply.
     pub fn call(&mut self, call: Call, turns: u64) -> Result<Reply, Unanswered>
         ensures reply { IfOk result (CalledUntil turns call self.old self.new) }
         ensures unanswered { IfErr result (CalledInVain turns call self.old self.new) }
@@ -134,8 +141,8 @@ impl Client {
         self.wait(turns)
     }
 
-    /// Invokes a call, and waits for its reply. While there is none the same call is sent again. It
-    /// takes effect at most once. A send for which there is no memory is left out.
+    /// Invokes a call, and waits for its reply. While there is none, the same call is sent again.
+    /// It takes effect at most once. A resend without memory is skipped.
     pub fn ask(&mut self, call: Call, patience: Patience) -> Result<Reply, Unanswered>
         ensures reply { IfOk result (CalledPatientlyUntil patience call self.old self.new) }
         ensures unanswered { IfErr result (CalledPatientlyInVain patience call self.old self.new) }
@@ -168,8 +175,8 @@ impl Client {
         Err(Unanswered::NoAnswer)
     }
 
-    // Sends the call again, if there is memory for it. The turns that follow may bring its reply
-    // even so.
+    // Sends the call again, if there is memory for it. Without it, the next `turn` may still return
+    // the reply.
     pub(crate) fn send_again(&mut self)
         ensures sent { SentAgain (caller_of self.old) (caller_of self.new) }
         ensures learnt { SameLearnt (caller_of self.old) (caller_of self.new) }
@@ -181,7 +188,7 @@ impl Client {
         }
     }
 
-    /// Takes at most `turns` turns for the reply of the outstanding call. The only error is
+    /// Calls `turn` at most `turns` times for the reply of the outstanding call. The only error is
     /// `NoAnswer`.
     pub fn wait(&mut self, turns: u64) -> Result<Reply, Unanswered>
         ensures reply { IfOk result (TurnedUntil turns (caller_of self.old) (caller_of self.new)) }

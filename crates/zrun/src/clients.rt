@@ -1,4 +1,10 @@
 //! The clients of a run, by number.
+//!
+//! # Why
+//!
+//! Clients are taken out by number and put back, so no number occurs twice and `put` takes no
+//! memory. `put` requires a client of this run (`BelongsTo`), which `take` ensures and each call
+//! preserves (`SameClient`).
 
 ghost use Rattle.std.specs.Prelude.{◌≡◌, ◌≢◌, ◌<◌, ℕ, IfOk, IfSome, None, Some, length};
 ghost use Rattle.zhost.specs.Callers.{caller_id};
@@ -13,7 +19,7 @@ use std::snapshot::Snapshot;
 use zalloc::Memory;
 use zcalls::ClientId;
 
-/// The clients of one run that aren't handed out. Each has the place of its number.
+/// The clients of one run that aren't taken out. Each is at the index of its number.
 #[derive(Drop)]
 pub struct Clients {
     pub(crate) places: Vec<Option<Client>>,
@@ -40,7 +46,7 @@ impl Clients {
         Ok(Clients { places, run })
     }
 
-    /// Hands out the client of this number, if it is here.
+    /// Takes out the client of this number, if it is here.
     pub fn take(&mut self, id: ClientId) -> Option<Client>
         ensures found { result ≡ client_at self.old id }
         ensures own { IfSome result (IsClientOf (clients_run self.old) id) }
@@ -55,7 +61,7 @@ impl Clients {
         self.places[place].take()
     }
 
-    /// Puts a client back into its place.
+    /// Puts a client back.
     pub fn put(&mut self, client: Client)
         requires { BelongsTo (clients_run self.old) client }
         ensures back { client_at self.new (number_of client) ≡ Some client }

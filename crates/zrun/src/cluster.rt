@@ -1,4 +1,10 @@
 //! A cluster, and how its threads are joined.
+//!
+//! # Why
+//!
+//! What a cluster was started with is a `Snapshot`, which takes no room, and each thread promises
+//! to return those ends. So the join knows the two ends of each channel. It asks nothing of the
+//! console: no trace depends on that channel.
 
 ghost use Rattle.std.specs.Prelude.{◌≡◌, false, IfOk, length};
 ghost use Rattle.zprotocol.specs.declared.limits.TheConstants.{MAX_SERVERS};
@@ -116,7 +122,7 @@ impl Cluster {
     }
 }
 
-/// Ends a run's threads, and drops what they hand back.
+/// Ends a run's threads, and drops what they return.
 pub(crate) fn end_all<R: Threads>(
     rt: &R,
     mut halt: HaltPost,

@@ -1,4 +1,4 @@
-//! One fault for all that a program does with a cluster.
+//! One fault type for a program that uses a cluster.
 
 ghost use Rattle.std.specs.Prelude.{◌≡◌};
 
@@ -11,8 +11,8 @@ use zclient::BeginFault;
 use zpath::PathFault;
 use zshared::console::Closed;
 
-/// Any fault of a program that uses a cluster. Each fault on the way turns into it, so `?` serves.
-/// A reply that isn't the one that was wanted turns into it, too.
+/// Any fault of a program that uses a cluster. Every other fault converts to it, so `?` suffices. A
+/// reply of an unexpected kind converts to it too.
 #[derive(Clone, Copy, Debug, PartialEq, Eq, Error)]
 pub enum Fault {
     /// Out of memory.
@@ -36,13 +36,13 @@ pub enum Fault {
     /// A multi was refused for this part, counted from 1, and changed nothing.
     #[error("part {0} refused: {1}")]
     PartRefused(usize, Refusal),
-    /// A reply is of another kind than the one that was wanted.
+    /// A reply is of another kind than the expected one.
     #[error("another reply")]
     OtherReply,
     /// The master's thread has ended, so it hears no order.
     #[error("console: closed")]
     Closed,
-    /// A number of a server, of a client or of a timestamp isn't in its range, or a client isn't
+    /// A number of a server, of a client or of a timestamp is out of range, or a client isn't
     /// there.
     #[error("no such number")]
     Number,

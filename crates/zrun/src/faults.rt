@@ -6,7 +6,7 @@ use thiserror::Error;
 use zalloc::Memory;
 use zclient::BeginFault;
 
-/// Why no cluster was started. None of its threads is left running.
+/// Why no cluster was started. No thread of it is left running.
 #[derive(Clone, Copy, Debug, Drop, PartialEq, Eq, Error)]
 pub enum StartFault {
     /// Out of memory.

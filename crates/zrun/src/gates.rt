@@ -1,4 +1,4 @@
-//! The gates of a cluster whose servers nobody holds.
+//! The gates of a cluster in which no server is held.
 
 ghost use Rattle.std.specs.Prelude.{◌≡◌, IfOk, length};
 ghost use Rattle.zprotocol.specs.declared.limits.TheConstants.{MAX_SERVERS};

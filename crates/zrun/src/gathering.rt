@@ -1,4 +1,9 @@
 //! The traces of a run.
+//!
+//! # Why
+//!
+//! If a trace is cut already, no channel is asked what passed: nothing is known of that run. If a
+//! channel doesn't show it, the master's trace is cut.
 
 ghost use Rattle.std.specs.Prelude.{◌≡◌, ◌≤◌, false, IfOk, length, map};
 ghost use Rattle.ztree.specs.declared.limits.TheConstants.{MAX_CLIENTS};
@@ -18,7 +23,7 @@ use ztraces::{ClientTrace, Traces};
 
 /// Returns the traces of a run, from what its processes left: the master, the servers by number,
 /// and the clients by number. The chain began with the servers up to `last`. The traces are lawful,
-/// unless one is cut. The master's trace is cut where a channel can't tell what was sent on it.
+/// unless one is cut. The master's trace is cut where a channel doesn't show what was sent on it.
 ///
 /// The only error is out of memory.
 pub(crate) fn gather(

@@ -61,7 +61,7 @@ fn end_client(alloc: Global, place: Option<Client>) -> Ending
     }
 }
 
-// Returns what stands for a client that isn't here.
+// Returns what represents a client that isn't here.
 fn missing(alloc: Global) -> Ending
     ensures cut { result.trace.is_cut ≡ true }
     ensures lost { result.is_lost ≡ true }

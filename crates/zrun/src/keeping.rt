@@ -1,4 +1,4 @@
-//! What a process left, taken apart: its ends of the channels, and its trace.
+//! Splits what a process left: its ends of the channels, and its trace.
 
 ghost use Rattle.std.specs.Prelude.{◌≡◌, ◌∷◌, ◌++◌, [], IfOk, OnOk, map};
 ghost use Rattle.std.specs.List.{list_any};

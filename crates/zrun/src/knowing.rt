@@ -1,4 +1,4 @@
-//! What is known of a run, with or without traces.
+//! Whether a run is known to be lawful, with or without traces.
 
 ghost use Rattle.std.specs.Prelude.{◌≡◌, true, false, IfOk, length};
 ghost use Rattle.zrun.specs.Gone.{GoesIfLeft};
@@ -12,7 +12,7 @@ use zshared::{Mesh, are_told};
 
 /// Returns whether it is known of a run that it was lawful, from what its processes left: the
 /// master, the servers by number, and the clients by number. It isn't known if what one of them did
-/// is lost, or if a channel can't tell what was sent on it.
+/// is lost, or if a channel doesn't show what was sent on it.
 ///
 /// The only error is out of memory.
 pub(crate) fn is_known(

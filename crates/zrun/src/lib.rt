@@ -1,12 +1,12 @@
 //! The service in threads.
 //!
 //! A cluster has a thread for each server and one for the master. Its clients are owned by their
-//! callers' threads. When it is joined it returns the traces of all processes, for the audit. With
-//! both ends of each channel in one thread, the channels can tell that what was received is a
-//! prefix of what was sent: then the traces are lawful. A cluster that is started untraced keeps
-//! none, and may run for good.
+//! callers' threads. Joining it returns the traces of all processes, for the audit. Both ends of
+//! each channel are then in one thread, and show that what was received is a prefix of what was
+//! sent: so the traces are lawful. An untraced cluster has no traces, and can run indefinitely.
 //!
-//! What its callers name stands here: calls and replies, paths and data, numbers, and one `Fault`.
+//! All that its callers name is exported here: calls and replies, paths and data, numbers, and one
+//! `Fault`.
 #![tactic(auto)]
 
 mod asking;

@@ -25,12 +25,12 @@ pub(crate) struct Opening {
     pub(crate) last: ServerId,
     /// How many clients there are.
     pub(crate) clients: u8,
-    /// Whether each process keeps a trace.
+    /// Whether each process has a trace.
     pub(crate) is_traced: bool,
     ghost few: { clients ≤ MAX_CLIENTS },
 }
 
-/// The channels of one process, by place.
+/// The channels of one process, by index.
 #[derive(Drop)]
 pub(crate) struct Ends {
     pub(crate) ins: Vec<Rx<Stamped>>,

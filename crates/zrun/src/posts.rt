@@ -54,7 +54,7 @@ pub(crate) struct Posts {
     /// What the clients were made of.
     pub(crate) run: Snapshot<Vec<ClientPost>>,
     pub(crate) console: Console,
-    /// The seat of whoever ends the run.
+    /// The seat of the thread that ends the run.
     pub(crate) halt: HaltPost,
 }
 
@@ -101,7 +101,7 @@ pub(crate) fn prepare(alloc: Global, opening: &Opening, longest: Duration) -> Re
     })
 }
 
-// Returns what the clients are made of. They have the last places.
+// Returns what the clients are made of. They have the last indices.
 fn prepare_clients(
     alloc: Global,
     opening: &Opening,
@@ -130,7 +130,7 @@ fn prepare_clients(
     Ok(clients)
 }
 
-// Returns the servers, the last one first. They have the places before the clients.
+// Returns the servers, the last one first. Their indices are before the clients'.
 fn prepare_servers(
     alloc: Global,
     opening: &Opening,

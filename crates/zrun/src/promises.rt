@@ -1,4 +1,4 @@
-//! What threads promise of what they hand back.
+//! What threads promise of what they return.
 
 ghost use Rattle.std.specs.Prelude.{◌≡◌};
 ghost use Rattle.zhost.specs.Desks.{SameDesk};
@@ -13,7 +13,7 @@ use std::thread::Promise;
 use zhost::{MasterThread, ServerThread};
 use zshared::console::Inbox;
 
-/// The server that comes back has the endpoint of the one that went.
+/// The server that is returned has the endpoint of the one that was given.
 #[derive(Drop)]
 pub(crate) struct SameServer(pub(crate) Snapshot<ServerThread>);
 
@@ -21,7 +21,7 @@ impl Promise<ServerThread> for SameServer {
     ghost kept_by = { λ p r. SameDesk (server_desk p.0.value) (server_desk r) };
 }
 
-/// The master that comes back has the endpoint of the one that went.
+/// The master that is returned has the endpoint of the one that was given.
 #[derive(Drop)]
 pub(crate) struct SameMaster(pub(crate) Snapshot<MasterThread>);
 
@@ -29,15 +29,15 @@ impl Promise<(MasterThread, Inbox)> for SameMaster {
     ghost kept_by = { λ p r. SameDesk (master_desk p.0.value) (master_desk r.0) };
 }
 
-/// The client that comes back is the one that went. A thread that is given a client can promise
-/// this, whatever else it hands back.
+/// The client that is returned is the one that was given. A thread that is given a client can
+/// promise this, whatever else it returns.
 #[derive(Drop)]
 pub struct HandsBack(pub(crate) Snapshot<Client>);
 
 impl HandsBack {
     ghost use Rattle.zrun.specs.Promised.{promised_client};
 
-    /// Returns the promise to hand back this client.
+    /// Returns the promise to return this client.
     pub fn of(client: &Client) -> HandsBack
         ensures { promised_client result ≡ client.now }
     {
@@ -49,8 +49,8 @@ impl<T> Promise<(Client, T)> for HandsBack {
     ghost kept_by = { λ p r. SameClient p.0.value r.0 };
 }
 
-/// The client that comes back from a ticker is the one that went, and began as many calls as ticks
-/// are counted, or more.
+/// The client that a ticker returns is the one that it was given, and invoked at least as many
+/// calls as ticks are counted.
 #[derive(Drop)]
 pub(crate) struct KeepsTicking(pub(crate) Snapshot<Client>);
 

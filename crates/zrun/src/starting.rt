@@ -38,8 +38,8 @@ impl Cluster {
     /// Starts a thread for each of the sixteen servers, spare ones too, and one for the master.
     ///
     /// The chain is the servers up to `last`. There are `clients` clients, numbered from 0 on. The
-    /// gates are those of the servers, by number. At an error no thread is left running. Where a
-    /// thread can't be started the error is `Thread`: all memory is there before the first one.
+    /// gates are those of the servers, by number. At an error no thread is left running. All memory
+    /// is allocated before the first thread starts: from then on the only error is `Thread`.
     pub fn start<G: Gate + Send + 'static, R: Threads + Wait + Copy + Send + 'static>(
         rt: R,
         alloc: Global,
@@ -58,8 +58,8 @@ impl Cluster {
         Cluster::start_sleeping(rt, alloc, last, clients, gates, longest)
     }
 
-    /// The same, but a thread that found nothing to do for a while, and isn't woken, sleeps so long
-    /// at a time. `start` says 20 milliseconds. With a longer time a test sees who isn't woken.
+    /// Does the same, but with this longest sleep of a thread without work. `start` takes 20
+    /// milliseconds. With a longer sleep a test shows which thread isn't woken.
     pub fn start_sleeping<G: Gate + Send + 'static, R: Threads + Wait + Copy + Send + 'static>(
         rt: R,
         alloc: Global,
@@ -104,7 +104,7 @@ impl Cluster {
         Cluster::start_over(rt, opening, posts, gates, threads)
     }
 
-    // Starts the threads, for which all memory is there: the only fault is `Thread`.
+    // Starts the threads, whose memory is allocated already: the only fault is `Thread`.
     fn start_over<G: Gate + Send + 'static, R: Threads + Wait + Copy + Send + 'static>(
         rt: R,
         opening: Opening,

@@ -1,4 +1,4 @@
-//! Channels and seats, handed out to one process after the other, the last one first.
+//! Channels and seats, given to one process after the other, the last one first.
 
 ghost use Rattle.std.specs.Prelude.{◌≡◌, ◌<◌, ◌+◌, IfOk, OnOk, length, All};
 ghost use Rattle.std.specs.Arc.{arc_value};
@@ -16,7 +16,7 @@ use zshared::halts::{Halt, HaltSeat};
 use zshared::rings::{Rx, Tx};
 use zshared::{Mesh, weave};
 
-/// A seat at the run's halt word, and the bells of those who look at it.
+/// A seat at the run's halt word, and the bells of the threads that look at it.
 #[derive(Drop)]
 pub(crate) struct HaltPost {
     pub(crate) halt: Arc<Halt, Global>,
@@ -33,8 +33,8 @@ impl HaltPost {
     }
 }
 
-/// What processes are handed: a channel from each to each, and a seat each. There is one more seat,
-/// for whoever ends the run.
+/// What processes are given: a channel from each to each, and a seat each. One more seat is for the
+/// thread that ends the run.
 #[derive(Drop)]
 pub(crate) struct Supply {
     outs: Vec<Vec<Tx<Stamped>>>,
@@ -75,7 +75,7 @@ impl Supply {
         })
     }
 
-    /// Hands out the channels and the seat of the next process.
+    /// Returns the channels and the seat of the next process.
     pub(crate) fn next(&mut self) -> Result<(Ends, HaltPost), Memory>
         requires { 0 < left self.old }
         ensures fresh { IfOk result (λ parts. AreFresh parts.0) }
@@ -107,7 +107,7 @@ impl Supply {
         Console::open(alloc, self.bells.copied()?)
     }
 
-    /// Returns the seat of whoever ends the run.
+    /// Returns the seat of the thread that ends the run.
     pub(crate) fn into_last(self) -> HaltPost {
         let Supply {
             outs,

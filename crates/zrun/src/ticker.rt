@@ -1,4 +1,9 @@
-//! A thread that makes a client ask for ticks.
+//! A thread that makes a client's ticks.
+//!
+//! # Why
+//!
+//! A ticker has no clock: it sleeps for a period between two ticks, and a sleep may end early. So
+//! its thread needs no more than the others, and the program chooses what a tick is in time.
 
 ghost use Rattle.std.specs.Prelude.{◌≡◌, ◌+◌, ◌≤◌, IfErr, IfOk, OnErr, OnOk};
 ghost use Rattle.zrun.specs.Clients.{SameClient};
@@ -19,16 +24,16 @@ use std::thread::{PromisedHandle, SpawnError, Threads};
 use std::time::Duration;
 use zcalls::Call;
 
-// what the word that a ticker's thread sleeps at says
+// The values of the word at which a ticker's thread sleeps.
 const GOES: u64 = 0;
 
 const STOPPED: u64 = 1;
 
-// A tick without a reply is sent again after so long.
+// A tick without a reply is sent again after this time.
 const AGAIN_MILLIS: u64 = 1;
 
-/// A thread that owns a client, and makes it ask for a tick each time that a period has gone by.
-/// Sessions end by such ticks. A ticker that is dropped stops too, and its client is lost.
+/// A thread that owns a client, and invokes a tick after each period. Sessions expire by such
+/// ticks. A ticker that is dropped stops too, and its client is lost.
 pub struct Ticker {
     pub(crate) thread: PromisedHandle<(Client, Ticks), KeepsTicking>,
     pub(crate) word: Arc<AtomicU64, Global>,
@@ -37,11 +42,11 @@ pub struct Ticker {
 impl Ticker {
     ghost use Rattle.zrun.specs.Tickers.{ticking_client};
 
-    /// Starts the thread. The first tick is asked for after the first period. At an error the
-    /// client comes back.
+    /// Starts the thread. The first tick is invoked after the first period. At an error the client
+    /// is returned.
     ///
-    /// A tick without a reply is sent again, and no other is begun meanwhile. So late ticks aren't
-    /// made up for. One may come early, where the system wakes a thread for no reason.
+    /// A tick without a reply is sent again, and no other is invoked meanwhile. So late ticks
+    /// aren't made up for. A tick may be early, where the system wakes a thread for no reason.
     pub fn start<R: Threads + Wait + Copy + Send + 'static>(
         rt: R,
         alloc: Global,
@@ -68,7 +73,7 @@ impl Ticker {
         ) {
             Ok(thread) => Ok(Ticker { thread, word }),
             Err(refused) => {
-                // So it asks for nothing, and hands its client back at once.
+                // So it invokes no tick, and returns its client at once.
                 word.store(STOPPED, SeqCst);
                 drop(word);
                 let SpawnError { value: thread } = refused;
@@ -78,8 +83,8 @@ impl Ticker {
         }
     }
 
-    /// Stops the thread, and returns its client, and how its asks fared. It waits for no reply: if
-    /// the last fault is `NoAnswer`, the client may still have a tick outstanding.
+    /// Stops the thread, and returns its client, and the results of its calls. It waits for no
+    /// reply: if the last fault is `NoAnswer`, the client may still have a tick outstanding.
     pub fn stop<R: Threads>(self, rt: &R) -> (Client, Ticks)
         ensures same { SameClient (ticking_client self) result.0 }
         ensures counted { CountsTicks (ticking_client self) result.0 result.1 }
@@ -102,7 +107,7 @@ impl Drop for Ticker {
     }
 }
 
-// Asks for a tick after each period, until it is stopped.
+// Invokes a tick after each period, until it is stopped.
 fn keep_ticking<R: Wait>(
     mut client: Client,
     rt: &R,
@@ -129,7 +134,7 @@ fn keep_ticking<R: Wait>(
     unreachable!()
 }
 
-// Asks for a tick until that has its reply, or the ticker is stopped.
+// Sends a tick until it has its reply, or the ticker is stopped.
 fn tick<R: Wait>(rt: &R, client: &mut Client, word: &AtomicU64) -> Result<(), Unanswered>
     ensures same { SameClient client.old client.new }
     ensures answered { OnOk result (call_count client.new ≡ call_count client.old + 1) }

@@ -1,4 +1,9 @@
-//! A cluster that keeps no traces: it may run for good.
+//! A cluster without traces, which can run indefinitely.
+//!
+//! # Why
+//!
+//! An untraced process stores no steps: a ghost field is a proof, not a value. So an invariant says
+//! that such steps exist. A client's reply is tied to its own table at each call, not to a history.
 
 ghost use Rattle.std.specs.Prelude.{◌≡◌, ◌≤◌, true, false, IfOk, length};
 ghost use Rattle.ztree.specs.declared.limits.TheConstants.{MAX_CLIENTS};
@@ -21,8 +26,7 @@ use zhost::Gate;
 use zprotocol::ServerId;
 use zshared::console::Console;
 
-/// The threads of a run that keeps no traces. What it takes of memory doesn't grow with the number
-/// of calls.
+/// The threads of a run without traces. Its memory doesn't grow with the number of calls.
 #[derive(Drop)]
 pub struct Untraced {
     pub(crate) cluster: Cluster,
@@ -32,8 +36,8 @@ pub struct Untraced {
 impl Cluster {
     ghost use Rattle.zrun.specs.Untraced.{KeepsNoTrace, untraced_count, untraced_last, untraced_run};
 
-    /// Starts the same threads, but for a run that isn't to be audited. No process keeps a trace,
-    /// and no client a record. So no client refuses a call for a limit below 2^62.
+    /// Starts the same threads, but for a run without an audit. No process has a trace, and no
+    /// client a record. So no client refuses a call for a limit below 2^62.
     pub fn start_untraced<G: Gate + Send + 'static, R: Threads + Wait + Copy + Send + 'static>(
         rt: R,
         alloc: Global,
@@ -63,10 +67,9 @@ impl Cluster {
 impl Untraced {
     ghost use Rattle.zrun.specs.Untraced.{RanLawfully, untraced_count, untraced_run};
 
-    /// Ends all threads, and takes the clients back. Returns whether it is known that each process
-    /// went by its table to the end, over channels that keep order. It isn't known if a client isn't
-    /// among `clients`, if there was no memory for a last message, or if a timestamp was the last
-    /// one.
+    /// Ends all threads, and takes the clients back. Returns whether every process is known to have
+    /// followed its table to the end, over FIFO channels. It isn't known if a client isn't among
+    /// `clients`, if there was no memory for a last message, or if a timestamp was the last one.
     ///
     /// The only error is out of memory. Then too all threads have ended.
     pub fn end<R: Threads>(
