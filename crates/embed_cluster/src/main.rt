@@ -1,6 +1,6 @@
 //! A cluster in a program, used by two threads with a client each. The second one can't miss what
-//! the first one wrote, while a server joins and another one is halted. It keeps no traces, so it
-//! could run for good.
+//! the first one wrote, while a server joins and another one is halted. The cluster is untraced, so
+//! it could run indefinitely.
 #![tactic(auto)]
 
 ghost use Rattle.std.specs.Prelude.{◌≡◌};
@@ -38,7 +38,7 @@ fn main(rt: HostRuntime) -> ExitCode {
     }
 }
 
-// Starts a chain of two servers, uses it and ends it. Returns whether all went as it was to.
+// Starts a chain of two servers, uses it and ends it. Returns whether all went as expected.
 fn run<R: Threads + Wait + Copy + Send + 'static>(rt: R, alloc: Global) -> Option<bool> {
     let last = ServerId::new(2)?;
     let gates = open_gates(alloc).ok()?;

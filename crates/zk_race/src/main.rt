@@ -1,7 +1,9 @@
 //! `zk race` runs the service in threads, with clients that race for nodes, and audits the run.
 //!
-//! It is a program of its own, so that scripts don't wait for the proof of the threads. `./zk` runs
-//! the program that the words ask for.
+//! # Why
+//!
+//! It is a program of its own, so that `zk script` doesn't wait for the proof of the threads.
+//! `./zk` runs the program that the words ask for.
 #![tactic(auto)]
 
 use std::env;

@@ -1,9 +1,9 @@
-//! A cluster without traces, and one client that calls for long. `bench/threads.py` measures how
-//! many calls it makes a second, and what memory it takes meanwhile.
+//! An untraced cluster, and one client that makes many calls. `bench/threads.py` measures its calls
+//! a second, and its memory meanwhile.
 //!
-//! Each line of the input is an order `SERVERS CALLS`: a chain of so many servers, and so many
-//! calls, by turns a set of one node and a read of it. At each tenth of them it writes how many are
-//! done, and at the end whether nothing was lost.
+//! Each line of the input is an order `SERVERS CALLS`: the servers of the chain, and the number of
+//! calls, alternately a set of one node and a read of it. After each tenth of the calls it writes
+//! how many are done, and at the end whether nothing was lost.
 #![tactic(auto)]
 
 mod order;
@@ -28,7 +28,7 @@ const PATIENCE: Patience = Patience {
     retries: 1_000,
 };
 
-// At so many parts of all calls it tells how many are done.
+// In how many parts of all calls it reports how many are done.
 const PARTS: u64 = 10;
 
 fn main(rt: HostRuntime) -> io::Result<()> {
@@ -63,7 +63,7 @@ fn went<R: Threads + Wait + Copy + Send + 'static, W: Write>(
     if is_done { Some(is_known) } else { None }
 }
 
-// The client calls as often as it is to. Returns whether all calls were answered.
+// Makes the client's calls. Returns whether all were answered.
 #[tactic(auto, using(zrun::proofs::Still::still_belongs))]
 fn one_calls<W: Write>(out: &mut W, alloc: Global, clients: &mut Clients, calls: u64) -> bool
     ensures { clients_run clients.new ≡ clients_run clients.old }
@@ -95,7 +95,7 @@ fn call_all<W: Write>(out: &mut W, alloc: Global, client: &mut Client, calls: u6
     Some(())
 }
 
-// So many calls.
+// Makes that many calls. Returns whether all were answered.
 fn call_some(alloc: Global, client: &mut Client, calls: u64) -> bool
     ensures { SameClient client.old client.new }
 {

@@ -9,7 +9,7 @@ use Rattle.zrace.specs.declared.plan.Race.{Race}
 abbrev pub race_options : List (List ℕ × List ℕ)
 race_options = (codes "servers", codes "3") ∷ (codes "clients", codes "4") ∷ (codes "rounds", codes "100") ∷ (codes "halt", codes "0") ∷ []
 
--- The numbers that the words give: servers, clients, rounds, and the server that is to be halted.
+-- The numbers that the words give: servers, clients, rounds, and the server to halt.
 abbrev pub race_numbers : List (List ℕ) → Option (List ℕ)
 race_numbers words = asked_of (codes "race") race_options words
 

@@ -15,7 +15,7 @@ use Rattle.zrace.specs.declared.outcome.Outcome.{Outcome}
 use Rattle.zrace.specs.declared.racing.Finish.{Finish}
 use Rattle.zrace.specs.Seen.{AreSeenIn}
 
--- the traces are those of a run over the race's servers, with its clients and one that stands aside
+-- the traces are those of a run over the race's servers, with its clients and one that doesn't race
 pub record AreOf (race : Race) (t : Traces) : Type 0 where
   pub last : t.last ≡ race.last
   pub servers : length t.servers.items ≡ MAX_SERVERS
@@ -28,7 +28,7 @@ pub record IsAuditOf {X : Type 0} (t : Traces) (audit : Result X AuditFault) : T
   pub cut : is_any_cut t ≡ true → audit ≡ Err Cut
   pub whole : is_any_cut t ≡ false → IsOkUnless audit Memory
 
--- the traces tell what these clients did, and each node's version is one that a client of their run
+-- the traces say what these clients did, and each node's version is one that a client of their run
 -- received
 pub record IsFinishOf (race : Race) (f : Finish) : Type 0 where
   pub over : AreOf race f.traces

@@ -1,4 +1,4 @@
--- What a race comes to as a run of the program, by its words and by what its devices did.
+-- How a race ends as a run of the program, by its words and by what its devices did.
 use Rattle.std.specs.Prelude.{◌≡◌, ◌⊎◌, ℕ, List, [], length, All, IsSome, IsOk, IsErr, codes}
 use Rattle.zdevices.specs.Device.{SinkRun, Failed, TookBeginning}
 use Rattle.zcli.specs.Telling.{IsTold}
@@ -30,7 +30,7 @@ abbrev pub IsBadReport : Outcome → SinkRun → SinkRun → Type 0
 IsBadReport outcome sink faults =
     (All IsSome outcome.versions.items → IsErr outcome.audit) × sink.took (outcome_text outcome) × faults.took []
 
--- The sink failed once a beginning was written, and the fault was reported.
+-- The sink took a prefix and failed, and the fault was reported.
 abbrev pub IsCutReport : Outcome → SinkRun → SinkRun → Type 0
 IsCutReport outcome sink faults =
     TookBeginning sink.took (outcome_text outcome) × Failed sink.failed × IsTold faults (codes "zk: write failed")

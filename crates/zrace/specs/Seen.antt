@@ -1,4 +1,4 @@
--- What a race says of its nodes: each version comes from a reply to a client of its run.
+-- The versions of a race's nodes: each comes from a reply to a client of its run.
 use Rattle.std.specs.Prelude.{◌≡◌, ℕ, List, ◌++◌, All, codes, Option, None, Some, get_or}
 use Rattle.std.specs.Fmt.{decimal}
 use Rattle.zpath.specs.Grammar.{text_of}
@@ -51,6 +51,6 @@ AreSeenIn run versions = (node version : ℕ) → get_or versions node None ≡ 
 abbrev pub NotesSeen : List (Option ℕ) → List (Option ℕ) → ℕ → ℕ → Type 0
 NotesSeen old new node version = (run : Run) → AreSeenIn run old → IsSeenIn run node version → AreSeenIn run new
 
--- the same, with all of these in the place of one
+-- the same, with all of these instead of one
 abbrev pub KeepsSeen : List (Option ℕ) → List (Option ℕ) → List (ℕ × ℕ) → Type 0
 KeepsSeen old new seen = (run : Run) → AreSeenIn run old → All (λ it. IsSeenIn run it.0 it.1) seen → AreSeenIn run new

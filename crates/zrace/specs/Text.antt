@@ -1,4 +1,4 @@
--- What a race writes: this project's own profile.
+-- What a race writes: this project's profile.
 use Rattle.std.specs.Prelude.{ℕ, suc, List, [], ◌∷◌, ◌++◌, Option, None, Some, Result, Ok, Err, codes}
 use Rattle.std.specs.Fmt.{decimal}
 use Rattle.zaudit.specs.Faults.{fault_name}

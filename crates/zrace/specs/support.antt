@@ -1,2 +1,2 @@
--- What serves the worked rows alone.
+-- Definitions for the worked examples alone.
 pub mod Rows

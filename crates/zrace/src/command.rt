@@ -1,4 +1,4 @@
-//! A race as a run of the program, without its devices.
+//! The program `zk race` without its devices.
 
 ghost use Rattle.std.specs.Prelude.{◌≡◌, ◌≤◌, [], codes};
 ghost use Rattle.zdevices.specs.Device.{sink_run};

@@ -24,7 +24,7 @@ use zrun::{Client, Clients, StartFault};
 /// The handle of a racing client's thread.
 pub(crate) type Racing = PromisedHandle<Racer, Returns>;
 
-/// The racing clients' threads, and what they handed back.
+/// The racing clients' threads, and what they returned.
 #[derive(Drop)]
 pub(crate) struct Field {
     handles: Vec<Racing>,

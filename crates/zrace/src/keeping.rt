@@ -2,7 +2,7 @@
 
 ghost use Rattle.zrace.specs.Kept.{IsKeptBehind};
 
-/// Appends one value. Returns false if there was no memory, and then it is dropped.
+/// Appends one value. Returns false out of memory: the value is then dropped.
 pub(crate) fn keep<X: Drop>(all: &mut Vec<X>, one: X) -> bool
     ensures { IsKeptBehind all.old.items all.new.items one }
 {

@@ -1,6 +1,11 @@
 //! The race: threads draw nodes by tickets, each with a client of its own. The run is audited at
-//! its end. Here too is the command `race ..` of the program: what its words ask for, and its run
-//! without devices.
+//! its end. The crate also has the program's command `zk race`, without its devices.
+//!
+//! # Why
+//!
+//! `zk race` has a command of its own, so `command` of a script, with its theorem on all scripts,
+//! takes no handle of threads. A version of a node is tied to the run's clients (`SameClient`), not
+//! to their records.
 #![tactic(auto)]
 
 mod command;

@@ -29,7 +29,7 @@ impl Outcome {
         self.audit.is_ok()
     }
 
-    /// Returns a line for each node, in the order of their numbers, and then that of the audit.
+    /// Returns a line for each node, in the order of their numbers, then the line of the audit.
     pub fn text(&self, alloc: Global) -> Result<String, AllocError>
         ensures { IfOk result (λ text. string_bytes text ≡ outcome_text self.now) }
     {

@@ -6,7 +6,7 @@ ghost use Rattle.zrace.specs.declared.plan.TheConstants.{MAX_RACERS, MAX_ROUNDS}
 use zprotocol::ServerId;
 use ztree::limits::MAX_CLIENTS;
 
-/// The most clients that race. Client 0 stands aside.
+/// The most clients that race. Client 0 does not race.
 pub const MAX_RACERS: u8 = MAX_CLIENTS - 1;
 
 /// The most nodes of a race.
@@ -62,7 +62,7 @@ impl Race {
     }
 }
 
-// Returns the server to be halted, if it is one of a chain of two or more.
+// Returns the server to halt, if it is one of a chain of two or more.
 fn halted(last: ServerId, halt: u8) -> Option<ServerId>
     requires { 0 < halt }
     ensures known { IfSome result (λ server. (server ≡ halt) × (halt ≤ last) × (1 < last)) }

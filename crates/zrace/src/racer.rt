@@ -32,7 +32,7 @@ pub(crate) struct Racer {
     ghost told: { All (λ it. HasSeen client it.0 it.1) seen.items },
 }
 
-/// The promise to hand this client back, with the versions that it received.
+/// The promise to return this client, with the versions that it received.
 #[derive(Drop)]
 pub(crate) struct Returns(pub(crate) Snapshot<Client>);
 
@@ -49,8 +49,8 @@ impl Racer {
         Racer { client, seen }
     }
 
-    /// Takes a node through its three calls. Returns false where it received no version, or memory
-    /// ran out.
+    /// Makes the three calls of a node. Returns false where it received no version, or memory ran
+    /// out.
     pub(crate) fn lap(&mut self, alloc: Global, node: u64, halted: Option<ServerId>) -> bool
         ensures { SameClient self.old.client self.new.client }
     {

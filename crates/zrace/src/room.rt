@@ -23,7 +23,7 @@ pub(crate) struct Room {
 }
 
 impl Room {
-    /// Returns a seat for each racing client, and a place for each node.
+    /// Returns a seat for each racing client, and a slot for each node.
     pub(crate) fn new(alloc: Global, race: &Race) -> Result<Room, Memory>
         ensures { IfOk result (λ room. length room.versions.items ≡ race.now.rounds) }
     {
@@ -38,7 +38,7 @@ impl Room {
     }
 }
 
-// Returns `rounds` nodes' versions, none of which is known.
+// Returns the versions of `rounds` nodes, all unknown.
 fn blank_versions(alloc: Global, rounds: u16) -> Result<Vec<Option<u64>>, Memory>
     ensures count { IfOk result (λ versions. length versions.items ≡ rounds) }
     ensures none { IfOk result (λ versions. All IsNone versions.items) }

@@ -1,4 +1,4 @@
-//! Worked rows of the definitions: each clause is one, and the bodies do nothing.
+//! Worked examples of the definitions. Each clause is one; the bodies do nothing.
 
 ghost use Rattle.std.specs.Prelude.{◌≡◌, [], ◌∷◌, codes, Some};
 ghost use Rattle.zrace.specs.Asked.{IsRaceOf};
@@ -13,7 +13,7 @@ pub fn limits_are_numbers()
 {}
 
 /// Words of the program, and the four numbers that they give: servers, clients, rounds, and the
-/// server to be halted.
+/// server to halt.
 pub fn words_give_four_numbers()
     ensures none { text_numbers (codes "zk race") ≡ Some (3 ∷ 4 ∷ 100 ∷ 0 ∷ []) }
     ensures one { text_numbers (codes "zk race --halt 2") ≡ Some (3 ∷ 4 ∷ 100 ∷ 2 ∷ []) }

@@ -72,8 +72,8 @@ impl Seat {
 }
 
 impl Runner {
-    /// Draws until all nodes are given out, and takes each through its three calls. It ends early
-    /// where a node gets no version. Returns its client, with the versions that it received.
+    /// Draws nodes until none is left, and makes the three calls of each. It ends early where a
+    /// node gets no version. Returns its client, with the versions that it received.
     pub(crate) fn run(mut self, alloc: Global, rounds: u64, halt: Option<ServerId>) -> Racer
         ensures { SameClient self.racer.client result.client }
     {
@@ -86,8 +86,8 @@ impl Runner {
         racer
     }
 
-    // Draws, and takes the node through its calls. Returns false where no node is left, or the node
-    // gets no version.
+    // Draws a node, and makes its calls. Returns false where no node is left, or the node gets no
+    // version.
     fn run_lap(&mut self, alloc: Global, rounds: u64, halt: &Option<ServerId>) -> bool
         ensures { SameClient self.old.racer.client self.new.racer.client }
     {

@@ -35,7 +35,8 @@ static RACE_OPTIONS: [NumberOption; 4] = [
 /// N is 1 to 16 (default 3), C is 1 to 31 (4), and R is 1 to 1,000 (100). S is 0 to N (0): 0 halts
 /// no server, and where N is 1 it is 0.
 ///
-/// All else is `BadWords`, a request for help too. `Memory` comes only where memory runs out.
+/// Everything else is `BadWords`, also a request for help. `Memory` means out of memory, and
+/// nothing else.
 pub fn race_settings<'a>(alloc: Global, words: &'a [&'a str]) -> Result<Race, WordsFault>
     ensures asked { IfOk result (IsRaceAsked (texts_of words.now)) }
     ensures bad { IfErr result (λ fault. fault ≡ WordsFault.BadWords

@@ -1,8 +1,8 @@
-//! A cluster at rest, but for one client that calls now and then. `bench/threads.py` measures what
-//! its threads take, and how long a call takes after a rest.
+//! A cluster with one client that calls now and then. `bench/threads.py` measures the processor
+//! time of its threads, and the latency of a call after a pause.
 //!
-//! Each line of the input is an order `SERVERS CALLS MICROS`: a chain of so many servers, and so
-//! many sets of one node with such a pause before each. Each set's line is the nanoseconds it took.
+//! Each line of the input is an order `SERVERS CALLS MICROS`: the servers of the chain, the number
+//! of sets of one node, and the pause before each. A set's line is the nanoseconds that it took.
 #![tactic(auto)]
 
 mod order;
@@ -61,7 +61,7 @@ fn took<R: Threads + Wait + Clock + Copy + Send + 'static>(
     if joined { took } else { None }
 }
 
-// The client calls as often as it is to.
+// Makes the client's calls.
 #[tactic(auto, using(zrun::proofs::Still::still_belongs))]
 fn one_calls<R: Wait + Clock>(
     rt: &R,

@@ -1,4 +1,4 @@
--- Worked words.
+-- Words of the worked examples.
 use Rattle.std.specs.Prelude.{ℕ, ◌==◌, List, Option}
 use Rattle.std.specs.List.{slice_split}
 use Rattle.zrace.specs.Asked.{race_numbers}
