@@ -3,6 +3,11 @@
 //! The bytes that a reader has left, or that a writer holds, are std's `remaining` and `contents`
 //! where these are known, as for a slice or a vector. For a terminal, a file or a pipe they aren't
 //! known, and the relations then hold for all bytes. An interrupted read is a failure.
+//!
+//! # Why
+//!
+//! A `WriterSink` runs the same code over a vector and over standard output. For a vector its bytes
+//! are known, so code that wrote other bytes would not be proved.
 
 ghost use Rattle.std.specs.Prelude.{◌≡◌, ◌<◌, IsTrue, false, ◌^◌, ◌-◌};
 ghost use Rattle.std.specs.Io.KnownBytes.{Consumes, Appends, IsAtEnd};

@@ -135,9 +135,9 @@ books_of d = record {
 abbrev pub IsOutside : Process → ℕ → Type 0
 IsOutside p n = (i : ℕ) → i < n → is_same p (process_at i) ≡ false
 
--- the steps of a process account for its books, and its state is `s` now; besides what they
--- received, `t` was received; of what they sent, `waits` is on no channel yet; they are its trace
--- and its record, unless the trace is cut
+-- The steps of a process account for its books, and its state is `s` now. Besides what they
+-- received, `t` was received. Of what they sent, `waits` is on no channel yet. They are its trace
+-- and its record, unless the trace is cut.
 pub record Accounts (who : Self) (b : Books) (s : TreeStanding) (t : TreeTaken) (waits : List TreePost) (deeds : List TreeDeed) : Type 0 where
   pub goes : GoesBy kept_tree who.me who.opening 0 deeds
   pub left : left_by who.opening deeds ≡ s
@@ -242,8 +242,8 @@ IsLostForNeed a b stamp = stamp < MAX_STAMP → is_lost_of b ≡ is_lost_of a
 abbrev pub AreKeptBelow : ℕ → Type 0
 AreKeptBelow last = (a b : Desk) (stamp : ℕ) → IsLostForNeed a b stamp → stamp < last → is_lost_of b ≡ is_lost_of a
 
--- an event: the process was in state `s` with its last timestamp, had received `t`, and did `act`;
--- then its state is `s'`, it has sent `posts`, and its caller has seen `told`
+-- An event: the process was in state `s` with its last timestamp, had received `t`, and did `act`.
+-- Then its state is `s'`, it has sent `posts`, and its caller has seen `told`.
 pub record IsEvent (me : Process) (last : ℕ) (s : TreeStanding) (t : TreeTaken) (act : Act) (stamp : ℕ) (s' : TreeStanding) (posts : List TreePost) (told : History) : Type 0 where
   pub row : Row kept_tree me s act (option_map (λ x. x.1) t) s' posts told
   pub from : (p : Process) → taken_from p act (option_map (λ x. x.1) t) ≡ took_from p t

@@ -11,9 +11,9 @@ use Rattle.zhost.specs.declared.desk.Ending.{Ending}
 use Rattle.zhost.specs.Desks.{TreeDeed, TreeStanding, TreeTaken, Each, IsOutside, IsSettled, Self, Stands, is_cut_of, is_lost_of, pending, self_of}
 use Rattle.zhost.specs.Untraced.{RecordsNothing}
 
--- the steps of a process account for what its endpoint left; what they received from each channel
--- is a prefix of what was received there; what was sent is what they sent; they are its trace and
--- its record, unless the trace is cut
+-- The steps of a process account for what its endpoint left. What they received from each channel
+-- is a prefix of what was received there. What was sent is what they sent. They are its trace and
+-- its record, unless the trace is cut.
 pub record AccountsAtEnd (who : Self) (e : Ending) (deeds : List TreeDeed) : Type 0 where
   pub goes : GoesBy kept_tree who.me who.opening 0 deeds
   pub traced : e.trace.is_cut ≡ false → trace_by deeds ≡ e.trace.events.items

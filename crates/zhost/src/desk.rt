@@ -124,8 +124,9 @@ impl Desk {
         }
     }
 
-    /// Sends the last event's messages, then returns what the endpoint leaves. If there is no
-    /// memory for that, its trace is cut, and what it did is lost.
+    /// Sends the last event's messages, then returns what the endpoint leaves. So a client that
+    /// ends just after a call leaves a whole trace. If there is no memory for the messages, the
+    /// trace is cut, and what the process did is lost.
     pub fn into_ending(mut self) -> Ending
         ensures ended { KeepsAtEnd self result }
         ensures wires { SameWires self result }

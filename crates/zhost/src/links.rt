@@ -1,4 +1,9 @@
 //! The channels of an endpoint.
+//!
+//! # Why
+//!
+//! A flush wakes the receiver only if it moved a message. Else a client would wake a halted server
+//! at each `turn`.
 
 ghost use Rattle.std.specs.Prelude.{◌≡◌, ◌<◌, IsFalse, IsTrue, None, true};
 ghost use Rattle.zhost.specs.Desks.{HasTaken, Keeps, SameRest, link_count, wires_of};

@@ -15,7 +15,7 @@ pub enum Line {
     Take(Process, Process),
     /// The first message on that link, a client's request, is lost.
     Ignore(Process, Process),
-    /// A server fails for good.
+    /// A server fails permanently.
     Fail(ServerId),
     /// A server is asked to join the chain, or a member is ordered to leave it.
     Order(Order),

@@ -2,8 +2,8 @@
 //! a second, and its memory meanwhile.
 //!
 //! Each line of the input is an order `SERVERS CALLS`: the servers of the chain, and the number of
-//! calls, alternately a set of one node and a read of it. After each tenth of the calls it writes
-//! how many are done, and at the end whether nothing was lost.
+//! calls. They are alternately a set of one node and a read of it. After each tenth of the calls it
+//! writes how many are done, and at the end whether nothing was lost.
 #![tactic(auto)]
 
 mod order;

@@ -23,8 +23,8 @@ untraced_run u = cluster_run u.cluster
 abbrev pub KeepsNoTrace : Untraced → Type 0
 KeepsNoTrace u = AreTraced false (cluster_desks u.cluster)
 
--- its processes left their ends of its channels, with no trace and no record; and there are steps
--- of each, by its table from the initial state, that sent and received what those ends say
+-- Its processes left their ends of its channels, with no trace and no record. There are steps of
+-- each, by its table from the initial state, that sent and received what those ends say.
 abbrev pub RanLawfully : Untraced → Type 0
 RanLawfully u =
     (endings : List Ending) × Pairs SameWires (cluster_desks u.cluster) endings × Each (λ i e. LeavesNothing e) endings

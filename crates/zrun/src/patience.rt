@@ -1,4 +1,9 @@
 //! How long a client waits for a reply.
+//!
+//! # Why
+//!
+//! No clause counts calls of `turn`: one that receives nothing leaves no trace. So a test puts
+//! stale replies into the client's ring, and the trace shows how many were received.
 
 /// How long a client waits for a call's reply, and how often it sends the call again.
 #[derive(Clone, Copy, Debug, PartialEq, Eq)]

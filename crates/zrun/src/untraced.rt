@@ -26,7 +26,8 @@ use zhost::Gate;
 use zprotocol::ServerId;
 use zshared::console::Console;
 
-/// The threads of a run without traces. Its memory doesn't grow with the number of calls.
+/// The threads of a run without traces. Its memory doesn't grow with the number of calls. It is a
+/// type of its own, so no one can ask it for traces.
 #[derive(Drop)]
 pub struct Untraced {
     pub(crate) cluster: Cluster,

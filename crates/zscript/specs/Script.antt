@@ -1,5 +1,5 @@
 -- The answer to a script's bytes: line by line, each on the state that the lines before it left.
--- The outcomes of the events, where processes can run out of memory, are given beside the bytes.
+-- The outcomes of the events, where processes can run out of memory, are given with the bytes.
 use Rattle.std.specs.Prelude.{ℕ, List, [], ◌∷◌, ◌==◌, if◌then◌else◌}
 use Rattle.std.specs.List.{onto_first}
 use Rattle.ztree.specs.declared.limits.TheConstants.{MAX_CLIENTS}
