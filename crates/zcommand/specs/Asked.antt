@@ -1,4 +1,4 @@
--- What a program's words ask for, by the number that they give: this project's own profile.
+-- What a program's words ask for, by the number that they give: this project's profile.
 use Rattle.std.specs.Prelude.{◌≡◌, ◌⊎◌, ℕ, ◌&&◌, nat_le, if◌then◌else◌, List, [], ◌∷◌, codes, Option, Some, Result, Ok, Err}
 use Rattle.zprotocol.specs.declared.limits.TheConstants.{MAX_SERVERS}
 use Rattle.zcli.specs.Asked.{asked_of}

@@ -65,7 +65,7 @@ abbrev pub GoesTo : Desk → TreeStanding → Desk → TreeStanding → Input �
 GoesTo a s b s' input stamp posts =
     (t : TreeTaken) → Stands a s (before_of input stamp t) [] → Stands b s' (after_of input t) posts
 
--- why nothing was done, for a traced process: the trace may be out of memory too
+-- why nothing was done; a traced process may also be out of memory for its trace
 abbrev pub IsUndone : TreeStanding → Input → ActFault → Type 0
 IsUndone standing input (Refused why) = refusal_of standing input ≡ Some why
 IsUndone standing input Memory = Unit {0}

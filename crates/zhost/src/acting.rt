@@ -138,7 +138,7 @@ fn enter_untraced(
     }
 }
 
-// Writes the message of an input that was to be heard back to `handed`.
+// Writes the message of an input back to `handed`, if the input is one.
 fn hand_back(input: Input, handed: &mut Handed)
     ensures { handed.new ≡ handed_by input (Err Memory) handed.old }
 {

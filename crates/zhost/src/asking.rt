@@ -14,7 +14,7 @@ pub(crate) fn number_of(done: Done) -> CallNumber
     ensures { done ≡ Began result }
 {
     let Done::Began(number) = done else {
-        // A client that accepts a call returns this.
+        // `HasBegun` excludes everything else.
         unreachable!();
     };
     number

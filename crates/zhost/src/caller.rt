@@ -3,7 +3,7 @@
 //! # Why
 //!
 //! A client's thread doesn't sleep: its calls take no handle of `Wait`, and none lasts longer than
-//! its caller says. So no bell is its own.
+//! its caller says. So no bell wakes it.
 
 ghost use Rattle.std.specs.Prelude.{◌≡◌, IfErr, IfOk, OnErr, OnOk, max, true, false};
 ghost use Rattle.zprotocol.specs.declared.process.Process.TheVariants.{Client};

@@ -2,8 +2,8 @@
 //!
 //! # Why
 //!
-//! A traced client copies a call for its trace and for its record. An untraced one copies no call
-//! and no reply: a copy is one more owner of the path, and a shared block would cost an allocation.
+//! A traced client copies a call for its trace and for its record. A copy costs less than the
+//! allocation of a block that both share. An untraced client copies no call and no reply.
 
 ghost use Rattle.std.specs.Prelude.{◌≡◌, true, false, IsFalse, IsTrue, max, option_to_list};
 ghost use Rattle.zworld_model.specs.History.{History};

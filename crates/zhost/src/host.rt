@@ -4,7 +4,7 @@
 //!
 //! All messages of an event are sent before the next message is received, so a server that is held
 //! at a message doesn't hold back what it has forwarded. A message that the process had no memory
-//! for remains in the host, since a ring can't return it.
+//! for remains in the host, since a ring can't show a message without removing it.
 
 ghost use Rattle.std.specs.Prelude.{◌≡◌, ◌<◌, IfErr, IfNone, IfOk, IfSome, IsFalse, IsTrue};
 ghost use Rattle.std.specs.Prelude.{false, is_some, max, None, true};

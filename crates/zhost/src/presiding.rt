@@ -3,8 +3,8 @@
 //! # Why
 //!
 //! The thread has at most one order that it received and hasn't followed. So the orders in its
-//! trace are those that it received, except the last one. It returns its end of the console's
-//! channel, so that at the join both ends are in one thread.
+//! trace are those that it received, except at most the last one. It returns its end of the
+//! console's channel, so that at the join both ends are in one thread.
 
 ghost use Rattle.std.specs.Prelude.{◌≡◌, ◌≤◌, ◌++◌, [], length, List, map, None, Option};
 ghost use Rattle.std.specs.Prelude.{option_to_list};

@@ -16,8 +16,8 @@ use zactor::Actor;
 use zprotocol::ServerId;
 use zserver::Server;
 
-/// A server with its endpoint. It went by the server table from its opening view, through its trace
-/// if it has one.
+/// A server with its endpoint. It followed the server table from its opening view, through its
+/// trace if it has one.
 #[derive(Drop)]
 pub struct ServerThread {
     pub(crate) host: Host,

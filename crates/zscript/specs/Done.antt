@@ -1,4 +1,4 @@
--- A line that was executed, by a program that doesn't know beforehand what becomes of its events.
+-- A line that was executed, by a program that doesn't know the outcomes of its events beforehand.
 use Rattle.std.specs.Prelude.{◌≡◌, ℕ, List, [], ◌++◌, String}
 use Rattle.zworld_model.specs.declared.outcome.Outcome.{Outcome}
 use Rattle.zworld.specs.Held.{Held, world_of}

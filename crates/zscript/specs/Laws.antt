@@ -1,5 +1,4 @@
--- What holds of the definitions themselves: a line without LF has no answer before the source
--- reported its end.
+-- Laws of the definitions: a line without LF has no answer before the source reported its end.
 use Rattle.std.specs.Prelude.{◌≡◌, List, ℕ, [], ◌∷◌}
 use Rattle.zdevices.specs.Device.{SourceRun, SinkRun}
 use Rattle.zscript.specs.Outcome.{IsCut}

@@ -162,7 +162,7 @@ call_effect s request =
     then call_answered (after_settling (after_try s begins)) (Some (request.client, (s.world.clients request.client).number + 1))
     else no_effect s (not_begun_text s request)
 
--- the effect of what a line asks for
+-- the effect of a line
 abbrev pub line_effect : ScriptState → Line → LineEffect
 line_effect s (asked.Call request) = call_effect s request
 line_effect s (asked.Begin request) = begin_effect s request
@@ -173,14 +173,14 @@ line_effect s (asked.Order order) = order_effect s order
 line_effect s (asked.Retry client) = plain_effect s (event.Retry client)
 line_effect s asked.Settle = settle_effect s
 
--- the answer to a line that asks for nothing; out of memory ends the script, and has none
+-- the answer to a refused line; out of memory ends the script, and has none
 abbrev pub line_fault_text : LineFault → List ℕ
 line_fault_text BadLine = codes "bad line"
 line_fault_text (BadPath fault) = codes "bad path " ++ fault_name fault
 line_fault_text BadData = codes "bad data"
 line_fault_text Memory = []
 
--- the effect of what was read of a line
+-- the effect of a line that was read, or its fault
 abbrev pub read_effect : ScriptState → Read Line → LineEffect
 read_effect s (Err fault) = no_effect s (line_fault_text fault)
 read_effect s (Ok line) = line_effect s line

@@ -27,7 +27,6 @@ whole_lines_of (b ∷ bs) = if b == 10 then [] ∷ whole_lines_of bs else onto_l
 abbrev pub opening_of : ℕ → ServiceWorld
 opening_of servers = opening_world kept_tree servers MAX_CLIENTS
 
--- The whole text that a script with this many servers is answered with, under the outcomes of its
--- events.
+-- The whole answer to a script with this many servers, under the outcomes of its events.
 abbrev pub text_of : ℕ → List Outcome → List ℕ → List ℕ
 text_of servers outcomes bytes = answers (opening_script servers outcomes) (lines_of bytes)

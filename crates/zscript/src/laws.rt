@@ -7,8 +7,8 @@ ghost use Rattle.zscript.specs.Promise.{EveryScriptIsExplained};
 /// For every number of servers, all bytes of a script and whatever becomes of its events: the
 /// history of its lines, one after the other, is linearizable.
 ///
-/// The text of a line is read off the same history (`effect_text` of specs/Line.antt). A call is
-/// answered with a reply to it from that history (`calls_are_answered_by_their_replies`).
+/// The text of a line is a function of the same history (`effect_text` of specs/Line.antt). A call
+/// is answered with a reply to it from that history (`calls_are_answered_by_their_replies`).
 pub fn every_script_is_explained()
     ensures { EveryScriptIsExplained }
 {}

@@ -1,9 +1,8 @@
-//! Sizes of a player's buffers in bytes, and the limit of a line's events: this project's own
-//! profile.
+//! Sizes of a player's buffers in bytes, and the limit of a line's events: this project's profile.
 
 use zlines::limits::MAX_LINE;
 
-/// The bytes that are read at once. Replies are written once they fill as many.
+/// The size of a block: bytes are read, and replies are written, in blocks.
 pub const BLOCK: usize = 65_536;
 
 /// The most bytes stored of a line: one more than a line may have, so that a longer one shows.

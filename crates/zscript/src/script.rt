@@ -45,8 +45,7 @@ pub fn play<S: Source, K: Sink>(
     played
 }
 
-// Plays block by block, with a player that has read nothing, whatever number of servers it began
-// with.
+// Plays block by block, with a player that has read nothing, for any number of servers.
 fn play_blocks<S: Source, K: Sink>(
     player: &mut Player,
     source: &mut S,

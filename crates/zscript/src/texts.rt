@@ -18,7 +18,7 @@ use zworld_model::{CallEvent, Settled};
 // A call, by its client and that client's number of it.
 type Own = Option<(ClientId, CallNumber)>;
 
-/// Writes why a line asked for nothing, unless it was out of memory.
+/// Writes why a line was refused, unless it was out of memory.
 pub(crate) fn write_fault(fault: LineFault, out: &mut String) -> Result<(), Memory>
     ensures { OnOk result (WritesFault fault out.old out.new) }
 {

@@ -16,7 +16,7 @@ use Rattle.zworld.specs.Did.{IsCause, is_short}
 use Rattle.zworld.specs.Steps.{WorldView, AreActed, HasHappened, world_in}
 use Rattle.zscript.specs.Line.{ServiceWorld, ScriptState, script_state, LineEffect, begin_fault_text, order_fault_name, line_fault_text, taken_text, own_reply_text}
 
--- the reason why a line asked for nothing was written, and it isn't out of memory
+-- the reason why a line was refused was written, and it isn't out of memory
 abbrev pub WritesFault : {A : Type 0} → LineFault → String A → String A → Type 0
 WritesFault fault before after = (fault ≡ line_fault.Memory → ⊥) × Writes before after (line_fault_text fault)
 
@@ -59,8 +59,8 @@ pub record LeadsTo (effect : LineEffect) (new : ServiceWorld) (own : Option (ℕ
   pub owned : effect.own ≡ own
   pub answered : effect.result ≡ result
 
--- the effect was brought about from one world to another, with these outcomes, and answered this
--- way, except for the LF
+-- the effect happened from one world to another, with these outcomes, and was answered this way,
+-- except for the LF
 pub record IsEffectDone (old new : ServiceWorld) (effect : ScriptState → LineEffect) (writes : List ℕ → Type 0) : Type 0 where
   pub told : List Outcome
   pub own : Option (ℕ × ℕ)
@@ -76,7 +76,7 @@ MayTell strict told = strict ≡ true → AreActed told
 abbrev pub IsEffectDoneBy : Bool → (old new : ServiceWorld) → (ScriptState → LineEffect) → (List ℕ → Type 0) → Type 0
 IsEffectDoneBy strict old new effect writes = (done : IsEffectDone old new effect writes) × MayTell strict done.told
 
--- the effect was brought about on a world, and its answer written, except for the LF
+-- the effect happened on a world, and its answer was written, except for the LF
 abbrev pub Plays : {A : Type 0} → Bool → (ScriptState → LineEffect) → WorldView → WorldView → String A → String A → Type 0
 Plays strict effect old new before after = IsEffectDoneBy strict (world_in old) (world_in new) effect (Writes before after)
 

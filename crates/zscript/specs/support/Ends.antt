@@ -14,8 +14,7 @@ abbrev pub EndsSo : {X : Type 0} → Result X PlayFault → ℕ → SourceRun �
 EndsSo (Ok x) servers source sink = IsPlayed servers source sink
 EndsSo (Err fault) servers source sink = IsCutBy servers source sink fault
 
--- The same of a player that has read nothing, by what the devices did, whatever number of servers
--- it began with.
+-- The same of a player that has read nothing, by what the devices did, for any number of servers.
 abbrev pub PlaysBlocks : {X S K : Type 0} → Result X PlayFault → PlayerView → source.Ghosts S → S → S → sink.Ghosts K → K → K → Type 0
 PlaysBlocks result p gives before after takes first last =
     (servers : ℕ) → world_now p ≡ opening_of servers → EndsSo result servers (source_did gives before after) (sink_did takes first last)

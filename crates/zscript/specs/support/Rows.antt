@@ -1,4 +1,4 @@
--- Worked scripts: lines, each with its answer.
+-- Scripts of the worked examples: lines, each with its answer.
 use Prim.Native.String.{String}
 use Rattle.std.specs.Prelude.{◌≡◌, ℕ, List, [], ◌∷◌, ◌++◌, Option, Some, codes, map}
 use Rattle.std.specs.List.{flat_map}

@@ -46,8 +46,8 @@ pub fn answers_are_told()
     ensures no_reply { reply_in call_2 (Answer 2 2 Deleted ∷ []) ≡ None }
 {}
 
-/// The texts for refused joins and calls, for the ends of settling and for lines that ask for
-/// nothing. Among them are those that no script brings about.
+/// The texts for refused joins, calls and lines, and for the ends of settling. Some of them no
+/// script can produce.
 pub fn words_of_answers()
     ensures used { order_fault_name Used ≡ codes "Used" }
     ensures joining { order_fault_name Joining ≡ codes "Joining" }
