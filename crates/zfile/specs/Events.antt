@@ -1,11 +1,14 @@
--- What was asked of a file, and what a file that does as it is asked then holds. All that the device
--- says of its file is read off this record of calls, the newest first. A reader has to believe that
--- a real file does as the record says; no proof shows it.
+-- What was asked of a file, and what a file that does as asked then holds. All that the device says
+-- of its file is computed from this record of calls, the newest first. That a real file does as the
+-- record says is assumed; no proof shows it.
+--
+-- A new file takes five calls: begun, added, settled, named, folder synced. So their order is
+-- proved: a file that takes the name unsynced may leave anything.
 use Rattle.std.specs.Prelude.{◌≡◌, ◌⊎◌, ℕ, zero, suc, ◌+◌, Bool, true, false, not, ◌&&◌, ◌||◌, if◌then◌else◌, List, [], ◌∷◌, ◌++◌, length, take, drop}
 use Rattle.std.proofs.Common.{inl, inr}
 use Rattle.zjournal.specs.Device.{Torn, Cut}
 
--- a call with its answer: which call, an offset or a length, whether it was done, and bytes
+-- a call with its result: which call, an offset or a length, whether it was done, and bytes
 abbrev pub Event : Type 0
 Event = ℕ × ℕ × Bool × List ℕ
 
@@ -21,11 +24,11 @@ written at ok bytes = (1, at, ok, bytes)
 abbrev pub shortened : ℕ → Bool → Event
 shortened len ok = (2, len, ok, [])
 
--- the file was to be brought to the disk
+-- the file was to be made durable
 abbrev pub synced : Bool → Event
 synced ok = (3, 0, ok, [])
 
--- the device was asked for something, and asked nothing of the file
+-- the device was asked for something, and made no call on the file
 abbrev pub refused : Event
 refused = (4, 0, false, [])
 
@@ -37,7 +40,7 @@ begun ok = (5, 0, ok, [])
 abbrev pub added : Bool → List ℕ → Event
 added ok bytes = (6, 0, ok, bytes)
 
--- the new file was to be brought to the disk
+-- the new file was to be made durable
 abbrev pub settled : Bool → Event
 settled ok = (7, 0, ok, [])
 
@@ -45,16 +48,16 @@ settled ok = (7, 0, ok, [])
 abbrev pub named : Bool → Event
 named ok = (8, 0, ok, [])
 
--- the folder, with the name, was to be brought to the disk
+-- the folder, with the name, was to be made durable
 abbrev pub folder_synced : Bool → Event
 folder_synced ok = (9, 0, ok, [])
 
--- a change since the last sync: a write of so many bytes at an offset; a cut to a length; or a new
--- file took the name, whole on the disk or not, with these bytes
+-- a change since the last sync: a write of that many bytes at an offset; a cut to a length; or a
+-- new file took the name, synced or not, with these bytes
 abbrev pub Change : Type 0
 Change = (ℕ × ℕ) ⊎ (ℕ ⊎ (Bool × List ℕ))
 
--- what is left of a new file that took the name: all of it, or where it wasn't synced first, anything
+-- what is left of a new file that took the name: all of it, or if it wasn't synced first, anything
 abbrev pub IsLeftOf : Bool → List ℕ → List ℕ → Type 0
 IsLeftOf true bytes c = c ≡ bytes
 IsLeftOf false bytes c = Unit {0}
@@ -65,12 +68,12 @@ Takes (inl write) old new = Torn write.0 write.1 old new
 Takes (inr (inl len)) old new = Cut len old new
 Takes (inr (inr next)) old new = (new ≡ old) ⊎ IsLeftOf next.0 next.1 new
 
--- what a crash may leave: what was kept, through each change since, of which the newest is first
+-- what a crash may leave: what was durable, through each change since, of which the newest is first
 abbrev pub Reaches : List ℕ → List Change → List ℕ → Type 0
 Reaches kept [] c = c ≡ kept
 Reaches kept (change ∷ earlier) c = (d : List ℕ) × Reaches kept earlier d × Takes change d c
 
--- nothing has happened since a whole new file took the name
+-- nothing has happened since a synced new file took the name
 abbrev pub ends_with_name : List Change → Bool
 ends_with_name [] = false
 ends_with_name (inl write ∷ earlier) = false
@@ -80,13 +83,13 @@ ends_with_name (inr (inr next) ∷ earlier) = next.0
 pub record FileModel : Type 0 where
   -- what a read returns
   pub seen : List ℕ
-  -- what was on the disk at the last sync, and the changes since
+  -- what was durable at the last sync, and the changes since
   pub kept : List ℕ
   pub changes : List Change
-  -- what the new file has, and whether it is whole on the disk
+  -- the content of the new file, and whether all of it is durable
   pub beside : List ℕ
   pub is_whole : Bool
-  -- whether a new file took the name, which may not be on the disk
+  -- whether a new file took the name, which may not be durable
   pub is_moved : Bool
   -- whether a call has failed, and how many have
   pub has_failed : Bool
@@ -95,16 +98,17 @@ pub record FileModel : Type 0 where
 abbrev pub counted : Bool → ℕ → ℕ
 counted ok faults = if ok then faults else faults + 1
 
--- whether this sync of the file keeps what was read, and whether this sync of the folder does
+-- whether this sync of the file makes durable what a read returns, and whether this sync of the
+-- folder does
 abbrev pub keeps_file : Bool → FileModel → Bool
 keeps_file ok m = ok && not m.has_failed && not m.is_moved
 
 abbrev pub keeps_name : Bool → FileModel → Bool
 keeps_name ok m = ok && not m.has_failed && ends_with_name m.changes
 
--- The file after one more call. A change that failed isn't seen, and may have been done in part. Once
--- a call has failed, a sync keeps nothing. A new file changes nothing before it takes the name; and
--- no sync of the file keeps anything while the name isn't on the disk.
+-- The file after one more call. A failed change isn't seen, and may have been done in part. Once a
+-- call has failed, a sync makes nothing durable. A new file changes nothing before it takes the
+-- name. While the name isn't durable, no sync of the file makes anything durable.
 abbrev pub after_call : ℕ → ℕ → Bool → List ℕ → FileModel → FileModel
 after_call zero at ok bytes m =
     record { seen = bytes; kept = bytes; changes = []; beside = []; is_whole = false; is_moved = false; has_failed = false; faults = 0 }

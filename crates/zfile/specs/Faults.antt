@@ -1,4 +1,4 @@
--- What is said of a folder that isn't opened.
+-- The message for a folder that isn't opened.
 use Rattle.std.specs.Prelude.{ℕ, List, codes}
 use Rattle.zfile.specs.declared.fault.FileFault.{FileFault}
 use Rattle.zfile.specs.declared.fault.FileFault.TheVariants.{Memory, InUse, NotFile, Denied, NoParent, Io}

@@ -1,4 +1,4 @@
--- What a device over a file shows.
+-- What a device over a file holds.
 use Rattle.std.specs.Prelude.{ℕ, List, length, Option, None, Some, Vec}
 use Rattle.zfile.specs.declared.device.FileDevice.{FileDevice}
 use Rattle.zfile.specs.Events.{Event, replay, MayLeave}
@@ -14,7 +14,7 @@ seen_of f = (replay (events_of f)).seen
 abbrev pub MayLeaveOf : {R : Type 0} → FileDevice R → List ℕ → Type 0
 MayLeaveOf f = MayLeave (events_of f)
 
--- how many bytes wait to be handed out
+-- the number of bytes that wait to be returned
 abbrev pub count_of : {A : Type 0} → Option (Vec ℕ A) → ℕ
 count_of None = 0
 count_of (Some bytes) = length bytes.items

@@ -2,6 +2,6 @@
 use Rattle.std.specs.Prelude.{List}
 use Rattle.zfile.specs.Events.{Event, replay, MayLeave}
 
--- What a read returns is among what a crash may leave: a process that is killed leaves it.
+-- What a read returns is among what a crash may leave: killing the process leaves it.
 abbrev pub WhatIsReadMayBeLeft : Type 0
 WhatIsReadMayBeLeft = (events : List Event) → MayLeave events (replay events).seen

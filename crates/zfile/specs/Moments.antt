@@ -13,7 +13,7 @@ pub left_now : (events : List Event) (t : ℕ) (c : List ℕ) → MayLeave event
 left_now [] t c may = may
 left_now (e ∷ earlier) t c may = inl may
 
--- since the last moment there is no other
+-- there is no moment after the last one
 pub left_last : (events : List Event) (c : List ℕ) → LeftSince events (length events) c → MayLeave events c
 left_last [] c left = left
 left_last (e ∷ earlier) c (inl now) = now

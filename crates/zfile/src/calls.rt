@@ -1,4 +1,4 @@
-//! The calls of the system that read and change a file. Each tells whether all of it was done.
+//! The system calls that read and change a file. Each returns whether all of it was done.
 
 use crate::FileFault;
 use std::alloc::Global;
@@ -17,7 +17,7 @@ pub(crate) fn cut(file: &File, len: usize) -> bool {
     file.set_len(len as u64).is_ok()
 }
 
-/// Waits until the disk has what was written.
+/// Waits until what was written is durable.
 pub(crate) fn sync(file: &File) -> bool {
     file.sync_data().is_ok()
 }
@@ -29,12 +29,12 @@ pub(crate) fn read_all(alloc: Global, mut file: &File) -> Result<Vec<u8>, FileFa
     Ok(bytes)
 }
 
-/// Writes all the bytes at the end of a file that nobody else writes.
+/// Writes all the bytes at the end of a file that no one else writes.
 pub(crate) fn append(mut file: &File, bytes: &[u8]) -> bool {
     file.write_all(bytes).is_ok()
 }
 
-/// Waits until the disk has a file, with its length, or a folder with its names.
+/// Waits until a file with its length, or a folder with its names, is durable.
 pub(crate) fn sync_all(file: &File) -> bool {
     file.sync_all().is_ok()
 }

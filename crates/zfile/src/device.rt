@@ -1,5 +1,10 @@
-//! A device over one file of the system. Each method makes one call, and then notes it with its
-//! answer. The new file takes its place in three such steps.
+//! A device over one file of the system. Each method makes one call, and then records it with its
+//! result. The new file replaces the old one in three such steps.
+//!
+//! # Why
+//! After any failed call the device makes no more calls on the file. A failed write may have put
+//! some of its bytes where a sync would make them durable. The device holds the runtime by which it
+//! was opened: `std::fs` needs it to make and rename files.
 
 ghost use Rattle.std.specs.Prelude.{◌≡◌, ◌∷◌, [], true, false, IfOk, IfErr, OnErr, OnOk, length};
 ghost use Rattle.zjournal.specs.Device.{Only};
@@ -21,20 +26,21 @@ use std::mem;
 use zjournal::{Device, DeviceError};
 
 /// The file `journal` of a folder. It is locked until this is dropped, also when a new one,
-/// `journal.new`, takes its place.
+/// `journal.new`, replaces it.
 #[derive(Drop)]
 pub struct FileDevice<R> {
     files: R,
     place: Place,
     file: File,
-    // The new file, where one is begun, and the one that lost its name last.
+    // The new file, if one is begun, and the one that lost its name last. That one stays locked: it
+    // keeps out a program that opened it earlier and doesn't check the name again.
     beside: Option<File>,
     former: Option<File>,
     mode: SyncMode,
     // What was read at opening, until the file is changed or synced.
     waits: Option<Vec<u8>>,
     has_failed: bool,
-    // A new file has the name, which may not be on the disk.
+    // A new file has the name, which may not be durable.
     is_moved: bool,
     log: Record,
     ghost waiting: { log.events ≡ calls_before waits log.events },
@@ -45,8 +51,8 @@ pub struct FileDevice<R> {
 impl<R: Files<File = File> + Copy> FileDevice<R> {
     ghost use Rattle.zfile.specs.File.{events_of, seen_of, MayLeaveOf, waiting_of};
 
-    /// Opens the file of the folder, locks it and reads it whole. Folder and file are made where
-    /// they are missing, for their owner alone. File, folder and the folder above are synced.
+    /// Opens the file of the folder, locks it and reads it whole. Missing folder and file are made,
+    /// for their owner alone. File, folder and the folder above are synced.
     pub fn open(
         alloc: Global,
         files: &R,
@@ -60,7 +66,7 @@ impl<R: Files<File = File> + Copy> FileDevice<R> {
         Ok(FileDevice::begin(*files, place, file, bytes, mode))
     }
 
-    /// How many bytes wait to be read.
+    /// The number of bytes that wait to be read.
     pub fn waiting(&self) -> usize
         ensures { result ≡ waiting_of self.now }
     {
@@ -70,7 +76,7 @@ impl<R: Files<File = File> + Copy> FileDevice<R> {
         }
     }
 
-    // The device over a file that holds these bytes, all of them on the disk.
+    // The device over a file that holds these bytes, all of them durable.
     fn begin(files: R, place: Place, file: File, bytes: Vec<u8>, mode: SyncMode) -> FileDevice<R>
         ensures fresh { events_of result ≡ held bytes.items ∷ [] }
     {
@@ -90,7 +96,7 @@ impl<R: Files<File = File> + Copy> FileDevice<R> {
         }
     }
 
-    // Asks nothing of the file.
+    // Makes no call on the file.
     fn refuse(&mut self) -> DeviceError
         ensures told { result ≡ Failed }
         ensures noted { events_of self.new ≡ refused ∷ events_of self.old }
@@ -100,7 +106,7 @@ impl<R: Files<File = File> + Copy> FileDevice<R> {
         DeviceError::Failed
     }
 
-    // Brings the new file to the disk.
+    // Makes the new file durable.
     fn settle(&mut self) -> Result<(), DeviceError>
         ensures done { OnOk result (events_of self.new ≡ settled true ∷ events_of self.old) }
         ensures not_done { OnErr result (events_of self.new
@@ -143,7 +149,7 @@ impl<R: Files<File = File> + Copy> FileDevice<R> {
         }
     }
 
-    // Brings the folder to the disk, with the name. Then the old file's bytes are let go.
+    // Makes the folder durable, with the name. Then the old file is cut to nothing.
     fn sync_folder(&mut self) -> Result<(), DeviceError>
         requires whole { ends_with_name (replay (events_of self.old)).changes ≡ true }
         requires sound { (replay (events_of self.old)).has_failed ≡ false }
@@ -186,8 +192,8 @@ impl<R: Files<File = File> + Copy> Device for FileDevice<R> {
 
     ghost only_now = { λ f c left. left_last f.log.events c left };
 
-    /// Hands out what was read at opening, until the file is changed or synced. Later there is
-    /// nothing to compare the file with, so it fails then, and asks nothing of the file.
+    /// Returns what was read at opening, until the file is changed or synced. Later there is
+    /// nothing to compare the file with, so it fails then, without a call on the file.
     fn read(&mut self, alloc: Global) -> Result<Vec<u8>, DeviceError> {
         match &self.waits {
             Some(bytes) => Ok(bytes.to_vec(alloc)?),
@@ -225,7 +231,7 @@ impl<R: Files<File = File> + Copy> Device for FileDevice<R> {
         }
     }
 
-    // No sync of the file brings its name to the disk.
+    // No sync of the file makes its name durable.
     fn sync(&mut self) -> Result<(), DeviceError> {
         if self.has_failed || self.is_moved {
             return Err(self.refuse());
@@ -285,7 +291,7 @@ impl<R: Files<File = File> + Copy> Device for FileDevice<R> {
         }
         self.settle()?; // first the new file is on the disk
         self.take_name()?; // then it has the name
-        self.sync_folder()?; // now its name is on the disk
+        self.sync_folder()?; // now its name is durable
         Ok(())
     }
 }

@@ -8,27 +8,27 @@ use std::io::ErrorKind;
 use std::{fmt, io};
 use thiserror::Error;
 
-/// Why a folder isn't opened. What was there is untouched.
+/// Why a folder isn't opened. What was there is unchanged.
 #[derive(Clone, Copy, Debug, PartialEq, Eq, Error)]
 pub enum FileFault {
     /// Out of memory.
     Memory,
     /// Another process has it open.
     InUse,
-    /// A name stands for something that isn't a folder, or no regular file.
+    /// A name belongs to something that isn't a folder, or isn't a regular file.
     NotFile,
-    /// This process lacks the rights, or the file system takes no changes.
+    /// This process lacks the rights, or the file system is read-only.
     Denied,
-    /// The folder above isn't there.
+    /// The folder above doesn't exist.
     NoParent,
-    /// A call of the system failed for another reason.
+    /// A system call failed for another reason.
     Io,
 }
 
 impl FileFault {
     ghost use Rattle.zfile.specs.Faults.{fault_text};
 
-    /// Returns what a program says of it.
+    /// Returns the message that a program prints for it.
     pub fn text(self) -> &'static str
         ensures { result.now ≡ fault_text self }
     {
@@ -43,7 +43,7 @@ impl FileFault {
     }
 }
 
-// By hand: the `Display` that `thiserror` derives has no `output`, so that no clause could cite
+// Written by hand: the `Display` that `thiserror` derives has no `output`, so no clause could cite
 // what it writes.
 impl fmt::Display for FileFault {
     ghost use Rattle.std.specs.Prelude.{Some};
@@ -76,7 +76,7 @@ impl<T: Drop> From<AllocFailed<T>> for FileFault {
     }
 }
 
-// What the system answers for a socket at the name of a file.
+// What the system returns for a socket at the name of a file.
 const ENXIO: i32 = 6;
 
 impl From<io::Error> for FileFault {

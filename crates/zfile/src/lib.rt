@@ -1,23 +1,28 @@
-//! One real file as a journal's device.
+//! A journal's device over one real file.
 //!
 //! ```text
 //! let device = FileDevice::open(alloc, "folder", SyncMode::Batch)?;   // made at the first start
 //! let (mut journal, text) = zjournal::open(alloc, device, servers)?;
 //! ```
 //!
-//! What the file is and what a crash may leave of it is read off a record of the calls that were
-//! made (`specs/Events.antt`). The record is data that no memory holds. That the device keeps a
-//! device's law is proved of it, with no assumption. Three things have to be believed for the law
-//! to speak of the real file, and no proof shows them:
+//! What the file holds and what a crash may leave of it is computed from a record of the calls made
+//! (`specs/Events.antt`). The record is data that takes no memory. That the device obeys the law of
+//! devices is proved of the record. Three assumptions connect the record to the real file, and no
+//! proof shows them:
 //!
-//! - The file held what `open` read, and so did the disk.
+//! - What `open` read is the content of the file, and is durable.
 //! - Each call does as `specs/Events.antt` says, and a crash leaves one of the contents there.
-//! - Nobody else touches the file. The lock keeps out whoever asks for it.
+//! - No one else touches the file. The lock keeps out every program that asks for it.
 //!
-//! So these lines have to be read: each method of `src/device.rt`, which makes one call and then
-//! notes it with its answer, `begin` there, the calls of `src/calls.rt`, and `src/opening.rt`. A
-//! body that notes a sync and makes none would prove as well. No other function may set a record by
-//! a proof by hand.
+//! So a reader has to check these lines: each method of `src/device.rt`, which makes one call and
+//! then records it with its result, `begin` there, the calls of `src/calls.rt`, and
+//! `src/opening.rt`. A body that recorded a sync and made none would be proved as well. No other
+//! function may set a record by a proof by hand.
+//!
+//! # Why
+//! The device is Rattle over `std::fs`: a host in C would add memory, pointers and a protocol to
+//! what is trusted. After a failed disk, an opening may read what isn't durable: the kernel keeps a
+//! page whose sync failed. `std` has no call to drop such pages; GUIDE says what to do.
 #![tactic(auto)]
 
 mod calls;

@@ -1,4 +1,4 @@
-//! The calls of a record, by their numbers (`specs/Events.antt`).
+//! The calls of a record, as numbers (`specs/Events.antt`).
 
 pub(crate) const HELD: u64 = 0;
 

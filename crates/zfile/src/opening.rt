@@ -1,4 +1,10 @@
 //! How the file of a folder is found, locked and read, and how a new one is made beside it.
+//!
+//! # Why
+//! The lock is `flock` on the file itself: it ends with the process, and no lock file can be left
+//! after. A process that opened the file just before a rename could lock a file without a name. So
+//! an opening checks the name again under its lock. Each opening syncs the file, its folder and the
+//! folder above, since an earlier process may have been killed before it did.
 
 use crate::FileFault;
 use crate::calls::read_all;
@@ -8,19 +14,19 @@ use std::fs::{DirBuilder, File, Files, OpenOptions};
 use std::io::ErrorKind;
 use std::os::unix::fs::{DirBuilderExt, MetadataExt, OpenOptionsExt};
 
-/// Where a file stands.
+/// Where a file is.
 #[derive(Drop)]
 pub(crate) struct Place {
     /// The folder, open.
     pub(crate) folder: File,
     /// The path of the file.
     pub(crate) path: String,
-    /// The path of a new file, before it takes the place of the other.
+    /// The path of a new file, before it replaces the other.
     pub(crate) new_path: String,
 }
 
-/// The file of the folder with all that it holds, which is on the disk. Both are made where they are
-/// missing. The lock is held as long as the file is open. An unfinished new file is passed over.
+/// The file of the folder with its content, durable. Both are made where they are missing. The lock
+/// is held as long as the file is open. An unfinished new file is ignored.
 pub(crate) fn open_locked<R: Files<File = File>>(
     alloc: Global,
     files: &R,
@@ -41,8 +47,8 @@ pub(crate) fn open_locked<R: Files<File = File>>(
     Ok((place, file, bytes))
 }
 
-// Locks the file. Another may have taken its name since it was opened: then whoever put it there has
-// the folder open.
+// Locks the file. Another may have taken its name since it was opened: then the process that put it
+// there has the folder open.
 fn lock<R: Files<File = File>>(files: &R, file: &File, path: &str) -> Result<(), FileFault> {
     file.try_lock()?;
     let held = file.metadata()?;
@@ -57,8 +63,8 @@ fn lock<R: Files<File = File>>(files: &R, file: &File, path: &str) -> Result<(),
     }
 }
 
-/// A new file, which has nothing and is locked. What stood at its name is removed. It is locked
-/// before it can have another name: so nobody can lock it then.
+/// A new, empty, locked file. A file that had its name is removed. It is locked before it can get
+/// another name, so no one can lock it then.
 pub(crate) fn new_file<R: Files<File = File>>(files: &R, path: &str) -> Result<File, FileFault> {
     match fs::remove_file(files, path) {
         Err(error) if error.kind() != ErrorKind::NotFound => return Err(FileFault::from(error)),
@@ -69,7 +75,7 @@ pub(crate) fn new_file<R: Files<File = File>>(files: &R, path: &str) -> Result<F
     Ok(file)
 }
 
-// Makes a file that isn't there yet. A copy of a descriptor is above 2.
+// Makes a file that doesn't exist yet. Its descriptor is copied to one above 2.
 fn open_new<R: Files<File = File>>(files: &R, path: &str) -> Result<File, FileFault> {
     let mut options = OpenOptions::new();
     options.read(true).write(true).create_new(true).mode(0o600);
@@ -83,7 +89,7 @@ fn joined(alloc: Global, folder: &str, name: &str) -> Result<String, FileFault> 
     Ok(path)
 }
 
-// The folder, which its owner alone may enter where it is made. Its name ends with a slash, so that
+// The folder; where it is made, its owner alone may enter it. Its name ends with a slash, so that
 // only a folder is opened.
 fn open_folder<R: Files<File = File>>(
     alloc: Global,
@@ -103,9 +109,9 @@ fn open_folder<R: Files<File = File>>(
     }
 }
 
-// The file, which its owner alone may read where it is made. No link is followed at its name. What
-// is meant for a standard stream that was closed must not land in it: a copy of a descriptor is
-// above 2.
+// The file; where it is made, its owner alone may read it. No link is followed at its name. Its
+// descriptor is copied to one above 2, since output for a closed standard stream must not land in
+// it.
 fn open_file<R: Files<File = File>>(files: &R, path: &str) -> Result<File, FileFault> {
     let mut options = OpenOptions::new();
     options.read(true).write(true).create_new(true).mode(0o600);

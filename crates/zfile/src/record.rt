@@ -7,7 +7,7 @@ ghost use Rattle.zfile.specs.Note.{event_of};
 
 use std::marker::{Model, PhantomData};
 
-/// The calls on a file with their answers, the newest first. No memory holds them.
+/// The calls on a file with their results, the newest first. They take no memory.
 #[derive(Drop)]
 pub struct Record {
     marker: PhantomData<u8>,
@@ -28,7 +28,7 @@ impl Record {
         }
     }
 
-    /// Notes one more call: which, an offset or a length, 1 if it was done, and its bytes.
+    /// Records one more call: which, an offset or a length, 1 if it was done, and its bytes.
     pub(crate) fn note(&mut self, _numbers: &[u64], _bytes: &[u8])
         ensures { self.new.events ≡ event_of _numbers.now _bytes.now ∷ self.old.events }
     {}

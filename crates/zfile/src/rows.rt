@@ -1,10 +1,10 @@
-//! Worked rows: each function's contract has some, and its body does nothing.
+//! Worked examples: each function's contract has some, and its body is empty.
 
 ghost use Rattle.std.specs.Prelude.{◌≡◌, [], ◌∷◌, List, ℕ, true, false};
 ghost use Rattle.zfile.specs.Events.{held, written, shortened, synced, refused, replay, MayLeave};
 ghost use Rattle.zfile.specs.Events.{added, begun, folder_synced, named, settled};
 
-/// What is read after some calls, the newest first. A call that failed changes nothing of it.
+/// What a read returns after some calls, the newest first. A failed call changes nothing of it.
 pub fn calls_change_a_file()
     ensures opened { (replay (held (1 ∷ 2 ∷ []) ∷ [])).seen ≡ 1 ∷ 2 ∷ [] }
     ensures over { (replay (written 1 true (8 ∷ 9 ∷ []) ∷ held (1 ∷ 2 ∷ []) ∷ [])).seen
@@ -16,8 +16,8 @@ pub fn calls_change_a_file()
     ensures faults { (replay (refused ∷ synced false ∷ held [] ∷ [])).faults ≡ 2 }
 {}
 
-/// What a crash leaves: after a sync what was read, before it anything in the range of a write, or
-/// what was there. After a call that failed no sync keeps anything.
+/// What a crash leaves. After a sync it is what is read; before it, anything in the range of a
+/// write, or what was there. After a failed call no sync makes anything durable.
 pub fn crashes_leave_what_was_synced()
     ensures opened { (c : List ℕ) → MayLeave (held (1 ∷ []) ∷ []) c → c ≡ 1 ∷ [] }
     ensures synced { (c : List ℕ)
@@ -31,7 +31,7 @@ pub fn crashes_leave_what_was_synced()
         (1 ∷ []) }
 {}
 
-/// A new file changes nothing before it takes the name. Then it is what is read.
+/// A new file changes nothing before it takes the name. From then on a read returns its content.
 pub fn new_files_take_the_name()
     ensures beside { (replay (added true (8 ∷ []) ∷ begun true ∷ held (1 ∷ []) ∷ [])).beside
         ≡ 8 ∷ [] }
@@ -45,8 +45,9 @@ pub fn new_files_take_the_name()
         ∷ held (1 ∷ []) ∷ [])).seen ≡ 1 ∷ [] }
 {}
 
-/// Until the folder is synced a crash leaves either file; then the new one. Where the new file wasn't
-/// synced before it took the name, a crash leaves anything. A sync of the file keeps no name.
+/// Until the folder is synced a crash leaves either file; then the new one. If the new file wasn't
+/// synced before it took the name, a crash leaves anything. A sync of the file doesn't make its
+/// name durable.
 pub fn names_are_kept_by_the_folder()
     ensures either_old { MayLeave (named true ∷ settled true ∷ added true (8 ∷ []) ∷ begun true
         ∷ held (1 ∷ []) ∷ []) (1 ∷ []) }

@@ -1,5 +1,5 @@
 -- The checksum of a text: Adler-32 (RFC 1950, sections 2.2 and 9), in eight hexadecimal digits, the
--- highest first. It is there to see a disk that fails. No law asks that two texts differ in it.
+-- highest first. It detects a failing disk. No law relies on two texts having different checksums.
 use Rattle.std.specs.Prelude.{ℕ, ◌+◌, ◌*◌, ◌/◌, ◌%◌, nat_lt, if◌then◌else◌, List, [], ◌∷◌, ◌++◌}
 
 -- two sums, of the bytes and of these sums, each modulo 65521
@@ -26,6 +26,6 @@ digits n =
     ∷ digit (n % 16)
     ∷ []
 
--- a text behind its checksum
+-- a text after its checksum
 abbrev pub stamped : List ℕ → List ℕ
 stamped text = digits (adler text) ++ text

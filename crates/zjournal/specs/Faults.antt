@@ -1,4 +1,4 @@
--- When each fault comes.
+-- When each fault occurs.
 use Rattle.std.specs.Prelude.{◌≡◌, ◌≢◌, ◌⊎◌, ℕ, List, [], ◌∷◌, ◌++◌, length}
 use Rattle.zjournal.specs.declared.device.DeviceError.{DeviceError}
 use Rattle.zjournal.specs.declared.device.DeviceError.TheVariants as device
@@ -10,7 +10,7 @@ use Rattle.zjournal.specs.Blocks.{IsText, AreTexts, blocks}
 use Rattle.zjournal.specs.Checksum.{stamped}
 use Rattle.zjournal.specs.Journal.{head_of, version_now, room, holdings, IsBeingMade}
 
--- what a device's error is to who opens, and to who puts
+-- what a device's error becomes for an opening, and for a put
 abbrev pub open_error : DeviceError → OpenError
 open_error device.Memory = opening.Memory
 open_error device.Failed = opening.Failed
@@ -19,7 +19,7 @@ abbrev pub put_error : DeviceError → PutError
 put_error device.Memory = put.Memory
 put_error device.Failed = put.Failed
 
--- the file begins as a journal of this version and number of servers, with the rest behind
+-- the file begins as a journal of this version and number of servers, followed by the rest
 abbrev pub Begins : ℕ → ℕ → List ℕ → List ℕ → Type 0
 Begins version servers rest file = file ≡ 1 ∷ head_of version servers rest
 
@@ -27,22 +27,22 @@ Begins version servers rest file = file ≡ 1 ∷ head_of version servers rest
 abbrev pub IsJournal : ℕ → List ℕ → Type 0
 IsJournal servers file = IsBeingMade servers file ⊎ ((version given : ℕ) × (rest : List ℕ) × Begins version given rest file)
 
--- the head has more than it should: its room isn't empty, or it doesn't end
+-- the head has more than it should: its reserved bytes aren't empty, or it doesn't end
 abbrev pub HasOtherHead : ℕ → List ℕ → Type 0
 HasOtherHead servers file = (rest : List ℕ) × Begins version_now servers rest file × ((more : List ℕ) → rest ≡ room ++ 0 ∷ more → ⊥)
 
--- behind these batches stands an open gate with something behind it that is no block of a batch
+-- after these batches is a set commit byte, and something after it that is no block of a batch
 abbrev pub HasOtherBlock : ℕ → List (List ℕ) → List ℕ → Type 0
 HasOtherBlock servers batches file = (rest : List ℕ) × (file ≡ blocks (holdings servers batches) ++ 1 ∷ rest) × (rest ≢ [])
     × ((text more : List ℕ) → IsText (stamped text) → rest ≡ stamped text ++ 0 ∷ more → ⊥)
 
--- the block at this place is damaged
+-- the block at this index is damaged
 abbrev pub IsDamagedAt : ℕ → ℕ → List ℕ → Type 0
 IsDamagedAt servers at file =
     ((at ≡ 0) × HasOtherHead servers file)
     ⊎ ((batches : List (List ℕ)) × AreTexts (holdings servers batches) × (at ≡ length (blocks (holdings servers batches))) × HasOtherBlock servers batches file)
 
--- the file is such as the fault says; memory and the disk say nothing of it
+-- the file is as the fault says; Memory and Failed say nothing of it
 abbrev pub IsSuch : ℕ → List ℕ → OpenError → Type 0
 IsSuch servers file opening.Memory = Unit {0}
 IsSuch servers file opening.Failed = Unit {0}

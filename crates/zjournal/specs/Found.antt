@@ -1,4 +1,4 @@
--- What a file was found to be.
+-- What a file turns out to be.
 use Rattle.std.specs.Prelude.{◌≡◌, ℕ, List, ◌++◌, length, drop}
 use Rattle.zjournal.specs.declared.reading.Found.{Found}
 use Rattle.zjournal.specs.declared.reading.Found.TheVariants.{Unmade, Unopened, Kept}
@@ -6,7 +6,7 @@ use Rattle.zjournal.specs.Blocks.{AreTexts, blocks, IsEnd}
 use Rattle.zjournal.specs.Journal.{holdings, IsUnmade, IsUnopened}
 use Rattle.zjournal.specs.Scan.{joined}
 
--- it keeps these batches, up to this place
+-- it holds these batches, up to this index
 pub record KeepsTo (servers : ℕ) (batches : List (List ℕ)) (end : ℕ) (file : List ℕ) : Type 0 where
   pub texts : AreTexts (holdings servers batches)
   pub split : file ≡ blocks (holdings servers batches) ++ drop end file

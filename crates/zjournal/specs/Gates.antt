@@ -1,17 +1,17 @@
--- What a crash leaves in the steps that change a file: the closing of its end, the writing of a
--- block behind a closed gate, and the opening of that gate.
+-- What a crash leaves in the steps that change a file: ending it with a clear commit byte, writing
+-- a block after that byte, and setting it.
 use Rattle.std.specs.Prelude.{◌≡◌, ◌⊎◌, ℕ, ◌≤◌, List, [], ◌∷◌, ◌++◌, length, take}
 
--- of the file a front stays, no shorter than this; or it is cut there, and one byte stands behind
+-- a prefix of the file remains, no shorter than this; or it is cut there, and one byte follows
 abbrev pub IsClosing : List ℕ → ℕ → List ℕ → Type 0
 IsClosing file end c =
     ((n : ℕ) × (end ≤ n) × (c ≡ take n file)) ⊎ ((gate : ℕ) × (c ≡ take end file ++ gate ∷ []))
 
--- behind the front stands a gate, any, and the block behind it
+-- after the prefix is a commit byte of any value, and the block after it
 abbrev pub IsOpening : List ℕ → List ℕ → List ℕ → Type 0
 IsOpening front block c = (gate : ℕ) × (c ≡ front ++ gate ∷ block)
 
--- behind the front stands a closed gate, and behind it no more than n bytes, any
+-- after the prefix is a clear commit byte, and after it at most n bytes of any value
 abbrev pub IsStaging : List ℕ → ℕ → List ℕ → Type 0
 IsStaging front n c = (rest : List ℕ) × (c ≡ front ++ 0 ∷ rest) × (length rest ≤ n)
 

@@ -1,13 +1,15 @@
--- What a journal's file stands for. Its first block is the head, which says what the file is. Each
--- further block holds a batch of text behind its checksum.
+-- What a journal's file represents. Its first block is the head, which says what the file is. Each
+-- further block holds a batch of text after its checksum.
+--
+-- The mark and the version come first in the head, where every version has them.
 use Rattle.std.specs.Prelude.{◌≡◌, ◌≢◌, ◌⊎◌, ℕ, ◌+◌, ◌≤◌, List, [], ◌∷◌, ◌++◌, length, map, codes, true}
 use Rattle.zjournal.specs.declared.journal.Journal.{Journal}
 use Rattle.zjournal.specs.Device.{Only}
 use Rattle.zjournal.specs.Blocks.{AreTexts, blocks, at_rest, IsEnd}
 use Rattle.zjournal.specs.Checksum.{stamped}
 
--- the head: a mark, the version of the format, the number of servers, and room for what a later
--- version may say, such as the place of a snapshot
+-- the head: a mark, the version of the format, the number of servers, and reserved bytes for a
+-- later version
 abbrev pub mark : List ℕ
 mark = codes "jellqupas journal "
 
@@ -23,25 +25,25 @@ head_of version servers more = mark ++ version ∷ servers ∷ more
 abbrev pub head : ℕ → List ℕ
 head servers = head_of version_now servers room
 
--- what the blocks hold
+-- the content of the blocks
 abbrev pub holdings : ℕ → List (List ℕ) → List (List ℕ)
 holdings servers batches = head servers ∷ map stamped batches
 
--- the file keeps these batches, in order, and no others; no block holds a byte 0
+-- the file holds these batches, in order, and no others; no block holds a byte 0
 pub record Keeps (servers : ℕ) (batches : List (List ℕ)) (file : List ℕ) : Type 0 where
   pub texts : AreTexts (holdings servers batches)
   pub end : List ℕ
   pub split : file ≡ blocks (holdings servers batches) ++ end
   pub counts_for_nothing : IsEnd end
 
--- nothing of the file is made but a part of its head: it has at most one byte, or a closed gate and
--- no more behind it than a head's block is long
+-- the file holds nothing but a part of its head: it has at most one byte, or a clear commit byte
+-- and after it no more than a head's block
 abbrev pub IsUnmade : ℕ → List ℕ → Type 0
 IsUnmade servers [] = Unit {0}
 IsUnmade servers (gate ∷ []) = Unit {0}
 IsUnmade servers (gate ∷ b ∷ more) = (gate ≡ 0) × (length (b ∷ more) ≤ length (head servers) + 2)
 
--- all of its head is made, but the gate isn't open
+-- the whole head is written, but its commit byte isn't set
 abbrev pub IsUnopened : ℕ → List ℕ → Type 0
 IsUnopened servers file = (gate : ℕ) × (gate ≢ 1) × (file ≡ gate ∷ (head servers ++ 0 ∷ 0 ∷ []))
 
@@ -49,12 +51,12 @@ IsUnopened servers file = (gate : ℕ) × (gate ≢ 1) × (file ≡ gate ∷ (he
 abbrev pub IsBeingMade : ℕ → List ℕ → Type 0
 IsBeingMade servers file = IsUnmade servers file ⊎ IsUnopened servers file
 
--- the file stands for these batches: it keeps them, or it is being made and there are none
+-- the file represents these batches: it holds them, or it is being made and there are none
 abbrev pub StandsFor : ℕ → List (List ℕ) → List ℕ → Type 0
 StandsFor servers batches file = Keeps servers batches file ⊎ (IsBeingMade servers file × (batches ≡ []))
 
--- a journal over a device: the file is at rest with these batches, all of it on the disk, and the
--- next block begins where the closed gate is. It knows for how many servers it is
+-- a journal over a device: the file is at rest with these batches, all of it durable, and the next
+-- block begins at the clear commit byte. It knows for how many servers it is
 pub record IsAtRest {D : Type 0} (seen : D → List ℕ) (may_leave : D → List ℕ → Type 0) (servers : ℕ) (batches : List (List ℕ)) (journal : Journal D) : Type 0 where
   pub texts : AreTexts (holdings servers batches)
   pub file : seen journal.device ≡ at_rest (holdings servers batches)
@@ -62,7 +64,7 @@ pub record IsAtRest {D : Type 0} (seen : D → List ℕ) (may_leave : D → List
   pub end : journal.end ≡ length (blocks (holdings servers batches))
   pub durable : Only (seen journal.device) (may_leave journal.device)
 
--- the device, how many bytes its blocks have, and whether the journal takes batches
+-- the device, the length of its blocks, and whether the journal takes batches
 abbrev pub device_of : {D : Type 0} → Journal D → D
 device_of journal = journal.device
 
@@ -76,6 +78,6 @@ IsOpen journal = journal.is_open ≡ true
 abbrev pub IsSound : {D : Type 0} → (D → List ℕ) → (D → List ℕ → Type 0) → Journal D → Type 0
 IsSound seen may_leave journal = IsOpen journal → (servers : ℕ) × (batches : List (List ℕ)) × IsAtRest seen may_leave servers batches journal
 
--- the file keeps the batches, with one more or without it
+-- the file holds the batches, with one more or without it
 abbrev pub IsWithOrWithout : ℕ → List (List ℕ) → List ℕ → List ℕ → Type 0
 IsWithOrWithout servers batches batch file = Keeps servers batches file ⊎ Keeps servers (batches ++ batch ∷ []) file

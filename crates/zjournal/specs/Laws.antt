@@ -4,12 +4,12 @@ use Rattle.zjournal.specs.declared.fault.OpenError.{OpenError}
 use Rattle.zjournal.specs.Journal.{StandsFor}
 use Rattle.zjournal.specs.Faults.{IsSuch, IsOfContent}
 
--- a file stands for one list of batches
+-- a file represents one list of batches
 abbrev pub FilesHaveOneReading : Type 0
 FilesHaveOneReading = (servers : ℕ) (file : List ℕ) (batches others : List (List ℕ))
     → StandsFor servers batches file → StandsFor servers others file → batches ≡ others
 
--- a file that stands for batches has no fault. So what a crash leaves of a journal is opened
+-- a file that represents batches has no fault. So what a crash leaves of a journal can be opened
 abbrev pub WhatStandsHasNoFault : Type 0
 WhatStandsHasNoFault = (servers : ℕ) (file : List ℕ) (batches : List (List ℕ)) (e : OpenError)
     → StandsFor servers batches file → IsOfContent e → IsSuch servers file e → ⊥

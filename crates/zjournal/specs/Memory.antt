@@ -1,4 +1,4 @@
--- What a file in memory shows.
+-- The contents of a file in memory.
 use Rattle.std.specs.Prelude.{List}
 use Rattle.zjournal.specs.declared.memory.MemoryFile.{MemoryFile}
 use Rattle.zjournal.specs.declared.moment.Moment.{Moment}

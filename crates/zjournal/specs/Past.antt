@@ -24,7 +24,7 @@ none_left : (past : List Moment) (c : List ℕ) → HadBeen (drop (length past) 
 none_left [] c had = had
 none_left (m ∷ past) c had = none_left past c had
 
--- since the last of them there is what there is now
+-- there is no moment after the last of them
 pub only_bytes : (past : List Moment) (m : Moment) (c : List ℕ) → CanBe m c ⊎ HadBeen (drop (length past) past) c → CanBe m c
 only_bytes past m c (inl now) = now
 only_bytes past m c (inr had) = absurd (none_left past c had)

@@ -1,15 +1,16 @@
 -- How a journal's file is renewed: a new file with other batches is written beside it, block by
--- block. Then it is closed, and takes the place of the old one.
+-- block. Then it is ended, and replaces the old one.
 use Rattle.std.specs.Prelude.{◌≡◌, ◌⊎◌, ℕ, List, length}
 use Rattle.zjournal.specs.declared.journal.Journal.{Journal}
 use Rattle.zjournal.specs.Blocks.{AreTexts, blocks}
 use Rattle.zjournal.specs.Journal.{holdings, Keeps, IsAtRest, IsOpen}
 
--- how many bytes the blocks of the new file have
+-- the length in bytes of the new file's blocks
 abbrev pub renewed_size_of : {D : Type 0} → Journal D → ℕ
 renewed_size_of journal = journal.renewed_end
 
--- the file is at rest with some batches, and beside it stand the blocks of the next ones so far
+-- the file is at rest with some batches, and the file beside it has the blocks of the next ones so
+-- far
 pub record IsRenewing {D : Type 0} (seen : D → List ℕ) (may_leave : D → List ℕ → Type 0) (beside : D → List ℕ) (servers : ℕ) (batches next : List (List ℕ)) (journal : Journal D) : Type 0 where
   pub rest : IsAtRest seen may_leave servers batches journal
   pub texts : AreTexts (holdings servers next)
@@ -20,6 +21,6 @@ pub record IsRenewing {D : Type 0} (seen : D → List ℕ) (may_leave : D → Li
 abbrev pub IsInRenewal : {D : Type 0} → (D → List ℕ) → (D → List ℕ → Type 0) → (D → List ℕ) → Journal D → Type 0
 IsInRenewal seen may_leave beside journal = IsOpen journal → (servers : ℕ) × (batches next : List (List ℕ)) × IsRenewing seen may_leave beside servers batches next journal
 
--- the file keeps the batches of before, or the next ones
+-- the file holds the old batches, or the next ones
 abbrev pub IsOldOrNew : ℕ → List (List ℕ) → List (List ℕ) → List ℕ → Type 0
 IsOldOrNew servers batches next file = Keeps servers batches file ⊎ Keeps servers next file

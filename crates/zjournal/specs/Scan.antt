@@ -1,4 +1,4 @@
--- How the blocks of a file are read, one behind the other.
+-- How the blocks of a file are read in order.
 use Rattle.std.specs.Prelude.{◌≡◌, ℕ, ◌+◌, ◌<◌, ◌≤◌, List, [], ◌∷◌, ◌++◌, length, drop, map}
 use Rattle.zjournal.specs.declared.fault.OpenError.{OpenError}
 use Rattle.zjournal.specs.declared.fault.OpenError.TheVariants as fault
@@ -10,30 +10,30 @@ abbrev pub EndsAt : List ℕ → ℕ → ℕ → Type 0
 EndsAt bytes start at = (at < length bytes)
     × ((text : List ℕ) × (drop start bytes ≡ text ++ 0 ∷ drop (at + 1) bytes) × (at ≡ start + length text) × IsText text)
 
--- the batch stands behind this gate, and its block ends here
+-- the batch is after this commit byte, and its block ends here
 pub record IsBatch (bytes : List ℕ) (gate : ℕ) (batch : List ℕ) (end : ℕ) : Type 0 where
   pub text : IsText (stamped batch)
   pub within : end ≤ length bytes
   pub stands : drop (gate + 1) bytes ≡ stamped batch ++ 0 ∷ drop end bytes
   pub long : end ≡ gate + (length (stamped batch) + 2)
 
--- no batch stands behind this gate
+-- no batch is after this commit byte
 abbrev pub IsNoBatch : List ℕ → ℕ → Type 0
 IsNoBatch bytes gate = (batch more : List ℕ) → IsText (stamped batch) → drop (gate + 1) bytes ≡ stamped batch ++ 0 ∷ more → ⊥
 
--- all texts, one behind the other
+-- all texts in order, joined
 abbrev pub joined : List (List ℕ) → List ℕ
 joined [] = []
 joined (text ∷ texts) = text ++ joined texts
 
--- the blocks of these batches stand from start to end
+-- the blocks of these batches reach from start to end
 pub record AreBatches (bytes : List ℕ) (start : ℕ) (batches : List (List ℕ)) (end : ℕ) : Type 0 where
   pub texts : AreTexts (map stamped batches)
   pub within : end ≤ length bytes
   pub stand : drop start bytes ≡ blocks (map stamped batches) ++ drop end bytes
   pub long : end ≡ start + length (blocks (map stamped batches))
 
--- behind some batches stands an open gate at this place, and behind it something that is no batch
+-- after some batches is a set commit byte at this index, and after it something that is no batch
 abbrev pub IsOtherAt : List ℕ → ℕ → ℕ → Type 0
 IsOtherAt bytes start gate = (batches : List (List ℕ)) × AreBatches bytes start batches gate
     × (drop gate bytes ≡ 1 ∷ drop (gate + 1) bytes) × (gate + 1 < length bytes) × IsNoBatch bytes gate

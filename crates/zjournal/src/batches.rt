@@ -1,4 +1,4 @@
-//! The batches behind a file's head.
+//! The batches after a file's head.
 
 ghost use Rattle.std.specs.Prelude.{◌≡◌, ◌⊎◌, ◌<◌, ◌≤◌, ◌+◌, ◌++◌, List, ℕ, length, get_or, drop};
 ghost use Rattle.std.specs.Prelude.{IfOk, IfErr, IfSome, IfNone, IsErrOf};
@@ -10,8 +10,8 @@ use crate::OpenError;
 use crate::checksum::checked;
 use std::alloc::Global;
 
-/// Reads the batches that begin at `start`. Returns their texts, one behind the other, and where
-/// the last one ends.
+/// Reads the batches that begin at `start`. Returns their texts in order, joined, and where the
+/// last one ends.
 pub fn batches(alloc: Global, bytes: &[u8], start: usize) -> Result<(Vec<u8>, usize), OpenError>
     requires { start ≤ length bytes.now }
     ensures ok { IfOk result (λ read. (batches : List (List ℕ))
@@ -28,7 +28,7 @@ pub fn batches(alloc: Global, bytes: &[u8], start: usize) -> Result<(Vec<u8>, us
     Ok((text, end))
 }
 
-// Reads the batch behind this open gate, and appends its text. Returns where its block ends.
+// Reads the batch after this set commit byte, and appends its text. Returns where its block ends.
 fn batch(bytes: &[u8], gate: usize, text: &mut Vec<u8>) -> Result<usize, OpenError>
     requires within { gate + 1 < length bytes.now }
     requires open { get_or bytes.now gate 0 ≡ 1 }
@@ -47,7 +47,7 @@ fn batch(bytes: &[u8], gate: usize, text: &mut Vec<u8>) -> Result<usize, OpenErr
     Ok(end + 1)
 }
 
-// Returns where the first byte 0 from `start` on stands, if there is one.
+// Returns the index of the first byte 0 from `start` on, if there is one.
 fn text_end(bytes: &[u8], start: usize) -> Option<usize>
     requires { start ≤ length bytes.now }
     ensures some { IfSome result (EndsAt bytes.now start) }

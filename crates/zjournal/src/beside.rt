@@ -1,4 +1,4 @@
-//! The steps that write a new file beside the old one, and put it in its place.
+//! The steps that write a new file beside the old one, and replace the old one with it.
 
 ghost use Rattle.std.specs.Prelude.{◌≡◌, ◌<◌, ◌≤◌, ◌++◌, [], ◌∷◌, List, ℕ, length};
 ghost use Rattle.std.specs.Prelude.{OnOk, IsErrOf};
@@ -10,7 +10,7 @@ ghost use Rattle.zjournal.specs.Untouched.{IsTaking, IsUntouched};
 use crate::reading::head_block;
 use crate::{Device, DeviceError};
 
-// Begins a new file, which is empty.
+// Begins a new, empty file.
 fn begin<D: Device>(device: &mut D) -> Result<(), DeviceError>
     requires durable { Only (D.seen device.old) (D.may_leave device.old) }
     ensures begun { OnOk result (D.beside device.new ≡ []) }
@@ -36,7 +36,8 @@ fn add<D: Device>(device: &mut D, bytes: &[u8]) -> Result<(), DeviceError>
     device.add_beside(bytes)
 }
 
-/// Appends an open gate and a block to the new file, but not the closed gate at the block's end.
+/// Appends a set commit byte and a block to the new file. The clear commit byte after the block
+/// comes later.
 pub fn add_open_block<D: Device>(device: &mut D, block: &[u8]) -> Result<(), DeviceError>
     requires some { 0 < length block.now }
     requires durable { Only (D.seen device.old) (D.may_leave device.old) }
@@ -68,7 +69,7 @@ pub fn begin_file<D: Device>(device: &mut D, servers: u8) -> Result<(), DeviceEr
     Ok(())
 }
 
-/// Appends a closed gate to the new file, and puts it in the place of the old one.
+/// Appends a clear commit byte to the new file, and replaces the old file with it.
 pub fn close_and_take<D: Device>(device: &mut D) -> Result<(), DeviceError>
     requires durable { Only (D.seen device.old) (D.may_leave device.old) }
     ensures taken { OnOk result (D.seen device.new ≡ D.beside device.old ++ 0 ∷ []) }

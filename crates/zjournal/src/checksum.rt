@@ -1,4 +1,8 @@
-//! The checksum that stands before each batch, and the block that holds both.
+//! The checksum before each batch, and the block that holds both.
+//!
+//! # Why
+//! A set commit byte whose block doesn't match its checksum can't come from a crash, so it is
+//! damage. The file is left as it is: cutting it would lose acknowledged batches.
 
 ghost use Rattle.std.specs.Prelude.{◌≡◌, ◌<◌, ◌++◌, [], ◌∷◌, List, ℕ, IfOk, IfSome, IfNone};
 ghost use Rattle.zjournal.specs.Blocks.{IsText};
@@ -44,7 +48,7 @@ pub fn checksum(text: &[u8]) -> [u8; 8]
     ]
 }
 
-/// Returns the text behind the checksum in front of it, if that is its own.
+/// Returns the text after the checksum in front of it, if the checksum matches.
 pub fn checked(held: &[u8]) -> Option<&[u8]>
     ensures some { IfSome result (λ text. held.now ≡ stamped text.now) }
     ensures none { IfNone result ((text : List ℕ) → held.now ≡ stamped text → ⊥) }
@@ -60,7 +64,7 @@ pub fn checked(held: &[u8]) -> Option<&[u8]>
     }
 }
 
-/// Returns the block of a text: its checksum, the text, a byte 0, and the closed gate behind it.
+/// Returns the block of a text: its checksum, the text, a byte 0, and the next, clear commit byte.
 pub fn block_of(alloc: Global, text: &[u8]) -> Result<Vec<u8>, AllocError>
     ensures { IfOk result (λ block. block.items ≡ stamped text.now ++ 0 ∷ 0 ∷ []) }
 {

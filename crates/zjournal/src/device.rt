@@ -8,13 +8,13 @@ ghost use Rattle.zjournal.specs.Device.{IsEither};
 use std::alloc::{AllocError, AllocFailed, Global};
 use thiserror::Error;
 
-/// Why a device didn't do what it was asked.
+/// Why a device call failed.
 #[derive(Clone, Copy, Debug, PartialEq, Eq, Error)]
 pub enum DeviceError {
     /// Out of memory.
     #[error("out of memory")]
     Memory,
-    /// The disk failed. What was under way may be done, in part or whole.
+    /// The disk failed. What was in flight may be done, in part or whole.
     #[error("the disk failed")]
     Failed,
 }
@@ -35,7 +35,7 @@ impl<T: Drop> From<AllocFailed<T>> for DeviceError {
     }
 }
 
-/// One file on a disk, and a new one beside it that may take its place.
+/// One file on a disk, and a new one beside it that may replace it.
 pub trait Device {
     /// The bytes that a read returns.
     ghost seen: { Self → List ℕ };
@@ -43,16 +43,16 @@ pub trait Device {
     /// What a crash at this moment may leave.
     ghost may_leave: { Self → List ℕ → Type 0 };
 
-    /// The moment, as a number that doesn't fall.
+    /// The moment, as a number that never decreases.
     ghost moment: { Self → ℕ };
 
-    /// What a crash at some moment from that one on might have left, in a call or between two.
+    /// What a crash at that moment or a later one might have left, in a call or between two.
     ghost left_since: { Self → ℕ → List ℕ → Type 0 };
 
     /// How often the disk has failed.
     ghost faults: { Self → ℕ };
 
-    /// What the new file beside this one has so far; nothing where none was begun.
+    /// The content so far of the new file beside this one; nothing if none was begun.
     ghost beside: { Self → List ℕ };
 
     /// Reads all bytes of the file.
@@ -83,7 +83,7 @@ pub trait Device {
             (left_since self.old) (left_since self.new) (may_leave self.new) }
         ensures cause { HasCause (faults self.old) (faults self.new) result };
 
-    /// Brings the file to the disk: from then on a crash leaves what a read returns.
+    /// Makes the file durable: from then on a crash leaves what a read returns.
     fn sync(&mut self) -> Result<(), DeviceError>
         ensures durable { OnOk result (Only (seen self.old) (may_leave self.new)) }
         ensures seen { seen self.new ≡ seen self.old }
@@ -92,7 +92,7 @@ pub trait Device {
             (left_since self.old) (left_since self.new) (may_leave self.new) }
         ensures cause { HasCause (faults self.old) (faults self.new) result };
 
-    /// Begins a new, empty file beside this one. It takes the place of an unfinished one.
+    /// Begins a new, empty file beside this one. It replaces an unfinished one.
     fn begin_beside(&mut self) -> Result<(), DeviceError>
         ensures begun { OnOk result (beside self.new ≡ []) }
         ensures seen { seen self.new ≡ seen self.old }
@@ -110,8 +110,8 @@ pub trait Device {
             (left_since self.old) (left_since self.new) (may_leave self.new) }
         ensures cause { HasCause (faults self.old) (faults self.new) result };
 
-    /// Puts the new file in the place of this one, in three steps. The new file is brought to the
-    /// disk; it takes the name; the name is brought to the disk.
+    /// Replaces this file with the new one, in three steps. The new file is synced; it takes the
+    /// name; the name is made durable.
     fn take_place(&mut self) -> Result<(), DeviceError>
         ensures taken { OnOk result (seen self.new ≡ beside self.old) }
         ensures durable { OnOk result (Only (beside self.old) (may_leave self.new)) }
@@ -125,7 +125,7 @@ pub trait Device {
     ghost counts_now: { (file : Self) (t : ℕ) (c : List ℕ)
         → t ≤ moment file → may_leave file c → left_since file t c };
 
-    /// Since this moment there is no other.
+    /// There is no later moment than this one.
     ghost only_now: { (file : Self) (c : List ℕ)
         → left_since file (moment file) c → may_leave file c };
 }

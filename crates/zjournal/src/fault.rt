@@ -4,7 +4,7 @@ use crate::DeviceError;
 use std::alloc::{AllocError, AllocFailed};
 use thiserror::Error;
 
-/// Why a file isn't opened. At the last four the file is untouched.
+/// Why a file isn't opened. With the last four the file is unchanged.
 #[derive(Clone, Copy, Debug, PartialEq, Eq, Error)]
 pub enum OpenError {
     /// Out of memory.
@@ -16,24 +16,24 @@ pub enum OpenError {
     /// The file doesn't begin as a journal does.
     #[error("not a journal")]
     NotJournal,
-    /// The journal has the format of another version: this one.
+    /// The journal has the format of this other version.
     #[error("a journal of version {0}")]
     Version(u8),
-    /// The journal is that of a service with another number of servers: this one.
+    /// The journal is that of a service with this other number of servers.
     #[error("a journal for {0} servers")]
     Servers(u8),
-    /// The block whose gate stands at this byte is not what was written.
+    /// The block whose commit byte has this index is not what was written.
     #[error("damaged at byte {0}")]
     Damaged(usize),
 }
 
-/// Why a batch wasn't put into a journal.
+/// Why a batch wasn't appended.
 #[derive(Clone, Copy, Debug, PartialEq, Eq, Error)]
 pub enum PutError {
-    /// Out of memory. Either nothing was asked of the file, or the journal takes nothing more.
+    /// Out of memory. Either no device call was made, or the journal takes nothing more.
     #[error("out of memory")]
     Memory,
-    /// The disk failed. Whether the batch is kept, a later opening tells.
+    /// The disk failed. A later opening shows whether the batch is in the file.
     #[error("the disk failed")]
     Failed,
     /// The batch has a byte 0.
@@ -42,7 +42,7 @@ pub enum PutError {
     /// The file has 2 ^ 60 bytes or more.
     #[error("the journal is full")]
     Full,
-    /// An earlier call failed: nothing more is asked of the file, which is to be opened again.
+    /// An earlier call failed: the journal makes no more device calls. Open the file again.
     #[error("the journal has failed")]
     Closed,
 }

@@ -1,4 +1,10 @@
-//! The steps that change a file. Each is on the disk before the next one begins.
+//! The steps that change a file. Each is durable before the next one begins.
+//!
+//! # Why
+//! A commit byte, and no checksum, decides whether a block counts. A checksum alone would need the
+//! premise that no torn block has its own checksum by chance. A commit takes two syncs: one for the
+//! block, one for its commit byte. With one sync for both, the disk would choose which of them is
+//! durable first.
 
 ghost use Rattle.std.specs.Prelude.{◌≡◌, ◌<◌, ◌≤◌, ◌^◌, ◌+◌, ◌++◌, [], ◌∷◌, length};
 ghost use Rattle.std.specs.Prelude.{take, drop, OnOk, IsErrOf};
@@ -7,7 +13,7 @@ ghost use Rattle.zjournal.specs.Gates.{IsAdding, IsClosing, IsOpening};
 
 use crate::{Device, DeviceError};
 
-// Cuts the file, and brings that to the disk.
+// Cuts the file, and makes the cut durable.
 fn cut_synced<D: Device>(device: &mut D, len: usize) -> Result<(), DeviceError>
     requires within { len ≤ length (D.seen device.old) }
     requires durable { Only (D.seen device.old) (D.may_leave device.old) }
@@ -24,7 +30,7 @@ fn cut_synced<D: Device>(device: &mut D, len: usize) -> Result<(), DeviceError>
     Ok(())
 }
 
-/// Writes bytes, and brings them to the disk.
+/// Writes bytes, and makes them durable.
 pub fn write_synced<D: Device>(device: &mut D, at: usize, bytes: &[u8]) -> Result<(), DeviceError>
     requires within { at ≤ length (D.seen device.old) }
     requires durable { Only (D.seen device.old) (D.may_leave device.old) }
@@ -41,7 +47,7 @@ pub fn write_synced<D: Device>(device: &mut D, at: usize, bytes: &[u8]) -> Resul
     Ok(())
 }
 
-/// Cuts the file, and sets a closed gate behind what stays.
+/// Cuts the file, and writes a clear commit byte after what remains.
 pub fn close<D: Device>(device: &mut D, end: usize) -> Result<(), DeviceError>
     requires within { end ≤ length (D.seen device.old) }
     requires durable { Only (D.seen device.old) (D.may_leave device.old) }
@@ -53,13 +59,13 @@ pub fn close<D: Device>(device: &mut D, end: usize) -> Result<(), DeviceError>
         → D.faults device.old < D.faults device.new }
     ensures faults { D.faults device.old ≤ D.faults device.new }
 {
-    // The cut has to be on the disk first: behind a gate that is torn open, what was there counts.
+    // The cut must be durable first: old bytes after a commit byte that tears to 1 would count.
     cut_synced(device, end)?;
     write_synced(device, end, &[0])?;
     Ok(())
 }
 
-/// Opens the gate at this place: from then on what stands behind it counts.
+/// Sets the commit byte at this index: from then on the block after it counts.
 pub fn open_gate<D: Device>(device: &mut D, gate: usize) -> Result<(), DeviceError>
     requires within { gate < length (D.seen device.old) }
     requires durable { Only (D.seen device.old) (D.may_leave device.old) }
@@ -76,7 +82,7 @@ pub fn open_gate<D: Device>(device: &mut D, gate: usize) -> Result<(), DeviceErr
     Ok(())
 }
 
-/// Writes a block behind the closed gate at the end of the file, and opens the gate.
+/// Writes a block after the clear commit byte at the end of the file, and sets that byte.
 pub fn add_block<D: Device>(device: &mut D, gate: usize, block: &[u8]) -> Result<(), DeviceError>
     requires closed { drop gate (D.seen device.old) ≡ 0 ∷ [] }
     requires small { gate < 2 ^ 60 }

@@ -1,4 +1,8 @@
-//! A journal over a device: batches are put into its file.
+//! A journal over a device: batches are appended to its file.
+//!
+//! # Why
+//! After any fault the journal may refuse everything: opening the file again shows what is durable.
+//! `put` looks for a byte 0 itself, so it has no precondition on the text.
 
 ghost use Rattle.std.specs.Prelude.{◌≡◌, ◌<◌, ◌≤◌, ◌^◌, ◌++◌, [], ◌∷◌, List, ℕ};
 ghost use Rattle.std.specs.Prelude.{OnOk, IfErr, IsErrOf};
@@ -21,7 +25,7 @@ pub struct Journal<D: Device> {
     pub(crate) device: D,
     pub(crate) servers: u8,
     pub(crate) end: usize,
-    // Where the blocks of the new file end, in a renewal.
+    // In a renewal, where the blocks of the new file end.
     pub(crate) renewed_end: usize,
     pub(crate) is_open: bool,
 }
@@ -34,16 +38,16 @@ impl<D: Device> Journal<D> {
         &self.device
     }
 
-    /// Returns how many bytes the blocks of the file have, without the gate behind them.
+    /// Returns the length of the file's blocks in bytes, without the commit byte after them.
     pub fn size(&self) -> usize
         ensures { result ≡ size_of self.now }
     {
         self.end // of the blocks
     }
 
-    /// Puts a batch behind the others. At `Ok` it is on the disk: from then on every crash leaves a
-    /// file that keeps it. After `Failed`, and at times after `Memory`, the journal takes nothing
-    /// more. Once the file is opened again, it has the batch or hasn't.
+    /// Appends a batch. At `Ok` it is durable: from then on every crash leaves a file that holds
+    /// it. After `Failed`, and sometimes after `Memory`, the journal takes nothing more. The file
+    /// then has the batch or hasn't; opening it again shows which.
     pub fn put(&mut self, batch: &[u8]) -> Result<(), PutError>
         requires { IsSound D.seen D.may_leave self.old }
         ensures kept { (servers : ℕ) (batches : List (List ℕ))

@@ -1,24 +1,32 @@
-//! A journal keeps batches of text in one file. Once `put` has returned `Ok`, its batch is on the
-//! disk, and no crash loses it. A crash in the middle of a `put` leaves all batches before it, and
-//! the new one as a whole or not at all.
+//! An append-only file of text batches, safe across crashes. Once `put` has returned `Ok`, its
+//! batch is durable. A crash in the middle of a `put` leaves all batches before it, and the new one
+//! as a whole or not at all.
 //!
 //! ```text
 //! let (mut journal, text) = open(alloc, device, servers)?;    // text: all batches so far
-//! journal.put(batch)?;                                        // now the batch is on the disk
+//! journal.put(batch)?;                                        // now the batch is durable
 //! ```
 //!
-//! A journal can be renewed: a new file with other batches takes the place of the old one. A crash
-//! leaves one of the two, whole.
+//! A journal can be renewed: a new file with other batches replaces the old one. A crash leaves one
+//! of the two, whole.
 //!
 //! ```text
 //! journal.begin_renewal()?;
 //! journal.put_renewed(batch)?;                                // any number of them
-//! journal.end_renewal()?;                                     // now the new file is on the disk
+//! journal.end_renewal()?;                                     // now the new file is durable
 //! ```
 //!
-//! `specs/Device.antt` says what a disk promises, and what a crash is. `specs/Journal.antt` says
-//! which batches a file stands for. A journal works over any `Device`. `MemoryFile` is one for
-//! tests: its writes tear.
+//! `specs/Device.antt` defines what a disk promises, and what a crash is. `specs/Journal.antt`
+//! defines which batches a file represents. A journal works over any `Device`. `MemoryFile` is one
+//! for tests: its writes tear.
+//!
+//! This is the first crate of the disk: everything that makes changes durable. Next are `zfile`
+//! (the device over `std::fs`), `zrecords` (changes as lines) and `zstates` (snapshots as lines).
+//! `zkept` joins them into a front end whose changes are durable.
+//!
+//! # Why
+//! A block's text has no byte 0 and ends with one. So no length can tear, and a batch may have any
+//! size.
 #![tactic(auto)]
 
 mod batches;

@@ -1,4 +1,4 @@
 //! The limits of a journal.
 
-/// No further batch is put into a file of this many bytes (2 ^ 60).
+/// No batch is appended to a file that has this many bytes (2 ^ 60) or more.
 pub const MAX_BYTES: usize = 1 << 60;

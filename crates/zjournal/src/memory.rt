@@ -1,4 +1,8 @@
 //! A file in memory, whose writes tear.
+//!
+//! # Why
+//! It holds two contents: what a read returns, and what torn writes left. A crash may leave either,
+//! so one run shows what power cuts leave at each moment.
 
 ghost use Rattle.std.specs.Prelude.{◌≡◌, ◌⊎◌, [], ◌∷◌, ◌++◌, List, ℕ, length};
 ghost use Rattle.std.specs.Prelude.{IfOk, OnOk, OnErr};
@@ -11,8 +15,8 @@ use crate::{Device, DeviceError, Moment};
 use std::alloc::{AllocError, Global};
 
 /// A file in memory with what a power cut would leave of it, now and at each moment so far. Each
-/// write and each cut tears: what a power cut leaves of it is chosen by a number that the test
-/// gives. From some call on the disk fails. A new file beside it tears, too, until it is synced.
+/// write and each cut tears: a number that the test gives chooses what a power cut leaves. From
+/// some call on the disk fails. A new file beside it tears, too, until it is synced.
 #[derive(Drop)]
 pub struct MemoryFile {
     alloc: Global,
@@ -26,10 +30,10 @@ pub struct MemoryFile {
 impl MemoryFile {
     ghost use Rattle.zjournal.specs.Memory.{current_of, past_of};
 
-    /// Makes a file with these bytes, all of them on the disk. `chance` chooses what power cuts
-    /// leave. So many steps succeed as `calls` says, and no later one does. A write, a cut and a
-    /// sync are a step each, and so is each call that begins the new file or appends to it. To put
-    /// it in the place of this one takes three.
+    /// Makes a file with these bytes, all durable. `chance` chooses what power cuts leave. The
+    /// first `calls` steps succeed, and no later one does. A write, a cut and a sync are one step
+    /// each, as is each call that begins the new file or appends to it. Replacing this file with
+    /// the new one takes three.
     pub fn new(alloc: Global, bytes: &[u8], chance: u64, calls: u64) -> Result<Self, AllocError>
         ensures seen { IfOk result (λ file. (current_of file).seen.items ≡ bytes.now) }
         ensures disk { IfOk result (λ file. (current_of file).disk.items ≡ bytes.now) }
@@ -91,7 +95,7 @@ impl MemoryFile {
         Ok(())
     }
 
-    // Brings the new file to the disk.
+    // Makes the new file durable.
     fn sync_beside(&mut self) -> Result<(), DeviceError>
         ensures copy { IsCopy self.new.current self.old.current }
         ensures same { self.new.beside.seen.items ≡ self.old.beside.seen.items }
@@ -106,7 +110,7 @@ impl MemoryFile {
         Ok(())
     }
 
-    // Gives the name to the new file. A power cut leaves the old file, or what the disk has of the
+    // Gives the name to the new file. A power cut leaves the old file, or what is durable of the
     // new one.
     fn take_name(&mut self) -> Result<(), DeviceError>
         ensures seen { OnOk result (self.new.current.seen.items ≡ self.old.beside.seen.items) }
@@ -153,7 +157,7 @@ impl MemoryFile {
     }
 }
 
-// Goes on to the next moment, and keeps a copy of the one before it.
+// Continues to the next moment, and saves a copy of the one before it.
 fn replace(
     alloc: Global,
     current: &mut Moment,
@@ -283,9 +287,9 @@ impl Device for MemoryFile {
     }
 
     fn take_place(&mut self) -> Result<(), DeviceError> {
-        self.sync_beside()?; // first it is whole on the disk
+        self.sync_beside()?; // first the whole file is durable
         self.take_name()?; // then it has the name
-        self.sync()?; // now its name is on the disk
+        self.sync()?; // now its name is durable
         Ok(())
     }
 }

@@ -1,7 +1,7 @@
 //! What a file in memory holds at a moment.
 
 /// A file at a moment: what a power cut leaves of it, and what a read returns. A power cut may
-/// leave this, too.
+/// leave the latter, too.
 #[derive(Drop)]
 pub struct Moment {
     /// What a power cut leaves.

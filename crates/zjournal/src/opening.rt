@@ -1,4 +1,8 @@
-//! How a file is opened.
+//! Opening a file.
+//!
+//! # Why
+//! A file is read whole, and its text is returned as one string. Batches are whole lines, so no
+//! caller needs to know where they began.
 
 ghost use Rattle.std.specs.Prelude.{◌≡◌, ◌<◌, ◌≤◌, ◌++◌, [], ◌∷◌, List, ℕ, length};
 ghost use Rattle.std.specs.Prelude.{IfOk, IfErr, OnOk, IsErrOf};
@@ -33,7 +37,7 @@ fn make<D: Device>(device: &mut D, servers: u8) -> Result<(), DeviceError>
 }
 
 /// Reads the batches of a file that a crash may have left, and repairs its end. A crash meanwhile
-/// leaves a file that stands for the same batches.
+/// leaves a file that represents the same batches.
 pub fn open_file<D: Device>(
     alloc: Global,
     device: &mut D,
@@ -69,7 +73,7 @@ pub fn open_file<D: Device>(
     }
 }
 
-/// Reads the text of all batches of a file that a crash may have left. The file stays as it is.
+/// Reads the text of all batches of a file that a crash may have left. The file is not changed.
 pub fn read_text<D: Device>(
     alloc: Global,
     device: &mut D,
@@ -97,16 +101,15 @@ pub fn read_text<D: Device>(
 }
 
 /// Opens the journal of a file that a crash may have left, or makes one of a new file. Returns it
-/// with the text of all batches. A crash meanwhile leaves a file that stands for the same batches.
-/// The number of servers stands in the file's head, and is at least 1. An `Err` hands the device
-/// back.
+/// with the text of all batches. A crash meanwhile leaves a file that represents the same batches.
+/// The file's head holds the number of servers, at least 1. An `Err` returns the device.
 pub fn open<D: Device>(
     alloc: Global,
     device: D,
     servers: u8,
 ) -> Result<(Journal<D>, Vec<u8>), (OpenError, D)>
     requires some { 0 < servers }
-    // After a restart, what is read is what is on the disk.
+    // After a restart, a read returns what is durable.
     requires durable { Only (D.seen device) (D.may_leave device) }
     ensures journal { IfOk result (λ opened. (batches : List (List ℕ))
         × StandsFor servers batches (D.seen device)

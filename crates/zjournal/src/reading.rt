@@ -1,4 +1,9 @@
-//! What the bytes of a file are found to be.
+//! What the bytes of a file turn out to be.
+//!
+//! # Why
+//! The head is the first block. So a file is made by the same steps as a batch, and after a crash
+//! it is still known as one being made. A short foreign file isn't overwritten, unless it has at
+//! most one byte, or begins with 0 and is no longer than a head.
 
 ghost use Rattle.std.specs.Prelude.{◌≡◌, ◌<◌, ◌+◌, ◌++◌, [], ◌∷◌, List, ℕ, length, drop};
 ghost use Rattle.std.specs.Prelude.{IfOk, IfErr, IfSome, IfNone, IsErrOf, IsTrue, OnOk, ◌↔◌};
@@ -13,18 +18,18 @@ use std::alloc::Global;
 /// Where the head's block ends.
 pub const HEAD_END: usize = 34;
 
-/// What a file was found to be.
+/// What a file turned out to be.
 #[derive(Drop)]
 pub enum Found {
     /// It has nothing yet but a part of its head.
     Unmade,
-    /// It has its head, but the gate in front isn't open.
+    /// It has its head, but the first commit byte isn't set.
     Unopened,
-    /// It keeps batches: their text, and where the last block ends.
+    /// It holds batches: their text, and where the last block ends.
     Kept(Vec<u8>, usize),
 }
 
-/// Returns the head's block without its gate, and with the closed gate behind it.
+/// Returns the head's block without its commit byte, and with the next, clear one.
 pub fn head_block(servers: u8) -> [u8; 34]
     ensures { result ≡ head servers ++ 0 ∷ 0 ∷ [] }
 {
@@ -35,7 +40,7 @@ pub fn head_block(servers: u8) -> [u8; 34]
     ]
 }
 
-// Returns whether nothing of the file is made but a part of its head.
+// Returns whether the file holds nothing but a part of its head.
 fn is_unmade(bytes: &[u8], servers: u8) -> bool
     ensures { IsTrue result ↔ IsUnmade servers bytes.now }
 {
@@ -53,7 +58,7 @@ fn first(bytes: &[u8]) -> Option<(u8, &[u8])>
     }
 }
 
-// Returns what stands behind this front, if the bytes begin with it.
+// Returns what follows this prefix, if the bytes begin with it.
 fn behind<'a>(bytes: &'a [u8], front: &[u8]) -> Option<&'a [u8]>
     ensures some { IfSome result (λ rest. bytes.now ≡ front.now ++ rest.now) }
     ensures none { IfNone result ((rest : List ℕ) → bytes.now ≡ front.now ++ rest → ⊥) }
@@ -65,7 +70,7 @@ fn behind<'a>(bytes: &'a [u8], front: &[u8]) -> Option<&'a [u8]>
     if start == front { Some(rest) } else { None }
 }
 
-// Returns whether all of its head is made, but the gate isn't open.
+// Returns whether the whole head is written, but its commit byte isn't set.
 fn is_unopened(bytes: &[u8], servers: u8) -> bool
     ensures { IsTrue result ↔ IsUnopened servers bytes.now }
 {
@@ -75,7 +80,7 @@ fn is_unopened(bytes: &[u8], servers: u8) -> bool
     }
 }
 
-// Tests that the head is that of a journal of this version and these servers.
+// Checks that the head is that of a journal of this version and number of servers.
 fn check_head(bytes: &[u8], servers: u8) -> Result<(), OpenError>
     requires made { IsUnmade servers bytes.now → ⊥ }
     requires opened { IsUnopened servers bytes.now → ⊥ }
@@ -104,7 +109,7 @@ fn check_head(bytes: &[u8], servers: u8) -> Result<(), OpenError>
     }
 }
 
-/// Returns what the bytes are found to be, or the fault that they have.
+/// Returns what the bytes turn out to be, or their fault.
 pub fn look(alloc: Global, bytes: &[u8], servers: u8) -> Result<Found, OpenError>
     requires { 0 < servers }
     ensures ok { IfOk result (IsFound servers bytes.now) }

@@ -1,4 +1,8 @@
-//! A journal's file is renewed: a new file with other batches takes its place.
+//! Renewal of a journal's file: a new file with other batches replaces it.
+//!
+//! # Why
+//! A new file replaces the old one by name, so each moment has one whole file. A renewal is three
+//! calls and no value that holds the journal, so the caller can add one batch at a time.
 
 ghost use Rattle.std.specs.Prelude.{◌≡◌, ◌<◌, ◌≤◌, ◌^◌, ◌++◌, [], ◌∷◌, List, ℕ};
 ghost use Rattle.std.specs.Prelude.{OnOk, IfErr, IsErrOf};
@@ -15,8 +19,8 @@ use crate::reading::HEAD_END;
 use crate::{Device, Journal, PutError};
 
 impl<D: Device> Journal<D> {
-    /// Begins a new file beside this one, for as many servers and with no batch yet. It takes the
-    /// place of an unfinished one. The journal's own file stays as it is, whatever crash comes.
+    /// Begins a new file beside this one, for the same number of servers and with no batch yet. It
+    /// replaces an unfinished one. No crash changes the journal's own file.
     pub fn begin_renewal(&mut self) -> Result<(), PutError>
         requires { IsSound D.seen D.may_leave self.old }
         ensures begun { (servers : ℕ) (batches : List (List ℕ))
@@ -50,8 +54,8 @@ impl<D: Device> Journal<D> {
         Ok(())
     }
 
-    /// Puts a batch into the new file, behind its others. The journal's own file stays as it is,
-    /// whatever crash comes. Batches come one at a time, so they are never all in memory.
+    /// Appends a batch to the new file. No crash changes the journal's own file. Batches come one
+    /// at a time, so they are never all in memory.
     pub fn put_renewed(&mut self, batch: &[u8]) -> Result<(), PutError>
         requires { IsInRenewal D.seen D.may_leave D.beside self.old }
         ensures added { (servers : ℕ) (batches next : List (List ℕ)) → IsOpen self.old
@@ -94,10 +98,10 @@ impl<D: Device> Journal<D> {
         Ok(())
     }
 
-    /// Closes the new file, and puts it in the place of the old one. At `Ok` it is on the disk with
-    /// its name: from then on every crash leaves its batches, and no others. A crash meanwhile
-    /// leaves the old file or the new one, whole. After a fault the journal takes nothing more, and
-    /// the file that is opened again is one of the two.
+    /// Ends the new file, and replaces the old one with it. At `Ok` it is durable with its name:
+    /// from then on every crash leaves its batches, and no others. A crash meanwhile leaves the old
+    /// file or the new one, whole. After a fault the journal takes nothing more, and the file is
+    /// one of the two.
     pub fn end_renewal(&mut self) -> Result<(), PutError>
         requires { IsInRenewal D.seen D.may_leave D.beside self.old }
         ensures renewed { (servers : ℕ) (batches next : List (List ℕ)) → IsOpen self.old
@@ -120,7 +124,7 @@ impl<D: Device> Journal<D> {
         if !self.is_open {
             return Err(PutError::Closed);
         }
-        self.is_open = false; // until the place is taken
+        self.is_open = false; // until the file is replaced
         close_and_take(&mut self.device)?;
         self.end = self.renewed_end;
         self.is_open = true;

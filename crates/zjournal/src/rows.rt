@@ -1,4 +1,4 @@
-//! Worked rows: each function's contract has some, and its body does nothing.
+//! Worked examples: each function's contract has some, and its body is empty.
 
 ghost use Rattle.std.specs.Prelude.{◌≡◌, [], ◌∷◌, codes};
 ghost use Rattle.zjournal.specs.Blocks.{at_rest, IsEnd};
@@ -7,21 +7,21 @@ ghost use Rattle.zjournal.specs.Device.{Cut, IsEither, Torn};
 ghost use Rattle.zjournal.specs.Journal.{holdings, IsUnmade, Keeps};
 ghost use Rattle.zjournal.specs.Renewal.{IsOldOrNew};
 
-/// A checksum, and a text behind its own.
+/// A checksum, and a text after its own.
 pub fn texts_have_checksums()
     ensures empty { adler [] ≡ 1 }
     ensures known { adler (codes "Wikipedia") ≡ 300286872 }
     ensures stamped { stamped (codes "Wikipedia") ≡ codes "11e60398Wikipedia" }
 {}
 
-/// A file at rest: blocks, and a closed gate.
+/// A file at rest: blocks, and a clear commit byte.
 pub fn blocks_stand_in_a_row()
     ensures none { at_rest [] ≡ 0 ∷ [] }
     ensures two { at_rest ((97 ∷ []) ∷ (98 ∷ 99 ∷ []) ∷ [])
         ≡ 1 ∷ 97 ∷ 0 ∷ 1 ∷ 98 ∷ 99 ∷ 0 ∷ 0 ∷ [] }
 {}
 
-/// What counts for nothing behind the blocks, and an open gate with something behind it.
+/// What doesn't count after the blocks, and a set commit byte with something after it.
 pub fn ends_count_for_nothing()
     ensures nothing { IsEnd [] }
     ensures torn_gate { IsEnd (1 ∷ []) }
@@ -39,7 +39,7 @@ pub fn files_are_made()
     ensures made { Keeps 3 [] (at_rest (holdings 3 [])) }
 {}
 
-/// A torn write leaves what stands before its range, and a cut leaves a front of the file.
+/// A torn write leaves what is before its range, and a cut leaves a prefix of the file.
 pub fn crashes_leave_the_rest()
     ensures before { Torn 1 1 (1 ∷ 2 ∷ []) (9 ∷ 2 ∷ []) → ⊥ }
     ensures behind { Torn 0 1 (1 ∷ 2 ∷ []) (1 ∷ 9 ∷ []) → ⊥ }
@@ -48,7 +48,7 @@ pub fn crashes_leave_the_rest()
     ensures cut_no_front { Cut 1 (1 ∷ 2 ∷ []) (9 ∷ []) → ⊥ }
 {}
 
-/// While a new file takes the place of an old one, a crash leaves either, and nothing in part.
+/// While a new file replaces an old one, a crash leaves one of them, whole.
 pub fn new_files_take_the_place()
     ensures old { IsEither (λ c. c ≡ 1 ∷ []) (2 ∷ 3 ∷ []) (1 ∷ []) }
     ensures next { IsEither (λ c. c ≡ 1 ∷ []) (2 ∷ 3 ∷ []) (2 ∷ 3 ∷ []) }

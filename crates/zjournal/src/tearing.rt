@@ -1,4 +1,4 @@
-//! What tears in memory.
+//! Torn writes and cuts in memory.
 
 ghost use Rattle.std.specs.Prelude.{◌≡◌, ◌⊎◌, ◌≤◌, ◌++◌, List, ℕ, length, take, IfOk, OnOk};
 ghost use Rattle.zjournal.specs.Device.{Cut, Holds, Torn};
@@ -12,8 +12,8 @@ pub(crate) fn next_chance(chance: u64) -> u64 {
         .wrapping_add(1442695040888963407)
 }
 
-/// Returns what a power cut leaves of a write: each byte of its range is the old one, the new one
-/// or another, and the length is the old one, the new one or between.
+/// Returns what a power cut leaves of a write. Each byte of its range is the old one, the new one
+/// or another; the length is the old one, the new one or between.
 pub(crate) fn torn(
     alloc: Global,
     disk: &[u8],
@@ -34,8 +34,8 @@ pub(crate) fn torn(
     Ok(next)
 }
 
-// Appends the torn range. It is as long as the write; or, where the file ended in it, no shorter
-// than what was there.
+// Appends the torn range. It is as long as the write. Where the file ended in it, it may be
+// shorter, but not shorter than what was there.
 fn add_torn(next: &mut Vec<u8>, old: &[u8], bytes: &[u8], chance: u64) -> Result<(), AllocError>
     ensures { OnOk result ((range : List ℕ) × (next.new.items ≡ next.old.items ++ range)
         × (length range ≤ length bytes.now)

@@ -62,7 +62,7 @@ parts_from (first ∷ parts) = Ok (first ∷ parts)
 abbrev pub FitParts : List Part → Type 0
 FitParts parts = (0 < length parts) × (listed MAX_PARTS part).Fits parts
 
--- the parts, behind their count
+-- the parts, after their count
 unfoldable pub parts : Form (List Part)
 parts = made (listed MAX_PARTS part) (λ parts. parts) parts_from FitParts
 

@@ -4,7 +4,7 @@ use Rattle.zjournal.specs.Blocks.{IsText}
 use Rattle.zrecords.specs.declared.record.Record.{Record}
 use Rattle.zrecords.specs.Records.{Fits, AllFit, line_of, text_of}
 
--- no two lines stand in front of one text
+-- no text begins with two different lines
 abbrev pub OneRecordInFront : Type 0
 OneRecordInFront =
     (a b : Record) (x y : List ℕ) → Fits a → Fits b → line_of a ++ x ≡ line_of b ++ y → (a ≡ b) × (x ≡ y)
@@ -13,7 +13,7 @@ OneRecordInFront =
 abbrev pub TextsTellApart : Type 0
 TextsTellApart = (a b : List Record) → AllFit a → AllFit b → text_of a ≡ text_of b → a ≡ b
 
--- one text behind another is that of the records of both
+-- one text followed by another is that of the records of both
 abbrev pub TextsJoin : Type 0
 TextsJoin = (a b : List Record) → text_of (a ++ b) ≡ text_of a ++ text_of b
 

@@ -1,5 +1,5 @@
--- Records as lines of text. A line is a record's bytes in base64 (RFC 4648, section 4) and an LF. So
--- a log is a text without a byte 0, and two logs, one behind the other, are a log.
+-- Records as lines of text. A line is a record's bytes in base64 (RFC 4648, section 4) and an LF.
+-- So a log is a text without a byte 0, and one log followed by another is a log.
 use Rattle.std.specs.Prelude.{◌≡◌, ◌≢◌, ℕ, ◌+◌, List, [], ◌∷◌, ◌++◌, length, Result}
 use Rattle.std.specs.List.{AllByRecursion, flat_map}
 use Rattle.std.specs.Int.{w8}
@@ -69,12 +69,12 @@ text_of = flat_map line_of
 
 -- ---- faults
 
--- no record's line stands in front
+-- the text doesn't begin with a record's line
 abbrev pub HasNoRecord : List ℕ → Type 0
 HasNoRecord text = (r : Record) (rest : List ℕ) → Fits r → text ≡ line_of r ++ rest → ⊥
 
--- behind some records' lines something is left, and no record's line stands in front of it; its
--- line has this number, the first being 1
+-- after some records' lines something is left that doesn't begin with a record's line; its line has
+-- this number, the first being 1
 pub record IsBadLine (text : List ℕ) (n : ℕ) : Type 0 where
   pub before : List Record
   pub left : List ℕ

@@ -1,4 +1,4 @@
--- What stands behind a tag, by the tag.
+-- What follows a tag, by the tag.
 use Rattle.std.specs.Prelude.{ℕ, List, Result, Err, ◌==◌, if◌then◌else◌}
 use Rattle.zforms.specs.declared.fault.Fault.{Fault}
 use Rattle.zforms.specs.declared.fault.Fault.TheVariants.{Invalid}

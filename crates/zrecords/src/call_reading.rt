@@ -76,7 +76,7 @@ fn part_of(alloc: Global, bytes: &[u8]) -> Result<(Part, &[u8]), ReadError>
     part_behind(alloc, tag, rest)
 }
 
-// What was read, as a value of this kind.
+// The value read, as one of this kind.
 macro_rules! a {
     ($kind:path, $read:expr) => {
         match $read {
@@ -86,7 +86,7 @@ macro_rules! a {
     };
 }
 
-// Reads what stands behind the tag of a part.
+// Reads what follows the tag of a part.
 #[tactic(auto, unfolding(crate::specs::Calls::part_at))]
 fn part_behind(alloc: Global, tag: u8, bytes: &[u8]) -> Result<(Part, &[u8]), ReadError>
     ensures { Gives (λ x. (x.0, x.1.now)) result (part_at tag bytes.now) }
@@ -114,7 +114,7 @@ fn multi_of(alloc: Global, bytes: &[u8]) -> Result<(Multi, &[u8]), ReadError>
     Ok((multi, rest))
 }
 
-// Reads so many parts.
+// Reads that many parts.
 fn counted_parts(alloc: Global, count: u32, bytes: &[u8]) -> Result<(Vec<Part>, &[u8]), ReadError>
     requires { count ≤ MAX_PARTS }
     ensures parts { Gives (λ x. (x.0.items, x.1.now)) result ((times part count).read bytes.now) }
@@ -150,7 +150,7 @@ pub fn update_of(alloc: Global, bytes: &[u8]) -> Result<(Update, &[u8]), ReadErr
     update_behind(alloc, tag, rest)
 }
 
-// Reads what stands behind the tag of a change.
+// Reads what follows the tag of a change.
 #[tactic(auto, unfolding(crate::specs::Calls::update_at))]
 fn update_behind(alloc: Global, tag: u8, bytes: &[u8]) -> Result<(Update, &[u8]), ReadError>
     ensures { Gives (λ x. (x.0, x.1.now)) result (update_at tag bytes.now) }

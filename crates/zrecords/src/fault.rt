@@ -1,4 +1,4 @@
-//! Why a text isn't a log's.
+//! Why a text isn't a log.
 
 ghost use Rattle.std.specs.Prelude.{◌≡◌};
 ghost use Rattle.zrecords.specs.declared.fault.RecordFault.TheVariants.{Memory as OfMemory};
@@ -10,7 +10,7 @@ use zalloc::Memory;
 /// Why no records were read.
 #[derive(Clone, Copy, Debug, PartialEq, Eq, Error)]
 pub enum RecordFault {
-    /// The line with this number, the first being 1, is no record's. Those before it are.
+    /// The line with this number, the first being 1, isn't a record. Those before it are.
     #[error("line {0} is no record")]
     Line(usize),
     /// Out of memory. It says nothing about the text.

@@ -55,7 +55,7 @@ pub fn path_with(alloc: Global, text: &[u8]) -> Result<Path, ReadError>
     ensures { Gives (λ it. it) result (path_from text.now) }
 {
     let Ok(text) = str::from_utf8(text) else {
-        // A path has visible ASCII alone.
+        // A path has only visible ASCII.
         return Err(ReadError::Fault(Fault::Invalid));
     };
     match Path::parse(alloc, text) {
@@ -64,7 +64,7 @@ pub fn path_with(alloc: Global, text: &[u8]) -> Result<Path, ReadError>
     }
 }
 
-// Why a text is read as no path.
+// Why a text isn't a path.
 fn unread(fault: PathFault) -> ReadError
     ensures memory { fault ≡ OfMemory → result ≡ ReadError.Memory }
     ensures other { (fault ≡ OfMemory → ⊥) → result ≡ ReadError.Fault Invalid }
@@ -84,7 +84,7 @@ pub(crate) fn version_in(bytes: &[u8]) -> Result<(Expected, &[u8]), Fault>
     version_behind(tag, rest)
 }
 
-// Reads what stands behind the tag of a version.
+// Reads what follows the tag of a version.
 #[tactic(auto, unfolding(crate::specs::Fields::version_at))]
 fn version_behind(tag: u8, bytes: &[u8]) -> Result<(Expected, &[u8]), Fault>
     ensures { Reads (λ x. (x.0, x.1.now)) result (version_at tag bytes.now) }
@@ -108,7 +108,7 @@ pub(crate) fn kind_in(bytes: &[u8]) -> Result<(Kind, &[u8]), Fault>
     kind_behind(tag, rest)
 }
 
-// Reads what stands behind the tag of a kind.
+// Reads what follows the tag of a kind.
 #[tactic(auto, unfolding(crate::specs::Fields::kind_at))]
 fn kind_behind(tag: u8, bytes: &[u8]) -> Result<(Kind, &[u8]), Fault>
     ensures { Reads (λ x. (x.0, x.1.now)) result (kind_at tag bytes.now) }

@@ -1,14 +1,15 @@
-//! Laws of the definitions. Each function's contract is a law; its body does nothing.
+//! Laws of the definitions. Each function's contract is a law; its body is empty.
 
 ghost use Rattle.zrecords.specs.Laws.{OneRecordInFront, TextsTellApart, TextsJoin, AreLines};
 
-/// No two records' lines stand in front of one text, and no two lists of records share their text.
+/// A text begins with the line of at most one record, and is the text of at most one list of
+/// records.
 pub fn texts_tell_apart()
     ensures first { OneRecordInFront }
     ensures all { TextsTellApart }
 {}
 
-/// The text of some records behind that of others is the text of them all.
+/// The text of some records, followed by that of others, is the text of them all.
 pub fn texts_join()
     ensures { TextsJoin }
 {}

@@ -3,13 +3,13 @@
 //!
 //! `write_records` appends records to a log's text, and `next_record` and `read_records` read them
 //! from it. A line is a record's bytes in base64, and an LF. So a log has no byte 0, and a log
-//! behind another is a log.
+//! followed by another is a log.
 //!
-//! What records are made of can be read and written by itself: `update_of`, `put_update` and the
-//! like. Messages between processes have it too.
+//! Parts of records can be read and written on their own: `update_of`, `put_update` and the like.
+//! Messages between processes have the same parts, so a call has one spelling.
 //!
 //! The definitions: `specs/Records.antt` (lines, and the bytes of records), `specs/Calls.antt` and
-//! `specs/Fields.antt` (the bytes of what records are made of), `specs/Laws.antt`.
+//! `specs/Fields.antt` (the bytes of a record's parts), `specs/Laws.antt`.
 #![tactic(auto)]
 
 mod call_reading;

@@ -1,4 +1,4 @@
 //! The limit of a row. It is this project's profile.
 
-/// The greatest number of bytes of a row of a snapshot, those of its length among them.
+/// The greatest length of a snapshot's row in bytes, its length field included.
 pub const MAX_ROW_BYTES: u32 = 66_652;

@@ -15,8 +15,8 @@ use std::alloc::Global;
 use zalloc::Memory;
 use zforms::ReadError;
 
-/// Reads the record whose line stands in front of the text, with what follows the line. Returns
-/// `None` where no record's line stands there.
+/// Reads the record whose line comes first in the text, with what follows the line. Returns `None`
+/// if the text doesn't begin with a record's line.
 pub fn next_record(alloc: Global, text: &[u8]) -> Result<Option<(Record, &[u8])>, Memory>
     ensures some { IfOk result (λ next. IfSome next (λ x.
         Fits x.0 × (text.now ≡ line_of x.0 ++ x.1.now))) }
@@ -37,7 +37,7 @@ pub fn next_record(alloc: Global, text: &[u8]) -> Result<Option<(Record, &[u8])>
     }
 }
 
-/// Reads the records of a log, in order. Fails at the first line that is no record's.
+/// Reads the records of a log, in order. Fails at the first line that isn't a record.
 pub fn read_records(alloc: Global, text: &[u8]) -> Result<Vec<Record>, RecordFault>
     // What is read is written so.
     ensures found { IfOk result (λ records.

@@ -14,7 +14,7 @@ pub enum Record {
     Update(Update),
     /// A server fails for good.
     Fail(ServerId),
-    /// A server is asked to join behind the tail.
+    /// A server is asked to join after the tail.
     Join(ServerId),
     /// A server, a member of the chain, is ordered to leave.
     Retire(ServerId),

@@ -31,7 +31,7 @@ fn record_of(alloc: Global, bytes: &[u8]) -> Result<(Record, &[u8]), ReadError>
     record_behind(alloc, tag, rest)
 }
 
-// Reads what stands behind the tag of a record.
+// Reads what follows the tag of a record.
 #[tactic(auto, unfolding(crate::specs::Records::logged_at))]
 fn record_behind(alloc: Global, tag: u8, bytes: &[u8]) -> Result<(Record, &[u8]), ReadError>
     ensures { Gives (λ x. (x.0, x.1.now)) result (logged_at tag bytes.now) }

@@ -1,4 +1,4 @@
-//! Worked examples of the definitions. Each function's contract has some; its body does nothing.
+//! Worked examples of the definitions. Each function's contract has some; its body is empty.
 
 ghost use Rattle.std.specs.Prelude.{◌≡◌, [], ◌∷◌, ◌++◌, Ok, Err, codes};
 ghost use Rattle.zforms.specs.declared.fault.Fault.TheVariants.{Short, Long, Invalid, Trailing};
@@ -8,7 +8,7 @@ ghost use Rattle.zrecords.specs.Records.{logged, line_of, text_of, IsBadLine};
 ghost use Rattle.zrecords.specs.support.Samples.{password, create, create_for_7, delete, set_root};
 ghost use Rattle.zrecords.specs.support.Samples.{multi, open_for_10, ping, close, tick};
 
-/// The bytes of changes of nodes, behind the two tags of each.
+/// The bytes of changes of nodes, after the two tags of each.
 pub fn changes_have_bytes()
     ensures create { logged.spell create
         ≡ 1 ∷ 0 ∷ 0 ∷ 0 ∷ 0 ∷ 2 ∷ 47 ∷ 97 ∷ 0 ∷ 0 ∷ 0 ∷ 0 ∷ 2 ∷ 104 ∷ 105 ∷ [] }
@@ -48,7 +48,7 @@ pub fn logs_have_lines()
         ≡ codes "AgE=" ++ 10 ∷ codes "AQAAAAACL2EAAAAAAmhp" ++ 10 ∷ [] }
 {}
 
-/// Bytes that are a record, and bytes that are none.
+/// Bytes that are a record, and bytes that aren't.
 pub fn bytes_are_records()
     ensures read { whole logged (1 ∷ 7 ∷ []) ≡ Ok tick }
     ensures no_bytes { whole logged [] ≡ Err Short }
@@ -65,7 +65,7 @@ pub fn bytes_are_records()
     ensures more { whole logged (1 ∷ 7 ∷ 0 ∷ []) ≡ Err Trailing }
 {}
 
-/// The first line of a text that is no record's.
+/// The first line of a text that isn't a record.
 pub fn lines_are_counted()
     ensures unended { IsBadLine (codes "AQc=") 1 }
     ensures empty { IsBadLine (codes "AQc=" ++ 10 ∷ 10 ∷ []) 2 }

@@ -10,7 +10,7 @@ use base64::engine::general_purpose::STANDARD;
 use std::alloc::{AllocError, Global};
 use zalloc::Memory;
 
-/// Appends the text of the records to a log. At `Memory` the log is what it was.
+/// Appends the text of the records to a log. At `Memory` the log is unchanged.
 ///
 /// Every record fits, so `read_records` reads them again.
 pub fn write_records(alloc: Global, records: &[Record], out: &mut Vec<u8>) -> Result<(), Memory>

@@ -1,5 +1,8 @@
 -- Forms of what messages are made of: numbers with a limit, processes, stats, refusals and names.
 -- Numbers have the highest byte first. A tag keeps its meaning in every later version.
+--
+-- A process is spelled by its kind and number, not by its index among all processes, which changes
+-- with the number of servers.
 use Rattle.std.specs.Prelude.{ℕ, ◌-◌, ◌≤◌, ◌||◌, List, [], ◌∷◌, length, Result, Ok, Err, nat_lt, if◌then◌else◌}
 use Rattle.std.specs.Int.{Width, w8, w64}
 use Rattle.zforms.specs.declared.fault.Fault.{Fault}
@@ -145,6 +148,6 @@ abbrev pub second_from : List (List ℕ) → Result (List ℕ) Fault
 second_from (first ∷ second ∷ []) = Ok second
 second_from names = Err Invalid
 
--- values behind their number in eight bytes: each list of a reply has its number there
+-- values after their count in eight bytes: each list of a reply has its count there
 abbrev pub counted : {A : Type 0} → Form A → Form (List A)
 counted c = tagged long length (times c)

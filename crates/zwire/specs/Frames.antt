@@ -20,13 +20,13 @@ abbrev pub frame_of : {T : Type 0} → Process → Process → Message T → Fra
 frame_of sender receiver message =
     record { sender = sender; receiver = receiver; message = bare message }
 
--- what stands behind the length
+-- what follows the length
 unfoldable pub contents : Form Frame
 contents = fields (both process (both process any_message))
     (λ f. (f.sender, (f.receiver, f.message)))
     (λ p. record { sender = p.0; receiver = p.1.0; message = p.1.1 })
 
--- a value behind its length, at most so great: it takes all of these bytes
+-- a value after its length, at most this great: it takes all of these bytes
 abbrev pub framed : {A : Type 0} → ℕ → Form A → Form A
 framed most c =
     made (sized most) c.spell (whole c) (λ x. c.Fits x × (length (c.spell x) ≤ most))
@@ -34,8 +34,8 @@ framed most c =
 unfoldable pub frame : Form Frame
 frame = framed MAX_FRAME contents
 
--- Why no value of this form stands in front in a frame. The bytes end before the frame does; or the
--- length is above the limit; or the bytes behind the length spell no value, with this first fault.
+-- Why no value of this form comes first in a frame. The bytes end before the frame does; or the
+-- length is above the limit; or the bytes after the length spell no value, with this first fault.
 abbrev pub IsFaultOf : {A : Type 0} → Form A → List ℕ → FrameFault → Type 0
 IsFaultOf c bytes Cut = (sized MAX_FRAME).read bytes ≡ Err Short
 IsFaultOf c bytes TooLong = (sized MAX_FRAME).read bytes ≡ Err Long
@@ -44,7 +44,7 @@ IsFaultOf c bytes (Contents fault) =
     (whole c text ≡ Err fault)
 IsFaultOf c bytes Memory = Unit {0}
 
--- where a length and its bytes stand in front; else which of the first two faults it is
+-- a length and its bytes come first; else which of the first two faults it is
 abbrev pub IsCut : {V : Type 0} → (V → List ℕ × List ℕ) → Result V FrameFault → List ℕ → Type 0
 IsCut of (Ok v) bytes = (sized MAX_FRAME).read bytes ≡ Ok (of v)
 IsCut of (Err Cut) bytes = (sized MAX_FRAME).read bytes ≡ Err Short

@@ -17,7 +17,7 @@ WasSpelled =
     (bytes : List ℕ) (x : Frame × List ℕ) → IsBytes bytes → frame.read bytes ≡ Ok x →
     (bytes ≡ frame.spell x.0 ++ x.1) × frame.Fits x.0
 
--- no two frames stand in front of one stream
+-- no stream begins with two different frames
 abbrev pub AreToldApart : Type 0
 AreToldApart =
     (f g : Frame) (x y : List ℕ) → frame.Fits f → frame.Fits g →

@@ -62,7 +62,7 @@ ends = both epoch (both end end)
 
 -- ---- messages
 
--- a message whose state, if it is a snapshot, stands elsewhere
+-- a message whose state, if it is a snapshot, is elsewhere
 abbrev pub Bare : Type 0
 Bare = Message (Unit {0})
 
@@ -84,7 +84,7 @@ bare (message.Joined epoch) = message.Joined epoch
 bare message.Gone = message.Gone
 bare (message.Config epoch head tail) = message.Config epoch head tail
 
--- behind the tags of what is sent to and from the master
+-- after the tags of what is sent to and from the master
 unfoldable pub order_at : ℕ → List ℕ → Result (Bare × List ℕ) Fault
 order_at =
     at_tag 6 (read_as predecessor (λ m. message.NewPred m.0 m.1))
@@ -97,7 +97,7 @@ order_at =
     (at_tag 13 (read_as empty (λ _. message.Gone))
     (at_tag 14 (read_as ends (λ m. message.Config m.0 m.1.0 m.1.1)) no_tag))))))))
 
--- behind any tag
+-- after any tag
 unfoldable pub message_at : ℕ → List ℕ → Result (Bare × List ℕ) Fault
 message_at =
     at_tag 0 (read_as submitted (λ m. message.Submit m.0 m.1))

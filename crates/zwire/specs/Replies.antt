@@ -74,7 +74,7 @@ data_stat = both content stat
 abbrev pub refused_part : Form (ℕ × Refusal)
 refused_part = both long refusal
 
--- behind the tags of answers to queries, and of refusals
+-- after the tags of answers to queries, and of refusals
 unfoldable pub other_reply_at : ℕ → List ℕ → Result (Reply × List ℕ) Fault
 other_reply_at =
     at_tag 8 (read_as data_stat (λ d. told.Data d.0 d.1))
@@ -83,7 +83,7 @@ other_reply_at =
     (at_tag 11 (read_as refusal (λ r. told.Refused r))
     (at_tag 12 (read_as refused_part (λ r. told.MultiRefused r.0 r.1)) no_tag))))
 
--- behind any tag
+-- after any tag
 unfoldable pub reply_at : ℕ → List ℕ → Result (Reply × List ℕ) Fault
 reply_at =
     at_tag 0 (read_as path (λ p. told.Created p))

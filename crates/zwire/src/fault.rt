@@ -1,4 +1,4 @@
-//! Why bytes are no frame, and why none is written.
+//! Why bytes aren't a frame, and why none is written.
 
 ghost use Rattle.std.specs.Prelude.{◌≡◌};
 ghost use Rattle.zwire.specs.declared.fault.WriteError.TheVariants.{Memory};
@@ -10,13 +10,13 @@ use zforms::Fault;
 /// Why no frame was read.
 #[derive(Clone, Copy, Debug, PartialEq, Eq, Error)]
 pub enum FrameFault {
-    /// The bytes end before the frame does: more of them are wanted.
+    /// The bytes end before the frame does: more are needed.
     #[error("the frame is cut")]
     Cut,
     /// The length is above `MAX_FRAME`.
     #[error("the frame is too long")]
     TooLong,
-    /// The bytes behind the length are no message. More bytes don't change that.
+    /// The bytes after the length aren't a message. More bytes don't change that.
     #[error("the frame has no message: {0}")]
     Contents(Fault),
     /// Out of memory. It says nothing about the bytes.
@@ -27,7 +27,7 @@ pub enum FrameFault {
 /// Why no frame was written.
 #[derive(Clone, Copy, Debug, PartialEq, Eq, Error)]
 pub enum WriteError {
-    /// It would have more than `MAX_FRAME` bytes behind its length.
+    /// It would have more than `MAX_FRAME` bytes after its length.
     #[error("the frame would be too long")]
     TooLong,
     /// Out of memory.

@@ -99,7 +99,7 @@ pub(crate) fn process_in(bytes: &[u8]) -> Result<(Process, &[u8]), Fault>
     process_behind(tag, rest)
 }
 
-// Reads what stands behind the tag of a process.
+// Reads what follows the tag of a process.
 #[tactic(auto, unfolding(crate::specs::Fields::process_at))]
 fn process_behind(tag: u8, bytes: &[u8]) -> Result<(Process, &[u8]), Fault>
     ensures { Reads (λ x. (x.0, x.1.now)) result (process_at tag bytes.now) }

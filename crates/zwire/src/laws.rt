@@ -1,4 +1,4 @@
-//! Laws of the definitions. Each function's contract is a law; its body does nothing.
+//! Laws of the definitions. Each function's contract is a law; its body is empty.
 
 ghost use Rattle.zwire.specs.Laws.{IsReadAgain, WasSpelled, AreToldApart, BeginningsAreCut};
 ghost use Rattle.zwire.specs.Laws.{FaultsStay};
@@ -10,13 +10,13 @@ pub fn every_message_is_read_again()
     ensures spelled { WasSpelled }
 {}
 
-/// No two frames stand in front of one stream.
+/// No stream begins with two different frames.
 pub fn frames_tell_apart()
     ensures { AreToldApart }
 {}
 
-/// A frame without its end is cut: more bytes are wanted. Of what isn't cut and is no frame, more
-/// bytes make none.
+/// A frame without its end is cut: more bytes are needed. Bytes that are neither cut nor a frame
+/// stay so, whatever follows.
 pub fn only_cut_frames_want_more()
     ensures cut { BeginningsAreCut }
     ensures others { FaultsStay }

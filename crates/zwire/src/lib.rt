@@ -1,18 +1,22 @@
 //! Messages between processes, as bytes.
 //!
 //! A message goes from one process to another as a frame: a length, and that many bytes, which are
-//! the sender, the receiver and the message. `write_frame` appends a frame to a stream, and
-//! `read_frame` takes the one in front, or tells that more bytes are wanted. Each message has one
+//! the sender, the receiver and the message. `write_frame` appends a frame to a stream.
+//! `read_frame` reads the first frame, or reports that more bytes are needed. Each message has one
 //! spelling.
 //!
-//! A `Snapshot` is spelled without its state, which is up to 268 MB: it stands behind the frame.
+//! A `Snapshot` is spelled without its state, which is up to 268 MB: the state follows the frame.
 //!
-//! The definitions: `specs/Frames.antt` (frames, and why bytes are none), `specs/Messages.antt`,
-//! `specs/Replies.antt` and `specs/Fields.antt` (the bytes of what they are made of),
-//! `specs/Laws.antt`. The bytes of calls are those of a log, `specs/Calls.antt` of `zrecords`.
+//! The definitions: `specs/Frames.antt` (frames, and why bytes aren't one), `specs/Messages.antt`,
+//! `specs/Replies.antt` and `specs/Fields.antt` (the bytes of their parts), `specs/Laws.antt`. The
+//! bytes of calls are those of a log, `specs/Calls.antt` of `zrecords`.
 //!
 //! For other texts with the same fields there are `put_client`, `client_at` and the like, and
 //! `put_framed` and `cut_frame`: the rows of a snapshot (`zsnapshots`) are such texts.
+//!
+//! # Why
+//! A frame begins with its length, so a reader knows how many bytes to wait for. A frame that is
+//! cut is then never taken for one that is wrong.
 #![tactic(auto)]
 
 mod fault;

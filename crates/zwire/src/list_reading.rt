@@ -1,4 +1,8 @@
 //! Names, and the lists in replies, read from the front of bytes with what follows them.
+//!
+//! # Why
+//! A name is read as that of a node below another, since names come from parsed paths. `zookeeper`
+//! is no name at the root, but is one below it.
 
 ghost use Rattle.zforms.specs.Forms.{times};
 ghost use Rattle.zforms.specs.Readers.{Gives};
@@ -22,7 +26,7 @@ pub(crate) fn names_of(alloc: Global, bytes: &[u8]) -> Result<(Names, &[u8]), Re
     Ok((Names::new(names), rest))
 }
 
-// Reads so many names.
+// Reads that many names.
 fn counted_names(alloc: Global, count: u64, bytes: &[u8]) -> Result<(Vec<Name>, &[u8]), ReadError>
     ensures { Gives (λ x. (x.0.items, x.1.now)) result ((times name count).read bytes.now) }
 {
@@ -79,7 +83,7 @@ pub(crate) fn replies_of(alloc: Global, bytes: &[u8]) -> Result<(Replies, &[u8])
     Ok((Replies::new(replies), rest))
 }
 
-// Reads so many of them.
+// Reads that many of them.
 fn counted_replies(
     alloc: Global,
     count: u64,
@@ -106,7 +110,7 @@ fn part_reply_of(alloc: Global, bytes: &[u8]) -> Result<(PartReply, &[u8]), Read
     part_reply_behind(alloc, tag, rest)
 }
 
-// Reads what stands behind its tag.
+// Reads what follows its tag.
 #[tactic(auto, unfolding(crate::specs::Replies::part_reply_at))]
 fn part_reply_behind(alloc: Global, tag: u8, bytes: &[u8]) -> Result<(PartReply, &[u8]), ReadError>
     ensures { Gives (λ x. (x.0, x.1.now)) result (part_reply_at tag bytes.now) }

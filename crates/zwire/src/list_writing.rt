@@ -24,7 +24,7 @@ pub(crate) fn put_names(out: &mut Vec<u8>, names: &Names) -> Result<(), AllocErr
     put_each_name(out, names)
 }
 
-// Writes the names, one after the other.
+// Writes the names in order.
 fn put_each_name(out: &mut Vec<u8>, names: &[Name]) -> Result<(), AllocError>
     ensures text { OnOk result
         (out.new.items ≡ out.old.items ++ flat_map name_form.spell names.now) }
@@ -60,7 +60,7 @@ pub(crate) fn put_replies(
     put_each_reply(alloc, out, replies)
 }
 
-// Writes them, one after the other.
+// Writes them in order.
 fn put_each_reply(alloc: Global, out: &mut Vec<u8>, replies: &[PartReply]) -> Result<(), AllocError>
     ensures text { OnOk result
         (out.new.items ≡ out.old.items ++ flat_map part_reply.spell replies.now) }

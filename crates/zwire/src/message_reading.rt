@@ -26,7 +26,7 @@ pub(crate) fn message_of(alloc: Global, bytes: &[u8]) -> Result<(Message<()>, &[
     message_behind(alloc, tag, rest)
 }
 
-// What was read, as a message of this kind.
+// The value read, as a message of this kind.
 macro_rules! a {
     ($kind:path, $read:expr) => {
         match $read {
@@ -36,7 +36,7 @@ macro_rules! a {
     };
 }
 
-// What was read; a fault ends the reading.
+// The value read; a fault ends the reading.
 macro_rules! read {
     ($read:expr) => {
         match $read {
@@ -46,7 +46,7 @@ macro_rules! read {
     };
 }
 
-// Reads what stands behind the tag of a message.
+// Reads what follows the tag of a message.
 #[tactic(auto, unfolding(crate::specs::Messages::message_at))]
 fn message_behind(alloc: Global, tag: u8, bytes: &[u8]) -> Result<(Message<()>, &[u8]), ReadError>
     ensures { Gives (λ x. (x.0, x.1.now)) result (message_at tag bytes.now) }
@@ -62,7 +62,7 @@ fn message_behind(alloc: Global, tag: u8, bytes: &[u8]) -> Result<(Message<()>, 
     }
 }
 
-// Reads what stands behind the tag of a message to or from the master.
+// Reads what follows the tag of a message to or from the master.
 #[tactic(auto, unfolding(crate::specs::Messages::order_at))]
 fn order_behind(tag: u8, bytes: &[u8]) -> Result<(Message<()>, &[u8]), ReadError>
     ensures { Gives (λ x. (x.0, x.1.now)) result (order_at tag bytes.now) }

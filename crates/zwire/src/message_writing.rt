@@ -53,7 +53,7 @@ fn tag_of<T>(message: &Message<T>) -> u8
     }
 }
 
-// Writes what stands behind the tag of a message.
+// Writes what follows the tag of a message.
 fn put_fields<T>(alloc: Global, out: &mut Vec<u8>, message: &Message<T>) -> Result<(), AllocError>
     ensures text { OnOk result
         (out.new.items ≡ out.old.items ++ (message_spelled (bare message.now)).text) }
@@ -123,7 +123,7 @@ fn put_answer(
     put_reply(alloc, out, reply)
 }
 
-// Writes an epoch, and an entry behind its number.
+// Writes an epoch, and an entry after its number.
 fn put_forwarded(
     alloc: Global,
     out: &mut Vec<u8>,

@@ -14,9 +14,9 @@ use crate::message_reading::message_of;
 use std::alloc::Global;
 use zforms::{ReadError, end};
 
-/// Reads the frame in front of the bytes, with what follows it.
+/// Reads the first frame of the bytes, with what follows it.
 ///
-/// Of a snapshot it is the frame alone: the state follows it.
+/// For a snapshot this is the frame alone: the state follows it.
 pub fn read_frame(alloc: Global, bytes: &[u8]) -> Result<(Frame, &[u8]), FrameFault>
     // What is read is spelled so.
     ensures found { IfOk result (λ x.
@@ -45,7 +45,7 @@ fn frame_in(alloc: Global, bytes: &[u8]) -> Result<(Frame, &[u8]), FrameFault>
     }
 }
 
-/// Cuts the frame in front off: returns what stands behind its length, and what follows it.
+/// Cuts off the first frame: returns the bytes after its length, and what follows them.
 #[tactic(auto, unfolding(zforms::specs::Forms::number_at))]
 pub fn cut_frame(bytes: &[u8]) -> Result<(&[u8], &[u8]), FrameFault>
     ensures { IsCut (λ x. (x.0.now, x.1.now)) result bytes.now }

@@ -22,7 +22,7 @@ pub(crate) fn query_of(alloc: Global, bytes: &[u8]) -> Result<(Query, &[u8]), Re
     query_behind(alloc, tag, rest)
 }
 
-// What was read, as a value of this kind.
+// The value read, as one of this kind.
 macro_rules! a {
     ($kind:path, $read:expr) => {
         match $read {
@@ -42,7 +42,7 @@ macro_rules! plain {
     };
 }
 
-// Reads what stands behind the tag of a query.
+// Reads what follows the tag of a query.
 #[tactic(auto, unfolding(crate::specs::Replies::query_at))]
 fn query_behind(alloc: Global, tag: u8, bytes: &[u8]) -> Result<(Query, &[u8]), ReadError>
     ensures { Gives (λ x. (x.0, x.1.now)) result (query_at tag bytes.now) }
@@ -64,7 +64,7 @@ pub fn reply_of(alloc: Global, bytes: &[u8]) -> Result<(Reply, &[u8]), ReadError
     reply_behind(alloc, tag, rest)
 }
 
-// Reads what stands behind the tag of a reply.
+// Reads what follows the tag of a reply.
 #[tactic(auto, unfolding(crate::specs::Replies::reply_at))]
 fn reply_behind(alloc: Global, tag: u8, bytes: &[u8]) -> Result<(Reply, &[u8]), ReadError>
     ensures { Gives (λ x. (x.0, x.1.now)) result (reply_at tag bytes.now) }
@@ -82,7 +82,7 @@ fn reply_behind(alloc: Global, tag: u8, bytes: &[u8]) -> Result<(Reply, &[u8]), 
     }
 }
 
-// Reads what stands behind the tag of an answer to a query, or of a refusal.
+// Reads what follows the tag of an answer to a query, or of a refusal.
 #[tactic(auto, unfolding(crate::specs::Replies::other_reply_at))]
 fn other_reply_behind(alloc: Global, tag: u8, bytes: &[u8]) -> Result<(Reply, &[u8]), ReadError>
     ensures { Gives (λ x. (x.0, x.1.now)) result (other_reply_at tag bytes.now) }

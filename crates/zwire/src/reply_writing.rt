@@ -65,7 +65,7 @@ fn tag_of(reply: &Reply) -> u8
     }
 }
 
-// Writes what stands behind the tag of a reply.
+// Writes what follows the tag of a reply.
 fn put_fields(alloc: Global, out: &mut Vec<u8>, reply: &Reply) -> Result<(), AllocError>
     ensures text { OnOk result
         (out.new.items ≡ out.old.items ++ (reply_spelled reply.now).text) }

@@ -1,4 +1,4 @@
-//! Worked examples of the definitions. Each function's contract has some; its body does nothing.
+//! Worked examples of the definitions. Each function's contract has some; its body is empty.
 
 ghost use Rattle.std.specs.Prelude.{◌≡◌, [], ◌∷◌, Ok};
 ghost use Rattle.zforms.specs.declared.fault.Fault.TheVariants.{Short, Invalid, Trailing};
@@ -109,7 +109,7 @@ pub fn frames_are_read()
         ≡ Ok (frame_of Master (Server 2) retire, 9 ∷ []) }
 {}
 
-/// Bytes with no frame in front. Of those that are cut, more bytes may make one.
+/// Bytes that don't begin with a frame. With more bytes, those that are cut may become one.
 pub fn faults_are_told()
     ensures none { IsFaultOf contents [] Cut }
     ensures part_of_a_length { IsFaultOf contents (0 ∷ 0 ∷ 0 ∷ []) Cut }

@@ -14,9 +14,9 @@ use std::alloc::{AllocError, Global};
 use zforms::put_sized;
 use zprotocol::{Message, Process};
 
-/// Appends the frame of a message. On an error the bytes are what they were.
+/// Appends the frame of a message. On an error the bytes are unchanged.
 ///
-/// Of a snapshot it is the frame alone: the caller writes the state behind it.
+/// For a snapshot this is the frame alone: the caller writes the state after it.
 #[tactic(auto, unfolding(crate::specs::Frames::frame))]
 pub fn write_frame<T>(
     alloc: Global,
@@ -38,7 +38,7 @@ pub fn write_frame<T>(
     put_framed(out, &text)
 }
 
-/// Appends bytes as a frame, behind their length. On an error what was there is as it was.
+/// Appends bytes as a frame, after their length. On an error the old bytes are unchanged.
 pub fn put_framed(out: &mut Vec<u8>, text: &[u8]) -> Result<(), WriteError>
     ensures ok { OnOk result
         (out.new.items ≡ out.old.items ++ (sized MAX_FRAME).spell text.now) }
@@ -53,7 +53,7 @@ pub fn put_framed(out: &mut Vec<u8>, text: &[u8]) -> Result<(), WriteError>
     Ok(())
 }
 
-// Writes what stands behind the length.
+// Writes what follows the length.
 #[tactic(auto, unfolding(crate::specs::Frames::contents))]
 fn put_contents<T>(
     alloc: Global,
