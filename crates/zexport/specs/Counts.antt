@@ -1,4 +1,4 @@
--- What there is in a tree, in numbers.
+-- The counts of a tree.
 use Rattle.std.specs.Prelude.{ℕ, Bool, length, nat_lt}
 use Rattle.std.specs.List.{count_by, sum_by}
 use Rattle.std.specs.FinMap as finite

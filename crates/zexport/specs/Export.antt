@@ -10,7 +10,7 @@ use Rattle.ztree.specs.Tree.{Path, Tree}
 use Rattle.zcalls.specs.Part.{is_owned}
 use Rattle.zlines.specs.LineWords.{data_text}
 
--- the kind of a node without a TTL, and of one that has so many ticks
+-- the kind of a node without a TTL, and of one that has this many ticks
 abbrev pub kind_text : ℕ → List ℕ
 kind_text ttl = if ttl == 0 then codes "p" else codes "t:" ++ decimal ttl
 

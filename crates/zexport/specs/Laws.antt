@@ -28,7 +28,7 @@ abbrev pub after_line : Tree → Read Line → Tree
 after_line t (Ok (asked.Call request)) = after_call t request.client request.call
 after_line t other = t
 
--- the tree after lines, each read by the language of lines, one after the other
+-- the tree after lines, each read by the language of lines, in order
 abbrev pub after_lines : Tree → List (List ℕ) → Tree
 after_lines t [] = t
 after_lines t (line ∷ lines) = after_lines (after_line t (line_of line)) lines
@@ -48,7 +48,8 @@ abbrev pub said_if : Option Node → Option Said
 said_if None = None
 said_if (Some n) = if is_owned n then None else Some (said_of n)
 
--- a node within the limits of its types: data of at most `MAX_DATA` bytes, a TTL of at most `MAX_TTL`
+-- a node within the limits of its types: data of at most `MAX_DATA` bytes, a TTL of at most
+-- `MAX_TTL`
 pub record IsWithinLimits (n : Node) : Type 0 where
   pub short : length n.bytes ≤ MAX_DATA
   pub bytes : IsBytes n.bytes
@@ -60,8 +61,8 @@ pub record HasLines (t : Tree) : Type 0 where
   pub paths : HasPaths t.nodes
   pub within : AllNodes IsWithinLimits t.nodes
 
--- The lines of a tree, played from the initial tree on, make a tree that has the same nodes but those
--- that a session owns, each with the same data and the same TTL.
+-- The lines of a tree, played from the initial tree on, make a tree that has the same nodes but
+-- those that a session owns, each with the same data and the same TTL.
 abbrev pub ExportsMakeTheirTree : Type 0
 ExportsMakeTheirTree =
     (t : Tree) → HasLines t → (path : Path)

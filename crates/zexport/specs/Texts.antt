@@ -1,15 +1,15 @@
--- What is told of a tree and of the folder that keeps it. This is the project's profile.
+-- What is printed of a tree and of the folder that holds it. This is the project's profile.
 use Rattle.std.specs.Prelude.{ℕ, List, ◌++◌, codes}
 use Rattle.std.specs.Fmt.{decimal}
 use Rattle.zexport.specs.declared.tally.TreeCounts.{TreeCounts}
 use Rattle.zexport.specs.declared.stat.FolderStat.{FolderStat}
 
--- a number, with a text in front of it and one behind it
+-- a number, with a text before it and one after it
 unfoldable pub around : List ℕ → ℕ → List ℕ → List ℕ
 around front n back = front ++ (decimal n ++ back)
 
--- What an export leaves out, since no line makes it. A later sequential create may find the name that
--- its counter gives taken.
+-- What an export leaves out, since no line makes it. A later sequential create may find that the
+-- name from its counter is taken.
 unfoldable pub left_out_text : TreeCounts → List ℕ
 left_out_text c =
     around (codes "zk: export: ephemeral nodes left out: ") c.ephemerals (codes "\n")

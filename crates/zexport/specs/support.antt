@@ -1,3 +1,3 @@
--- What serves proofs and worked rows alone: nobody has to believe it.
+-- What only proofs and worked examples use: no reader has to check it.
 pub mod Counting
 pub mod Samples

@@ -1,4 +1,4 @@
-//! The lines of a tree, written one after the other.
+//! The lines of a tree, written in order.
 
 ghost use Rattle.std.specs.Prelude.{◌≡◌, false, IfErr, IsFalse, IsTrue, OnOk};
 ghost use Rattle.base64.specs.GeneralPurpose.{IsBytes};
@@ -17,8 +17,8 @@ use zpath::Path;
 use ztree::Node;
 use ztree::limits::MAX_TTL;
 
-/// Writes the lines of a machine's tree. Only one of them is held at a time. After a fault the sink
-/// has taken a prefix of them.
+/// Writes the lines of a machine's tree. Only one of them is in memory at a time. After a fault the
+/// sink has taken a prefix of them.
 pub fn write_export<K: Sink>(
     alloc: Global,
     machine: &Machine,
@@ -88,7 +88,7 @@ fn is_within(node: &Node) -> bool
     node.ttl <= MAX_TTL
 }
 
-// Says that bytes are bytes. It does nothing.
+// Shows that bytes are bytes. It does nothing.
 fn keeps_bytes(bytes: &[u8])
     ensures { IsBytes bytes.now }
 {

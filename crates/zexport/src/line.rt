@@ -11,7 +11,7 @@ use zalloc::Memory;
 use zpath::Path;
 use ztree::Node;
 
-/// Appends the line that makes a node, with its end, or nothing where it has none.
+/// Appends the line that makes a node, with its end, or nothing if it has none.
 pub(crate) fn write_lines(path: &Path, node: &Node, out: &mut String) -> Result<(), Memory>
     ensures { OnOk result (Writes out.old out.new
         (flat_map ended (lines_for (path.now, node.now)))) }
@@ -60,7 +60,7 @@ fn write_create(path: &Path, node: &Node, out: &mut String) -> Result<(), Memory
     write_data(node.bytes.as_slice(), out)
 }
 
-// Appends the kind of a node that has so many ticks to live, or no TTL.
+// Appends the kind of a node that has this many ticks to live, or no TTL.
 fn write_kind(ttl: u64, out: &mut String) -> Result<(), Memory>
     ensures { OnOk result (Writes out.old out.new (kind_text ttl)) }
 {

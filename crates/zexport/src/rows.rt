@@ -1,4 +1,4 @@
-//! Worked examples of the definitions. Each function's contract has some; its body does nothing.
+//! Worked examples of the definitions. Each function's contract has some; its body is empty.
 
 ghost use Rattle.std.specs.Prelude.{◌≡◌, [], ◌∷◌, ◌++◌, codes, None, Some};
 ghost use Rattle.ztree.specs.Tree.{opening_tree};
@@ -28,7 +28,7 @@ pub fn lines_say_little()
         ≡ Some (record { bytes = codes "hi"; ttl = 12 }) }
 {}
 
-/// What there is in trees, and what is told of it.
+/// The counts of trees, and how they are printed.
 pub fn trees_are_counted()
     ensures opening { counts_of opening_tree ≡ record {
       nodes = 1;
@@ -51,7 +51,7 @@ pub fn trees_are_counted()
     ensures owned { counts_of owned_tree ≡ owned_counts }
 {}
 
-/// What is told.
+/// What is printed.
 pub fn numbers_are_told()
     ensures left_out { left_out_text owned_counts
         ≡ codes "zk: export: ephemeral nodes left out: 1\n"

@@ -1,4 +1,4 @@
-//! What is told of a folder, and of what an export leaves out.
+//! What is printed of a folder, and of what an export leaves out.
 
 ghost use Rattle.std.specs.Prelude.{◌≡◌, OnOk};
 ghost use Rattle.zlines.specs.Texts.{Writes};
@@ -10,7 +10,7 @@ use zalloc::Memory;
 /// How large a folder is.
 #[derive(Clone, Copy, Debug, PartialEq, Eq)]
 pub struct FolderStat {
-    /// What there is in the tree that it keeps.
+    /// The counts of its tree.
     pub tree: TreeCounts,
     /// The bytes of its journal.
     pub journal: u64,
@@ -52,7 +52,7 @@ pub fn write_stat(stat: &FolderStat, out: &mut String) -> Result<(), Memory>
     Ok(())
 }
 
-// Appends a number, with a text in front of it and one behind it.
+// Appends a number, with a text before it and one after it.
 #[tactic(auto, unfolding(crate::specs::Texts::around))]
 fn write_around(front: &str, number: u64, back: &str, out: &mut String) -> Result<(), Memory>
     ensures { OnOk result (Writes out.old out.new (around front.now number back.now)) }

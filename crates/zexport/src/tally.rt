@@ -1,4 +1,4 @@
-//! What there is in a tree, in numbers.
+//! The counts of a tree.
 
 ghost use Rattle.std.specs.Prelude.{◌≡◌, ◌≤◌, false, length, IfOk};
 ghost use Rattle.ztree.specs.declared.limits.TheConstants.{MAX_DATA};
@@ -9,7 +9,7 @@ use zalloc::Memory;
 use zops::Machine;
 use ztree::Node;
 
-/// What there is in a tree. The root counts as a node.
+/// The counts of a tree. The root counts as a node.
 #[derive(Clone, Copy, Debug, PartialEq, Eq)]
 pub struct TreeCounts {
     /// The nodes.
@@ -28,7 +28,7 @@ pub struct TreeCounts {
     pub ticks: u64,
 }
 
-/// Counts what there is in a machine's tree.
+/// Counts the nodes, bytes and sessions of a machine's tree.
 pub fn counts(machine: &Machine) -> Result<TreeCounts, Memory>
     requires whole { machine.now.is_broken ≡ false }
     ensures { IfOk result (λ c. c ≡ counts_of machine.now.state.service.plain) }
@@ -53,7 +53,7 @@ pub fn counts(machine: &Machine) -> Result<TreeCounts, Memory>
     Ok(counts)
 }
 
-// Counts one node more, but for the number of nodes.
+// Counts one more node, but for the number of nodes.
 fn add(counts: &mut TreeCounts, node: &Node)
     requires { HasRoom counts.old }
     ensures counted { counts.new ≡ counted node.now counts.old }

@@ -13,23 +13,23 @@ mode_of word =
     if bytes_eq word (codes "batch") then Some Batch else
     if bytes_eq word (codes "never") then Some Never else None
 
--- the word is this number in decimal, of at most so many bits; a plus may stand first
+-- the word is this number in decimal, of at most this many bits; a plus may come first
 pub record Spells (bits : ℕ) (word : List ℕ) (n : ℕ) : Type 0 where
   pub numeral : IsNumeral 10 (without_leading_plus word)
   pub value : n ≡ digits_value 10 (without_leading_plus word)
   pub fits : n < 2 ^ bits
 
--- it is so many MiB, and these are their bytes
+-- it is this many MiB, and these are their bytes
 abbrev pub SpellsBytes : List ℕ → ℕ → Type 0
 SpellsBytes word bytes = (n : ℕ) × Spells 32 word n × (bytes ≡ n * 2 ^ 20)
 
--- memory, in the place of a folder
+-- memory, instead of a folder
 abbrev pub is_dash : List ℕ → Bool
 is_dash word = bytes_eq word (codes "-")
 
--- Behind the program's name a dash; the milliseconds of a tick, at least 1; the time in milliseconds.
--- Or a folder and a mode; the number in the head of its journal, 1 to 16; a tick and the time; the
--- MiB from which on the journal is shortened.
+-- After the program's name a dash; the milliseconds of a tick, at least 1; the time in
+-- milliseconds. Or a folder and a mode; the number in the head of its journal, 1 to 16; a tick and
+-- the time; the MiB from which on the journal is compacted.
 abbrev pub IsAsked : List (List ℕ) → HostedSettings → Type 0
 IsAsked (name ∷ dash ∷ tick ∷ now ∷ []) asked =
     (is_dash dash ≡ true) × Spells 32 tick asked.tick × Spells 64 now asked.now × (asked.folder ≡ None)

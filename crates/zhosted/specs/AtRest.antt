@@ -9,7 +9,7 @@ use Rattle.zkept.specs.Lives.{FileKeeps}
 use Rattle.zkept.specs.Looking.{IsStatOf}
 
 module _ {K : Type 0} (servers : ℕ) (file : List ℕ) (took : K → List ℕ → K → Type 0) where
-  -- the lines of the tree that the file keeps, which make it again
+  -- the lines of the tree that the file holds, which make it again
   abbrev pub IsExported : K → K → Type 0
   IsExported old new = (t : Tree) × FileKeeps servers t file × HasLines t × took old (export_text t) new
 

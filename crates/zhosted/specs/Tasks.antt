@@ -1,4 +1,4 @@
--- What the words ask for that are about a folder which no server has open: this project's profile.
+-- The words for tasks on a folder that no server has open: this project's profile.
 use Rattle.std.specs.Prelude.{◌≡◌, ℕ, if◌then◌else◌, List, [], ◌∷◌, codes, Option, Some, None}
 use Rattle.std.specs.Str.{bytes_eq}
 use Rattle.zhosted.specs.Asked.{Spells}
@@ -11,7 +11,7 @@ task_named word =
     if bytes_eq word (codes "export") then Some Export else
     if bytes_eq word (codes "stat") then Some Stat else None
 
--- behind the program's name a folder and a task; the number in the head of its journal, 1 to 16
+-- after the program's name a folder and a task; the number in the head of its journal, 1 to 16
 abbrev pub IsTask : List (List ℕ) → Task × ℕ → Type 0
 IsTask (name ∷ folder ∷ task ∷ servers ∷ []) asked = (task_named task ≡ Some asked.0) × Spells 8 servers asked.1
 IsTask words asked = ⊥

@@ -1,5 +1,5 @@
-//! A folder that no server has open: its journal is shortened, its tree is written as lines, or it
-//! is told how large it is.
+//! A folder that no server has open: its journal is compacted, its tree is written as lines, or its
+//! size is printed.
 
 ghost use Rattle.std.specs.Prelude.{◌≡◌, false, OnOk};
 ghost use Rattle.zjournal.specs.Device.{Only};
@@ -15,7 +15,7 @@ use zjournal::Device;
 use zkept::{OpenFault, ServerId, Stored, folder_stat, look};
 use zpipe::ServeFault;
 
-/// Shortens the journal, and tells how many bytes it has, and had.
+/// Compacts the journal, and prints how many bytes it has, and had.
 pub(crate) fn compact<D: Device + Drop, K: Sink>(
     alloc: Global,
     device: D,
@@ -43,7 +43,7 @@ pub(crate) fn compact<D: Device + Drop, K: Sink>(
     }
 }
 
-/// Writes the lines of the tree that the file keeps. Before that it tells on `faults` what they
+/// Writes the lines of the tree that the file holds. Before that it reports on `faults` what they
 /// leave out.
 pub(crate) fn export<D: Device, K: Sink, F: Sink>(
     alloc: Global,
@@ -73,7 +73,7 @@ pub(crate) fn export<D: Device, K: Sink, F: Sink>(
     }
 }
 
-// Tells what an export leaves out. Where it can't be told, the export goes on.
+// Reports what an export leaves out. If that fails, the export continues.
 fn tell_left_out<F: Sink>(
     alloc: Global,
     machine: &Machine,
@@ -93,7 +93,7 @@ fn tell_left_out<F: Sink>(
     Ok(())
 }
 
-/// Tells what there is in the file, and how large it is.
+/// Prints the counts of the file, and its size.
 pub(crate) fn stat<D: Device, K: Sink>(
     alloc: Global,
     device: &mut D,
@@ -118,7 +118,7 @@ pub(crate) fn stat<D: Device, K: Sink>(
     }
 }
 
-// Why a file isn't read. A journal that keeps no changes is a script's.
+// Why a file isn't read. A journal that holds no changes is a script's.
 fn unread(fault: OpenFault) -> HostedFault {
     match fault {
         OpenFault::NotRecords => HostedFault::Script,

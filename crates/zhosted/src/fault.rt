@@ -21,20 +21,20 @@ pub enum HostedFault {
     Service(OpenFault),
     /// It ended while it served.
     Serve(ServeFault),
-    /// There is no journal in the folder, where none is to be made.
+    /// There is no journal in the folder, and none is to be made.
     Missing,
     /// The folder is a script's: its file is its script.
     Script,
-    /// A node has a TTL that no line says.
+    /// A node has a TTL that no line can say.
     Ttl,
 }
 
 impl HostedFault {
     ghost use Rattle.zhosted.specs.Faults.{hosted_fault_status};
 
-    /// Returns the exit status that a program ends with: 1 where memory ran out, or the input or
-    /// the output failed; 2 for its words; 3 for a folder that isn't opened, has no
-    /// journal, is a script's or can't be exported; 4 for a disk that failed or a journal that is full.
+    /// Returns the exit status that a program ends with. 1: memory ran out, or the input or the
+    /// output failed. 2: its words. 3: a folder that isn't opened, has no journal, is a script's or
+    /// can't be exported. 4: a disk that failed, or a journal that is full.
     pub fn status(self) -> u8
         ensures { result ≡ hosted_fault_status self }
     {

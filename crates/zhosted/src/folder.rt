@@ -1,4 +1,4 @@
-//! A server with a folder, as its host speaks to it.
+//! A server with a folder, as a service of its host.
 
 ghost use Rattle.std.specs.Prelude.{◌≡◌, Err, Ok, OnOk};
 ghost use Rattle.zhosted.specs.Folder.{HasTold, IsGood, IsTold, Keeps, Takes, pieces_left};
@@ -7,17 +7,17 @@ use zjournal::Device;
 use zkept::{Kept, KeptFault};
 use zpipe::{Input, Piece, ServeFault, Service};
 
-/// A server with a folder, as its host speaks to it.
+/// A server with a folder, as a service of its host.
 #[derive(Drop)]
 pub struct InFolder<D: Device> {
     kept: Kept<D>,
-    // From so many bytes on its journal is shortened.
+    // From this many bytes on its journal is compacted.
     long: usize,
 }
 
 impl<D: Device> InFolder<D> {
-    /// Wraps a front. Its journal is shortened from so many bytes on, where it has four times those
-    /// that it had behind its last shortening.
+    /// Wraps a front end. The journal is compacted once it has `long` bytes and is four times its
+    /// size after the last compaction.
     pub fn new(kept: Kept<D>, long: usize) -> InFolder<D>
         ensures { result.kept ≡ kept }
     {
@@ -57,7 +57,7 @@ impl<D: Device> Service for InFolder<D> {
     }
 }
 
-// Keeps what was made: by one block more, or with all else as a new file where the journal is long.
+// Commits the changes: by one more block, or in a new file if the journal is long.
 fn keep<D: Device>(kept: &mut Kept<D>, long: usize) -> Result<(), KeptFault>
     requires { IsGood D.seen D.may_leave kept.old }
     ensures keeps { OnOk result (Keeps D.seen D.may_leave kept.old kept.new) }

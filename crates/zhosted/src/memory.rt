@@ -1,4 +1,4 @@
-//! A server in memory, as its host speaks to it.
+//! A server in memory, as a service of its host.
 
 ghost use Rattle.std.specs.Prelude.{◌≡◌, None, Some, false, length};
 ghost use Rattle.zfront.specs.Inputs.{Does, without_first};
@@ -8,14 +8,14 @@ use zfront::Front;
 use zpipe::{Input, Piece, ServeFault, Service};
 use zservice::TreeService;
 
-/// A server in memory, as its host speaks to it. Nothing of it is kept.
+/// A server in memory, as a service of its host. Nothing of it is durable.
 #[derive(Drop)]
 pub struct InMemory<T: TreeService> {
     front: Front<T>,
 }
 
 impl<T: TreeService> InMemory<T> {
-    /// Wraps a front.
+    /// Wraps a front end.
     pub fn new(front: Front<T>) -> InMemory<T>
         ensures { result.front ≡ front }
     {

@@ -23,16 +23,16 @@ use zkept::{Kept, ServerId};
 use zpipe::{Secret, ServeFault, Service, read_secret, serve_all};
 use zservice::LocalTree;
 
-// From so many bytes on it is told that a file is opened: that may take a second.
+// From this many bytes on, the opening of a file is reported: it may take a second.
 const LONG: usize = 1_048_576;
 
-/// Does what the words ask for, reports a fault on `faults`, and returns the exit status: 0 where
-/// the source has ended, or that of the fault (`HostedFault::status`).
+/// Does what the words ask for, reports a fault on `faults`, and returns the exit status: 0 if the
+/// source has ended, or that of the fault (`HostedFault::status`).
 ///
-/// The words are those of `hosted_settings`. Then the secret is read first, and messages behind it.
-/// With `NAME FOLDER compact SERVERS` it shortens the journal of the folder, with this number in its
-/// head, and tells on the sink how long it is. With `export` in that place it writes the lines that
-/// make the tree, and with `stat` how large the folder is.
+/// The words are those of `hosted_settings`. Then the secret is read first, and messages after it.
+/// With `NAME FOLDER compact SERVERS` it compacts the journal of the folder, with this number in
+/// its head, and prints its length on the sink. With `export` instead it writes the lines that make
+/// the tree, and with `stat` the size of the folder.
 pub fn hosted_command<R: Files<File = File> + Copy, S: Source, K: Sink, F: Sink>(
     alloc: Global,
     files: &R,
@@ -95,7 +95,7 @@ struct Time {
     now: u64,
 }
 
-// Opens the file of a folder, which is not made where it is missing.
+// Opens the file of a folder, which is not made if it is missing.
 fn found<R: Files<File = File> + Copy>(
     alloc: Global,
     files: &R,
@@ -115,7 +115,7 @@ fn found<R: Files<File = File> + Copy>(
     Ok(FileDevice::open(alloc, files, folder, SyncMode::Batch)?)
 }
 
-// Does what is to be done with a folder that no server has open.
+// Does a task on a folder that no server has open.
 fn do_task<R: Files<File = File> + Copy, K: Sink, F: Sink>(
     alloc: Global,
     device: FileDevice<R>,
@@ -178,7 +178,7 @@ fn in_folder<R: Files<File = File> + Copy>(
     }
 }
 
-// Tells that nothing waits for the disk, and that a long file is opened.
+// Reports that nothing waits for the disk, and that a long file is opened.
 fn tell_opening<F: Sink>(alloc: Global, mode: SyncMode, size: usize, faults: &mut F) {
     if mode == SyncMode::Never {
         tell(
@@ -194,7 +194,7 @@ fn tell_opening<F: Sink>(alloc: Global, mode: SyncMode, size: usize, faults: &mu
     }
 }
 
-// Tells a fault.
+// Reports a fault.
 fn report<F: Sink>(alloc: Global, fault: HostedFault, faults: &mut F) {
     let mut text = String::new(alloc);
     match write!(text, "{fault}") {

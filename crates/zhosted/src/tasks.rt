@@ -1,4 +1,4 @@
-//! What is done with a folder that no server has open: its words.
+//! Tasks on a folder that no server has open: their words.
 
 ghost use Rattle.std.specs.Prelude.{◌≡◌, IfNone, IfSome};
 ghost use Rattle.zcli.specs.Asked.{texts_of};
@@ -7,19 +7,19 @@ ghost use Rattle.zhosted.specs.Tasks.{IsTask, task_named};
 use crate::words::last_of;
 use zkept::ServerId;
 
-/// What is to be done with a folder that no server has open.
+/// A task on a folder that no server has open.
 #[derive(Clone, Copy, Debug, PartialEq, Eq)]
 pub enum Task {
-    /// Its journal is shortened.
+    /// Its journal is compacted.
     Compact,
     /// Its tree is written as lines.
     Export,
-    /// It is told how large it is.
+    /// Its size is printed.
     Stat,
 }
 
-/// Reads `NAME FOLDER compact|export|stat SERVERS`: what is to be done with a folder, with this number
-/// in the head of its journal. `None` for all other words.
+/// Reads `NAME FOLDER compact|export|stat SERVERS`: a task on a folder, with this number in the
+/// head of its journal. `None` for all other words.
 pub(crate) fn task_of(words: &[&str]) -> Option<(Task, ServerId)>
     ensures { IfSome result (IsTask (texts_of words.now)) }
 {

@@ -15,24 +15,24 @@ pub struct HostedSettings {
     pub tick: TickLength,
     /// The time, in milliseconds since 1970.
     pub now: u64,
-    /// How a folder is kept, if one is.
+    /// The settings of a folder, if there is one.
     pub folder: Option<FolderSettings>,
 }
 
-/// How a folder is kept.
+/// The settings of a folder.
 #[derive(Clone, Copy, Debug, PartialEq, Eq)]
 pub struct FolderSettings {
     /// Whether it waits for the disk.
     pub mode: SyncMode,
     /// The number in the head of its journal.
     pub last: ServerId,
-    /// From so many bytes on the journal is shortened.
+    /// From this many bytes on the journal is compacted.
     pub long: usize,
 }
 
 /// Reads `NAME - TICK TIME`, for a server in memory: the milliseconds of a tick, and the time. Or
 /// reads `NAME FOLDER batch|never SERVERS TICK TIME JOURNAL`: also the number in the head of the
-/// folder's journal, and from how many MiB on that is shortened. All else is `BadWords`.
+/// folder's journal, and from how many MiB on it is compacted. All else is `BadWords`.
 pub fn hosted_settings(words: &[&str]) -> Result<HostedSettings, WordsFault>
     ensures ok { IfOk result (IsAsked (texts_of words.now)) }
     ensures err { IfErr result (λ fault. fault ≡ WordsFault.BadWords) }
@@ -88,7 +88,7 @@ fn with_folder(words: &[&str]) -> Option<HostedSettings>
     }
 }
 
-// Whether the word stands for memory, in the place of a folder.
+// Whether the word means memory, instead of a folder.
 fn is_dash(word: &str) -> bool
     ensures { result ≡ is_dash word.now }
 {
@@ -116,7 +116,7 @@ pub(crate) fn last_of(word: &str) -> Option<ServerId>
     }
 }
 
-// A tick of so many milliseconds.
+// A tick of this many milliseconds.
 fn tick_of(word: &str) -> Option<TickLength>
     ensures { IfSome result (Spells 32 word.now) }
 {
@@ -126,7 +126,7 @@ fn tick_of(word: &str) -> Option<TickLength>
     }
 }
 
-// The bytes of so many MiB.
+// The bytes of this many MiB.
 fn bytes_of(word: &str) -> Option<usize>
     ensures { IfSome result (SpellsBytes word.now) }
 {

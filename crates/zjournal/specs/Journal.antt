@@ -1,7 +1,9 @@
 -- What a journal's file represents. Its first block is the head, which says what the file is. Each
 -- further block holds a batch of text after its checksum.
 --
--- The mark and the version come first in the head, where every version has them.
+-- The mark and the version come first in the head, where every version has them. `Keeps` is a
+-- relation and not a function that reads: so the definition doesn't repeat the code. That a file
+-- has one reading is a law.
 use Rattle.std.specs.Prelude.{◌≡◌, ◌≢◌, ◌⊎◌, ℕ, ◌+◌, ◌≤◌, List, [], ◌∷◌, ◌++◌, length, map, codes, true}
 use Rattle.zjournal.specs.declared.journal.Journal.{Journal}
 use Rattle.zjournal.specs.Device.{Only}

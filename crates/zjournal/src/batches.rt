@@ -1,4 +1,8 @@
 //! The batches after a file's head.
+//!
+//! # Why
+//! A block that is cut short after a set commit byte is damage, unless that byte is the file's last
+//! one. A crash can leave the latter, while the clear commit byte is written.
 
 ghost use Rattle.std.specs.Prelude.{◌≡◌, ◌⊎◌, ◌<◌, ◌≤◌, ◌+◌, ◌++◌, List, ℕ, length, get_or, drop};
 ghost use Rattle.std.specs.Prelude.{IfOk, IfErr, IfSome, IfNone, IsErrOf};

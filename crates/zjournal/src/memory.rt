@@ -2,7 +2,8 @@
 //!
 //! # Why
 //! It holds two contents: what a read returns, and what torn writes left. A crash may leave either,
-//! so one run shows what power cuts leave at each moment.
+//! so one run shows what power cuts leave at each moment. The moments count its failures too: a
+//! separate counter could overflow, and each contract would have to exclude that.
 
 ghost use Rattle.std.specs.Prelude.{◌≡◌, ◌⊎◌, [], ◌∷◌, ◌++◌, List, ℕ, length};
 ghost use Rattle.std.specs.Prelude.{IfOk, OnOk, OnErr};

@@ -1,8 +1,15 @@
-//! The program behind `zk serve`: it holds the tree, and keeps a folder where one is named. Its host
-//! has the sockets.
+//! The program of `zk serve`: it holds the tree, and makes it durable in a folder if one is named.
+//! Its host has the sockets.
 //!
-//! It takes a secret and messages from its standard input, and writes answers to its standard output,
-//! as the crate `zpipe` defines them. The host starts it, with the words that `hosted_settings` reads.
+//! It takes a secret and messages from its standard input, and writes answers to its standard
+//! output, as the crate `zpipe` defines them. The host starts it, with the words that
+//! `hosted_settings` reads.
+//!
+//! # Why
+//! `std::fs` needs the runtime that a program's `main` gets, and a static library has none. So the
+//! front end runs in a child of the C host, and no C is between an acknowledged change and the
+//! disk. It does so without a folder too: there is one host, and its bugs can't reach the front's
+//! memory.
 #![tactic(auto)]
 
 use std::env;

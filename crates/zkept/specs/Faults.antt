@@ -1,4 +1,4 @@
--- When each fault comes, and what it leaves.
+-- When each fault occurs, and what it leaves.
 use Rattle.std.specs.Prelude.{◌≡◌, ◌≤◌, ◌^◌, ℕ, List}
 use Rattle.zjournal.specs.declared.fault.PutError.{PutError}
 use Rattle.zjournal.specs.declared.fault.PutError.TheVariants as put
@@ -16,7 +16,7 @@ use Rattle.zstates.specs.declared.fault.ReadFault.TheVariants as read
 use Rattle.zstates.specs.Texts.{IsNoText}
 use Rattle.zkept.specs.Kept.{IsOpen}
 
--- what a fault of reading is to who opens, and one of a put to whom the service serves
+-- what a fault of reading becomes for an opening, and one of a put for the service
 abbrev pub read_fault : ReadFault → OpenFault
 read_fault read.Memory = opening.Memory
 read_fault read.NotRecords = opening.NotRecords
@@ -28,14 +28,14 @@ put_fault put.Full = ending.Full
 put_fault put.NotText = ending.Ended
 put_fault put.Closed = ending.Ended
 
--- the service takes nothing more; where it had ended before, it is what it was
+-- the service takes nothing more; if it had ended before, it is unchanged
 abbrev pub IsLeftBy : {D : Type 0} → KeptFault → Kept D → Kept D → Type 0
 IsLeftBy ending.Memory old new = IsOpen new → ⊥
 IsLeftBy ending.Failed old new = IsOpen new → ⊥
 IsLeftBy ending.Full old new = IsOpen new → ⊥
 IsLeftBy ending.Ended old new = (new ≡ old) × (IsOpen old → ⊥)
 
--- an input finds no memory, or the service had ended: no input is asked of the disk
+-- an input finds no memory, or the service had ended: an input makes no device calls
 abbrev pub IsOfInput : KeptFault → Type 0
 IsOfInput ending.Memory = Unit {0}
 IsOfInput ending.Failed = ⊥
@@ -46,13 +46,13 @@ IsOfInput ending.Ended = Unit {0}
 abbrev pub IsFull : {D : Type 0} → Kept D → Type 0
 IsFull kept = 2 ^ 60 ≤ size_of kept.journal
 
--- the fault leaves the file untouched: it is one of the file's content, or of reading it
+-- the fault leaves the file unchanged: it is one of the file's content, or of reading it
 abbrev pub IsOfReading : OpenFault → Type 0
 IsOfReading (opening.Journal e) = IsOfContent e
 IsOfReading opening.Memory = Unit {0}
 IsOfReading opening.NotRecords = Unit {0}
 
--- the file is such as the fault says; memory and the disk say nothing of it
+-- the file is as the fault says; Memory and Failed say nothing of it
 abbrev pub IsSuchFile : ℕ → List ℕ → OpenFault → Type 0
 IsSuchFile servers file (opening.Journal e) = IsSuch servers file e
 IsSuchFile servers file opening.Memory = Unit {0}

@@ -1,4 +1,4 @@
--- A front whose changes are kept in a journal.
+-- A front end whose changes are made durable in a journal.
 use Rattle.std.specs.Prelude.{◌≡◌, ◌==◌, ◌&&◌, ◌/◌, nat_le, ℕ, Bool, true, false, List, [], ◌∷◌, ◌++◌, length, Option, None, if◌then◌else◌}
 use Rattle.ztree.specs.Tree.{Tree}
 use Rattle.zjournal.specs.Journal.{IsAtRest, Keeps, device_of, size_of}
@@ -12,7 +12,7 @@ use Rattle.zfront.specs.Inputs.{without_first}
 use Rattle.zkept.specs.declared.kept.Kept.{Kept}
 use Rattle.zkept.specs.Making.{HasKept}
 
--- the device that holds its file, its front, what that made since it was kept last, and whether it
+-- the device that holds its file, its front end, the changes since the last commit, and whether it
 -- takes inputs
 abbrev pub disk_of : {D : Type 0} → Kept D → D
 disk_of kept = device_of kept.journal
@@ -26,10 +26,10 @@ made_in kept = (front_in kept).made
 abbrev pub IsOpen : {D : Type 0} → Kept D → Type 0
 IsOpen kept = kept.is_open ≡ true
 
--- ---- what is on the disk
+-- ---- what is durable
 
--- the file keeps these batches, all of it on the disk; their text is that of this tree, and this is
--- what is kept of what the front made
+-- the file holds these batches, all of it durable; their text is that of this tree, and this is
+-- what is durable of the front end's changes
 pub record IsServing {D : Type 0} (seen : D → List ℕ) (may_leave : D → List ℕ → Type 0) (servers : ℕ) (batches : List (List ℕ)) (t : Tree) (kept : Kept D) : Type 0 where
   pub rest : IsAtRest seen may_leave servers batches kept.journal
   pub takes : journal.IsOpen kept.journal
@@ -42,36 +42,37 @@ abbrev pub IsSound : {D : Type 0} → (D → List ℕ) → (D → List ℕ → T
 IsSound seen may_leave kept =
     IsOpen kept → (servers : ℕ) × (batches : List (List ℕ)) × (t : Tree) × IsServing seen may_leave servers batches t kept
 
--- the batches with the text of what was made behind them. Where nothing was made, no block is written
+-- the batches with the text of the changes after them. Without changes, no block is written
 abbrev pub more_if : List Entry → List (List ℕ) → List (List ℕ)
 more_if [] batches = batches
 more_if (entry ∷ made) batches = batches ++ entries_text (entry ∷ made) ∷ []
 
--- how many bytes the journal had behind its last shortening since the service was opened, or 0
+-- the bytes of the journal after its last compaction since the service was opened, or 0
 abbrev pub shortened_size : {D : Type 0} → Kept D → ℕ
 shortened_size kept = kept.shortened
 
--- the journal is to be shortened: it has so many bytes, and four times those behind its last shortening
+-- the journal is to be compacted: it has this many bytes, and four times those after its last
+-- compaction
 abbrev pub is_long : {D : Type 0} → ℕ → Kept D → Bool
 is_long least kept = nat_le least (size_of kept.journal) && nat_le (shortened_size kept) (size_of kept.journal / 4)
 
--- the file keeps batches whose text is this tree's
+-- the file holds batches whose text is this tree's
 abbrev pub KeepsTree : ℕ → Tree → List ℕ → Type 0
 KeepsTree servers t file = (batches : List (List ℕ)) × Keeps servers batches file × IsTextOf t (joined batches)
 
 -- ---- inputs
 
--- at most the front is another, and whether the service is open: the file is not touched
+-- at most the front end changes, and whether the service is open: the file is not touched
 abbrev pub IsSameFile : {D : Type 0} → Kept D → Kept D → Type 0
 IsSameFile old new = new ≡ record old { front = new.front; is_open = new.is_open }
 
--- ---- pieces
+-- ---- chunks
 
--- pieces are handed out: the service is open, and nothing is left to be kept
+-- chunks are returned: the service is open, and nothing is left to commit
 abbrev pub tells : {D : Type 0} → Kept D → Bool
 tells kept = kept.is_open && (length (made_in kept) == 0)
 
--- the piece to be sent first
+-- the chunk to be sent first
 abbrev pub piece_in : {D : Type 0} → Kept D → Option PieceView
 piece_in kept = if tells kept then first_of (front_in kept).tables.unsent else None
 

@@ -1,4 +1,4 @@
--- What a file keeps, read without a change of the file, and how large it is.
+-- The tree that a file holds, read without changing the file, and its size.
 use Rattle.std.specs.Prelude.{◌≡◌, ℕ, Bool, List, length}
 use Rattle.ztree.specs.Tree.{Tree}
 use Rattle.zjournal.specs.Journal.{StandsFor}
@@ -8,7 +8,7 @@ use Rattle.zstates.specs.Texts.{IsTextOf}
 use Rattle.zexport.specs.Counts.{counts_of}
 use Rattle.zexport.specs.declared.stat.FolderStat.{FolderStat}
 
--- the file keeps this tree, and its text begins with a snapshot of so many bytes
+-- the file holds this tree, and its text begins with a snapshot of this many bytes
 pub record IsLook (servers : ℕ) (file : List ℕ) (t : Tree) (snapshot : ℕ) : Type 0 where
   pub batches : List (List ℕ)
   pub stands : StandsFor servers batches file
@@ -20,7 +20,7 @@ abbrev pub TellsOfPasswords : ℕ → List ℕ → Bool → Type 0
 TellsOfPasswords servers file has =
     (batches : List (List ℕ)) × StandsFor servers batches file × TellsPasswords (joined batches) has
 
--- the numbers are those of the file, and of the tree that it keeps
+-- the numbers are those of the file, and of its tree
 abbrev pub IsStatOf : ℕ → List ℕ → FolderStat → Type 0
 IsStatOf servers file stat =
     (t : Tree) × (snapshot : ℕ) × IsLook servers file t snapshot

@@ -1,4 +1,8 @@
 //! Why a service isn't opened, and why it has ended.
+//!
+//! # Why
+//! Any fault ends the service, also out of memory in the front end: nothing is promised of its
+//! tables then, and a file is soon opened again.
 
 use thiserror::Error;
 use zalloc::Memory;
@@ -8,31 +12,30 @@ use zstates::ReadFault;
 /// Why a service isn't opened.
 #[derive(Clone, Copy, Debug, PartialEq, Eq, Error)]
 pub enum OpenFault {
-    /// The file or its disk, as the journal tells.
+    /// The file or its disk, as the journal reports.
     #[error("{0}")]
     Journal(OpenError),
-    /// There is no memory for what the file keeps. The file is untouched.
+    /// There is no memory for the content of the file. The file is unchanged.
     #[error("out of memory")]
     Memory,
-    /// The journal doesn't hold changes, or a snapshot and changes behind it. The file is
-    /// untouched.
+    /// The journal doesn't hold changes, or a snapshot and changes after it. The file is unchanged.
     #[error("not a journal of changes")]
     NotRecords,
 }
 
-/// Why an input isn't taken, or what was made isn't kept. The service has ended.
+/// Why an input isn't taken, or changes aren't made durable. The service has ended.
 #[derive(Clone, Copy, Debug, PartialEq, Eq, Error)]
 pub enum KeptFault {
     /// Out of memory.
     #[error("out of memory")]
     Memory,
-    /// The disk failed. Whether the changes are kept, the next opening tells.
+    /// The disk failed. The next opening shows whether the changes are durable.
     #[error("the disk failed")]
     Failed,
     /// The journal is full.
     #[error("the journal is full")]
     Full,
-    /// An earlier call failed: nothing more is done, and nothing is asked of the file.
+    /// An earlier call failed: the service does nothing more, and makes no device calls.
     #[error("the service has ended")]
     Ended,
 }

@@ -1,4 +1,4 @@
-//! The inputs of a front whose changes are kept.
+//! The inputs of a front end whose changes are made durable.
 
 ghost use Rattle.std.specs.Prelude.{◌≡◌, List, ℕ, IfErr, IsErrOf, OnErr, OnOk};
 ghost use Rattle.ztree.specs.Tree.{Tree};

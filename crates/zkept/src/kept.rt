@@ -1,4 +1,9 @@
-//! A front over a journal: it is opened, and keeps what it made.
+//! A front end over a journal: it is opened, and commits its changes.
+//!
+//! # Why
+//! A block is everything changed since the last commit, so a host can commit many inputs at once.
+//! Chunks wait meanwhile, also those of queries: a query's reply may show a change that isn't
+//! durable yet.
 
 ghost use Rattle.std.specs.Prelude.{◌≡◌, ◌<◌, ◌≤◌, ◌^◌, ◌++◌, [], ◌∷◌, List, ℕ};
 ghost use Rattle.std.specs.Prelude.{IfErr, IfOk, IsErrOf, IsOk, OnOk};
@@ -29,25 +34,25 @@ use zprotocol::ServerId;
 use zservice::LocalTree;
 use zstates::Found;
 
-/// A server for ZooKeeper's clients whose changes are kept.
+/// A server for ZooKeeper's clients whose changes are made durable.
 ///
-/// It hands out pieces only while all that it made is on the disk. After any fault it has ended,
-/// and its file is to be opened again.
+/// It returns chunks only while all its changes are durable. After any fault it has ended, and its
+/// file is to be opened again.
 #[derive(Drop)]
 pub struct Kept<D: Device> {
     pub(crate) alloc: Global,
     pub(crate) front: Front<LocalTree>,
     pub(crate) journal: Journal<D>,
-    // How many bytes the file had when it was shortened last, and 0 before.
+    // The bytes of the file after its last compaction, and 0 before.
     pub(crate) shortened: usize,
     pub(crate) is_open: bool,
 }
 
 impl<D: Device> Kept<D> {
-    /// Opens the service of a file that a crash may have left, or of a new one. Its front begins
-    /// with the tree that the file keeps. Where reading fails, the file stays untouched. Opening
-    /// may crash, too, and then the file keeps the same. The tree's time is `now_ms` now, in
-    /// milliseconds since 1970. An `Err` hands the device back.
+    /// Opens the service of a file that a crash may have left, or of a new one. Its front end
+    /// begins with the tree that the file holds. If reading fails, the file is unchanged. A crash
+    /// while opening leaves a file with the same tree. The tree's time is `now_ms` now, in
+    /// milliseconds since 1970. An `Err` returns the device.
     pub fn open(
         alloc: Global,
         device: D,
@@ -56,7 +61,7 @@ impl<D: Device> Kept<D> {
         tick: TickLength,
         now_ms: u64,
     ) -> Result<Opened<D>, (OpenFault, D)>
-        // After a restart, what is read is what is on the disk.
+        // After a restart, a read returns what is durable.
         requires durable { Only (D.seen device) (D.may_leave device) }
         ensures serving { IfOk result (λ opened. (batches : List (List ℕ)) × (t : Tree)
             × StandsFor servers batches (D.seen device)
@@ -119,9 +124,9 @@ impl<D: Device> Kept<D> {
         self.journal.device()
     }
 
-    /// Keeps what was made since it was kept last, as one block. At `Ok` the block is on the disk,
-    /// and pieces are handed out. Where nothing was made nothing is written. After any fault the
-    /// service has ended; a file that is opened again then has these changes, or hasn't.
+    /// Commits the changes since the last commit, as one block. At `Ok` the block is durable, and
+    /// chunks are returned. Without changes nothing is written. After any fault the service has
+    /// ended; a file that is opened again then has all these changes, or none.
     pub fn commit(&mut self) -> Result<(), KeptFault>
         requires { IsSound D.seen D.may_leave self.old }
         ensures kept { (servers : ℕ) (batches : List (List ℕ)) (t : Tree) → IsOpen self.old
@@ -159,7 +164,7 @@ impl<D: Device> Kept<D> {
     }
 }
 
-// Puts a block into the journal, once.
+// Appends a block to the journal, once.
 fn put<D: Device>(journal: &mut Journal<D>, text: &[u8]) -> Result<(), PutError>
     requires { state.IsSound D.seen D.may_leave journal.old }
     ensures kept { (servers : ℕ) (batches : List (List ℕ)) → state.IsOpen journal.old

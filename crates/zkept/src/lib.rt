@@ -1,19 +1,24 @@
-//! A server for ZooKeeper's clients whose changes are kept. What a front makes is kept as one block
-//! of a file, and only then told. A service that is opened again begins with what its file keeps.
-//! `shorten` puts a file with a snapshot alone in the place of one that has become long.
+//! A server for ZooKeeper's clients whose changes are durable. Changes of a front end are written
+//! as one block of a file, and only then acknowledged. A service that is opened again begins with
+//! the tree that its file holds. `shorten` compacts a file: it replaces one that has become long
+//! with a snapshot alone.
 //!
 //! ```text
 //! let opened = Kept::open(alloc, device, ServerId::first(), secret, tick, now_ms)?;
 //! let Opened { mut kept, .. } = opened;
 //! kept.take(Input::Came(connection, bytes))?;
-//! kept.commit()?;    // what it made is on the disk
-//! while let Some(piece) = kept.next_piece() { .. }    // and is told
+//! kept.commit()?;    // what it changed is durable
+//! while let Some(piece) = kept.next_piece() { .. }    // and is sent
 //! ```
 //!
-//! It is over any `Device` (zjournal), whose written meaning says what a crash may leave. At each
-//! moment a crash leaves the changes that were told, and those under way as a whole or not at all
-//! (`commit`). So the calls that all lives of a service told stand in one log, whose replies are
-//! those of one plain tree (`laws`).
+//! It works over any `Device` (zjournal), whose law says what a crash may leave. At each moment a
+//! crash leaves the acknowledged changes, and those in flight as a whole or not at all (`commit`).
+//! So all calls that were acknowledged across restarts are in one log, whose replies are those of
+//! one plain tree (`laws`).
+//!
+//! # Why
+//! The file holds updates alone: queries change nothing. No reply is stored, since a client with a
+//! request in flight opens a new connection after a crash anyway.
 #![tactic(auto)]
 
 mod fault;

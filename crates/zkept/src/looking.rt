@@ -1,4 +1,8 @@
-//! What a file keeps, read without a change of the file.
+//! The tree that a file holds, read without changing the file.
+//!
+//! # Why
+//! An export reads the folder without a front end, so it changes nothing there and takes the memory
+//! of one tree.
 
 ghost use Rattle.std.specs.Prelude.{◌≡◌, ◌<◌, ◌≤◌, false, IfErr, IfOk};
 ghost use Rattle.zjournal.specs.Device.{LeavesOnly, Only};
@@ -13,8 +17,8 @@ use zjournal::{Device, OpenError, read_text};
 use zprotocol::ServerId;
 use zstates::{Found, read};
 
-/// Reads the tree that a file keeps, and how many bytes of its text are the snapshot with which it
-/// begins. The file stays as it is.
+/// Reads the tree that a file holds, and how many bytes of its text are the snapshot with which it
+/// begins. The file is not changed.
 pub fn look<D: Device>(alloc: Global, device: &mut D, servers: ServerId) -> Result<Found, OpenFault>
     requires durable { Only (D.seen device.old) (D.may_leave device.old) }
     ensures keeps { IfOk result (λ found. FileKeeps servers found.tree.tree (D.seen device.old)) }
@@ -42,7 +46,7 @@ pub fn look<D: Device>(alloc: Global, device: &mut D, servers: ServerId) -> Resu
     }
 }
 
-/// Counts what there is in a file. The file stays as it is.
+/// Counts the content of a file. The file is not changed.
 pub fn folder_stat<D: Device>(
     alloc: Global,
     device: &mut D,

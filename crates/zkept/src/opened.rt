@@ -1,4 +1,4 @@
-//! What an opening gives.
+//! The result of an opening.
 
 use crate::Kept;
 use zjournal::Device;
@@ -8,7 +8,7 @@ use zjournal::Device;
 pub struct Opened<D: Device> {
     /// The service.
     pub kept: Kept<D>,
-    /// Whether passwords of sessions are among the records of the file. They say nothing: whoever
-    /// has one opens a new session.
+    /// Whether passwords of sessions are among the records of the file. They have no effect: a
+    /// client that has one opens a new session.
     pub had_passwords: bool,
 }

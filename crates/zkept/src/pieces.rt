@@ -1,4 +1,4 @@
-//! The pieces of a front whose changes are kept.
+//! The chunks of a front end whose changes are made durable.
 
 ghost use Rattle.std.specs.Prelude.{◌≡◌, List, ℕ};
 ghost use Rattle.std.specs.Option.{option_copied};
@@ -10,7 +10,7 @@ use zfront::Piece;
 use zjournal::Device;
 
 impl<D: Device> Kept<D> {
-    /// Returns the piece to be sent first, if all that was made is kept and there is one.
+    /// Returns the chunk to be sent first, if all changes are durable and there is one.
     pub fn first_piece(&self) -> Option<&Piece>
         ensures { option_copied result ≡ piece_in self.now }
     {
@@ -20,7 +20,7 @@ impl<D: Device> Kept<D> {
         self.front.first_piece()
     }
 
-    /// Takes the piece to be sent first, if all that was made is kept and there is one.
+    /// Takes the chunk to be sent first, if all changes are durable and there is one.
     pub fn next_piece(&mut self) -> Option<Piece>
         requires { IsSound D.seen D.may_leave self.old }
         ensures first { result ≡ piece_in self.old }
@@ -36,7 +36,7 @@ impl<D: Device> Kept<D> {
         self.front.next_piece()
     }
 
-    // Returns whether pieces are handed out.
+    // Returns whether chunks are returned.
     fn tells(&self) -> bool
         ensures { result ≡ tells self.now }
     {

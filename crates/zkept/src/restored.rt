@@ -1,4 +1,9 @@
-//! A front that begins with what its file keeps.
+//! A front end that begins with the tree that its file holds.
+//!
+//! # Why
+//! The clock stops while the service is down: time is counted by ticks. So no session expires
+//! because of a restart, however long it took. The start of the clock is moved, so times continue
+//! from now.
 
 ghost use Rattle.std.specs.Prelude.{◌≡◌, IfOk};
 ghost use Rattle.zkept.specs.Restored.{clock_at, restored};
@@ -19,7 +24,7 @@ fn clock_at(tick: TickLength, now_ms: u64, ticks: u64) -> Clock
     }
 }
 
-/// Returns a front that begins with this tree.
+/// Returns a front end that begins with this tree.
 pub(crate) fn restored(
     alloc: Global,
     tree: LocalTree,

@@ -1,4 +1,4 @@
-//! Worked rows: each function's contract has some, and its body does nothing.
+//! Worked examples: each function's contract has some, and its body is empty.
 
 ghost use Rattle.std.specs.Prelude.{◌≡◌, [], ◌∷◌, ◌++◌, List, ℕ};
 ghost use Rattle.zcalls.specs.declared.call.Call.{Call};
@@ -10,22 +10,22 @@ ghost use Rattle.zkept.specs.Kept.{more_if};
 ghost use Rattle.zkept.specs.Lives.{IsWoven};
 ghost use Rattle.zkept.specs.Restored.{clock_at};
 
-/// Where a tick has 500 ms, the service began eight seconds ago at tick 16, whenever it was opened.
+/// With a tick of 500 ms, a service at tick 16 began eight seconds ago, whenever it was opened.
 pub fn times_go_on()
     ensures now { clock_at 500 10000 16 ≡ record { tick = 500; started = 2000 } }
     ensures new { clock_at 500 10000 0 ≡ record { tick = 500; started = 10000 } }
     ensures early { clock_at 500 1000 16 ≡ record { tick = 500; started = 0 } }
 {}
 
-/// Where nothing was made, no block is written; and where something was, one.
+/// Without changes no block is written, and with changes one.
 pub fn nothing_is_no_block()
     ensures nothing { (batches : List (List ℕ)) → more_if [] batches ≡ batches }
     ensures one { (batches : List (List ℕ)) → more_if (Tick ∷ (Tick ∷ [])) batches
         ≡ batches ++ entries_text (Tick ∷ (Tick ∷ [])) ∷ [] }
 {}
 
-/// What may stand in a log after some lives: a call that was told stands once. A change that was
-/// under way stands once or not at all.
+/// What may be in a log after some incarnations: an acknowledged call is there once. A change in
+/// flight is there once or not at all.
 pub fn what_was_told_stands()
     ensures under_way { (r : Reply)
         → IsWoven (record { told = []; kept = []; under_way = Tick ∷ [] } ∷ [])

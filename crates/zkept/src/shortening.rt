@@ -1,4 +1,9 @@
-//! A journal is shortened: a new file with the tree alone takes the place of the old one.
+//! Compaction of a journal: a new file with the tree alone replaces the old one.
+//!
+//! # Why
+//! The snapshot is written of the front end's own tree, so no second tree is needed. It includes
+//! changes that aren't committed yet: so a compaction is also a commit. Compacting at four times
+//! the last size means that writing snapshots costs at most a third of what the changes cost.
 
 ghost use Rattle.std.specs.Prelude.{◌≡◌, ◌<◌, ◌≤◌, ◌^◌, ◌++◌, [], ◌∷◌, List, ℕ};
 ghost use Rattle.std.specs.Prelude.{IfErr, OnOk, OnErr, IsErrOf};
@@ -25,8 +30,8 @@ use zservice::LocalTree;
 use zstates::Shortening;
 
 impl<D: Device> Kept<D> {
-    /// Returns whether the journal is to be shortened: it has so many bytes, and at least four
-    /// times those that it had behind its last shortening since the service was opened.
+    /// Returns whether the journal is to be compacted: it has this many bytes, and at least four
+    /// times its size after the last compaction since the service was opened.
     pub fn is_long(&self, least: usize) -> bool
         ensures { result ≡ is_long least self.now }
     {
@@ -34,17 +39,17 @@ impl<D: Device> Kept<D> {
         size >= least && size / 4 >= self.shortened
     }
 
-    /// How many bytes the journal has.
+    /// The bytes of the journal.
     pub fn size(&self) -> usize
         ensures { result ≡ size_of self.now.journal }
     {
         self.journal.size()
     }
 
-    /// Puts a file with the tree alone in the place of the one that it keeps, which may have many
-    /// more changes. What was made and isn't kept yet is kept with it. What is told stays the same,
-    /// and nothing waits but for the writing. At each moment a crash leaves a file with the tree of
-    /// before or with that of now. After any fault the service has ended.
+    /// Replaces the file, which may have many more changes, with one that holds the tree alone.
+    /// Changes since the last commit become durable with it. No reply changes, and clients wait
+    /// only for the writing. At each moment a crash leaves a file with the old tree or with the
+    /// current one. After any fault the service has ended.
     pub fn shorten(&mut self) -> Result<(), KeptFault>
         requires { IsSound D.seen D.may_leave self.old }
         ensures kept { (servers : ℕ) (batches : List (List ℕ)) (t : Tree) → IsOpen self.old
@@ -82,7 +87,7 @@ impl<D: Device> Kept<D> {
     }
 }
 
-/// Writes the text of the tree beside the journal's file, and puts it in its place.
+/// Writes the text of the tree beside the journal's file, and replaces that file with it.
 pub(crate) fn shorten<D: Device>(
     alloc: Global,
     journal: &mut Journal<D>,
@@ -116,7 +121,7 @@ pub(crate) fn shorten<D: Device>(
     Ok(())
 }
 
-// Puts a piece into the new file, once.
+// Appends a chunk to the new file, once.
 fn put_piece<D: Device>(journal: &mut Journal<D>, piece: &[u8]) -> Result<(), PutError>
     requires { IsInRenewal D.seen D.may_leave D.beside journal.old }
     ensures added { (servers : ℕ) (batches next : List (List ℕ)) → file.IsOpen journal.old

@@ -1,4 +1,4 @@
-//! A file that no service has open, and the tree that it keeps: so its journal is shortened.
+//! A file that no service has open, and its tree: so its journal is compacted.
 
 ghost use Rattle.std.specs.Prelude.{◌≡◌, List, ℕ, IfErr, IfOk, OnOk};
 ghost use Rattle.zjournal.specs.Device.{LeavesOnly, Only};
@@ -18,7 +18,7 @@ use zprotocol::ServerId;
 use zservice::LocalTree;
 use zstates::Found;
 
-/// A journal, and the tree that it keeps. No front stands over it.
+/// A journal, and its tree, without a front end.
 #[derive(Drop)]
 pub struct Stored<D: Device> {
     alloc: Global,
@@ -27,10 +27,10 @@ pub struct Stored<D: Device> {
 }
 
 impl<D: Device> Stored<D> {
-    /// Opens a file that a crash may have left. Where reading fails, the file stays untouched.
-    /// Opening may crash, too, and then the file keeps the same. An `Err` hands the device back.
+    /// Opens a file that a crash may have left. If reading fails, the file is unchanged. A crash
+    /// while opening leaves a file with the same tree. An `Err` returns the device.
     pub fn open(alloc: Global, device: D, servers: ServerId) -> Result<Stored<D>, (OpenFault, D)>
-        // After a restart, what is read is what is on the disk.
+        // After a restart, a read returns what is durable.
         requires durable { Only (D.seen device) (D.may_leave device) }
         ensures stored { IfOk result (λ stored. (batches : List (List ℕ))
             × StandsFor servers batches (D.seen device)
@@ -67,16 +67,15 @@ impl<D: Device> Stored<D> {
         }
     }
 
-    /// How many bytes the journal has.
+    /// The bytes of the journal.
     pub fn size(&self) -> usize
         ensures { result ≡ bytes_of self.now }
     {
         self.journal.size()
     }
 
-    /// Puts a file with the tree alone in the place of the one that there is, which may have many
-    /// changes. At each moment a crash leaves a file with the same tree. After a fault it is to be
-    /// opened again.
+    /// Replaces the file, which may have many changes, with one that holds the tree alone. At each
+    /// moment a crash leaves a file with the same tree. After a fault it is to be opened again.
     pub fn shorten(&mut self) -> Result<(), KeptFault>
         requires { IsGood D.seen D.may_leave self.old }
         ensures kept { (servers : ℕ) (batches : List (List ℕ))

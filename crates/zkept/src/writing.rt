@@ -1,4 +1,8 @@
-//! What a front made, written as records of a log.
+//! Changes of a front end, written as records of a log.
+//!
+//! # Why
+//! A refused update is written too. It takes no zxid, but to leave it out the code would have to
+//! know what each refusal leaves.
 
 ghost use Rattle.std.specs.Prelude.{◌≡◌, IfOk, OnOk};
 ghost use Rattle.zjournal.specs.Blocks.{IsText};

@@ -9,7 +9,7 @@ use Rattle.zpipe.specs.Outputs.{OutputView, output}
 abbrev pub AreForms : Type 0
 AreForms = IsForm message × IsForm output
 
--- no two sequences of messages share their bytes, and none of answers do
+-- no two sequences of messages have the same bytes, and no two of answers do
 abbrev pub BytesTellApart : Type 0
 BytesTellApart =
     ((a b : List MessageView) → AllByRecursion message.Fits a → AllByRecursion message.Fits b →

@@ -11,12 +11,12 @@ use Rattle.zpipe.specs.declared.limits.TheConstants.{MAX_CAME}
 use Rattle.zpipe.specs.declared.message.Message.{Message}
 use Rattle.zpipe.specs.declared.message.Message.TheVariants as code
 
--- something came to the server; all of it is to be kept, and its pieces are to be told
+-- something came to the server; all of it is to be committed, and its chunks are to be sent
 pub data MessageView : Type 0 where
   Input : InputView → MessageView
   Keep : MessageView
 
--- what the code has read, without where it lies in memory
+-- what the code has read, without where it is in memory
 abbrev pub message_of : Message → MessageView
 message_of (code.Input input) = Input (input_of input)
 message_of code.Keep = Keep
@@ -41,6 +41,6 @@ message_spelled (Input (Ended connection)) = behind 2 (number w32) connection
 message_spelled (Input Tick) = behind 3 empty tt
 message_spelled Keep = behind 4 empty tt
 
--- a byte tells which it is
+-- a byte says which it is
 unfoldable pub message : Form MessageView
 message = by_tag (number w8) message_at message_spelled

@@ -1,4 +1,4 @@
--- What a host is answered: this project's own profile. Numbers have the highest byte first.
+-- What a host gets in reply: this project's own profile. Numbers have the highest byte first.
 use Rattle.std.specs.Prelude.{ℕ, List, Result}
 use Rattle.std.specs.Int.{w8, w32}
 use Rattle.zforms.specs.declared.fault.Fault.{Fault}
@@ -9,7 +9,7 @@ use Rattle.zpieces.specs.Outbox.{PieceView}
 use Rattle.zrecords.specs.Sums.{at_tag, no_tag}
 use Rattle.zpipe.specs.declared.limits.TheConstants.{MAX_PIECE}
 
--- a piece is to be sent; nothing more is told before the next demand
+-- a chunk is to be sent; nothing more is sent before the next demand
 pub data OutputView : Type 0 where
   Piece : PieceView → OutputView
   End : OutputView
@@ -30,6 +30,6 @@ abbrev pub output_spelled : OutputView → Spelled ℕ
 output_spelled (Piece p) = behind 0 piece p
 output_spelled End = behind 1 empty tt
 
--- a byte tells which it is
+-- a byte says which it is
 unfoldable pub output : Form OutputView
 output = by_tag (number w8) output_at output_spelled

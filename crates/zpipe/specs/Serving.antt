@@ -1,4 +1,4 @@
--- What a service was said and has told, between two of its states.
+-- What a service received and sent, between two of its states.
 use Rattle.std.specs.Prelude.{◌≡◌, ◌⊎◌, ℕ, List, [], ◌∷◌, ◌++◌}
 use Rattle.std.specs.List.{flat_map, AllByRecursion}
 use Rattle.zdevices.specs.Device.{IsBeginning}
@@ -7,28 +7,28 @@ use Rattle.zpieces.specs.Inputs.{InputView}
 use Rattle.zpipe.specs.Messages.{MessageView, Input, Keep, message}
 use Rattle.zpipe.specs.Outputs.{OutputView, Piece, End, output}
 
--- the bytes of messages, and of what is told
+-- the bytes of messages, and of what is sent
 abbrev pub messages_text : List MessageView → List ℕ
 messages_text messages = flat_map message.spell messages
 
 abbrev pub outputs_text : List OutputView → List ℕ
 outputs_text outputs = flat_map output.spell outputs
 
--- the answer to a demand: pieces, and an end
+-- the answer to a demand: chunks, and an end
 abbrev pub answer_of : List PieceView → List OutputView
 answer_of [] = End ∷ []
 answer_of (piece ∷ pieces) = Piece piece ∷ answer_of pieces
 
--- the bytes of pieces
+-- the bytes of chunks
 abbrev pub pieces_text : List PieceView → List ℕ
 pieces_text pieces = flat_map (λ p. output.spell (Piece p)) pieces
 
--- pieces are told, one after the other
+-- chunks are sent, in order
 abbrev pub Tells : {V : Type 0} → (V → PieceView → V → Type 0) → List PieceView → V → V → Type 0
 Tells told [] old new = new ≡ old
 Tells {V} told (piece ∷ pieces) old new = (middle : V) × told old piece middle × Tells told pieces middle new
 
--- pieces were told. Of their bytes the sink took a beginning, and the rest waits
+-- chunks were sent. The sink took a prefix of their bytes, and the rest waits
 pub record IsTelling {V : Type 0} (told : V → PieceView → V → Type 0) (takes : List ℕ → Type 0) (old new : V) (waits : List ℕ) : Type 0 where
   pub pieces : List PieceView
   pub tells : Tells told pieces old new
@@ -46,14 +46,14 @@ pub record TellsSome {V : Type 0} (told : V → PieceView → V → Type 0) (tak
   pub is_front : IsBeginning front (pieces_text pieces)
 
 module _ {V : Type 0} (kept : V → V → Type 0) (told : V → PieceView → V → Type 0) where
-  -- nothing is told of a demand yet; or all is kept, and some pieces are told
+  -- nothing is sent for a demand yet; or all is committed, and some chunks are sent
   abbrev pub BeginsToAnswer : List OutputView → V → Type 0
   BeginsToAnswer outputs old =
       (outputs ≡ [])
       ⊎ ((pieces : List PieceView) × (middle last : V) × kept old middle × Tells told pieces middle last
       × (outputs ≡ answer_of pieces))
 
-  -- and of that the sink took a beginning
+  -- and the sink took a prefix of that
   pub record SendsSome (takes : List ℕ → Type 0) (old : V) : Type 0 where
     pub outputs : List OutputView
     pub begins : BeginsToAnswer outputs old
@@ -62,12 +62,12 @@ module _ {V : Type 0} (kept : V → V → Type 0) (told : V → PieceView → V 
     pub took_it : takes front
 
 module _ {V : Type 0} (kept : V → V → Type 0) (told : V → PieceView → V → Type 0) (has_told : V → Type 0) where
-  -- all is kept; then pieces are told, and none is left
+  -- all is committed; then chunks are sent, and none is left
   abbrev pub Answers : List PieceView → V → V → Type 0
   Answers pieces old new = (middle : V) × kept old middle × Tells told pieces middle new × has_told new
 
 module _ {V : Type 0} (took : V → InputView → V → Type 0) (kept : V → V → Type 0) (told : V → PieceView → V → Type 0) (has_told : V → Type 0) where
-  -- this is done at a message, and this is told of it
+  -- this is done at a message, and this is sent for it
   abbrev pub Does : MessageView → List OutputView → V → V → Type 0
   Does Keep outputs old new = (pieces : List PieceView) × Answers kept told has_told pieces old new × (outputs ≡ answer_of pieces)
   Does (Input input) outputs old new = took old input new × (outputs ≡ [])
@@ -78,15 +78,15 @@ module _ {V : Type 0} (took : V → InputView → V → Type 0) (kept : V → V 
     pub does : Does message outputs old new
     pub took_them : takes (outputs_text outputs)
 
-  -- messages are taken, one after the other
+  -- messages are taken, in order
   abbrev pub Serves : List MessageView → List OutputView → V → V → Type 0
   Serves [] outputs old new = (new ≡ old) × (outputs ≡ [])
   Serves (it ∷ messages) outputs old new =
       (first : List OutputView) × (middle : V) × (more : List OutputView)
       × Does it first old middle × Serves messages more middle new × (outputs ≡ first ++ more)
 
-  -- the bytes are those of messages, with a rest that is no whole message. They were taken, and what was
-  -- told of them went to the sink
+  -- the bytes are those of messages, with a rest that isn't a whole message. They were taken, and
+  -- what was sent for them went to the sink
   pub record ServesFront (takes : List ℕ → Type 0) (bytes rest : List ℕ) (old new : V) : Type 0 where
     pub messages : List MessageView
     pub outputs : List OutputView
@@ -95,7 +95,7 @@ module _ {V : Type 0} (took : V → InputView → V → Type 0) (kept : V → V 
     pub split : bytes ≡ messages_text messages ++ rest
     pub took_them : takes (outputs_text outputs)
 
-  -- The same of all bytes that a source gave, behind some messages of its own.
+  -- The same of all bytes that a source gave, after some messages of its own.
   pub record ServesAll (first : List MessageView) (gave takes : List ℕ → Type 0) (old new : V) : Type 0 where
     pub messages : List MessageView
     pub outputs : List OutputView
@@ -105,8 +105,8 @@ module _ {V : Type 0} (took : V → InputView → V → Type 0) (kept : V → V 
     pub gave_them : gave (messages_text messages ++ rest)
     pub took_them : takes (outputs_text outputs)
 
-  -- It ended earlier. Some messages were taken, and of what was told of them, and of an answer that was
-  -- begun behind them, the sink took a beginning.
+  -- It ended early. Some messages were taken. The sink took a prefix of what was sent for them, and
+  -- of the answer begun after them.
   pub record ServesSome (takes : List ℕ → Type 0) (old : V) : Type 0 where
     pub messages : List MessageView
     pub outputs : List OutputView

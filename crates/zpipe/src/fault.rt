@@ -15,7 +15,7 @@ pub enum ServeFault {
     /// The source failed.
     #[error("read failed")]
     Read,
-    /// The bytes of the source are no host's.
+    /// The bytes of the source aren't those of a host.
     #[error("no input of a host")]
     NoInput,
     /// The sink failed.

@@ -1,4 +1,4 @@
-//! Laws of the definitions. Each function's contract is a law; its body does nothing.
+//! Laws of the definitions. Each function's contract is a law; its body is empty.
 
 ghost use Rattle.zpipe.specs.Laws.{AreForms, BytesTellApart};
 
@@ -7,7 +7,7 @@ pub fn records_are_forms()
     ensures { AreForms }
 {}
 
-/// Bytes are those of one sequence of messages alone, and of one sequence of answers.
+/// Bytes are those of at most one sequence of messages, and of at most one sequence of answers.
 pub fn bytes_tell_apart()
     ensures { BytesTellApart }
 {}

@@ -1,12 +1,17 @@
-//! What goes over the two pipes between a host and a server that keeps what it tells.
+//! The protocol of the two pipes between a host and a server that makes its changes durable.
 //!
-//! The host sends a secret, and then messages: what came to the server, and the demand that all of
-//! it is kept. It is answered with pieces to be sent, and with an end behind them. Messages and
-//! answers are records of bytes. `specs/Messages.antt` and `specs/Outputs.antt` define them.
+//! The host sends a secret, and then messages: the inputs of the server, and the demand that all of
+//! it is committed. The reply is chunks to be sent, and an end after them. Messages and answers are
+//! records of bytes. `specs/Messages.antt` and `specs/Outputs.antt` define them.
 //!
-//! `read_secret` reads the secret, and `next_message` the message that stands in front of bytes.
-//! `put_piece` and `put_end` write an answer. `serve_all` is the loop over both for a `Service`: all
-//! is kept before a piece is told.
+//! `read_secret` reads the secret, and `next_message` the first message of some bytes. `put_piece`
+//! and `put_end` write an answer. `serve_all` is the loop over both for a `Service`: it commits
+//! before it sends a chunk.
+//!
+//! # Why
+//! Pipes, not a socket or shared memory: each end waits for the other anyway, and a closed pipe
+//! shows that the other process has ended. An answer's end is a record, so the host knows that
+//! nothing more comes; the first one says that the folder is open.
 #![tactic(auto)]
 
 mod fault;

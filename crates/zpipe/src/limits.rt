@@ -1,9 +1,9 @@
 //! The limits of records: this project's own profile.
 
-/// The most bytes of a connection that one record brings.
+/// The most bytes of a connection in one record.
 pub const MAX_CAME: u32 = 65_536;
 
-/// The most bytes of a piece: all that its length can tell.
+/// The most bytes of a chunk: all that its length can say.
 pub const MAX_PIECE: u32 = 0xFFFF_FFFF;
 
 /// The bytes that are read at once.

@@ -6,6 +6,7 @@ use zpieces::Input;
 pub enum Message<'a> {
     /// Something came to the server.
     Input(Input<'a>),
-    /// All that came before is to be kept. Its pieces are to be told then, and an end behind them.
+    /// All inputs so far are to be committed. Then their chunks are to be sent, and an end after
+    /// them.
     Keep,
 }

@@ -9,9 +9,9 @@ use crate::message::Message;
 use zforms::{Fault, sized_at, u8_at, u32_at};
 use zpieces::Input;
 
-/// Reads the message that stands in front of the bytes, with what follows it.
+/// Reads the first message of the bytes, with what follows it.
 ///
-/// `Fault::Short` tells that more bytes are to come. Any other fault is final: no message begins so.
+/// `Fault::Short` means that more bytes are needed. Any other fault is final: no message begins so.
 pub fn next_message(bytes: &[u8]) -> Result<(Message<'_>, &[u8]), Fault>
     // What is read is spelled so, and fits.
     ensures found { IfOk result (λ x. message.Fits (message_of x.0)
@@ -36,7 +36,7 @@ fn read(bytes: &[u8]) -> Result<(Message<'_>, &[u8]), Fault>
     read_behind(tag, rest)
 }
 
-// Reads what stands behind the tag of a message.
+// Reads what follows the tag of a message.
 #[tactic(auto, unfolding(crate::specs::Messages::message_at))]
 fn read_behind(tag: u8, bytes: &[u8]) -> Result<(Message<'_>, &[u8]), Fault>
     ensures { Reads (λ x. (message_of x.0, x.1.now)) result (message_at tag bytes.now) }

@@ -1,4 +1,4 @@
-//! Worked examples of the definitions. Each function's contract has some; its body does nothing.
+//! Worked examples of the definitions. Each function's contract has some; its body is empty.
 
 ghost use Rattle.std.specs.Prelude.{◌≡◌, [], ◌∷◌, Ok, Err, true, false};
 ghost use Rattle.zforms.specs.declared.fault.Fault.TheVariants.{Short, Long, Invalid};

@@ -1,4 +1,4 @@
-//! The secret, which stands in front of all that a host says.
+//! The secret, the first bytes that a host sends.
 
 ghost use Rattle.std.specs.Prelude.{◌≡◌, IfErr, IfOk};
 ghost use Rattle.zdevices.specs.Device.{Between};
@@ -7,7 +7,7 @@ use crate::fault::ServeFault;
 use zdevices::Source;
 use zpasswords::Secret;
 
-/// Reads the secret: the next 32 bytes of a source, and no byte behind them.
+/// Reads the secret: the next 32 bytes of a source, and no byte more.
 pub fn read_secret<S: Source>(source: &mut S) -> Result<Secret, ServeFault>
     ensures gave { IfOk result (Between S.gave source.old source.new) }
     ensures ended { IfErr result (λ fault. fault ≡ ServeFault.NoInput

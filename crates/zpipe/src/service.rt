@@ -1,4 +1,8 @@
-//! What takes inputs, keeps what they changed, and tells pieces.
+//! A service that takes inputs, commits their changes, and returns chunks.
+//!
+//! # Why
+//! The loop is over a trait, not over the front end itself. So its proof needs no front end and no
+//! journal, and its contract says briefly what is sent when.
 
 ghost use Rattle.std.specs.Prelude.{◌≡◌, ◌<◌, ℕ, IfNone, IfSome, OnOk};
 ghost use Rattle.zpieces.specs.Inputs.{InputView, input_of};
@@ -7,21 +11,21 @@ ghost use Rattle.zpieces.specs.Outbox.{PieceView};
 use crate::fault::ServeFault;
 use zpieces::{Input, Piece};
 
-/// A service that keeps what it tells. Once it failed nothing is promised of it.
+/// A service that makes its changes durable. Once it failed nothing is promised of it.
 pub trait Service {
     /// Between two states it took this input.
     ghost took: { Self → InputView → Self → Type 0 };
 
-    /// Between two states it kept all that its inputs changed.
+    /// Between two states it committed all changes of its inputs.
     ghost kept: { Self → Self → Type 0 };
 
-    /// Between two states it told this piece.
+    /// Between two states it returned this chunk.
     ghost told: { Self → PieceView → Self → Type 0 };
 
-    /// Nothing is left to be told.
+    /// No chunk is left.
     ghost has_told: { Self → Type 0 };
 
-    /// How many pieces are left to be told.
+    /// How many chunks are left.
     ghost pieces_left: { Self → ℕ };
 
     /// It has not failed.
@@ -33,13 +37,13 @@ pub trait Service {
         ensures took { OnOk result (took self.old (input_of input.entry) self.new) }
         ensures sound { OnOk result (is_sound self.new) };
 
-    /// Keeps all that the inputs changed.
+    /// Commits all changes of the inputs.
     fn keep(&mut self) -> Result<(), ServeFault>
         requires { is_sound self.old }
         ensures kept { OnOk result (kept self.old self.new) }
         ensures sound { OnOk result (is_sound self.new) };
 
-    /// Takes the next piece that is to be told, if there is one.
+    /// Takes the next chunk to be sent, if there is one.
     fn next_piece(&mut self) -> Option<Piece>
         requires { is_sound self.old }
         ensures told { IfSome result (λ piece. told self.old piece self.new) }

@@ -1,4 +1,8 @@
-//! Messages are taken one after the other: inputs are taken, and what they changed is kept and told.
+//! The loop over messages: inputs are taken, and their changes are committed and acknowledged.
+//!
+//! # Why
+//! A record that is cut when the input ends is dropped: the host was killed while it wrote it, and
+//! nothing of it was acknowledged.
 
 ghost use Rattle.std.specs.Prelude.{◌≡◌, ◌<◌, ◌++◌, [], ◌∷◌, List, ℕ, length};
 ghost use Rattle.std.specs.Prelude.{IfOk, OnErr, OnOk};
@@ -18,9 +22,9 @@ use std::alloc::Global;
 use zdevices::{Sink, Source, write_all};
 use zforms::Fault;
 
-/// Tells that the service is open, and then takes all messages of a source, until it ends. Behind
-/// each demand all that was said before it is kept. Its pieces and an end go to the sink then, and
-/// not before. What is no whole input where the source ends is dropped.
+/// Reports that the service is open, and then takes all messages of a source, until it ends. At
+/// each demand all inputs before it are committed. Only then do their chunks and an end go to the
+/// sink. An input that is cut when the source ends is dropped.
 pub fn serve_all<V: Service, S: Source, K: Sink>(
     alloc: Global,
     service: &mut V,
@@ -71,7 +75,7 @@ fn serve_blocks<V: Service, S: Source, K: Sink>(
     }
 }
 
-// Takes the whole messages in front of the bytes, and returns what follows them.
+// Takes the whole messages at the front of the bytes, and returns what follows them.
 fn take_all<V: Service, K: Sink>(
     alloc: Global,
     service: &mut V,
@@ -89,7 +93,7 @@ fn take_all<V: Service, K: Sink>(
     Ok(Vec::from_slice(alloc, rest)?)
 }
 
-// The same, where the rest stays in its place.
+// The same, where the rest remains in the buffer.
 fn take_whole<'a, V: Service, K: Sink>(
     alloc: Global,
     service: &mut V,
@@ -136,7 +140,7 @@ fn take<V: Service, K: Sink>(
     }
 }
 
-// Keeps what the inputs changed, and tells what is to be sent.
+// Commits the changes of the inputs, and sends what is to be sent.
 fn answer<V: Service, K: Sink>(
     alloc: Global,
     service: &mut V,
@@ -156,7 +160,7 @@ fn answer<V: Service, K: Sink>(
     tell(&mut out, sink)
 }
 
-// Tells all pieces that are to be sent. What isn't written yet is left in `out`.
+// Sends all chunks. What isn't written yet is left in `out`.
 fn tell_pieces<V: Service, K: Sink>(
     service: &mut V,
     out: &mut Vec<u8>,

@@ -9,7 +9,7 @@ use zalloc::Memory;
 use zforms::{put_flag, put_sized, put_u8, put_u32};
 use zpieces::Piece;
 
-/// Writes a piece. No memory is wanted for one of more than `MAX_PIECE` bytes.
+/// Writes a chunk. One of more than `MAX_PIECE` bytes takes no memory.
 #[tactic(auto, unfolding(crate::specs::Outputs::output, crate::specs::Outputs::piece))]
 pub fn put_piece(out: &mut Vec<u8>, piece: &Piece) -> Result<(), Memory>
     ensures text { OnOk result (out.new.items ≡ out.old.items ++ output.spell (OfPiece piece.now)) }

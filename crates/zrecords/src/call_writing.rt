@@ -91,7 +91,7 @@ fn put_multi(alloc: Global, out: &mut Vec<u8>, multi: &Multi) -> Result<(), Allo
     put_each_part(alloc, out, parts)
 }
 
-// Writes the parts, one after the other.
+// Writes the parts, in order.
 fn put_each_part(alloc: Global, out: &mut Vec<u8>, parts: &[Part]) -> Result<(), AllocError>
     ensures text { OnOk result
         (out.new.items ≡ out.old.items ++ flat_map part_form.spell parts.now) }

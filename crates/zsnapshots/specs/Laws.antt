@@ -19,7 +19,7 @@ pub record AreRows {A : Type 0} (c : Form A) : Type 0 where
   pub stays : (bytes more : List ℕ) (fault : FrameFault) → fault ≢ Cut →
       IsFaultOf c bytes fault → IsFaultOf c (bytes ++ more) fault
 
--- no row of a state has more bytes behind its length than this
+-- no row of a state has more bytes after its length than this
 abbrev pub RowsAreShort : Type 0
 RowsAreShort = (x : StateRow) → Fits x → length (spelled x) ≤ MAX_ROW + 4
 
@@ -33,18 +33,18 @@ RowsTellApart =
     (s w : MachineState) → IsReadable s → IsReadable w →
     map spelled (rows_of s) ≡ map spelled (rows_of w) → s ≡ w
 
--- the rows of no two readable states stand in front of one list
+-- no list of rows begins with those of two different readable states
 abbrev pub OneStateInFront : Type 0
 OneStateInFront =
     (s w : MachineState) (rest more : List (List ℕ)) → IsReadable s → IsReadable w →
     map spelled (rows_of s) ++ rest ≡ map spelled (rows_of w) ++ more → (s ≡ w) × (rest ≡ more)
 
--- nor do the bytes of two stand in front of one text
+-- and no text with the bytes of two
 abbrev pub OneStateInFrontOfText : Type 0
 OneStateInFrontOfText =
     (s w : MachineState) (rest more : List ℕ) → IsReadable s → IsReadable w →
     text_of s ++ rest ≡ text_of w ++ more → (s ≡ w) × (rest ≡ more)
 
--- once the rows of a state were read, none that its header tells of is missing
+-- once the rows of a state were read, none that its header announces is missing
 abbrev pub NoneIsMissing : Type 0
 NoneIsMissing = (s : MachineState) (r : ReadingView) → rows_of s ≡ rows_so_far r → is_done r ≡ true

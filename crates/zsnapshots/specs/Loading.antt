@@ -10,7 +10,7 @@ use Rattle.zsnapshots.specs.Rows.{header_text}
 use Rattle.zsnapshots.specs.States.{StateRow, ReadingView, Fits, spelled, rows_of, rows_so_far, IsReadable, IsRowFault, IsRootFault, IsNextFault}
 use Rattle.zsnapshots.specs.States.StateRow.{OfHeader}
 
--- what was taken so far: nothing; the header; or the header, the root and what is behind them
+-- what was taken so far: nothing; the header; or the header, the root and the rows after them
 pub record LoadingView : Type 0 where
   pub header : Option Header
   pub reading : Option ReadingView
@@ -32,7 +32,7 @@ rows_loaded l = rows_from l.header l.reading
 abbrev pub bytes_loaded : LoadingView → List (List ℕ)
 bytes_loaded l = map spelled (rows_loaded l)
 
--- one row was taken: these are its bytes, and it comes behind the rows so far
+-- one row was taken: these are its bytes, and it comes after the rows so far
 pub record IsLoaded (before after : List StateRow) (bytes : List ℕ) : Type 0 where
   pub x : StateRow
   pub fits : Fits x
@@ -49,7 +49,7 @@ NeverRefusesAlone before result bytes =
 abbrev pub AreOfNone : List (List ℕ) → Type 0
 AreOfNone rows = (s : MachineState) → IsReadable s → map spelled (rows_of s) ≢ rows
 
--- a whole frame stands in front of the bytes, and more behind it
+-- the bytes begin with a whole frame, and more follows
 abbrev pub IsFollowed : List ℕ → Type 0
 IsFollowed bytes =
     (text : List ℕ) × (rest : List ℕ) × ((sized MAX_FRAME).read bytes ≡ Ok (text, rest)) ×
@@ -62,7 +62,7 @@ IsFaultFrom None None bytes fault =
     IsRowFault header_text (λ h. Unit {0}) (λ h. Unit {0}) bytes fault
 IsFaultFrom (Some h) None bytes fault = IsRootFault h bytes fault
 
--- Which fault it is: a row that doesn't stand alone; or else that of the row that comes next.
+-- Which fault it is: that of a row that isn't alone; or else that of the row that comes next.
 abbrev pub IsLoadingFault : LoadingView → List ℕ → RowFault → Type 0
 IsLoadingFault l bytes Trailing = IsFollowed bytes
 IsLoadingFault l bytes fault = (IsFollowed bytes → ⊥) × IsFaultFrom l.header l.reading bytes fault

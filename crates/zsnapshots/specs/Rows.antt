@@ -1,5 +1,5 @@
--- The rows of a snapshot: a header, and then a row for each session, node and kept reply. Each row
--- is a frame of its own, so that a state is written and read row by row.
+-- The rows of a snapshot: a header, and then a row for each session, node and cached reply. Each
+-- row is a frame of its own, so that a state is written and read row by row.
 use Rattle.std.specs.Prelude.{◌≡◌, ℕ, List, ◌++◌, Result, IfOk, IfErr}
 use Rattle.std.specs.Int.{w32}
 use Rattle.zforms.specs.Forms.{Form, number, both}
@@ -84,7 +84,7 @@ node = fields (both three (both four (both three content)))
 unfoldable pub node_text : Form (Path × Node)
 node_text = both path node
 
--- ---- sessions and kept replies
+-- ---- sessions and cached replies
 
 unfoldable pub session : Form Session
 session = fields (both client (both long long)) (λ s. (s.client, (s.timeout, s.deadline)))
@@ -101,7 +101,7 @@ unfoldable pub kept : Form Kept
 kept = fields (both call_number reply) (λ k. (k.number, k.reply))
     (λ f. kept_of f.0 f.1)
 
--- a kept reply with its client
+-- a cached reply with its client
 unfoldable pub reply_text : Form (ℕ × Kept)
 reply_text = both client kept
 
@@ -111,8 +111,8 @@ reply_text = both client kept
 abbrev pub row : {A : Type 0} → Form A → Form A
 row c = framed MAX_FRAME c
 
--- What a reader of a row returned. What it found is spelled in front; what is spelled in front it
--- found, unless memory ran out; else it is the first fault.
+-- What a reader of a row returned. The row that it found is spelled first in the bytes. A row that
+-- is spelled there is found, unless memory ran out; else it is the first fault.
 pub record IsReadAs {A V : Type 0} (c : Form A) (of : V → A × List ℕ) (result : Result V FrameFault)
     (bytes : List ℕ) : Type 0 where
   pub found : IfOk result (λ v.

@@ -1,5 +1,5 @@
 -- The rows of a whole state: a header, the root, the sessions in the order of their ids, the other
--- nodes in the order of their paths, and the kept replies in the order of their clients. A state
+-- nodes in the order of their paths, and the cached replies in the order of their clients. A state
 -- has these rows and no others. The rows are this project's profile.
 use Rattle.std.specs.Prelude.{◌≡◌, ℕ, ◌+◌, ◌≤◌, nat_lt, Bool, true, false, List, [], ◌∷◌, ◌++◌, map, length, take, drop, Result, Ok, IfOk, IfErr, if◌then◌else◌}
 use Rattle.std.specs.List.{AllByRecursion, flat_map}
@@ -34,7 +34,7 @@ sessions_of s = entries s.service.plain.sessions
 abbrev pub nodes_of : MachineState → List (Path × Node)
 nodes_of s = entries s.service.plain.nodes
 
--- the kept replies with their clients, in order
+-- the cached replies with their clients, in order
 abbrev pub replies_of : MachineState → List (ℕ × Kept)
 replies_of s = entries s.service.kept
 
@@ -60,7 +60,7 @@ pub data StateRow : Type 0 where
   OfNode : Path × Node → StateRow
   OfReply : ℕ × Kept → StateRow
 
--- the rows behind the header
+-- the rows after the header
 abbrev pub body_of : MachineState → List StateRow
 body_of s =
     map OfNode (take 1 (nodes_of s)) ++ (map OfSession (sessions_of s) ++
@@ -142,7 +142,7 @@ wants_session r = nat_lt (length (sessions_of r.state)) r.header.sessions
 abbrev pub wants_node : ReadingView → Bool
 wants_node r = nat_lt (length (below_of r.state)) r.header.nodes
 
--- else a row of a kept reply comes next
+-- else a row of a cached reply comes next
 abbrev pub wants_reply : ReadingView → Bool
 wants_reply r = nat_lt (length (replies_of r.state)) r.header.replies
 
@@ -158,7 +158,7 @@ IsWanted r (OfNode e) = (wants_session r ≡ false) × (wants_node r ≡ true)
 IsWanted r (OfReply e) =
     (wants_session r ≡ false) × ((wants_node r ≡ false) × (wants_reply r ≡ true))
 
--- one row was read: it stands in front of the bytes, and comes behind the rows so far
+-- one row was read: it comes first in the bytes, and after the rows so far
 pub record IsTaken (old new : ReadingView) (bytes rest : List ℕ) : Type 0 where
   pub x : StateRow
   pub wanted : IsWanted old x
@@ -166,15 +166,15 @@ pub record IsTaken (old new : ReadingView) (bytes rest : List ℕ) : Type 0 wher
   pub front : bytes ≡ spelled x ++ rest
   pub rows : rows_so_far new ≡ rows_so_far old ++ x ∷ []
 
--- the same of the root, behind the header
+-- the same of the root, after the header
 pub record IsRootTaken (header : Header) (new : ReadingView) (bytes rest : List ℕ) : Type 0 where
   pub root : Node
   pub fits : Fits (OfNode ([], root))
   pub front : bytes ≡ spelled (OfNode ([], root)) ++ rest
   pub rows : rows_so_far new ≡ OfHeader header ∷ (OfNode ([], root) ∷ [])
 
--- The row of a readable state that comes behind these rows is taken wherever it stands in front,
--- unless memory runs out.
+-- The row of a readable state that comes after these rows is taken wherever it comes first, unless
+-- memory runs out.
 abbrev pub NeverRefuses : {V : Type 0} → List StateRow → (V → List StateRow × List ℕ) →
     Result V RowFault → List ℕ → Type 0
 NeverRefuses before of result bytes =
@@ -186,8 +186,8 @@ NeverRefuses before of result bytes =
 abbrev pub IsAbove : {K X : Type 0} → (K → K → Ordering) → List (K × X) → K → Type 0
 IsAbove R before key = AllByRecursion (λ e. R e.0 key ≡ Less) before
 
--- Which fault it is: that of a row of this form; or the row isn't in order; or it is at its place
--- in no settled state. The first of them that holds is told.
+-- Which fault it is: that of a row of this form; or the row isn't in order; or no settled state has
+-- it here. The first of them that holds is returned.
 abbrev pub IsRowFault : {A : Type 0} → Form A → (A → Type 0) → (A → Type 0) → List ℕ →
     RowFault → Type 0
 IsRowFault c in_order can bytes Cut = IsFaultOf c bytes frame.Cut
@@ -201,7 +201,7 @@ IsRowFault c in_order can bytes Trailing = ⊥
 IsRowFault c in_order can bytes Ended = ⊥
 IsRowFault c in_order can bytes Memory = Unit {0}
 
--- the same of the root, behind this header
+-- the same of the root, after this header
 abbrev pub IsRootFault : Header → List ℕ → RowFault → Type 0
 IsRootFault h =
     IsRowFault node_text (λ e. e.0 ≡ []) (λ e. CanBegin e.1 h.time h.zxid h.last)
@@ -235,7 +235,7 @@ IsNextFault r bytes fault =
 
 -- ---- a whole state
 
--- all rows that the header tells of were read
+-- all rows that the header announces were read
 abbrev pub is_done : ReadingView → Bool
 is_done r =
     if wants_session r then false else if wants_node r then false else

@@ -1,4 +1,4 @@
-//! Why rows are no state.
+//! Why rows aren't a state.
 
 ghost use Rattle.std.specs.Prelude.{◌≡◌};
 ghost use Rattle.zsnapshots.specs.support.Faults.{of_frame, of_restoring};
@@ -11,22 +11,22 @@ use zwire::FrameFault;
 /// Why no row was taken.
 #[derive(Clone, Copy, Debug, PartialEq, Eq, Error)]
 pub enum RowFault {
-    /// The bytes end before the row does: more of them are wanted.
+    /// The bytes end before the row does: more are needed.
     #[error("the row is cut")]
     Cut,
     /// The row's length is above `MAX_FRAME`.
     #[error("the row is too long")]
     TooLong,
-    /// The bytes behind the length are no row of the kind that comes next.
+    /// The bytes after the length aren't a row of the kind that comes next.
     #[error("no such row: {0}")]
     Contents(Fault),
     /// The row's key isn't above those of the rows before it.
     #[error("the row is out of order")]
     Unordered,
-    /// The row is at its place in no state of a machine.
+    /// No state of a machine has this row here.
     #[error("not a row of a lawful state")]
     Unlawful,
-    /// Bytes follow the row, where it has to stand alone.
+    /// Bytes follow the row, where it must be alone.
     #[error("bytes follow the row")]
     Trailing,
     /// There is no further row.

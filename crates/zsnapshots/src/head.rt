@@ -1,4 +1,4 @@
-//! The header that a reader keeps.
+//! The header that a reader holds.
 
 ghost use Rattle.std.specs.Prelude.{◌≡◌};
 
@@ -7,7 +7,7 @@ use std::marker::Model;
 use zprotocol::LogNumber;
 use ztree::Zxid;
 
-/// A header that is kept beside the machine that is being read.
+/// A header that is held beside the machine being read.
 #[derive(Drop)]
 pub(crate) struct Head {
     pub(crate) last: LogNumber,
@@ -37,7 +37,7 @@ impl Model for Head {
 }
 
 impl Head {
-    /// Keeps a header.
+    /// Holds a header.
     pub(crate) fn of(header: Header) -> Head
         ensures { result ≡ header }
     {

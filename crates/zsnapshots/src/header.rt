@@ -1,4 +1,8 @@
-//! What stands in front of a snapshot.
+//! The first row of a snapshot.
+//!
+//! # Why
+//! The header counts the rows of each kind, and no row has a tag. So the reader knows which kind
+//! comes next and which row is the last, without looking further.
 
 use zprotocol::LogNumber;
 use ztree::Zxid;
@@ -16,6 +20,6 @@ pub struct Header {
     pub sessions: u32,
     /// The number of nodes, the root included.
     pub nodes: u32,
-    /// The number of clients with a kept reply.
+    /// The number of clients with a cached reply.
     pub replies: u32,
 }

@@ -1,10 +1,10 @@
-//! Laws of the definitions. Each function's contract is a law; its body does nothing.
+//! Laws of the definitions. Each function's contract is a law; its body is empty.
 
 ghost use Rattle.zsnapshots.specs.Laws.{AreRows, RowsAreShort, RowsAreOfOneState, RowsTellApart};
 ghost use Rattle.zsnapshots.specs.Laws.{OneStateInFront, OneStateInFrontOfText, NoneIsMissing};
 ghost use Rattle.zsnapshots.specs.Rows.{header_text, session_text, node_text, reply_text};
 
-/// Rows are read again, told apart, and cut only where more bytes may make one.
+/// Rows are read again, distinguished, and cut only where more bytes may make one.
 pub fn rows_are_read_again()
     ensures header { AreRows header_text }
     ensures session { AreRows session_text }
@@ -17,7 +17,7 @@ pub fn rows_are_short()
     ensures { RowsAreShort }
 {}
 
-/// Rows tell which state they are of, by their bytes alone, whatever follows them.
+/// The bytes of rows alone show which state they are of, whatever follows them.
 pub fn rows_tell_apart()
     ensures one { RowsAreOfOneState }
     ensures rows { RowsTellApart }
@@ -25,7 +25,7 @@ pub fn rows_tell_apart()
     ensures text { OneStateInFrontOfText }
 {}
 
-/// A header tells how many rows a state has.
+/// A header says how many rows a state has.
 pub fn headers_tell_the_end()
     ensures { NoneIsMissing }
 {}

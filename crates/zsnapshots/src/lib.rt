@@ -4,15 +4,20 @@
 //! order of their paths, and the cached replies in the order of their clients. A row is a frame of
 //! its own (`zwire`), so that no buffer has to hold a state, which is up to 268 MB.
 //!
-//! `Writing` hands out the rows of a machine one after the other, or those of its tree alone.
-//! `Reading` takes one row at a time, and gives the machine at the end, or says which row has which
-//! fault. `Loading` does so where each row stands in bytes of its own.
+//! `Writing` returns the rows of a machine in order, or those of its tree alone. `Reading` takes
+//! one row at a time, and returns the machine at the end, or says which row has which fault.
+//! `Loading` does the same where each row has bytes of its own.
 //!
 //! The next row of a state that a machine wrote is never refused, unless memory runs out. Whatever
 //! the bytes are, what is read in the end is a machine whose own rows they are.
 //!
-//! The definitions: `specs/States.antt` (the rows of a state, and why bytes are none),
+//! The definitions: `specs/States.antt` (the rows of a state, and why bytes aren't one),
 //! `specs/Rows.antt` (the bytes of each row), `specs/Laws.antt`.
+//!
+//! # Why
+//! Rows rise within their kind, and the root comes before the sessions, so a state has one text. A
+//! row out of order has another fault than one that can't be in a state: it is the writer's
+//! mistake.
 #![tactic(auto)]
 
 mod fault;

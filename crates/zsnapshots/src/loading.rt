@@ -1,4 +1,4 @@
-//! A machine, read from rows that each stand in bytes of their own.
+//! A machine, read from rows that each have bytes of their own.
 
 ghost use Rattle.std.specs.Prelude.{◌≡◌, ◌≤◌, [], ◌∷◌, ◌++◌, false, None, Some, IsTrue, IsFalse};
 ghost use Rattle.std.specs.Prelude.{IfSome, IfNone, OnOk, OnErr, IfErr};
@@ -104,7 +104,7 @@ impl Loading {
         take_further(reading, row)
     }
 
-    // Takes the header, or the root behind it.
+    // Takes the header, or the root after it.
     fn take_first(&mut self, alloc: Global, row: &[u8]) -> Result<(), RowFault>
         requires none { self.old.reading ≡ None }
         requires alone { IsFollowed row.now → ⊥ }
@@ -141,7 +141,7 @@ impl Loading {
         Ok(())
     }
 
-    // Takes the root behind this header.
+    // Takes the root after this header.
     fn take_root(&mut self, alloc: Global, header: Header, row: &[u8]) -> Result<(), RowFault>
         requires header { self.old.header ≡ Some header }
         requires none { self.old.reading ≡ None }
@@ -166,7 +166,7 @@ impl Loading {
         ensures rows { IfSome result (λ m. rows_of m.state ≡ rows_loaded self) }
         ensures readable { IfSome result (λ m. IsReadable m.state) }
         ensures whole { IfSome result (λ m. m.is_broken ≡ false) }
-        // Else they are all rows of no state that can be read.
+        // Otherwise no state that can be read has exactly these rows.
         ensures none { IfNone result (AreOfNone (bytes_loaded self)) }
     {
         match self.reading {
@@ -176,7 +176,7 @@ impl Loading {
     }
 }
 
-// Takes a row behind the root.
+// Takes a row after the root.
 fn take_further(reading: &mut Reading, row: &[u8]) -> Result<(), RowFault>
     requires alone { IsFollowed row.now → ⊥ }
     ensures taken { OnOk result
@@ -210,7 +210,7 @@ fn finished(reading: Reading) -> Option<Machine>
     }
 }
 
-// Returns whether a whole frame stands in front of the bytes, and more behind it.
+// Returns whether the bytes begin with a whole frame, and more follows.
 fn is_followed(bytes: &[u8]) -> bool
     ensures yes { IsTrue result → IsFollowed bytes.now }
     ensures no { IsFalse result → IsFollowed bytes.now → ⊥ }

@@ -1,4 +1,9 @@
 //! A machine, read row by row.
+//!
+//! # Why
+//! A reader takes the first row of some bytes and returns what follows. If the row is cut, nothing
+//! has changed, so a caller reads a file or a stream in chunks of any size. Counts only fall: a
+//! header that announces too many rows fails at the first invalid or missing one.
 
 ghost use Rattle.std.specs.Prelude.{◌≡◌, [], ◌∷◌, true, false, IfOk, IfErr, IfSome, IfNone};
 ghost use Rattle.std.specs.Prelude.{OnOk, OnErr};
@@ -26,8 +31,8 @@ use ztree::{ClientId, Node, SessionId};
 
 /// A machine that is being read, one row at a time.
 ///
-/// `new` takes the row of the root, `take` each further row. No more than one row has to stand in
-/// the bytes: where it is `Cut`, nothing has changed, and the caller comes again with more of them.
+/// `new` takes the row of the root, `take` each further row. The bytes need to hold no more than
+/// one row. If it is `Cut`, nothing has changed, and the caller calls again with more bytes.
 #[derive(Drop)]
 pub struct Reading {
     alloc: Global,
@@ -58,8 +63,8 @@ impl Model for Reading {
 }
 
 impl Reading {
-    /// Begins behind this header with the root, whose row stands in front of the bytes. Returns
-    /// what follows it too.
+    /// Begins with the root after this header. Its row comes first in the bytes. Returns also what
+    /// follows it.
     pub fn new(alloc: Global, header: Header, bytes: &[u8]) -> Result<(Reading, &[u8]), RowFault>
         ensures taken { IfOk result (λ x. IsRootTaken header x.0 bytes.now x.1.now) }
         // The root of a state that can be read is never refused.
@@ -90,7 +95,7 @@ impl Reading {
         }
     }
 
-    // Begins with this root and its path, behind this header.
+    // Begins with this root and its path, after this header.
     fn rooted(
         alloc: Global,
         header: Header,
@@ -134,8 +139,8 @@ impl Reading {
         }
     }
 
-    /// Takes the next row, which stands in front of the bytes: a session while there are some, then
-    /// a node, then a kept reply. Returns what follows it. If it is refused, nothing has changed.
+    /// Takes the next row, which comes first in the bytes: a session while there are some, then a
+    /// node, then a cached reply. Returns what follows it. If it is refused, nothing has changed.
     pub fn take<'a>(&mut self, bytes: &'a [u8]) -> Result<&'a [u8], RowFault>
         ensures taken { IfOk result (λ rest. IsTaken self.old self.new bytes.now rest.now) }
         // The next row of a state that can be read is never refused.
@@ -218,7 +223,7 @@ impl Reading {
         Ok(rest)
     }
 
-    // Takes the row of a kept reply.
+    // Takes the row of a cached reply.
     fn take_reply<'a>(&mut self, alloc: Global, bytes: &'a [u8]) -> Result<&'a [u8], RowFault>
         requires sessions { wants_session self.old ≡ false }
         requires nodes { wants_node self.old ≡ false }
@@ -243,7 +248,7 @@ impl Reading {
         Ok(rest)
     }
 
-    /// Returns whether all rows that the header tells of were taken.
+    /// Returns whether all rows that the header announces were taken.
     pub fn is_done(&self) -> bool
         ensures { result ≡ is_done self.now }
     {

@@ -16,7 +16,7 @@ use zpath::Path;
 use ztree::{ClientId, Node, Session, SessionId};
 use zwire::{FrameFault, cut_frame, whole_of};
 
-/// Reads the header of a snapshot in front of the bytes, with what follows it.
+/// Reads the header of a snapshot at the front of the bytes, with what follows it.
 pub fn read_header_row(bytes: &[u8]) -> Result<(Header, &[u8]), FrameFault>
     ensures { IsReadAs header_text (λ x. (x.0, x.1.now)) result bytes.now }
 {
@@ -48,7 +48,7 @@ fn whole_header(bytes: &[u8]) -> Result<Header, Fault>
     }
 }
 
-/// Reads the session in front of the bytes, with what follows it.
+/// Reads the session at the front of the bytes, with what follows it.
 pub fn read_session_row(bytes: &[u8]) -> Result<(SessionId, Session, &[u8]), FrameFault>
     ensures { IsReadAs session_text (λ x. ((x.0, x.1), x.2.now)) result bytes.now }
 {
@@ -80,7 +80,7 @@ fn whole_session(bytes: &[u8]) -> Result<(SessionId, Session), Fault>
     }
 }
 
-/// Reads the node in front of the bytes, with what follows it.
+/// Reads the node at the front of the bytes, with what follows it.
 pub fn read_node_row(alloc: Global, bytes: &[u8]) -> Result<(Path, Node, &[u8]), FrameFault>
     ensures { IsReadAs node_text (λ x. ((x.0, x.1), x.2.now)) result bytes.now }
 {
@@ -110,7 +110,7 @@ fn whole_node(alloc: Global, bytes: &[u8]) -> Result<(Path, Node), ReadError>
     }
 }
 
-/// Reads the kept reply in front of the bytes, with what follows it.
+/// Reads the cached reply at the front of the bytes, with what follows it.
 pub fn read_reply_row(
     alloc: Global,
     bytes: &[u8],
@@ -137,7 +137,7 @@ fn reply_row_in(
     }
 }
 
-// Reads the kept reply, with its client and number, that all of the bytes spell.
+// Reads the cached reply, with its client and number, that all of the bytes spell.
 fn whole_reply(alloc: Global, bytes: &[u8]) -> Result<(ClientId, CallNumber, Reply), ReadError>
     ensures { Gives (λ x. (x.0, kept_of x.1 x.2)) result (whole reply_text bytes.now) }
 {

@@ -14,7 +14,7 @@ use zforms::put_sized;
 use zpath::Path;
 use ztree::{ClientId, Node, Session, SessionId};
 
-/// Appends the header of a snapshot. On an error the bytes are what they were.
+/// Appends the header of a snapshot. On an error the bytes are unchanged.
 pub fn write_header_row(alloc: Global, out: &mut Vec<u8>, header: Header) -> Result<(), AllocError>
     ensures ok { OnOk result (out.new.items ≡ out.old.items ++ (row header_text).spell header) }
     ensures fits { OnOk result ((row header_text).Fits header) }
@@ -25,7 +25,7 @@ pub fn write_header_row(alloc: Global, out: &mut Vec<u8>, header: Header) -> Res
     put_sized(out, &text)
 }
 
-/// Appends a session with its id. On an error the bytes are what they were.
+/// Appends a session with its id. On an error the bytes are unchanged.
 pub fn write_session_row(
     alloc: Global,
     out: &mut Vec<u8>,
@@ -42,7 +42,7 @@ pub fn write_session_row(
     put_sized(out, &text)
 }
 
-/// Appends a node with its path. On an error the bytes are what they were.
+/// Appends a node with its path. On an error the bytes are unchanged.
 pub fn write_node_row(
     alloc: Global,
     out: &mut Vec<u8>,
@@ -59,7 +59,7 @@ pub fn write_node_row(
     put_sized(out, &text)
 }
 
-/// Appends a kept reply with its client. On an error the bytes are what they were.
+/// Appends a cached reply with its client. On an error the bytes are unchanged.
 pub fn write_reply_row(
     alloc: Global,
     out: &mut Vec<u8>,

@@ -1,4 +1,4 @@
-//! Worked examples of the definitions. Each function's contract has some; its body does nothing.
+//! Worked examples of the definitions. Each function's contract has some; its body is empty.
 
 ghost use Rattle.std.specs.Prelude.{◌≡◌, [], ◌∷◌, Some, Ok};
 ghost use Rattle.zforms.specs.declared.fault.Fault.TheVariants.{Short, Invalid, Trailing};
@@ -59,7 +59,7 @@ pub fn frames_are_followed()
     ensures cut { IsFollowed (0 ∷ 0 ∷ 0 ∷ 2 ∷ 7 ∷ []) → ⊥ }
 {}
 
-/// Bytes with no row in front.
+/// Bytes that don't begin with a row.
 pub fn faults_are_told()
     ensures none { IsFaultOf node_text [] Cut }
     ensures part { IsFaultOf reply_text (0 ∷ 0 ∷ 0 ∷ 10 ∷ 2 ∷ 0 ∷ 0 ∷ 0 ∷ 0 ∷ []) Cut }

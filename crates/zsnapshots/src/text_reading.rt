@@ -1,4 +1,4 @@
-//! Headers, sessions and kept replies, read from the front of bytes with what follows them.
+//! Headers, sessions and cached replies, read from the front of bytes with what follows them.
 
 ghost use Rattle.zforms.specs.Readers.{Reads, Gives};
 ghost use Rattle.zsnapshots.specs.Rows.{totals, header_text, session, session_text, kept_of};
@@ -75,7 +75,7 @@ fn session_at(bytes: &[u8]) -> Result<(Session, &[u8]), Fault>
     Ok((session, rest))
 }
 
-/// Reads a kept reply, behind its client and the number of the client's call.
+/// Reads a cached reply, after its client and the number of the client's call.
 #[tactic(auto, unfolding(crate::specs::Rows::reply_text, crate::specs::Rows::kept))]
 pub(crate) fn reply_text_of(
     alloc: Global,

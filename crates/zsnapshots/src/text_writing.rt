@@ -1,4 +1,4 @@
-//! Headers, sessions and kept replies, written at the end of bytes. Each function says too that
+//! Headers, sessions and cached replies, written at the end of bytes. Each function says too that
 //! what it writes fits.
 
 ghost use Rattle.std.specs.Prelude.{◌≡◌, ◌++◌, OnOk};
@@ -81,7 +81,7 @@ fn put_session(out: &mut Vec<u8>, session: Session) -> Result<(), AllocError>
     put_two(out, session.timeout, session.deadline)
 }
 
-/// Writes a kept reply, behind its client and the number of the client's call.
+/// Writes a cached reply, after its client and the number of the client's call.
 #[tactic(auto, unfolding(crate::specs::Rows::reply_text, crate::specs::Rows::kept))]
 pub(crate) fn put_reply_text(
     alloc: Global,

@@ -1,4 +1,7 @@
 //! A machine, written row by row.
+//!
+//! # Why
+//! A writer borrows its machine, so the machine can't change between two rows.
 
 ghost use Rattle.std.specs.Prelude.{◌≡◌, ◌<◌, ◌≤◌, ◌++◌, true, false, length, map, IfOk};
 ghost use Rattle.std.specs.Prelude.{OnOk, OnErr};
@@ -75,7 +78,7 @@ impl<'a> Writing<'a> {
         Writing::begun(alloc, machine, Vec::new(alloc), true)
     }
 
-    // Begins with the kept replies of these clients.
+    // Begins with the cached replies of these clients.
     fn begun(
         alloc: Global,
         machine: &'a Machine,
@@ -195,7 +198,7 @@ impl<'a> Writing<'a> {
         }
     }
 
-    // Appends the session with this place among all.
+    // Appends the session with this index among all.
     fn write_session(&self, place: usize, out: &mut Vec<u8>) -> Result<(), AllocError>
         requires { place < length (sessions_of self.now.state) }
         ensures ok { OnOk result
@@ -209,7 +212,7 @@ impl<'a> Writing<'a> {
         }
     }
 
-    // Appends the node with this place among all.
+    // Appends the node with this index among all.
     fn write_node(&self, place: usize, out: &mut Vec<u8>) -> Result<(), AllocError>
         requires { place < length (nodes_of self.now.state) }
         ensures ok { OnOk result
@@ -223,7 +226,7 @@ impl<'a> Writing<'a> {
         }
     }
 
-    // Appends the kept reply with this place among all.
+    // Appends the cached reply with this index among all.
     fn write_reply(&self, place: usize, out: &mut Vec<u8>) -> Result<(), AllocError>
         requires { place < length (replies_of self.now.state) }
         ensures ok { OnOk result

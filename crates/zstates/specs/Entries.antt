@@ -1,6 +1,6 @@
 -- An entry of a data folder: an update, which is client 0's. It is a record of a log. A log that is
--- read may have passwords of sessions among its records, which say nothing. This is the project's
--- profile.
+-- read may have passwords of sessions among its records, which have no effect. This is the
+-- project's profile.
 use Rattle.std.specs.Prelude.{◌≡◌, ℕ, List, [], ◌∷◌, Bool, true, false, ◌||◌, Option, None, Some, map}
 use Rattle.std.specs.List.{AllByRecursion}
 use Rattle.std.specs.Option.{option_map}
@@ -44,8 +44,8 @@ has_password (r ∷ records) = is_password r || has_password records
 abbrev pub behind : Entry → Option (List Entry) → Option (List Entry)
 behind entry entries = option_map (λ more. entry ∷ more) entries
 
--- the entries of records. An order of the chain's operator and a row of a snapshot are no entry, and
--- then there are none. A password says nothing
+-- the entries of records. If an order of the chain's operator or a row of a snapshot is among them,
+-- there are none. A password has no effect
 abbrev pub entries_of : List Record → Option (List Entry)
 entries_of [] = Some []
 entries_of (record_is.Password password ∷ records) = entries_of records

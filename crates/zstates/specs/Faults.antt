@@ -4,7 +4,7 @@ use Rattle.zstates.specs.declared.fault.ReadFault.{ReadFault}
 use Rattle.zstates.specs.declared.fault.ReadFault.TheVariants.{Memory, NotRecords}
 use Rattle.zstates.specs.Texts.{IsNoText}
 
--- the text is such as the fault says; memory says nothing of it
+-- the text is as the fault says; Memory says nothing of it
 abbrev pub IsReadFault : List ℕ → ReadFault → Type 0
 IsReadFault text NotRecords = IsNoText text
 IsReadFault text Memory = Unit {0}

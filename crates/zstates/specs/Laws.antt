@@ -11,11 +11,11 @@ use Rattle.zstates.specs.Shortening.{IsAllWritten, IsPiece, ShorteningView, text
 
 -- ---- entries
 
--- entries come back from their records
+-- entries are read back from their records
 abbrev pub EntriesComeBack : Type 0
 EntriesComeBack = (entries : List Entry) → entries_of (records_of entries) ≡ Some entries
 
--- and records that are entries are the records of these, with passwords among them or none
+-- and records that are entries are the records of these, with or without passwords among them
 abbrev pub RecordsComeBack : Type 0
 RecordsComeBack =
     (records : List Record) (entries : List Entry) → entries_of records ≡ Some entries → records_of entries ≡ without_passwords records
@@ -40,19 +40,19 @@ TreesAreTheirCalls = (t : Tree) (entries : List Entry) → after t entries ≡ t
 
 -- ---- texts
 
--- a text keeps one tree
+-- a text represents one tree
 abbrev pub TextsTellApart : Type 0
 TextsTellApart = (text : List ℕ) (a b : Tree) → IsTextOf a text → IsTextOf b text → a ≡ b
 
--- an empty text keeps the initial tree, and that of a snapshot its own
+-- an empty text represents the initial tree, and that of a snapshot its own
 abbrev pub NothingIsTheOpening : Type 0
 NothingIsTheOpening = IsTextOf opening_tree []
 
 abbrev pub SnapshotsKeepTheirs : Type 0
 SnapshotsKeepTheirs = (t : Tree) → IsKeepable t → IsTextOf t (snapshot_text t)
 
--- what is left of a snapshot's text is the next piece and then the rest. At first that is all of it,
--- and behind the last piece it is nothing
+-- what is left of a snapshot's text is the next chunk and then the rest. At first that is all of
+-- it, and after the last chunk it is nothing
 abbrev pub PiecesJoin : Type 0
 PiecesJoin = (old new : ShorteningView) (piece : List ℕ) → IsPiece old new piece → text_left old ≡ piece ++ text_left new
 
@@ -62,12 +62,12 @@ PiecesAreAll = (t : Tree) → text_left (record { tree = t; written = 0 }) ≡ s
 abbrev pub NothingIsLeft : Type 0
 NothingIsLeft = (s : ShorteningView) → IsAllWritten s → text_left s ≡ []
 
--- with entries behind it, a text keeps the tree to which they lead
+-- with entries after it, a text represents the tree to which they lead
 abbrev pub TextsGoOn : Type 0
 TextsGoOn =
     (t : Tree) (text : List ℕ) (entries : List Entry) → IsTextOf t text → AreEntries entries
     → IsTextOf (after t entries) (text ++ entries_text entries)
 
--- a service can begin with a tree that is kept
+-- a service can begin with a tree that a text represents
 abbrev pub KeptTreesCanStart : Type 0
 KeptTreesCanStart = (t : Tree) (text : List ℕ) → IsTextOf t text → CanStart t

@@ -1,10 +1,10 @@
--- A tree that is written as a snapshot, piece by piece.
+-- A tree that is written as a snapshot, chunk by chunk.
 use Rattle.std.specs.Prelude.{◌≡◌, ◌<◌, ◌≤◌, ℕ, ◌+◌, List, length, take, drop}
 use Rattle.ztree.specs.Tree.{Tree}
 use Rattle.zrecords.specs.Records.{text_of}
 use Rattle.zstates.specs.Texts.{IsKeepable, row_records}
 
--- the tree, and how many of its snapshot's records were handed out
+-- the tree, and how many of its snapshot's records were returned
 pub record ShorteningView : Type 0 where
   pub tree : Tree
   pub written : ℕ
@@ -13,7 +13,7 @@ pub record ShorteningView : Type 0 where
 abbrev pub text_left : ShorteningView → List ℕ
 text_left s = text_of (drop s.written (row_records s.tree))
 
--- the piece is the text of the next records, and there is at least one
+-- the chunk is the text of the next records, and there is at least one
 pub record IsPiece (old new : ShorteningView) (piece : List ℕ) : Type 0 where
   pub count : ℕ
   pub some : 0 < count
@@ -21,7 +21,7 @@ pub record IsPiece (old new : ShorteningView) (piece : List ℕ) : Type 0 where
   pub text : piece ≡ text_of (take count (drop old.written (row_records old.tree)))
   pub view : new ≡ record old { written = old.written + count }
 
--- all records were handed out, and the tree can be read from them
+-- all records were returned, and the tree can be read from them
 pub record IsAllWritten (s : ShorteningView) : Type 0 where
   pub all : length (row_records s.tree) ≤ s.written
   pub keepable : IsKeepable s.tree

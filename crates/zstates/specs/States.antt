@@ -1,4 +1,4 @@
--- What a data folder keeps: a tree. Each entry leads from one tree to the next. What is kept is this
+-- The state of a data folder: a tree. Each entry leads from one tree to the next. This is the
 -- project's profile.
 use Rattle.std.specs.Prelude.{List, [], ◌∷◌}
 use Rattle.ztree.specs.Tree.{Tree}
@@ -10,7 +10,7 @@ use Rattle.zstates.specs.Entries.{Entry}
 unfoldable pub after_entry : Tree → Entry → Tree
 after_entry t entry = (serve t 0 (call.Update entry)).0
 
--- after entries, one after the other
+-- after entries, in order
 abbrev pub after : Tree → List Entry → Tree
 after t [] = t
 after t (entry ∷ entries) = after (after_entry t entry) entries

@@ -1,5 +1,6 @@
--- A tree as text: a snapshot, and entries behind it. A snapshot is lines of records, a row of the
--- tree each. Passwords among the records of a text say nothing. This is the project's profile.
+-- A tree as text: a snapshot, and entries after it. A snapshot is lines of records, one for each
+-- row of the tree. Passwords among the records of a text have no effect. This is the project's
+-- profile.
 use Rattle.std.specs.Prelude.{◌≡◌, ◌⊎◌, ℕ, List, [], ◌++◌, map}
 use Rattle.ztree.specs.Tree.{Tree, opening_tree}
 use Rattle.zrecords.specs.declared.record.Record.{Record}
@@ -36,8 +37,8 @@ pub record IsKeepable (t : Tree) : Type 0 where
 abbrev pub IsFrontOf : Tree → List ℕ → Type 0
 IsFrontOf t front = ((t ≡ opening_tree) × (front ≡ [])) ⊎ (IsKeepable t × Says (row_records t) front)
 
--- the text keeps the tree: it is that of some tree with which it begins, and of entries behind it,
--- and these lead to the tree
+-- the text represents the tree: it is the text of some tree with which it begins, followed by
+-- entries that lead to this tree
 pub record IsTextOf (t : Tree) (text : List ℕ) : Type 0 where
   pub start : Tree
   pub front : List ℕ
@@ -48,6 +49,6 @@ pub record IsTextOf (t : Tree) (text : List ℕ) : Type 0 where
   pub split : text ≡ front ++ behind
   pub leaves : t ≡ after start entries
 
--- the text keeps no tree
+-- the text represents no tree
 abbrev pub IsNoText : List ℕ → Type 0
 IsNoText text = (t : Tree) → IsTextOf t text → ⊥

@@ -6,10 +6,10 @@ ghost use Rattle.zstates.specs.declared.fault.ReadFault.TheVariants.{Memory as O
 use thiserror::Error;
 use zalloc::Memory;
 
-/// Why a text gives no tree.
+/// Why a text isn't read as a tree.
 #[derive(Clone, Copy, Debug, PartialEq, Eq, Error)]
 pub enum ReadFault {
-    /// The text keeps no tree.
+    /// The text represents no tree.
     #[error("not the text of a state")]
     NotRecords,
     /// Out of memory. It says nothing about the text.

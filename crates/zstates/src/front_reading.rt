@@ -16,7 +16,7 @@ use zrecords::{Record, next_record};
 use zservice::LocalTree;
 use zsnapshots::{Loading, RowFault};
 
-// What follows the rows in front of a text.
+// What follows the rows with which a text begins.
 #[derive(Drop)]
 struct Behind<'a> {
     rest: &'a [u8],
@@ -24,7 +24,7 @@ struct Behind<'a> {
     has_rows: bool,
 }
 
-/// Reads the tree with which a text begins, what follows, and whether passwords stand before that.
+/// Reads the tree with which a text begins, what follows, and whether passwords come before that.
 pub(crate) fn begun(alloc: Global, text: &[u8]) -> Result<(LocalTree, &[u8], bool), ReadFault>
     ensures begins { IfOk result (λ x. Begins x.0.tree x.2 text.now x.1.now) }
     ensures whole { IfOk result (λ x. x.0.is_broken ≡ false) }
@@ -44,7 +44,8 @@ pub(crate) fn begun(alloc: Global, text: &[u8]) -> Result<(LocalTree, &[u8], boo
     Ok((tree, behind.rest, behind.had_passwords))
 }
 
-// Takes the rows in front of a text. Returns what follows them, or `None` if a row is refused.
+// Takes the rows with which a text begins. Returns what follows them, or `None` if a row is
+// refused.
 fn load<'a>(
     alloc: Global,
     loading: &mut Loading,
@@ -85,7 +86,7 @@ fn load<'a>(
     }))
 }
 
-// Returns nothing if the fault is one of the row, and `Memory` if memory ran out.
+// Returns nothing if the fault is the row's, and `Memory` if memory ran out.
 fn of_the_row(fault: RowFault) -> Result<(), Memory>
     ensures { OnOk result (fault ≡ OfMemory → ⊥) }
 {
@@ -95,7 +96,7 @@ fn of_the_row(fault: RowFault) -> Result<(), Memory>
     }
 }
 
-// Returns the machine with the rows that were loaded, if there is one and it did nothing.
+// Returns the machine of the rows that were loaded, if there is one and it did nothing.
 fn bare_machine(loading: Loading) -> Result<Option<Machine>, Memory>
     ensures some { IfOk result (λ read. IfSome read (HasTree (bytes_loaded loading))) }
     ensures none { IfOk result (λ read. IfNone read (AreOfNoTree (bytes_loaded loading))) }

@@ -1,4 +1,4 @@
-//! Laws of the definitions. Each function's contract is a law; its body does nothing.
+//! Laws of the definitions. Each function's contract is a law; its body is empty.
 
 ghost use Rattle.zstates.specs.Laws.{EntriesAreTheirs, EntriesComeBack, EntriesGoOn};
 ghost use Rattle.zstates.specs.Laws.{EntriesTellApart, RecordsComeBack};
@@ -7,8 +7,8 @@ ghost use Rattle.zstates.specs.Laws.{PiecesAreAll, PiecesJoin};
 ghost use Rattle.zstates.specs.Laws.{SnapshotsKeepTheirs, TextsGoOn, TextsTellApart};
 ghost use Rattle.zstates.specs.Laws.{TreesAreTheirCalls};
 
-/// Entries are written as records, and come back from them. Records that are entries are theirs and
-/// passwords. No text is that of two lists of entries.
+/// Entries are written as records, and read back from them. Records that are entries are the
+/// records of these, and passwords. No text is that of two lists of entries.
 pub fn entries_come_back()
     ensures entries { EntriesComeBack }
     ensures records { RecordsComeBack }
@@ -23,26 +23,27 @@ pub fn entries_lead_on()
     ensures tree { TreesAreTheirCalls }
 {}
 
-/// A text keeps one tree.
+/// A text represents one tree.
 pub fn texts_tell_apart()
     ensures { TextsTellApart }
 {}
 
-/// An empty text keeps the initial tree, a snapshot its own, and entries behind a text lead on.
+/// An empty text represents the initial tree, and a snapshot its own. With entries after it, a text
+/// represents the tree to which they lead.
 pub fn texts_go_on()
     ensures nothing { NothingIsTheOpening }
     ensures snapshot { SnapshotsKeepTheirs }
     ensures on { TextsGoOn }
 {}
 
-/// Pieces, one behind the other, are a snapshot's text.
+/// The chunks of a snapshot, joined in order, are its text.
 pub fn pieces_join()
     ensures join { PiecesJoin }
     ensures all { PiecesAreAll }
     ensures end { NothingIsLeft }
 {}
 
-/// A service can begin with a tree that a text keeps.
+/// A service can begin with a tree that a text represents.
 pub fn kept_trees_can_start()
     ensures { KeptTreesCanStart }
 {}

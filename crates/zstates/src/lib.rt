@@ -1,8 +1,8 @@
-//! What a data folder keeps: a tree.
+//! The state of a data folder as text: a tree.
 //!
-//! A tree changes by entries, and an entry is an update. A tree is kept as text: lines of records,
-//! with a snapshot in front or none, and entries behind it. `read` reads the tree that a text
-//! keeps. `Shortening` writes a snapshot, piece by piece.
+//! A tree changes by entries, and an entry is an update. Its text is lines of records: a snapshot
+//! or none, and entries after it. `read` reads the tree that a text represents. `Shortening` writes
+//! a snapshot, chunk by chunk.
 //!
 //! ```text
 //! let Found { mut tree, .. } = read(alloc, text)?;
@@ -12,11 +12,15 @@
 //! while let Some(piece) = shortening.next_piece()? { .. }
 //! ```
 //!
-//! A text keeps one tree, and what is written is read back (`laws`). Passwords of sessions among
-//! the records of a text say nothing, and none are written.
+//! A text represents one tree, and what is written is read back (`laws`). Passwords of sessions
+//! among the records of a text have no effect, and none are written.
 //!
 //! The definitions: `specs/States.antt` (what an entry does), `specs/Texts.antt` (snapshots, and
-//! which text keeps which tree), `specs/Entries.antt` (entries as text).
+//! which text represents which tree), `specs/Entries.antt` (entries as text).
+//!
+//! # Why
+//! A snapshot is lines of records, too: each row in base64, since no block of a journal holds a
+//! byte 0. So a journal has one form, whether it was compacted or not.
 #![tactic(auto)]
 
 mod entries;

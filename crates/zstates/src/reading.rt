@@ -13,7 +13,7 @@ use std::alloc::Global;
 use zrecords::{Record, next_record};
 use zservice::LocalTree;
 
-/// Reads the tree that a text keeps: an optional snapshot, and entries behind it.
+/// Reads the tree that a text represents: an optional snapshot, and entries after it.
 pub fn read(alloc: Global, text: &[u8]) -> Result<Found, ReadFault>
     ensures found { IfOk result (λ found. (is : IsTextOf found.tree.tree text.now)
         × (found.snapshot ≡ length is.front)) }
@@ -40,7 +40,7 @@ fn either(first: bool, second: bool) -> bool
     first || second
 }
 
-// Applies the entries of a text, one after the other. Returns whether passwords are among them.
+// Applies the entries of a text in order. Returns whether passwords are among them.
 fn apply_all(alloc: Global, tree: &mut LocalTree, text: &[u8]) -> Result<bool, ReadFault>
     requires whole { tree.old.is_broken ≡ false }
     ensures applied { IfOk result (AreApplied text.now tree.old tree.new) }

@@ -1,4 +1,4 @@
-//! Worked rows: each function's contract has some, and its body does nothing.
+//! Worked examples: each function's contract has some, and its body is empty.
 
 ghost use Rattle.std.specs.Prelude.{◌≡◌, [], ◌∷◌, List, ℕ, None, Some, true, false};
 ghost use Rattle.ztree.specs.Tree.{Tree};
@@ -13,7 +13,7 @@ pub fn entries_are_records()
     ensures { records_of (Open 10 ∷ (Tick ∷ [])) ≡ Update (Open 10) ∷ (Update Tick ∷ []) }
 {}
 
-/// The entries of records, and records that are none.
+/// The entries of records, and records that aren't entries.
 pub fn records_are_entries()
     ensures none { entries_of [] ≡ Some [] }
     ensures both { entries_of (Update (Open 10) ∷ Update Tick ∷ []) ≡ Some (Open 10 ∷ (Tick ∷ [])) }
@@ -25,7 +25,7 @@ pub fn records_are_entries()
     ensures behind { entries_of (Update Tick ∷ Fail 1 ∷ []) ≡ None }
 {}
 
-/// Passwords are left out wherever they stand, and nothing else is.
+/// Passwords are left out wherever they are, and nothing else is.
 pub fn passwords_say_nothing()
     ensures left_out { (p r : List ℕ)
         → without_passwords (Row r ∷ Password p ∷ Password p ∷ Update Tick ∷ Password p ∷ [])
@@ -35,7 +35,7 @@ pub fn passwords_say_nothing()
     ensures none_told { has_password (Update Tick ∷ Fail 1 ∷ []) ≡ false }
 {}
 
-/// Entries are applied one after the other.
+/// Entries are applied in order.
 pub fn entries_are_applied_in_order()
     ensures none { (t : Tree) → after t [] ≡ t }
     ensures two { (t : Tree) (a b : Entry)

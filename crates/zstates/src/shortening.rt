@@ -1,4 +1,4 @@
-//! A tree, written as the text of its snapshot, piece by piece.
+//! A tree, written as the text of its snapshot, chunk by chunk.
 
 ghost use Rattle.std.specs.Prelude.{◌≡◌, ◌++◌, true, false, length, IfNone, IfOk, IfSome, OnOk};
 ghost use Rattle.zjournal.specs.Blocks.{IsText};
@@ -14,10 +14,10 @@ use zrecords::{Record, Row, write_records};
 use zservice::LocalTree;
 use zsnapshots::Writing;
 
-// A piece ends with the record that reaches this length.
+// A chunk ends with the record that reaches this length.
 const PIECE: usize = 65_536;
 
-/// A tree that is being written as a snapshot, piece by piece. The pieces together are the
+/// A tree that is being written as a snapshot, chunk by chunk. The chunks together are the
 /// snapshot's text.
 #[derive(Drop)]
 pub struct Shortening<'a> {
@@ -56,9 +56,8 @@ impl<'a> Shortening<'a> {
         })
     }
 
-    /// Returns the next piece. It has whole records: enough of them for 64 KiB, or all that are
-    /// left. Returns `None` once all were handed out. After `Memory` some may be missing: begin
-    /// anew.
+    /// Returns the next chunk. It has whole records: enough of them for 64 KiB, or all that are
+    /// left. Returns `None` once all were returned. After `Memory` some may be missing: start over.
     pub fn next_piece(&mut self) -> Result<Option<Vec<u8>>, Memory>
         ensures piece { IfOk result (λ next. IfSome next (λ piece.
             IsPiece self.old self.new piece.items)) }

@@ -148,6 +148,7 @@ abbrev pub second_from : List (List ℕ) → Result (List ℕ) Fault
 second_from (first ∷ second ∷ []) = Ok second
 second_from names = Err Invalid
 
--- values after their count in eight bytes: each list of a reply has its count there
+-- values after their count in eight bytes: each list of a reply has its count there. The count has
+-- no limit of its own, so a writer refuses only a frame that is too long
 abbrev pub counted : {A : Type 0} → Form A → Form (List A)
 counted c = tagged long length (times c)

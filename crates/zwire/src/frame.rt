@@ -1,12 +1,12 @@
 //! A message in transit.
+//!
+//! # Why
+//! A frame is in memory as a whole, at both ends, and a state has up to 268 MB. So the state comes
+//! after the frame, row by row.
 
 use zprotocol::{Message, Process};
 
 /// A message in transit. The state of a `Snapshot` isn't part of it: it follows the frame.
-///
-/// # Why
-/// A frame is in memory as a whole, at both ends, and a state has up to 268 MB. So the state comes
-/// after the frame, row by row.
 #[derive(Drop)]
 pub struct Frame {
     /// Who sent it.

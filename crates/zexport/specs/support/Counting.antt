@@ -1,4 +1,4 @@
--- What counting or writing one node more does.
+-- What counting or writing one more node does.
 use Rattle.std.specs.Prelude.{ℕ, List, ◌+◌, ◌≤◌, ◌^◌, length, nat_lt, if◌then◌else◌}
 use Rattle.std.specs.List.{flat_map}
 use Rattle.ztree.specs.declared.node.Node.{Node}
@@ -11,7 +11,7 @@ use Rattle.zexport.specs.Export.{ended, lines_for}
 abbrev pub text_for : Path → Node → List ℕ
 text_for path n = flat_map ended (lines_for (path, n))
 
--- the counts with one node more, but for the number of nodes
+-- the counts with one more node, but for the number of nodes
 abbrev pub counted : Node → TreeCounts → TreeCounts
 counted n c = record c {
   bytes = c.bytes + length n.bytes;

@@ -1,4 +1,4 @@
--- Samples for the worked rows.
+-- Samples for the worked examples.
 use Rattle.std.specs.Prelude.{ℕ, List, [], ◌∷◌, codes}
 use Rattle.std.specs.FinMap as finite
 use Rattle.ztree.specs.declared.node.Node.{Node}
@@ -32,7 +32,7 @@ owned_tree = record {
   zxid = 40;
 }
 
--- what there is in that tree, and a folder of it
+-- the counts of that tree, and a folder of it
 abbrev pub owned_counts : TreeCounts
 owned_counts = record { nodes = 2; bytes = 2; ephemerals = 1; counters = 1; sessions = 1; changes = 40; ticks = 30 }
 

@@ -1,4 +1,4 @@
--- What a reader of rows that stand alone keeps.
+-- What a reader of rows with bytes of their own holds.
 use Rattle.std.specs.Prelude.{◌≡◌, ℕ, List, [], ◌∷◌, ◌++◌, map, Option, Result, OnOk, IfErr, refl}
 use Rattle.std.specs.Coded.{Coded, code_by, coded×, coded_option}
 use Rattle.std.specs.List.{AllByRecursion}
@@ -32,7 +32,7 @@ AreLoaded rows = AllByRecursion Fits rows × TellTheState rows
 abbrev pub IsLoading : Option Header → Option ReadingView → Type 0
 IsLoading header reading = AreLoaded (rows_from header reading)
 
--- The row of a readable state that comes behind these rows is taken, unless memory runs out.
+-- The row of a readable state that comes after these rows is taken, unless memory runs out.
 abbrev pub NeverRefusesNext : List StateRow → List StateRow → Result (Unit {0}) RowFault →
     List ℕ → Type 0
 NeverRefusesNext before after result bytes =

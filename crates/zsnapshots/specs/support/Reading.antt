@@ -1,4 +1,4 @@
--- What a reader of rows keeps.
+-- What a reader of rows holds.
 use Rattle.std.specs.Prelude.{◌≡◌, ℕ, ◌+◌, ◌<◌, Bool, true, List, [], ◌∷◌, length, Option, None, Some, refl}
 use Rattle.std.specs.declared.cmp.Ordering.{Ordering}
 use Rattle.std.specs.Ordering.{is_lt}
@@ -51,7 +51,7 @@ pub record IsReading (h : Header) (s : MachineState) (sessions nodes replies : �
   pub last_path : Some path ≡ last_key (nodes_of s)
   pub last_client : client ≡ last_key (replies_of s)
 
--- the root alone was read, behind this header
+-- the root alone was read, after this header
 pub record HasBegun (h : Header) (path : Path) (s : MachineState) : Type 0 where
   pub at_root : path ≡ []
   pub node : Node

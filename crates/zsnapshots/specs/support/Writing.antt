@@ -1,4 +1,4 @@
--- What a writer of rows keeps.
+-- What a writer of rows holds.
 use Rattle.std.specs.Prelude.{◌≡◌, ℕ, ◌+◌, ◌≤◌, Bool, false, List, ◌∷◌, ◌++◌, length, map, drop, refl}
 use Rattle.std.specs.Coded.{Coded, code_by, coded×, coded_ℕ}
 use Rattle.ztree.specs.declared.limits.TheConstants.{MAX_CLIENTS}

@@ -1,5 +1,5 @@
--- How what a writer of snapshots stands for is stored, by the codes of its parts: a proof tells two
--- of them apart by them.
+-- How what a writer of snapshots represents is stored, by the codes of its parts: a proof
+-- distinguishes two of them by these.
 use Rattle.std.specs.Prelude.{ℕ, refl}
 use Rattle.std.specs.Coded.{Coded, code_by, coded×, coded_ℕ}
 use Rattle.ztree.specs.Tree.{Tree}

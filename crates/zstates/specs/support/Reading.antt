@@ -16,7 +16,7 @@ use Rattle.zstates.specs.Texts.{IsFrontOf, IsTextOf, row_bytes, row_record}
 
 -- ---- records
 
--- records stand in front of the text: what they say, whether passwords are among them, and the rest
+-- the text begins with records: what they say, whether passwords are among them, and the rest
 pub record IsRead (what : List Record) (had : Bool) (text rest : List ℕ) : Type 0 where
   pub records : List Record
   pub fit : AllFit records
@@ -24,12 +24,12 @@ pub record IsRead (what : List Record) (had : Bool) (text rest : List ℕ) : Typ
   pub said : without_passwords records ≡ what
   pub told : had ≡ has_password records
 
--- records of which the first is no row
+-- records of which the first isn't a row
 abbrev pub BeginNoRow : List Record → Type 0
 BeginNoRow (record_is.Row row ∷ records) = ⊥
 BeginNoRow records = Unit {0}
 
--- what a text says begins with no row
+-- what a text says doesn't begin with a row
 abbrev pub HasNoRow : List ℕ → Type 0
 HasNoRow text = (records : List Record) → AllFit records → text ≡ text_of records → BeginNoRow (without_passwords records)
 
@@ -39,7 +39,7 @@ abbrev pub HasRows : Bool → List (List ℕ) → Type 0
 HasRows true rows = rows ≢ []
 HasRows false rows = rows ≡ []
 
--- the rows stand in front of the text, with passwords among them or none, and no row follows
+-- the text begins with the rows, with or without passwords among them, and no row follows
 pub record IsLoaded (rows : List (List ℕ)) (has_rows had : Bool) (text rest : List ℕ) : Type 0 where
   pub read : IsRead (map row_record rows) had text rest
   pub some : HasRows has_rows rows
@@ -52,13 +52,13 @@ pub record HasTree (rows : List (List ℕ)) (m : MachineView) : Type 0 where
   pub readable : IsReadable (machine_of (tree_in m))
   pub are : row_bytes (tree_in m) ≡ rows
 
--- the rows are those of no tree that can be read
+-- no tree that can be read has these rows
 abbrev pub AreOfNoTree : List (List ℕ) → Type 0
 AreOfNoTree rows = (t : Tree) → IsReadable (machine_of t) → row_bytes t ≢ rows
 
 -- ---- a text
 
--- a tree begins the text. Whatever tree the text keeps, the rest is the text of entries
+-- a tree begins the text. Whatever tree the text represents, the rest is the text of entries
 pub record Begins (start : Tree) (had : Bool) (text rest : List ℕ) : Type 0 where
   pub front : List ℕ
   pub begins : IsFrontOf start front

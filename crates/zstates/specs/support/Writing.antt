@@ -1,4 +1,4 @@
--- What a writer of snapshots keeps.
+-- What a writer of snapshots holds.
 use Rattle.std.specs.Prelude.{◌≡◌, ◌≤◌, ℕ, ◌+◌, Bool, false, List, ◌∷◌, ◌++◌, length, map, take, drop}
 use Rattle.std.specs.List.{AllByRecursion}
 use Rattle.ztree.specs.Tree.{Tree}
