@@ -1,11 +1,11 @@
-//! The power is cut at every moment of sixty lives, and the file is opened each time.
+//! The power is cut at every moment of sixty runs, and the file is opened each time.
 
 use crate::lives::{opened, put_all};
 use std::alloc::Global;
 use std::test::Fail;
 use zjournal::{MemoryFile, open};
 
-// Whether at each moment the batches that were told are kept, and no more than the one under way.
+// Whether at each moment the acknowledged batches are in the file, and at most the one in flight.
 fn keeps_what_was_told(alloc: Global, file: &MemoryFile, chance: u64) -> bool {
     let mut told = 0;
     for moment in file.past() {

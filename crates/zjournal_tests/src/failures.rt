@@ -5,7 +5,7 @@ use std::alloc::Global;
 use std::test::Fail;
 use zjournal::{MemoryFile, OpenError, PutError, open};
 
-// Whether the file has the batches that were told, or these and one more.
+// Whether the file has the acknowledged batches, or these and one more.
 fn has(alloc: Global, file: &MemoryFile, told: usize, chance: u64) -> bool {
     match opened(alloc, &file.current().disk, chance) {
         Some(count) => count >= told && count - told <= 1,
@@ -13,8 +13,8 @@ fn has(alloc: Global, file: &MemoryFile, told: usize, chance: u64) -> bool {
     }
 }
 
-// Whether a journal whose disk fails after so many calls tells nothing wrong, and asks nothing more
-// of the file.
+// Whether a journal whose disk fails after this many calls returns nothing wrong, and makes no
+// further call.
 fn is_told(alloc: Global, chance: u64, calls: u64) -> bool {
     let Ok(file) = MemoryFile::new(alloc, &[], chance, calls) else {
         return false;

@@ -26,7 +26,7 @@ fn made(alloc: Global, servers: u8) -> Option<Vec<u8>>
     }
 }
 
-// The fault of a file, which is untouched.
+// The fault of a file, which is unchanged.
 fn fault_of(alloc: Global, bytes: &[u8]) -> Option<OpenError> {
     let Ok(file) = MemoryFile::new(alloc, bytes, 0, u64::MAX) else {
         return None;
@@ -41,7 +41,7 @@ fn fault_of(alloc: Global, bytes: &[u8]) -> Option<OpenError> {
     }
 }
 
-// The fault of a journal with another byte at this place.
+// The fault of a journal with another byte at this index.
 fn fault_with(alloc: Global, at: usize, byte: u8) -> Option<OpenError> {
     let Some(mut bytes) = made(alloc, 3) else {
         return None;
@@ -72,7 +72,7 @@ fn damage_is_told_with_its_place(rt: HostRuntime) -> Result<(), Fail> {
     assert_eq!(rt; fault_with(alloc, 25, 33), Some(OpenError::Damaged(0)));
     assert_eq!(rt; fault_with(alloc, 36, 33), Some(OpenError::Damaged(34)));
     assert_eq!(rt; fault_with(alloc, 45, 33), Some(OpenError::Damaged(34)));
-    // The first block has 29 bytes: a gate, a checksum, 19 bytes of text, and its end.
+    // The first block has 29 bytes: a commit byte, a checksum, 19 bytes of text, and its end.
     assert_eq!(rt; fault_with(alloc, 62, 33), Some(OpenError::Damaged(34)));
     assert_eq!(rt; fault_with(alloc, 80, 33), Some(OpenError::Damaged(63)));
     Ok(())

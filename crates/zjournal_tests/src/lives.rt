@@ -1,4 +1,4 @@
-//! Lives of a journal: batches are put, and its file is opened again.
+//! Incarnations of a journal: batches are put, and its file is opened again.
 
 ghost use Rattle.zjournal.specs.Journal.{IsSound};
 
@@ -30,7 +30,7 @@ pub fn put_all<D: Device>(journal: &mut Journal<D>, count: usize) -> usize
     count
 }
 
-/// How many batches make this text, where the first of them do.
+/// How many of the first batches make this text.
 pub fn count_of(text: &[u8]) -> Option<usize> {
     let mut rest = text;
     for i in 0..BATCHES.len() {
@@ -49,7 +49,7 @@ pub fn count_of(text: &[u8]) -> Option<usize> {
     }
 }
 
-// How many batches are read where a file with these bytes is opened.
+// How many batches are read from a file with these bytes.
 fn opened_once(alloc: Global, bytes: &[u8], chance: u64) -> Option<usize> {
     let Ok(file) = MemoryFile::new(alloc, bytes, chance, u64::MAX) else {
         return None;
@@ -60,7 +60,7 @@ fn opened_once(alloc: Global, bytes: &[u8], chance: u64) -> Option<usize> {
     count_of(&text)
 }
 
-// Whether so many batches are read, whatever a power cut left while the file was opened.
+// Whether this many batches are read, whatever a power cut left while the file was opened.
 fn is_same_at_each_moment(alloc: Global, file: &MemoryFile, count: usize, chance: u64) -> bool {
     for moment in file.past() {
         if opened_once(alloc, &moment.disk, chance) != Some(count) {
@@ -73,8 +73,8 @@ fn is_same_at_each_moment(alloc: Global, file: &MemoryFile, count: usize, chance
     true
 }
 
-/// How many batches are read where a file with these bytes is opened, and again where the power is
-/// cut at any moment of that.
+/// How many batches are read from a file with these bytes, also after a power cut at any moment of
+/// the opening.
 pub fn opened(alloc: Global, bytes: &[u8], chance: u64) -> Option<usize> {
     let Ok(file) = MemoryFile::new(alloc, bytes, chance, u64::MAX) else {
         return None;

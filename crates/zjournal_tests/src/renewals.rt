@@ -7,10 +7,10 @@ use std::alloc::Global;
 use std::test::Fail;
 use zjournal::{Device, Journal, MemoryFile, Moment, PutError, open};
 
-// The batches of a new file are of these sizes, one after the other.
+// The sizes of a new file's batches, in order.
 const SIZES: [usize; 4] = [3, 1, 900, 20];
 
-// A batch of so many letters.
+// A batch of this many letters.
 fn letters(alloc: Global, count: usize) -> Option<Vec<u8>> {
     let mut batch = Vec::new(alloc);
     for _ in 0..count {
@@ -21,7 +21,7 @@ fn letters(alloc: Global, count: usize) -> Option<Vec<u8>> {
     Some(batch)
 }
 
-// Renews the file with so many batches. Whether all of it was done.
+// Renews the file with this many batches. Whether all of it was done.
 fn renew<D: Device>(alloc: Global, journal: &mut Journal<D>, count: usize) -> bool
     requires { IsSound D.seen D.may_leave journal.old }
     ensures { IsSound D.seen D.may_leave journal.new }
@@ -40,7 +40,7 @@ fn renew<D: Device>(alloc: Global, journal: &mut Journal<D>, count: usize) -> bo
     journal.end_renewal().is_ok()
 }
 
-// How many letters so many batches have.
+// How many letters this many batches have.
 fn renewed_size(count: usize) -> usize {
     let mut size = 0usize;
     for i in 0..count {
@@ -49,7 +49,7 @@ fn renewed_size(count: usize) -> usize {
     size
 }
 
-// The text that is read where a file with these bytes is opened.
+// The text that is read from a file with these bytes.
 fn text_in(alloc: Global, bytes: &[u8], chance: u64) -> Option<Vec<u8>> {
     let Ok(file) = MemoryFile::new(alloc, bytes, chance, u64::MAX) else {
         return None;
@@ -87,7 +87,7 @@ fn each_is_whole(alloc: Global, moments: &[Moment], old: &[u8], count: usize, ch
     true
 }
 
-// Whether a journal with three batches is renewed with so many, and power cuts leave either.
+// Whether a journal with three batches is renewed with this many, and power cuts leave either.
 fn is_kept(alloc: Global, count: usize, chance: u64) -> bool {
     let Ok(file) = MemoryFile::new(alloc, &[], chance, u64::MAX) else {
         return false;
@@ -123,7 +123,8 @@ fn power_cuts_leave_either_file(rt: HostRuntime) -> Result<(), Fail> {
     Ok(())
 }
 
-// Whether a renewal whose disk fails after so many steps leaves either file, and asks nothing more.
+// Whether a renewal whose disk fails after this many steps leaves either file, and makes no further
+// call.
 fn is_told(alloc: Global, calls: u64, chance: u64) -> bool {
     let Ok(file) = MemoryFile::new(alloc, &[], chance, calls) else {
         return false;

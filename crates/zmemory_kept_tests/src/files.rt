@@ -1,4 +1,4 @@
-//! Files in memory, and what they keep.
+//! Files in memory, and their contents.
 
 ghost use Rattle.std.specs.Prelude.{IfSome};
 ghost use Rattle.zjournal.specs.Device.{Only};
@@ -11,13 +11,13 @@ use zalloc::Memory;
 use zjournal::{MemoryFile, OpenError, open, read_text};
 use zstates::ReadFault;
 
-// What power cuts leave of a file is chosen by this number.
+// This number chooses what power cuts leave of a file.
 const CHANCE: u64 = 7;
 
-// No step of a file fails but for want of memory.
+// A step of a file fails only when out of memory.
 const STEPS: u64 = u64::MAX;
 
-/// Returns a file that keeps the tree, all of it on the disk.
+/// Returns a file that holds the tree, durably.
 pub(crate) fn worked_file(alloc: Global) -> Option<MemoryFile>
     ensures { IfSome result (λ file. Only (current_of file).seen.items (CanBe (current_of file))) }
 {
@@ -48,7 +48,7 @@ fn worked_bytes(alloc: Global) -> Option<Vec<u8>> {
     }
 }
 
-/// Returns what a file with these bytes keeps. Memory may run out once.
+/// Returns the content of a file with these bytes. Memory may run out once.
 pub(crate) fn stage_in(alloc: Global, bytes: &[u8]) -> Stage {
     match read_stage(alloc, bytes) {
         Ok(found) => found,

@@ -1,6 +1,6 @@
-//! What stands after a refused allocation where a tree is kept: by itself, and in the file of a
-//! service. Each story is one call. Where one of its allocations is refused, it is told, and
-//! nothing that was kept is lost. `./test memory` refuses each allocation in turn, one a run.
+//! What holds after a refused allocation where a tree is made durable: on its own, and in the file
+//! of a service. Each story is one call. If one of its allocations is refused, that is reported,
+//! and nothing durable is lost. `./test memory` refuses each allocation in turn, one a run.
 #![tactic(auto)]
 
 mod files;

@@ -1,5 +1,5 @@
-//! A service whose changes are kept, and for which memory runs out: it has ended, and its file
-//! keeps what it kept.
+//! A service with durable changes that runs out of memory: it has ended, and its file loses
+//! nothing.
 
 ghost use Rattle.zkept.specs.Kept.{IsSound};
 
@@ -10,10 +10,10 @@ use zjournal::{Device, OpenError};
 use zkept::{Input, Kept, KeptFault, OpenFault, Opened, Secret, ServerId, TickLength};
 use ztesting::Ended;
 
-// A tick has so many milliseconds.
+// The milliseconds of a tick.
 const TICK: u32 = 1000;
 
-/// Opens a service. Where there is no memory, its file is handed back as it was.
+/// Opens a service. When out of memory, its file is returned as it was.
 pub(crate) fn service_is_opened(alloc: Global) -> Ended {
     let Some(tick) = TickLength::new(TICK) else {
         return Ended::Wrong;
@@ -53,21 +53,21 @@ fn is_memory(fault: OpenFault) -> bool {
 enum Act {
     Ticks,
     Shortens,
-    // A tick that isn't kept yet is kept with the shortening.
+    // A tick that isn't committed yet becomes durable with the compaction.
     ShortensATick,
 }
 
-/// Keeps a tick.
+/// Commits a tick.
 pub(crate) fn change_is_kept(alloc: Global) -> Ended {
     is_done(alloc, Act::Ticks)
 }
 
-/// Shortens the file.
+/// Compacts the file.
 pub(crate) fn service_is_shortened(alloc: Global) -> Ended {
     is_done(alloc, Act::Shortens)
 }
 
-/// Shortens the file behind a tick.
+/// Compacts the file after a tick.
 pub(crate) fn change_is_shortened(alloc: Global) -> Ended {
     is_done(alloc, Act::ShortensATick)
 }
@@ -93,7 +93,7 @@ fn is_done(alloc: Global, act: Act) -> Ended {
     }
 }
 
-// Returns whether a file may keep this, behind an act that ended so.
+// Returns whether a file may hold this, after an act that ended so.
 fn is_left(found: Stage, act: Act, ended: Ended) -> bool {
     let last = match act {
         Act::Ticks => Stage::Ticked,
@@ -103,7 +103,7 @@ fn is_left(found: Stage, act: Act, ended: Ended) -> bool {
     found == last || (found == Stage::Worked && !matches!(ended, Ended::Done))
 }
 
-// Where memory runs out, the service has ended.
+// When out of memory, the service has ended.
 fn does<D: Device>(kept: &mut Kept<D>, act: Act) -> Ended
     requires { IsSound D.seen D.may_leave kept.old }
 {

@@ -8,7 +8,7 @@ use zservice::{LocalTree, TreeService};
 use zstates::{Found, ReadFault, read};
 use ztesting::Ended;
 
-/// Reads a tree from its text: a snapshot, and an entry behind it.
+/// Reads a tree from its text: a snapshot, and an entry after it.
 pub(crate) fn text_is_read(alloc: Global) -> Ended {
     let Ok(text) = worked_text(alloc) else {
         return Ended::NotBegun;
@@ -31,7 +31,7 @@ fn worked(alloc: Global) -> Option<LocalTree> {
     }
 }
 
-/// Writes a tree as a snapshot, which keeps it.
+/// Writes a tree as a snapshot, which represents it.
 pub(crate) fn snapshot_is_written(alloc: Global) -> Ended {
     let Some(tree) = worked(alloc) else {
         return Ended::NotBegun;
@@ -45,14 +45,14 @@ pub(crate) fn snapshot_is_written(alloc: Global) -> Ended {
     ended
 }
 
-// Returns what the snapshot of a tree keeps.
+// Returns the content of a tree's snapshot.
 fn written(alloc: Global, tree: &LocalTree) -> Result<Stage, ReadFault> {
     let text = snapshot(alloc, tree)?;
     stage_of(alloc, &text)
 }
 
 /// Applies a create, whose path is made where it is applied. A tree that has no memory for it
-/// answers `Memory` for good.
+/// returns `Memory` for good.
 pub(crate) fn entry_is_applied(alloc: Global) -> Ended {
     let kind = Kind::sequential(Lifetime::Persistent);
     let Ok(update) = create(alloc, "/b", kind) else {
@@ -70,7 +70,7 @@ pub(crate) fn entry_is_applied(alloc: Global) -> Ended {
     ended
 }
 
-// Returns whether the tree answers `Memory` to everything.
+// Returns whether the tree returns `Memory` for everything.
 fn is_broken(tree: &mut LocalTree) -> bool {
     makes(tree, Update::Tick).is_err() && tree.session_ids().is_err() && tree.clock().is_err()
 }

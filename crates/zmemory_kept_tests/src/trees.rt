@@ -1,4 +1,4 @@
-//! A tree with a session, a node and a tick, and the texts that keep it.
+//! A tree with a session, a node and a tick, and the texts that represent it.
 
 use std::alloc::Global;
 use zalloc::Memory;
@@ -8,17 +8,17 @@ use zrecords::write_records;
 use zservice::{LocalTree, TreeService};
 use zstates::{Found, ReadFault, Shortening, add_entry, read};
 
-// More pieces than its snapshot has.
+// More chunks than its snapshot has.
 const MANY: usize = 9;
 
-/// What a text keeps.
+/// The content of a text.
 #[derive(Clone, Copy, Debug, PartialEq, Eq)]
 pub(crate) enum Stage {
-    /// The tree, as a snapshot and the tick behind it.
+    /// The tree, as a snapshot and the tick after it.
     Worked,
     /// The tree, as a snapshot alone.
     Short,
-    /// The tree a tick later, as a snapshot and both ticks behind it.
+    /// The tree a tick later, as a snapshot and both ticks after it.
     Ticked,
     /// The tree a tick later, as a snapshot alone.
     ShortTicked,
@@ -26,8 +26,8 @@ pub(crate) enum Stage {
     Other,
 }
 
-/// Returns the text that keeps the tree: a snapshot with the session and the node, and a tick
-/// behind it.
+/// Returns the text that represents the tree: a snapshot with the session and the node, and a tick
+/// after it.
 pub(crate) fn worked_text(alloc: Global) -> Result<Vec<u8>, Memory> {
     let mut text = begun_text(alloc)?;
     add_tick(alloc, &mut text)?;
@@ -74,7 +74,7 @@ pub(crate) fn snapshot(alloc: Global, tree: &LocalTree) -> Result<Vec<u8>, Memor
     Ok(text)
 }
 
-/// Returns what a text keeps.
+/// Returns the content of a text.
 pub(crate) fn stage_of(alloc: Global, text: &[u8]) -> Result<Stage, ReadFault> {
     let Found { tree, snapshot, .. } = read(alloc, text)?;
     if !has_session(&tree)? || !has_node(&tree)? {

@@ -68,7 +68,7 @@ fn applies(machine: &mut Machine, entry: Entry) -> Ended {
     }
 }
 
-// Returns whether the machine answers `Memory` to everything, now that there is memory again.
+// Returns whether the machine returns `Memory` for everything, now that there is memory again.
 fn is_broken(machine: &mut Machine) -> bool {
     !answers(machine) && !can_be_copied(machine) && !applies_a_tick(machine)
 }

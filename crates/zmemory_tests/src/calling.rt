@@ -123,8 +123,8 @@ fn hears(core: &mut ClientCore, out: &mut Outbox) -> Ended {
     }
 }
 
-// Returns in `Ok` whether there is no reply, and in `Err` whether the message that is handed back
-// is the one that was given.
+// Returns in `Ok` whether there is no reply, and in `Err` whether the message that is returned is
+// the one that was given.
 fn is_heard(core: &mut ClientCore, out: &mut Outbox) -> Result<bool, bool> {
     let taken = core.take(Process::Master, config(), out);
     let is_heard = match &taken {

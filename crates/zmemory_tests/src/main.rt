@@ -1,9 +1,9 @@
-//! What holds after a refused allocation: in the parts of a server and of a client, in a world, in a
-//! script that is played, and where a cluster starts and is joined.
+//! What holds after a refused allocation: in the parts of a server and of a client, in a world, in
+//! a script that is played, and where a cluster starts and is joined.
 //!
-//! Each story is one call. Where one of its allocations is refused, the answer is the refusal that
-//! is named for it, or a server stops, and what holds then is what its clauses say. Where none is
-//! refused, all are done: the calls succeed where there is memory. `./test memory` refuses each
+//! Each story is one call. If one of its allocations is refused, the answer is the refusal that is
+//! named for it, or a server stops, and what holds then is what its clauses say. If none is
+//! refused, all are done: the calls succeed when there is memory. `./test memory` refuses each
 //! allocation in turn, one a run.
 #![tactic(auto)]
 

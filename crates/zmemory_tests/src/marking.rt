@@ -1,4 +1,4 @@
-//! A store that has no memory for a savepoint stands for the same tree, without the savepoint.
+//! A store that has no memory for a savepoint represents the same tree, without the savepoint.
 
 ghost use Rattle.std.specs.Prelude.{◌≡◌, IsSome};
 

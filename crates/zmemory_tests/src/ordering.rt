@@ -7,7 +7,7 @@ use ztesting::{Ended, server};
 use zworld::{Did, World};
 use zworld_model::Event;
 
-/// A server is to join behind the tail.
+/// A server is to join after the tail.
 pub(crate) fn server_joins(alloc: Global) -> Ended {
     is_given(alloc, Event::join(server(3)))
 }
@@ -28,7 +28,8 @@ fn is_given(alloc: Global, order: Event) -> Ended {
     ended
 }
 
-// Where it was given, no other member may leave yet. Else the world answers Memory to everything.
+// If it was given, no other member may leave yet. Otherwise the world returns Memory for
+// everything.
 fn gives(world: &mut World, order: Event) -> Ended {
     match world.step(order) {
         Ok(did) => {

@@ -1,5 +1,5 @@
-//! A script that is played: a multi does all of its parts, or none. A line that finds no memory ends it; a server that finds none stops,
-//! which nobody sees where there are others.
+//! A script that is played: a multi does all of its parts, or none. A line that finds no memory
+//! ends it. A server that finds none stops, which no client sees if there are others.
 
 ghost use Rattle.std.specs.Prelude.{◌≡◌};
 
@@ -22,7 +22,8 @@ const ANSWERS: &[&str] = &[
 // More than all answers.
 const ROOM: usize = 512;
 
-/// The only server: all answers; or a beginning of them, with the want of memory; or a beginning, and then nobody answers.
+/// The only server: all answers; or some first ones, then out of memory; or some first ones, and
+/// then none.
 pub(crate) fn plays_over_one(alloc: Global) -> Ended {
     let mut room = [0u8; ROOM];
     let played = plays(alloc, ServerId::first(), &mut room);
@@ -33,7 +34,7 @@ pub(crate) fn plays_over_one(alloc: Global) -> Ended {
     }
 }
 
-/// Three servers: all answers, or a beginning of them, with the want of memory.
+/// Three servers: all answers, or some first ones, then out of memory.
 pub(crate) fn plays_over_three(alloc: Global) -> Ended {
     let mut room = [0u8; ROOM];
     let played = plays(alloc, server(3), &mut room);
@@ -56,7 +57,7 @@ fn ended(played: Result<(), PlayFault>, whole: usize, rest: &str) -> Ended {
     }
 }
 
-// How many lines of the answers the text begins with, and what is behind them.
+// How many lines of the answers the text begins with, and what follows them.
 fn told(room: &[u8]) -> (usize, &str) {
     let mut rest = text(room);
     let mut whole = 0usize;
@@ -70,7 +71,7 @@ fn told(room: &[u8]) -> (usize, &str) {
     (whole, rest)
 }
 
-// The text that was written: the room behind it is blank.
+// The text that was written: the room after it is blank.
 fn text(room: &[u8]) -> &str {
     let written = room.split(|byte| *byte == 0).next();
     match str::from_utf8(written.unwrap_or(&[])) {
@@ -79,7 +80,7 @@ fn text(room: &[u8]) -> &str {
     }
 }
 
-// Whether the next line has no answer, and the client waits for it at each line behind that one.
+// Whether the next line has no answer, and the client waits for it at each line after that one.
 fn is_silent(text: &str, whole: usize) -> bool {
     let Some(mut rest) = text.strip_prefix("unanswered\n") else {
         return false;

@@ -1,4 +1,4 @@
-//! A machine's state goes by rows: where memory runs out, nothing is lost, and a row comes again.
+//! A machine's state is sent as rows: when memory runs out, nothing is lost, and a row comes again.
 
 ghost use Rattle.std.specs.Prelude.{◌≡◌, false, IfOk};
 

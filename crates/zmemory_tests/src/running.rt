@@ -1,4 +1,5 @@
-//! A list of events that is run: an update and a query of one client, each from its beginning to its answer, at the only server.
+//! A list of events that is run: an update and a query of one client, each from its beginning to
+//! its answer, at the only server.
 
 use std::alloc::Global;
 use zalloc::Memory;
@@ -38,14 +39,15 @@ fn runs(world: &mut World, events: Vec<Event>) -> Ended {
     }
 }
 
-// The server has stopped at the update, which nobody answers then; or it didn't hear the query, which is asked again.
+// The server has stopped at the update, which no server answers then; or it didn't receive the
+// query, which is asked again.
 fn goes_on(world: &mut World, told: usize) -> bool {
     let is_settled = world.settle(LIMIT).is_ok();
     let now = world.history().len();
     is_settled && is_beginning(world.history()) && matches!((told, now), (1, 1) | (3, 4))
 }
 
-/// Whether the world answers Memory to everything, and its history stays.
+/// Whether the world returns Memory for everything, and its history remains.
 pub(crate) fn is_broken(world: &mut World, told: usize) -> bool {
     world.settle(LIMIT).is_err()
         && world.step(Event::Fail(server(1))).is_err()
@@ -53,7 +55,7 @@ pub(crate) fn is_broken(world: &mut World, told: usize) -> bool {
         && world.history().len() == told
 }
 
-// Whether it is a beginning of what is told where nothing is refused.
+// Whether it is a prefix of the history without any refusal.
 fn is_beginning(history: &[CallEvent]) -> bool {
     let are_right = history
         .iter()

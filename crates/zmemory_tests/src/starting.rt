@@ -1,5 +1,5 @@
-//! What stands after a refused allocation where a cluster starts, or is joined: no thread but the
-//! program's own one, and another cluster can start.
+//! What holds after a refused allocation where a cluster starts, or is joined: no thread but the
+//! program's own is left, and another cluster can start.
 
 use std::alloc::Global;
 use std::rt::Files;

@@ -99,7 +99,7 @@ const STORIES: &[(&str, Story)] = &[
     ("a client asks again", Story::Retry),
 ];
 
-/// Tells these stories, one after the other.
+/// Runs these stories in order.
 pub(crate) fn tell_parts(rt: &impl Print, alloc: Global) -> io::Result<()> {
     for (name, story) in STORIES {
         tell(rt, name, ended(alloc, *story))?;

@@ -31,7 +31,7 @@ pub(crate) enum Word {
     NewSucc,
     /// There is no successor any more.
     BecomeTail,
-    /// Server 2 joins behind.
+    /// Server 2 joins after it.
     JoinedBy,
 }
 

@@ -9,7 +9,7 @@ use std::io;
 use std::io::Print;
 use ztesting::tell;
 
-/// Tells these stories, one after the other.
+/// Runs these stories in order.
 pub(crate) fn tell_worlds(rt: &impl Print, alloc: Global) -> io::Result<()> {
     tell(rt, "a world begins", world_begins(alloc))?;
     tell(rt, "a world runs events", events_are_run(alloc))?;

@@ -6,7 +6,7 @@ use zrace::{Finish, Race, run};
 use ztesting::server;
 use ztraces::{Act, Trace};
 
-// Enough that many updates go through the chain behind the halt.
+// Enough that many updates go through the chain after the halt.
 const ROUNDS: u16 = 40;
 
 // Whether the last thing that the server did is that it was halted.

@@ -1,4 +1,4 @@
-//! A race plays the nodes that it tells of, and no others.
+//! A race plays the nodes that it reports, and no others.
 
 use std::test::Fail;
 use zaudit::audit;
@@ -28,7 +28,7 @@ fn calls_in_all(traces: &Traces) -> u64 {
     calls
 }
 
-// Each node is created, set and asked for once, and client 0 stands aside.
+// Each node is created, set and queried once, and client 0 calls nothing.
 #[test]
 fn a_race_plays_its_nodes_alone(rt: HostRuntime) -> Result<(), Fail> {
     let alloc = rt.alloc();

@@ -1,4 +1,4 @@
-//! Texts that are no log's.
+//! Texts that aren't logs.
 
 use std::alloc::Global;
 use std::test::Fail;

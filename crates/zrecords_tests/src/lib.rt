@@ -1,4 +1,5 @@
-//! Tests of a log: each record is written and read again, and the lines that are none are told.
+//! Tests of a log: each record is written and read again, and lines that aren't records are
+//! reported.
 #![tactic(auto)]
 
 #[cfg(test)]

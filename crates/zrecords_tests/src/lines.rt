@@ -13,7 +13,7 @@ use zpath::Path;
 use zprotocol::ServerId;
 use zrecords::{Record, Row, next_record, read_records, write_records};
 
-// A create of a node with so many bytes.
+// A create of a node with this many bytes.
 fn create(alloc: Global, path: &str, kind: Kind, len: usize) -> Option<Create> {
     let path = Path::parse(alloc, path).ok()?;
     let bytes = vec![in alloc; 7u8; len].ok()?;

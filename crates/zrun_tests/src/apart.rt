@@ -36,7 +36,7 @@ pub fn start<R: Threads>(rt: &R, clients: &mut Clients, id: ClientId, call: Call
     }
 }
 
-/// Ends the thread, puts its client back, and answers whether its call was answered.
+/// Ends the thread, takes its client back, and returns whether its call was answered.
 #[tactic(auto, using(zrun::proofs::Still::still_belongs))]
 pub fn end<R: Threads>(rt: &R, clients: &mut Clients, apart: Apart) -> bool
     requires { BelongsTo (clients_run clients.old) (promised_client apart.promise) }

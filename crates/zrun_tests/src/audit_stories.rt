@@ -13,11 +13,12 @@ pub enum Deed {
     Halts,
 }
 
-/// A process by its number (0 the master, 1 the server, 2 the client, 3 a server that never did anything), the stamp of
-/// what it did, and that.
+/// A process by its number (0 the master, 1 the server, 2 the client, 3 a server that never did
+/// anything), the stamp of what it did, and that.
 pub type Step = (u8, u64, Deed);
 
-/// What the client's caller saw: that a call began, or its answer; a get tells of the change that made the node.
+/// What the client's caller saw: that a call began, or its answer; a get shows the change that made
+/// the node.
 #[derive(Clone, Copy, PartialEq, Eq)]
 pub enum Seen {
     Create,
@@ -75,10 +76,10 @@ pub const SERVER_CALLS: &[Step] = &[(1, 1, Deed::Creates)];
 /// The client asks again where it waits for nothing.
 pub const IDLE_RETRY: &[Step] = &[(2, 1, Deed::Retries)];
 
-/// The master refuses a join, and the server is halted: both in their places.
+/// The master refuses a join, and the server is halted: both where they belong.
 pub const REFUSED_JOIN: &[Step] = &[(0, 1, Deed::Joins(1)), (1, 2, Deed::Halts)];
 
-/// The master keeps its last server, and the server is halted: both in their places.
+/// The master keeps its last server, and the server is halted: both where they belong.
 pub const KEPT: &[Step] = &[(0, 1, Deed::Retires), (1, 2, Deed::Halts)];
 
 /// The server leaves without an order.

@@ -40,7 +40,7 @@ fn rest<R: Wait>(rt: &R) {
     Parker::new().park_timeout(rt, Duration::from_millis(300));
 }
 
-// Whether it is less than twenty seconds ago: less than a thread sleeps that isn't woken.
+// Whether it is less than twenty seconds ago: a thread that isn't woken sleeps longer.
 fn is_soon<R: Clock>(rt: &R, start: Instant) -> bool {
     match start.elapsed(rt) {
         Ok(elapsed) => elapsed < Duration::from_secs(20),
@@ -48,7 +48,7 @@ fn is_soon<R: Clock>(rt: &R, start: Instant) -> bool {
     }
 }
 
-// Takes turns until the client hears something. Whether that was soon.
+// Takes steps until the client receives something. Whether that was soon.
 fn hears_soon<R: Clock>(rt: &R, client: &mut Client) -> bool
     ensures { SameClient client.old client.new }
 {
@@ -79,7 +79,7 @@ enum Deed {
     Nothing,
 }
 
-// Does that, and whether the client then hears something soon.
+// Does that, and whether the client then receives something soon.
 fn does_and_hears<R: Clock>(rt: &R, client: &mut Client, alloc: Global, deed: Deed) -> bool
     ensures { SameClient client.old client.new }
 {
@@ -133,7 +133,7 @@ fn a_message_wakes_its_receiver(rt: HostRuntime) -> Result<(), Fail> {
     Ok(())
 }
 
-// The halted server tells the master, and the master the clients.
+// The halted server notifies the master, and the master the clients.
 #[test]
 fn a_halt_wakes_its_server(rt: HostRuntime) -> Result<(), Fail> {
     let alloc = rt.alloc();
@@ -144,7 +144,7 @@ fn a_halt_wakes_its_server(rt: HostRuntime) -> Result<(), Fail> {
     Ok(())
 }
 
-// The clients are told once the server has joined.
+// The clients are notified once the server has joined.
 #[test]
 fn an_order_wakes_the_master(rt: HostRuntime) -> Result<(), Fail> {
     let alloc = rt.alloc();

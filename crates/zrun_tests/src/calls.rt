@@ -7,7 +7,7 @@ use zcalls::{Call, Create, Data, Expected, Kind, Lifetime, Query, Reply, SetData
 use zpath::Path;
 use zrun::{Client, Patience};
 
-// How long an answer is waited for: no test comes near the end of it.
+// How long to wait for an answer: no test comes near the end of it.
 const PATIENCE: Patience = Patience {
     turns: 100_000,
     retries: 1_000,
@@ -22,7 +22,7 @@ pub fn create(alloc: Global, path: &str) -> Option<Call> {
     })))
 }
 
-/// A set to empty data, of whatever version.
+/// A set to empty data, of any version.
 pub fn set(alloc: Global, path: &str) -> Option<Call> {
     Some(Call::Update(Update::SetData(SetData {
         path: Path::parse(alloc, path).ok()?,

@@ -14,10 +14,10 @@ use zaudit::audit;
 use zrun::{Client, Clients};
 use ztesting::{client, server};
 
-// A call is sent so many times in all: a ring has room for 64 messages.
+// A call is sent this many times in all: a ring has room for 64 messages.
 const SENT: u32 = 150;
 
-// All is heard far below; what never comes is waited for so long.
+// All is received far sooner; this is how long a missing message is waited for.
 const TURNS: u64 = 10_000_000;
 
 // Begins a call, and sends it again. Whether it was sent as often as it is to be.
@@ -36,7 +36,7 @@ fn send_all(client: &mut Client, alloc: Global) -> Option<bool>
     Some(true)
 }
 
-// Takes one turn. Whether a message was heard: then the client's last stamp is later.
+// Takes one step. Whether a message was received: then the client's last stamp is later.
 fn hears(client: &mut Client) -> bool
     ensures { SameClient client.old client.new }
 {
@@ -47,8 +47,8 @@ fn hears(client: &mut Client) -> bool
     client.stamp() != before
 }
 
-// Takes turns until each message has its answer, of which some were heard before. How many were
-// heard in all, and whether two of them were heard at two turns in a row.
+// Takes steps until each message has its answer, of which some were received before. How many were
+// received in all, and whether two of them were received at two steps in a row.
 fn hear_all(client: &mut Client, before: u32) -> (u32, bool)
     ensures { SameClient client.old client.new }
 {
@@ -71,7 +71,7 @@ fn hear_all(client: &mut Client, before: u32) -> (u32, bool)
     (heard, in_a_row)
 }
 
-// Fills the ring to the server, which is held at its second message, and then lets it go on.
+// Fills the ring to the server, which is held at its second message, and then lets it continue.
 fn fill_and_hear(client: &mut Client, alloc: Global, meeting: &Meeting) -> Option<(u32, bool)>
     ensures { SameClient client.old client.new }
 {
@@ -97,8 +97,8 @@ fn fill_by_one(clients: &mut Clients, alloc: Global, meeting: &Meeting) -> Optio
     done
 }
 
-// Each message has its answer, though neither ring had room for all: what waits is sent later. And a
-// link from which a message was just taken has its turn again in the next round.
+// Each message has its answer, though neither ring had room for all: what waits is sent later. And
+// a link from which a message was just taken is served again in the next round.
 #[test]
 fn a_full_ring_is_emptied(rt: HostRuntime) -> Result<(), Fail> {
     let alloc = rt.alloc();

@@ -40,7 +40,7 @@ pub struct Watch {
 }
 
 impl Meeting {
-    /// Where so many messages are looked for.
+    /// Where this many messages are looked for.
     pub fn new(alloc: Global, wanted: usize) -> Result<Arc<Meeting, Global>, Fail> {
         let meeting = Meeting {
             wanted,

@@ -14,10 +14,10 @@ use zrun::{Client, Clients, Unanswered};
 use ztesting::{client, server};
 use ztraces::{Act, Trace};
 
-// What an answer takes is far below; one that never comes is waited for so long.
+// Far longer than an answer takes; this is how long a missing one is waited for.
 const TURNS: u64 = 1_000_000;
 
-// Begins a call and takes turns until its reply comes. Whether it did. No turn gives way to other
+// Begins a call and takes steps until its reply comes. Whether it did. No step yields to other
 // threads, so a busy machine makes few of them late.
 fn is_answered(client: &mut Client, alloc: Global) -> Option<bool>
     ensures { SameClient client.old client.new }
@@ -86,7 +86,8 @@ fn halted(rt: HostRuntime) -> Result<(), Fail> {
     Ok(())
 }
 
-/// Halts the first server, and takes turns until the master tells of the new chain. Whether it did.
+/// Halts the first server, and takes steps until the master announces the new chain. Whether it
+/// did.
 pub fn halt_and_hear(client: &mut Client) -> bool
     ensures { SameClient client.old client.new }
 {
@@ -104,7 +105,7 @@ pub fn halt_and_hear(client: &mut Client) -> bool
     false
 }
 
-// Halts the first server. Whether the chain is mended then, and a call is answered.
+// Halts the first server. Whether the chain is repaired then, and a call is answered.
 fn outlive_the_first(client: &mut Client, alloc: Global) -> Option<bool>
     ensures { SameClient client.old client.new }
 {

@@ -1,4 +1,4 @@
-//! A server joins a chain whose servers are then halted, one after the other.
+//! A server joins a chain whose servers are then halted, in order.
 
 ghost use Rattle.std.specs.Prelude.{◌≡◌};
 ghost use Rattle.zrun.specs.Clients.{SameClient};
@@ -15,7 +15,7 @@ use zcalls::Reply;
 use zrun::{Client, Clients};
 use ztesting::{client, server};
 
-/// Takes turns until a gate has seen the message that it looks for, a hundred million at most.
+/// Takes steps until a gate has seen the message that it looks for, a hundred million at most.
 pub fn turn_until(client: &mut Client, meeting: &Meeting)
     ensures { SameClient client.old client.new }
 {
@@ -47,8 +47,8 @@ fn ask_until(client: &mut Client, alloc: Global, meeting: &Meeting) -> Option<()
     None
 }
 
-// Sets the node fifty times, each time until it is answered. It halts the first server after 25 of them, and the second one after
-// 30. Whether all were answered.
+// Sets the node fifty times, each time until it is answered. It halts the first server after 25 of
+// them, and the second one after 30. Whether all were answered.
 fn set_fifty(client: &mut Client, alloc: Global) -> Option<bool>
     ensures { SameClient client.old client.new }
 {

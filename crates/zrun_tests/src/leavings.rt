@@ -1,4 +1,4 @@
-//! A server joins, and the first one is ordered to leave, while the client's calls go on.
+//! A server joins, and the first one is ordered to leave, while the client's calls continue.
 
 ghost use Rattle.std.specs.Prelude.{◌≡◌};
 ghost use Rattle.zrun.specs.Clients.{SameClient};
@@ -16,8 +16,8 @@ use zrun::{Client, Clients, Console};
 use ztesting::{client, server};
 use ztraces::{Act, Traces};
 
-// Sets the node fifty times, each time until it is answered, and orders the first server to leave after 25 of them. Whether all
-// were answered, and the order was handed on.
+// Sets the node fifty times, each time until it is answered, and orders the first server to leave
+// after 25 of them. Whether all were answered, and the order was handed on.
 fn set_fifty<R: Wait>(
     rt: &R,
     client: &mut Client,

@@ -1,8 +1,8 @@
-//! Tests of the service in threads: what threads share, threads that meet, a server that joins late,
-//! one that leaves, halted servers, a ring that is full, turns that are all taken, stamps that are
-//! learnt, a client that is not put back, what the master says to orders, what a client knows of
-//! the chain, and a ticker. Beside them stands what the audit says of the traces of a cluster that
-//! was joined, and of traces as they are and with one thing wrong.
+//! Tests of the service in threads: what threads share, threads that meet, a server that joins
+//! late, one that leaves, halted servers, a full ring, a client that uses up its steps, stamps that
+//! are learnt, a client that is not put back, what the master says to orders, what a client knows
+//! of the chain, and a ticker. Also what the audit says of the traces of a joined cluster, as they
+//! are and with one thing wrong.
 #![tactic(auto)]
 
 #[cfg(test)]

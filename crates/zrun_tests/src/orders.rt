@@ -10,7 +10,7 @@ use zaudit::audit;
 use zrun::{Console, Order, OrderFault, OrderOutcome};
 use ztesting::server;
 
-// The ring has places for 64 outcomes, and the channel for 32 orders.
+// The ring has room for 64 outcomes, and the channel for 32 orders.
 const MANY: u8 = 200;
 
 // Returns the next outcome, for which it waits, but not for ever.
@@ -81,7 +81,7 @@ fn target(number: u8) -> u8
     1 + number % 16
 }
 
-// Gives many orders, of which nobody asks for the outcome. Returns whether they were handed on.
+// Gives many orders, for whose outcomes no one asks. Returns whether they were handed on.
 fn order_many<R: Wait>(rt: &R, console: &mut Console) -> bool {
     let mut given = true;
     for number in 0..MANY {

@@ -17,8 +17,8 @@ use ztraces::{Act, Trace};
 // How often a call is sent again that has no reply.
 const RETRIES: u64 = 3;
 
-// Asks for what the server doesn't answer while it is held, and then lets it go on. Whether there was
-// no answer.
+// Asks for what the server doesn't answer while it is held, and then lets it continue. Whether
+// there was no answer.
 fn ask_in_vain(client: &mut Client, alloc: Global, meeting: &Meeting) -> Option<bool>
     ensures { SameClient client.old client.new }
 {

@@ -12,7 +12,7 @@ use ztesting::{epoch, log_number};
 
 const MESSAGES: u64 = 1_000;
 
-// Puts all, before anyone takes.
+// Puts all, before any is taken.
 fn put_all(mut tx: Tx<Message<()>>) -> Option<Tx<Message<()>>>
     ensures { IfSome result (λ full. ring_of_tx full ≡ ring_of_tx tx) }
 {

@@ -14,7 +14,7 @@ use zrun::{Client, Clients};
 use ztesting::{client, server};
 use zworld_model::CallEvent;
 
-// The place of the answer to the client's call, and that where it begins one.
+// The index of the answer to the client's call, and that of the beginning of its next one.
 fn places(history: &[CallEvent], answered: u8, began: u8) -> (Option<usize>, Option<usize>) {
     let mut answer = None;
     let mut begin = None;
@@ -28,7 +28,8 @@ fn places(history: &[CallEvent], answered: u8, began: u8) -> (Option<usize>, Opt
     (answer, begin)
 }
 
-// The second client learns of the first one's stamp, between its answer and a call of its own. Whether both were answered.
+// The second client learns of the first one's stamp, between its answer and a call of its own.
+// Whether both were answered.
 #[tactic(auto, using(zrun::proofs::Still::still_belongs))]
 fn pass_on(clients: &mut Clients, alloc: Global) -> Option<bool>
     ensures { clients_run clients.new ≡ clients_run clients.old }

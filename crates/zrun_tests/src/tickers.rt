@@ -141,7 +141,7 @@ fn tick_in_vain<R: Threads + Wait + Copy + Send + 'static>(
     Some(ticks)
 }
 
-// A tick that has no reply doesn't keep the ticker from stopping.
+// A ticker stops even if a tick has no reply.
 #[test]
 fn a_ticker_without_a_chain_stops(rt: HostRuntime) -> Result<(), Fail> {
     let alloc = rt.alloc();

@@ -1,4 +1,4 @@
-//! A client takes all the turns that it may.
+//! A client takes all the steps that it may.
 
 ghost use Rattle.std.specs.Prelude.{◌≡◌, ◌<◌};
 ghost use Rattle.zrun.specs.Clients.{SameClient};
@@ -15,10 +15,10 @@ use zrun::{Client, Clients, Patience, Unanswered};
 use ztesting::{client, server};
 use ztraces::{Act, Trace, Traces};
 
-// So many answers too many lie in the client's ring, which has room for 64.
+// This many more answers are in the client's ring, which has room for 64.
 const STALE: u32 = 20;
 
-// With no resend as many turns as answers lie there, and with three resends too.
+// Without a resend, as many steps as there are answers; with three resends, too.
 const TURNS: u64 = 20;
 
 const PATIENCE: Patience = Patience {
@@ -46,11 +46,11 @@ fn send_often(client: &mut Client, alloc: Global) -> Option<bool>
             return None;
         }
     }
-    // What was sent goes into the ring at a turn.
+    // What was sent goes into the ring at a step.
     Some(hears_answer(client))
 }
 
-// Takes one turn. Whether it brought the reply.
+// Takes one step. Whether it brought the reply.
 fn hears_answer(client: &mut Client) -> bool
     ensures { SameClient client.old client.new }
 {
@@ -63,8 +63,8 @@ fn hears_answer(client: &mut Client) -> bool
     }
 }
 
-// Makes more calls than the other client sent, one after the other. The server receives one message
-// of each client in a round, so it has answered all of the other's before the last of these.
+// Makes more calls than the other client sent, in order. The server receives one message of each
+// client in a round, so it has answered all of the other's before the last of these.
 fn outlast(client: &mut Client, alloc: Global) -> Option<bool>
     ensures { SameClient client.old client.new }
 {
@@ -91,7 +91,7 @@ fn fill(one: &mut Client, other: &mut Client, alloc: Global) -> Option<bool>
     Some(hears_answer(one))
 }
 
-// Whether there is no reply within the client's turns. It then sends the call once more.
+// Whether there is no reply within the client's steps. It then sends the call once more.
 fn wait_in_vain(client: &mut Client, alloc: Global, how: Waiting) -> Option<bool>
     ensures { SameClient client.old client.new }
 {
@@ -110,7 +110,7 @@ fn wait_in_vain(client: &mut Client, alloc: Global, how: Waiting) -> Option<bool
     Some(is_late && client.retry() == Ok(true))
 }
 
-// The same, by one of the clients, where stale answers lie in its ring.
+// The same, by one of the clients, with stale answers in its ring.
 #[tactic(auto, using(zrun::proofs::Still::still_belongs))]
 fn wait_by_one(clients: &mut Clients, alloc: Global, how: Waiting) -> Option<bool>
     ensures { clients_run clients.new ≡ clients_run clients.old }
@@ -145,7 +145,7 @@ fn traces_of<R: Threads + Wait + Copy + Send + 'static>(
     }
 }
 
-// Whether so many events stand behind the last call, of which each `every`th is a resend, and all
+// Whether this many events follow the last call, of which each `every`th is a resend, and all
 // others are received messages.
 fn are_turns(trace: &Trace, every: u64, count: u64) -> bool
     requires { 0 < every }
@@ -166,7 +166,7 @@ fn are_turns(trace: &Trace, every: u64, count: u64) -> bool
     fits && seen == count
 }
 
-// Twenty turns, of which each received a message.
+// Twenty steps, each of which received a message.
 #[test]
 fn a_call_takes_all_its_turns(rt: HostRuntime) -> Result<(), Fail> {
     let traces = traces_of(rt, rt.alloc(), Waiting::Calls)?;
@@ -175,7 +175,7 @@ fn a_call_takes_all_its_turns(rt: HostRuntime) -> Result<(), Fail> {
     Ok(())
 }
 
-// Five turns after each of four sends.
+// Five steps after each of four sends.
 #[test]
 fn an_ask_takes_all_its_turns(rt: HostRuntime) -> Result<(), Fail> {
     let traces = traces_of(rt, rt.alloc(), Waiting::Asks)?;

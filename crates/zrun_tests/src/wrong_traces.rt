@@ -64,7 +64,7 @@ fn trace(alloc: Global, steps: &[Step], number: u8, cut: Option<u8>) -> Result<T
     })
 }
 
-// What is told of a node without data and children.
+// The stat of a node without data and children.
 fn stat(made: u64) -> Stat {
     Stat {
         czxid: Zxid::new(made),
@@ -102,7 +102,8 @@ fn record(alloc: Global, seen: &[Seen]) -> Result<Vec<CallEvent>, Fail> {
     Ok(events)
 }
 
-/// The traces of one server and one client; that of the process of the number `cut` is marked as cut.
+/// The traces of one server and one client; that of the process of the number `cut` is marked as
+/// cut.
 pub fn traces(
     alloc: Global,
     steps: &[Step],

@@ -1,6 +1,6 @@
 //! Worked scripts over chains: each kind of event is done once. An answer begins with the lines of
-//! the responses that clients received. The stories of failures and joins stand in `rows/`, which
-//! the program plays.
+//! the responses that clients received. The scripts of failures and joins are in `rows/`, which the
+//! program plays.
 
 use crate::playing::{Row, plays_rows};
 use zscript::ServerId;

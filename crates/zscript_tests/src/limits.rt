@@ -22,7 +22,7 @@ fn knows_the_longest_name(rt: HostRuntime) {
     plays_pieces(&rt, rt.alloc(), LONGEST_NAME, ITS_ANSWER);
 }
 
-// The counter stays where the made name is too long.
+// The counter doesn't change where the made name is too long.
 const SEQUENTIAL_NAMES: &[Piece] = &[
     Text("1 create /"),
     Times("a", 245),

@@ -1,11 +1,11 @@
-//! Long scripts and their answers, built of pieces.
+//! Long scripts and their answers, built of parts.
 
 use crate::playing::{adds, plays};
 use Piece::{Each, Text, Times};
 use std::alloc::Global;
 use std::process::Abort;
 
-/// A piece of a text.
+/// A part of a text.
 pub(crate) enum Piece {
     /// This text.
     Text(&'static str),
@@ -15,7 +15,7 @@ pub(crate) enum Piece {
     Each(&'static str, usize, &'static str),
 }
 
-/// Plays the script of these pieces over one server, and asserts its answer, also in pieces.
+/// Plays the script of these parts over one server, and asserts its answer, also in parts.
 pub(crate) fn plays_pieces(rt: &impl Abort, alloc: Global, script: &[Piece], text: &[Piece]) {
     let script = built(rt, alloc, script);
     let text = built(rt, alloc, text);

@@ -1,4 +1,4 @@
-//! Worked scripts, each a script of its own: lines, each with its answer. Others stand in `rows/`,
+//! Worked scripts, each a script of its own: lines, each with its answer. Others are in `rows/`,
 //! which the program plays.
 
 use crate::playing::{Row, plays_rows};
@@ -108,7 +108,7 @@ const ROWS: &[Row] = &[
         ("1 create /a p YQ==", "ok /a"),
         ("1 get /a", "ok data YQ== stat 1 1 1 0 0 0 0 0 1 0"),
     ],
-    // `;` is a word like any other where a path or data is wanted, and stands between two parts.
+    // `;` is a word like any other where a path or data is expected, and separates two parts.
     &[
         ("1 multi create ; p -", "bad path NotAbsolute"),
         ("1 multi create /a p ; ; check /a any", "bad data"),

@@ -1,4 +1,4 @@
-//! Worked scripts of sessions. Others stand in `rows/`, which the program plays.
+//! Worked scripts of sessions. Others are in `rows/`, which the program plays.
 
 use crate::playing::{Row, plays_rows};
 use zscript::ServerId;

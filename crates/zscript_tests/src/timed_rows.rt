@@ -17,7 +17,7 @@ const ROWS: &[Row] = &[
         ("1 exists /t", "no NoNode"),
         ("1 exists /", "ok stat 0 0 3 0 0 0 2 0 0 0"),
     ],
-    // A node that had a child before the tick stays, though the child goes.
+    // A node that had a child before the tick remains, though the child goes.
     &[
         ("1 create /t t:1 -", "ok /t"),
         ("1 create /t/u t:1 -", "ok /t/u"),

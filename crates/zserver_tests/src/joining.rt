@@ -10,7 +10,7 @@ use zprotocol::{Epoch, Message, Out, Process};
 use zserver::{Server, Snapshot};
 use ztesting::{call_number, client, server};
 
-// A spare server joins behind server 1 in epoch 1.
+// A spare server joins after server 1 in epoch 1.
 const JOINS: Rows = &[
     (Given::NewPred(1, 1), &[("master", 0, "have", 1, None)]),
     (

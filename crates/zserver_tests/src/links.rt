@@ -41,7 +41,7 @@ fn takes_a_notice_last(rt: HostRuntime) -> Result<(), Fail> {
     assert!(rt; matches!(&front, Some(Message::Have(_, None))));
     let front = links.next(&server, &Process::Master);
     assert!(rt; matches!(&front, Some(Message::Joined(_))));
-    // The notice alone is left, and whoever delivers finds it.
+    // The notice alone is left, and the process that delivers finds it.
     let turn = links.next_turn(0, 0);
     assert!(rt; turn.sender == 2 && turn.receiver == 0);
     let shown = links.front(&server, &Process::Master);

@@ -15,8 +15,7 @@ pub(crate) const SET_UP: Rows = &[
     ),
 ];
 
-/// The server still has its one entry, and keeps it: it sends it to a new successor, which has
-/// none.
+/// The server still has its one entry: it sends it to a new successor, which has none.
 pub(crate) const AS_BEFORE: Rows = &[
     (Given::NewPred(7, 2), &[("master", 0, "have", 7, Some(1))]),
     (

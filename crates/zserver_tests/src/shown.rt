@@ -8,7 +8,7 @@ use zserver::Snapshot;
 /// kind of the message, its epoch or the number of its call, and its log number.
 pub(crate) type Shown = (&'static str, u8, &'static str, u64, Option<u64>);
 
-// Stands for no message.
+// Represents no message.
 const NOTHING: Shown = ("nobody", 0, "nothing", 0, None);
 
 /// Asserts that these messages were sent, in this order, and no others.

@@ -13,7 +13,7 @@ fn text(rt: &impl Abort, alloc: Global) -> Vec<u8> {
     joined(rt, alloc, &rows)
 }
 
-// Whether no machine stands in front of the text, or one whose rows these bytes are.
+// Whether the text begins with no machine, or with one that has these rows.
 fn is_told(rt: &impl Abort, alloc: Global, text: &[u8]) -> bool {
     let (machine, rest) = match read(rt, alloc, text) {
         Ok(read) => read,

@@ -1,4 +1,4 @@
-//! Machines, loaded from rows that each stand alone.
+//! Machines, loaded from rows with bytes of their own.
 
 ghost use Rattle.std.specs.Prelude.{◌≡◌, false, IfOk};
 
@@ -9,8 +9,8 @@ use zforms::Fault;
 use zops::Machine;
 use zsnapshots::{Loading, RowFault};
 
-/// Loads the machine of these rows, or tells the fault of the first row that is refused. Rows that
-/// are missing are told as cut.
+/// Loads the machine of these rows, or returns the fault of the first row that is refused. For
+/// missing rows the fault is `Cut`.
 pub(crate) fn load(alloc: Global, rows: &[Vec<u8>]) -> Result<Machine, RowFault>
     ensures { IfOk result (λ m. m.is_broken ≡ false) }
 {
@@ -29,7 +29,7 @@ fn take_all(loading: &mut Loading, rows: &[Vec<u8>]) -> Result<(), RowFault> {
     Ok(())
 }
 
-// The fault of the row at this place, once some of its bytes are gone and others follow.
+// The fault of the row at this index, once some of its bytes are gone and others follow.
 fn fault_at(
     rt: &impl Abort,
     alloc: Global,

@@ -12,7 +12,7 @@ use zsnapshots::Writing;
 /// More rows than any state here has.
 pub(crate) const MANY: usize = 100;
 
-/// Sessions of three clients, with nodes of each kind, one of them below an other.
+/// Sessions of three clients, with nodes of each kind, one of them below another.
 pub(crate) const SESSIONS: &[&str] = &[
     "1 open 100",
     "3 open 20000",

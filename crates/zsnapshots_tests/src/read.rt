@@ -9,7 +9,7 @@ use zops::Machine;
 use zsnapshots::{Reading, RowFault, read_header_row};
 use zwire::FrameFault;
 
-/// Reads the machine in front of the text, with what follows it.
+/// Reads the machine at the front of the text, with what follows it.
 pub(crate) fn read<'a>(
     rt: &impl Abort,
     alloc: Global,

@@ -8,7 +8,7 @@ use std::alloc::Global;
 /// How many calls a seed draws.
 pub(crate) const CALLS: usize = 12_000;
 
-// The calls. A number from 1 to 31 stands for each @, one below 64 for each #, and data for each *.
+// The calls. A number from 1 to 31 replaces each @, one below 64 each #, and data each *.
 const KINDS: [&str; 24] = [
     "@ create /d# p -",
     "@ create /d#/n# p *",
@@ -86,7 +86,7 @@ fn put_number(line: &mut String, number: u64) -> Result<(), Trouble> {
     Ok(())
 }
 
-// Appends data of so many groups. One of all numbers stands for many groups, another for none.
+// Appends data of this many groups. One number means many groups, another none.
 fn put_data(line: &mut String, groups: u64) -> Result<(), Trouble> {
     if groups == 0 {
         line.push('-')?;

@@ -114,7 +114,7 @@ impl Drill {
         })
     }
 
-    // Takes a client's last number once more, which is answered with its reply.
+    // Sends a client's last number once more, which is answered with its reply.
     fn retry(&mut self, client: ClientId) -> Result<(), Trouble>
         requires { IsWhole self.old.pair }
         ensures { OnOk result (IsWhole self.new.pair) }

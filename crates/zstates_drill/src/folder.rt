@@ -1,4 +1,4 @@
-//! What a folder would keep: a snapshot, and entries behind it.
+//! The text of a folder: a snapshot, and entries after it.
 
 use crate::trouble::Trouble;
 use std::alloc::Global;
@@ -7,10 +7,10 @@ use zrecords::write_records;
 use zservice::LocalTree;
 use zstates::{Found, Shortening, add_entry, read};
 
-// More pieces than any snapshot has.
+// More chunks than any snapshot has.
 const MANY: usize = 10_000;
 
-/// A tree, and the text that keeps it: the snapshot of when they were compared last, and the
+/// A tree, and the text that represents it: the snapshot of when they were compared last, and the
 /// entries since.
 #[derive(Drop)]
 pub(crate) struct Folder {
@@ -20,7 +20,7 @@ pub(crate) struct Folder {
 }
 
 impl Folder {
-    /// Makes the first tree, which an empty text keeps.
+    /// Makes the first tree, which an empty text represents.
     pub(crate) fn new(alloc: Global) -> Result<Folder, Trouble> {
         Ok(Folder {
             alloc,
@@ -29,7 +29,7 @@ impl Folder {
         })
     }
 
-    /// Applies an entry, and appends its text. Hands the update back.
+    /// Applies an entry, and appends its text. Returns the update.
     pub(crate) fn apply(&mut self, update: Update) -> Result<Update, Trouble> {
         let mut records = Vec::new(self.alloc);
         add_entry(&mut records, update.copied(self.alloc)?)?;
@@ -50,7 +50,7 @@ impl Folder {
     }
 }
 
-// Reads the tree that a text keeps, which has this snapshot. No password is written.
+// Reads the tree that a text represents, which has this snapshot. No password is written.
 fn read_again(alloc: Global, text: &[u8], wanted: &[u8]) -> Result<LocalTree, Trouble> {
     let Found {
         tree,

@@ -1,16 +1,16 @@
-//! States go round: each is written as a snapshot, read back and compared, and written again to the
-//! same bytes.
+//! A round trip of states: each is written as a snapshot, read back and compared, and written again
+//! to the same bytes.
 //!
 //! Each line of the input is a line of a script. The updates that it calls or begins are given to
 //! two machines and to a folder's tree; a `retry` gives the client's last number again. What else
 //! it asks does nothing here. After a change the first machine is written as rows, and the second
 //! one becomes the machine that is read from them. So a machine that was read answers beside one
 //! that never was, and their answers are compared. The folder's tree is read from a snapshot and
-//! the entries behind it, and then from a snapshot alone.
+//! the entries after it, and then from a snapshot alone.
 //!
-//! A state of more than 16 rows isn't compared at each change: as soon as there were a sixteenth as
-//! many changes as rows. The line `drill SEED` makes 12,000 calls, drawn by that number.
-//! `./test states` gives it the scripts of `rows/`.
+//! A state of more than 16 rows isn't compared at each change, but as soon as there were a
+//! sixteenth as many changes as rows. The line `drill SEED` makes 12,000 calls, drawn by that
+//! number. `./test states` gives it the scripts of `rows/`.
 #![tactic(auto)]
 
 ghost use Rattle.std.specs.Prelude.{OnOk};

@@ -31,7 +31,7 @@ pub(crate) enum Trouble {
     /// A state that was read has another text.
     #[error("another text")]
     Text,
-    /// The text that was written keeps no state.
+    /// The text that was written represents no state.
     #[error("a text that is refused")]
     Unread,
 }

@@ -6,10 +6,10 @@ use std::alloc::Global;
 use std::process::Abort;
 use zstates::{ReadFault, read};
 
-// What stands behind a snapshot.
+// What follows a snapshot.
 const MORE: &[&str] = &["1 open 10", "1 create /c es:6 aGk=", "0 tick", "1 close 6"];
 
-// The text of a snapshot, with so many entries behind it.
+// The text of a snapshot, with this many entries after it.
 fn text(rt: &impl Abort, alloc: Global, count: usize) -> Vec<u8> {
     assert!(rt; count <= MORE.len());
     let mut text = snapshot_of(rt, alloc, WORKED);
@@ -17,7 +17,7 @@ fn text(rt: &impl Abort, alloc: Global, count: usize) -> Vec<u8> {
     text
 }
 
-// At the beginning, behind the snapshot and behind each entry a text may end.
+// A text may end at the beginning, after the snapshot and after each entry.
 fn ends(rt: &impl Abort, alloc: Global) -> Vec<usize> {
     let mut ends = Vec::new(alloc);
     ends.push(0).expect(rt, "there is memory");
@@ -28,7 +28,7 @@ fn ends(rt: &impl Abort, alloc: Global) -> Vec<usize> {
     ends
 }
 
-// Whether a text keeps a tree.
+// Whether a text represents a tree.
 fn is_read(rt: &impl Abort, alloc: Global, text: &[u8]) -> bool {
     match read(alloc, text) {
         Ok(found) => {
@@ -53,12 +53,12 @@ fn a_cut_text_is_told(rt: HostRuntime) {
     }
 }
 
-// Whether a text keeps no tree, or is the snapshot of the one that it keeps.
+// Whether a text represents no tree, or is the snapshot of the one that it represents.
 fn is_told(rt: &impl Abort, alloc: Global, text: &[u8]) -> bool {
     !is_read(rt, alloc, text) || keeps(rt, alloc, text, text)
 }
 
-// Each byte of the snapshot of the tree that these lines come to is another.
+// Each byte of the snapshot of these lines' tree is changed.
 fn each_byte_is_told(rt: &impl Abort, alloc: Global, lines: &[&str]) {
     let mut text = snapshot_of(rt, alloc, lines);
     for place in 0..text.len() {

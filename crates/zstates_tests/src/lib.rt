@@ -1,4 +1,4 @@
-//! Tests of what a folder keeps: entries are applied to a tree, which is written as a snapshot, and
+//! Tests of a folder's text: entries are applied to a tree, which is written as a snapshot, and
 //! read again.
 #![tactic(auto)]
 

@@ -1,5 +1,5 @@
-//! Texts with passwords of sessions among their records, as folders had them: the passwords say
-//! nothing.
+//! Texts with passwords of sessions among their records, as in old folders: the passwords have no
+//! effect.
 
 use crate::states::{WORKED, add_lines, snapshot_of};
 use crate::texts::is_there;

@@ -1,11 +1,11 @@
-//! Each tree of a story goes round: it is written, read, and written to the same text again.
+//! Each tree of a story is written, read, and written to the same text again.
 
 use crate::states::{STORIES, add_lines, snapshot, snapshot_of};
 use std::alloc::Global;
 use std::process::Abort;
 use zstates::read;
 
-/// Returns whether a text keeps a tree with this snapshot.
+/// Returns whether a text represents a tree with this snapshot.
 pub(crate) fn keeps(rt: &impl Abort, alloc: Global, text: &[u8], wanted: &[u8]) -> bool {
     let Ok(found) = read(alloc, text) else {
         return false;
@@ -15,8 +15,8 @@ pub(crate) fn keeps(rt: &impl Abort, alloc: Global, text: &[u8], wanted: &[u8]) 
     same.as_slice() == wanted
 }
 
-// Whether the snapshot of each tree of a story is read again. So is each with the entries behind it
-// that lead to the last tree, and so are all entries by themselves.
+// Whether the snapshot of each tree of a story is read again. So is each with the entries after it
+// that lead to the last tree, and so are all entries alone.
 fn goes_round(rt: &impl Abort, alloc: Global, lines: &[&str]) {
     let last = snapshot_of(rt, alloc, lines);
     for count in 0..=lines.len() {

@@ -8,7 +8,7 @@ use zrecords::write_records;
 use zservice::LocalTree;
 use zstates::{Shortening, add_entry};
 
-// More pieces than any tree here has.
+// More chunks than any tree here has.
 const MANY: usize = 100;
 
 /// Two sessions, of which the first was closed, and two nodes.
@@ -75,7 +75,7 @@ pub(crate) fn update(rt: &impl Abort, alloc: Global, line: &str) -> Update {
     update
 }
 
-/// Returns the text of a tree's snapshot, and how many pieces it has.
+/// Returns the text of a tree's snapshot, and how many chunks it has.
 pub(crate) fn snapshot(rt: &impl Abort, alloc: Global, tree: &LocalTree) -> (Vec<u8>, usize) {
     let mut shortening = Shortening::new(alloc, tree).expect(rt, "there is memory");
     let mut text = Vec::new(alloc);

@@ -1,4 +1,4 @@
-//! A tree is written as text, and read again. Texts that keep no tree are told.
+//! A tree is written as text, and read again. Texts that represent no tree are reported.
 
 use crate::states::{WORKED, add_lines, snapshot, snapshot_of, tree};
 use std::alloc::Global;
@@ -18,7 +18,7 @@ pub(crate) fn is_there(rt: &impl Abort, tree: &LocalTree, time: u64, wanted: &[u
         && places.all(|(id, wanted)| id.number() == *wanted)
 }
 
-// Writes more data into a node than a piece has.
+// Writes more data into a node than a chunk has.
 fn grow(rt: &impl Abort, alloc: Global, tree: &mut LocalTree) {
     let bytes = vec![in alloc; 7u8; 65_536].expect(rt, "there is memory");
     let update = Update::SetData(SetData {

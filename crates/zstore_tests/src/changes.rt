@@ -100,7 +100,7 @@ pub(crate) fn end(rt: &impl Abort, store: &mut Store, id: u64)
     store.raise();
 }
 
-/// Keeps a session alive.
+/// Renews a session.
 pub(crate) fn touch(rt: &impl Abort, store: &mut Store, id: u64)
     requires small { IsSmall store.old }
     ensures low { IsLow store.old.tree → IsLow store.new.tree }

@@ -2,7 +2,7 @@
 //! of `ztree` says: that each call that allocates can succeed, and what worked calls show.
 //!
 //! The tests play rows of steps. Each line of `stdin` is one call on a path. After the word `slots`
-//! it is one on slots whose items stand in two lists. Each line of `stdout` is the result.
+//! it is one on slots whose items are in two lists. Each line of `stdout` is the result.
 #![tactic(auto)]
 
 #[cfg(test)]

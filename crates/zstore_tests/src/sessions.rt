@@ -1,4 +1,4 @@
-//! Sessions: opening, keeping alive, ending, and what they own.
+//! Sessions: opening, renewing, ending, and what they own.
 
 use crate::changes::{end, is_small};
 use crate::facts::Fact::{At, Due, Lives, NoSession, Numbers, Sizes};

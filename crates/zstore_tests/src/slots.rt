@@ -1,4 +1,4 @@
-//! Calls on slots whose items stand in two lists.
+//! Calls on slots whose items are in two lists.
 
 mod board;
 mod item;

@@ -21,7 +21,7 @@ pub(crate) enum Step {
     Write(&'static str, &'static str),
     /// Opens a session of client 3 with this timeout.
     Open(u64),
-    /// Keeps this session alive.
+    /// Renews this session.
     Touch(u64),
     /// Advances by one tick, at which no session is due.
     Tick,

@@ -1,5 +1,5 @@
-//! What tests share: numbers of processes, calls and entries by literals, and how stories of refused
-//! memory are told.
+//! Shared by tests: numbers of processes, calls and entries by literals, and reports of stories of
+//! refused memory.
 #![tactic(auto)]
 
 mod ended;

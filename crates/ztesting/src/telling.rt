@@ -1,7 +1,7 @@
 //! Reports of stories in which an allocation is refused.
 //!
-//! A program runs all of its stories, one after the other, and makes one allocation behind them.
-//! `./test memory` runs it once for each of its allocations, and refuses that one.
+//! A program runs all of its stories in order, and makes one allocation after them. `./test memory`
+//! runs it once for each of its allocations, and refuses that one.
 
 use crate::ended::Ended;
 use std::alloc::Global;
@@ -19,7 +19,7 @@ pub fn tell(rt: &impl Print, name: &str, ended: Ended) -> io::Result<()> {
     println!(rt; "{name}: {told}")
 }
 
-/// Makes one allocation behind all stories, and prints how it ended. The run in which this one is
+/// Makes one allocation after all stories, and prints how it ended. The run in which this one is
 /// refused is the last one.
 pub fn tell_end(rt: &impl Print, alloc: Global) -> io::Result<()> {
     tell(rt, "the end", allocate(alloc))

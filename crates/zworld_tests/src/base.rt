@@ -48,7 +48,7 @@ pub fn process(number: u8) -> Result<Process, Trouble> {
     }
 }
 
-/// A call is invoked while a server joins behind a chain of three.
+/// A call is invoked while a server joins after a chain of three.
 pub fn joining(alloc: Global) -> Result<Base, Trouble> {
     let moves = [
         Move::Begin,

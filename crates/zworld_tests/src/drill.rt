@@ -15,14 +15,14 @@ pub struct Counts {
     pub answered: usize,
 }
 
-/// A loss of a server, which fails or is ordered to leave: before the event at that place, or at
+/// A loss of a server, which fails or is ordered to leave: before the event at that index, or at
 /// the end.
 type Loss = (usize, Move);
 
 /// The last server that is lost: the base lists name four, so that this one is spare.
 const LAST_LOST: u8 = 5;
 
-/// Runs the list with each loss, and with each two of them. Two at one place come in both orders.
+/// Runs the list with each loss, and with each two of them. Two at one index come in both orders.
 pub fn drilled(alloc: Global, base: &Base, counts: &mut Counts) -> Result<(), Trouble> {
     let losses = losses(alloc, base)?;
     for &first in &losses {
@@ -43,7 +43,7 @@ fn note(lives: bool, counts: &mut Counts) {
     }
 }
 
-// Returns each server at each place, the spare one included: it fails, or it is ordered to leave.
+// Returns each server at each index, the spare one included: it fails, or it is ordered to leave.
 fn losses(alloc: Global, base: &Base) -> Result<Vec<Loss>, Trouble> {
     let mut all = Vec::new(alloc);
     for place in 0..=base.moves.len() {
@@ -110,7 +110,7 @@ fn is_well(alloc: Global, world: &mut World) -> Result<(), Trouble> {
     }
 }
 
-// Returns the base list, with the losses in their places.
+// Returns the base list with the losses inserted.
 fn events(alloc: Global, base: &Base, losses: &[Loss]) -> Result<Vec<Event>, Trouble> {
     let mut events = Vec::new(alloc);
     match add_events(&mut events, alloc, base, losses) {
@@ -136,7 +136,7 @@ fn add_events(
     lose_at(events, alloc, losses, base.moves.len())
 }
 
-// Adds the losses at this place.
+// Adds the losses at this index.
 fn lose_at(
     events: &mut Vec<Event>,
     alloc: Global,

@@ -1,4 +1,4 @@
-//! One list of ten thousand events, through one `World::run`, and a call behind it that settles.
+//! One list of ten thousand events, through one `World::run`, and a call after it that settles.
 
 use crate::asking::{creates, is_answered, settles};
 use crate::base::{CLIENT, process, server};

@@ -1,10 +1,10 @@
-//! Losses everywhere: each base list of events is run with each loss of a server at each place, a
+//! Losses everywhere: each base list of events is run with each loss of a server at each index, a
 //! spare one included. The server fails, or is ordered to leave. Each list is also run with each
-//! two of these losses, at one place in both orders. Each run is one `World::run`; then
+//! two of these losses, at one index in both orders. Each run is one `World::run`; then
 //! `World::settle` settles it.
 //!
-//! Where a server of the initial chain is not lost, the state survives. Then every call is
-//! answered, an update has acted once, and another one is answered.
+//! If a server of the initial chain is not lost, the state survives. Then every call is answered,
+//! an update has acted once, and another one is answered.
 //!
 //! One more list has ten thousand events.
 #![tactic(auto)]

@@ -17,7 +17,7 @@ enum Who {
     Client,
 }
 
-// Channels, each of which has a message at its front when its turn comes.
+// Channels, each of which has a message at its front when it is delivered.
 type Links = &'static [(Who, Who)];
 
 const CALL: Links = &[(Client, Server(1)), (Server(1), Client)];

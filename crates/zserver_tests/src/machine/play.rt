@@ -65,7 +65,7 @@ fn enters(
     drop(text);
 }
 
-/// Compares the text that stands at a place.
+/// Compares the text at a position.
 pub(crate) fn same(rt: &impl Abort, place: &str, text: &str, want: &str) {
     assert!(rt; text == want, "{place}: {text}, not {want}");
 }

@@ -25,7 +25,7 @@ const ROWS: [Row; 3] = [
         ("1 close 1", "ok closed"),
         ("1 close 1", "no SessionGone"),
     ],
-    // A ping keeps it alive.
+    // A ping renews it.
     &[
         ("5 open 3", "ok session 1 timeout 3"),
         ("0 tick", "ok tick 1 ended 0"),

@@ -128,7 +128,7 @@ fn leaves_after(
     fault
 }
 
-// Returns whom the master tells where the second of three servers is ordered to leave.
+// Returns whom the master notifies where the second of three servers is ordered to leave.
 fn posts_of_retirement(rt: &impl Abort, alloc: Global) -> Option<u8> {
     let mut master = Master::new(server(rt, 3), 1);
     let mut out: Outbox = Out::new(alloc);

@@ -65,7 +65,7 @@ fn copies_stand_apart(rt: HostRuntime) {
     drop(copy);
 }
 
-// The node is removed from these nodes, and stays in their copy.
+// The node is removed from these nodes, and remains in their copy.
 fn goes_from_one(rt: &impl Abort, nodes: &mut Nodes, copy: &Nodes, path: &Path)
     requires { IsSome (get nodes.old.owners 7) }
 {

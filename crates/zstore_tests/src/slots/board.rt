@@ -9,7 +9,7 @@ const MOST: u128 = 99;
 
 const LONGEST: usize = 99;
 
-/// Items, the Ids that were given in order, and the lists that the items stand in.
+/// Items, the Ids that were given in order, and the lists that the items are in.
 #[derive(Drop)]
 pub struct Board {
     slots: Slots<Item>,
@@ -29,7 +29,7 @@ impl Board {
         }
     }
 
-    /// Returns what a line does, as a text. The line is a word, and a number or the place of an Id
+    /// Returns what a line does, as a text. The line is a word, and a number or the index of an Id
     /// in the order in which they were given.
     pub fn answer(&mut self, alloc: Global, line: &str) -> Result<String, AllocError> {
         let (word, number) = line.split_once(' ').unwrap_or((line, "0"));

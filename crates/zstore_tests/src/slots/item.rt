@@ -1,4 +1,4 @@
-//! An item that stands in two lists, and can be copied.
+//! An item that is in two lists, and can be copied.
 
 use zalloc::Memory;
 use zslots::{Copied, Linked, Links};
