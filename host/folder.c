@@ -1,7 +1,7 @@
 /* What a host reads of a folder: its secret, and the number in the head of its journal.
 
-   The secret has 32 bytes, which are drawn once. In memory it lasts as long as the process. A folder
-   has it in a file `secret`, which its owner alone may read. */
+   The secret has 32 bytes, which are drawn once. In memory it lasts as long as the process. A
+   folder has it in a file `secret`, which its owner alone may read. */
 #define _GNU_SOURCE
 #include <errno.h>
 #include <fcntl.h>
@@ -31,7 +31,7 @@ int servers_of(const char *folder) {
     return is_whole && 1 <= head[20] && head[20] <= 16 ? head[20] : 1;
 }
 
-/* Takes the secret that stands in a file. Returns whether there is a file. */
+/* Reads the secret from a file. Returns whether there is a file. */
 static bool is_read(const char *path, uint8_t secret[SECRET]) {
     uint8_t bytes[SECRET + 1];
     size_t count = 0;
@@ -50,7 +50,7 @@ static bool is_read(const char *path, uint8_t secret[SECRET]) {
     return true;
 }
 
-/* Puts the secret into a file, whole and on the disk, unless there is a file by now. */
+/* Writes the secret to a file, whole and durable, unless the file exists by now. */
 static void put(const char *folder, const char *path, const uint8_t secret[SECRET]) {
     char *beside = path_of(folder, "secret.XXXXXX");
     int file = mkostemp(beside, O_CLOEXEC);
@@ -74,7 +74,7 @@ void take_secret(const char *folder, uint8_t secret[SECRET]) {
     char *path = path_of(folder, "secret");
     bool is_there = is_read(path, secret);
     if (!is_there) put(folder, path, secret);
-    /* (another may have put one there meanwhile; who opens the folder syncs it) */
+    /* (another process may have written one meanwhile; opening the folder syncs it) */
     if (!is_there && !is_read(path, secret)) stop(3, "data: %s: it is gone", path);
     free(path);
 }

@@ -1,24 +1,26 @@
-/* The front of the server: the proved program zk_serve, in a child behind two pipes (piped.c). It
-   holds the tree, the sessions and the watches, and keeps a folder where one is named. It has no
-   sockets and no clock: it is told what happened, and tells which bytes are to be sent.
+/* The front end of the server: the proved program zk_serve, in a child behind two pipes
+   (piped.c). It holds the tree, the sessions and the watches, and makes the tree durable if a
+   folder is named. It has no sockets and no clock: it receives inputs, and returns the bytes to
+   be sent.
 
-   What it tells is proved of its code, for every sequence of inputs, as long as its caller upholds
-   what follows. Nothing can check it.
+   What it returns is proved of its code, for every sequence of inputs, as long as its caller
+   obeys the following. Nothing can check that.
 
-   - Connections. They are numbered from 1. A number is used between front_opened and front_ended,
-     and each front_opened has its front_ended, whoever closed the connection. A number may be used
-     again behind its front_ended.
-   - Bytes. The bytes that came on a connection are given under its number, each once and in their
-     order, in any pieces. None is given behind the piece that was its last.
-   - Pieces. They come behind front_keep, and all are taken before anything else is given. The bytes
-     of a connection's pieces are sent on it in the order of the pieces, each whole; or else the
-     connection is closed, and nothing that follows is sent. Behind a last piece it is closed.
-   - The secret. Passwords of sessions are derived from it, and whoever gives a session's password
-     has the session. So nobody can guess it. A folder's secret is the same at each opening.
-   - Time. Ticks come about as far apart as the words say, and the time at front_open is right. Only
-     clients' timeouts and the times in a stat rest on it.
+   - Connections. They are numbered from 1. A number is used between front_opened and
+     front_ended, and each front_opened has its front_ended, whichever side closed the
+     connection. A number may be used again after its front_ended.
+   - Bytes. The bytes that came on a connection are given under its number, each once and in
+     their order, cut in any way. None is given after its last chunk.
+   - Chunks. They come after front_keep, and all are taken before any other input. A connection's
+     chunks are sent on it in order, each whole; or else the connection is closed, and nothing
+     more is sent. After a last chunk it is closed.
+   - The secret. Passwords of sessions are derived from it, and a client that gives a session's
+     password has the session. So no one must be able to guess it. A folder's secret is the same
+     at each opening.
+   - Time. Ticks come about as far apart as the words say, and the time at front_open is right.
+     Only clients' timeouts and the times in a stat depend on it.
 
-   Each function ends the process where the child has ended, with the child's status. */
+   Each function ends the process if the child has ended, with the child's status. */
 #ifndef FRONT_H
 #define FRONT_H
 
@@ -30,36 +32,36 @@
 enum next {
     /* Nothing, until front_keep. */
     NOTHING,
-    /* A piece of a connection. */
+    /* A chunk of a connection. */
     ONE,
-    /* The last piece of its connection, behind which that is to be closed. It may have no bytes. */
+    /* The last chunk of its connection, which is closed after it. It may have no bytes. */
     LAST_ONE
 };
 
 /* Starts the child, and gives it the secret. It returns once the front is open, or ends the process
-   where `signals` tells of a signal before that. */
+   if a signal comes on `signals` before that. */
 void front_open(const struct words *words, const uint8_t secret[SECRET], int signals);
 
-/* Somebody has connected: this number is theirs now. */
+/* A client has connected, and has this number. */
 void front_opened(uint32_t connection);
 
-/* These bytes came on the connection. Any bytes may come: those that are no request end it. */
+/* These bytes came on the connection. Any bytes may come: those that aren't a request end it. */
 void front_came(uint32_t connection, const uint8_t *bytes, size_t size);
 
 /* The connection is closed. Its session lives on until its timeout. */
 void front_ended(uint32_t connection);
 
-/* The clock goes on by one tick. */
+/* The clock advances by one tick. */
 void front_tick(void);
 
-/* Keeps what the inputs changed, as one batch. Behind it their pieces can be taken. */
+/* Commits the changes of the inputs, as one batch. After it their chunks can be taken. */
 void front_keep(void);
 
 /* What is next to be sent, and on which connection. */
 enum next front_next(uint32_t *connection);
 
-/* Takes that piece. Returns how many bytes it has. Where this is more than `room`, nothing was done:
-   call it again with that much room. Else they stand in `to`, and the next piece is next. */
+/* Takes that chunk. Returns how many bytes it has. If this is more than `room`, nothing was done:
+   call it again with that much room. Otherwise they are in `to`, and the next chunk is next. */
 size_t front_take(uint8_t *to, size_t room);
 
 /* Ends the child. */

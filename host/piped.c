@@ -1,13 +1,15 @@
-/* The front of the server: it runs in a child, behind two pipes.
+/* The front end of the server: it runs in a child, behind two pipes.
 
-   The child is the proved program zk_serve. It is given the secret first. Then it takes messages and
-   answers them with pieces, in the records of crates/zpipe/specs. Inputs wait here until front_keep,
-   which sends them together: so they are one batch, and a disk is waited for once. The answer ends
+   The child is the proved program zk_serve. It receives the secret first. Then it takes messages
+   and answers them with chunks, in the records of crates/zpipe/specs. Inputs wait here until
+   front_keep, which sends them together: so they are one batch, and one commit. The answer ends
    before any other input is sent.
 
-   Whoever ends the child ends the server, with the child's status. What wasn't told then is lost,
-   and where a folder is kept, what was told is kept. The child ends where its input does. It is
-   killed where this process is, so that nobody waits for the folder. */
+   If the child ends, the server ends with the child's status. What wasn't acknowledged then is
+   lost; with a folder, what was acknowledged is durable. The child ends when its input does: so
+   a batch in flight at SIGINT or SIGTERM, which it blocks, is finished. It is killed when this
+   process dies, so that the folder's lock is free for the next start. Such a kill is a crash
+   like any other. */
 #define _GNU_SOURCE
 #include <errno.h>
 #include <fcntl.h>
@@ -32,15 +34,15 @@ static int to_child, from_child;
 /* The inputs that wait. */
 static uint8_t *inputs;
 static size_t count, room;
-/* What came of the answer and wasn't looked at: `block` from `at` to `end`. */
+/* The part of the answer that was read but not yet used: `block` from `at` to `end`. */
 static uint8_t block[65536];
 static size_t at, end;
-/* The piece that is next, and its bytes that are still to come. */
+/* The next chunk's connection, and how many of its bytes are still to come. */
 static enum next next = NOTHING;
 static uint32_t connection;
 static size_t length;
 
-/* Waits for the end of the child, and gives its status. */
+/* Waits for the end of the child, and returns its status. */
 static int status_of_child(void) {
     int status;
     close(to_child);
@@ -51,7 +53,7 @@ static int status_of_child(void) {
     stop(1, "what serves was ended by signal %d", WTERMSIG(status));
 }
 
-/* Ends with the status of a child that has ended. It has said why. */
+/* Ends with the status of a child that has ended. The child printed why. */
 static _Noreturn void end_with_child(void) {
     int status = status_of_child();
     if (!status) stop(1, "what serves has ended");
@@ -60,7 +62,7 @@ static _Noreturn void end_with_child(void) {
 
 /* ---- inputs */
 
-/* Makes room for so many bytes more. */
+/* Makes room for this many more bytes. */
 static uint8_t *put(size_t more) {
     while (room - count < more) {
         room = room ? 2 * room : sizeof block;
@@ -102,7 +104,7 @@ void front_tick(void) { put_tag(TICK); }
 
 /* ---- the answer */
 
-/* Takes so many bytes of the answer. */
+/* Takes this many bytes of the answer. */
 static void take_bytes(uint8_t *to, size_t size) {
     while (size) {
         if (at == end) {
@@ -123,7 +125,7 @@ static uint32_t take_number(void) {
     return (uint32_t)bytes[0] << 24 | (uint32_t)bytes[1] << 16 | (uint32_t)bytes[2] << 8 | bytes[3];
 }
 
-/* Takes what stands in front of the bytes of the next piece, or the end. */
+/* Takes what precedes the bytes of the next chunk, or the end. */
 static void take_head(void) {
     uint8_t tag, is_last;
     take_bytes(&tag, 1);
@@ -169,7 +171,7 @@ size_t front_take(uint8_t *to, size_t left) {
 
 /* ---- its beginning and its end */
 
-/* Becomes the child: in memory alone where no folder is named. */
+/* Becomes the child: in memory alone if no folder is named. */
 static _Noreturn void become(int in, int out, const struct words *words, pid_t parent) {
     char servers[24], tick[24], time[24], journal[24];
     struct timespec now;

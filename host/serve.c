@@ -1,15 +1,15 @@
-/* The server for ZooKeeper's clients: sockets and a clock around a front (front.h). It hands on what
-   came, sends what the front tells, takes the secret and gives ticks.
+/* The server for ZooKeeper's clients: sockets and a clock around a front end (front.h). It
+   passes on the input, sends the front's chunks, reads the secret and gives ticks.
 
-   Nothing here is proved. It is to uphold what front.h asks: each connection's bytes are handed on
-   once and in their order, what is told is sent in that order and whole, or the connection is
-   closed, and the secret can't be guessed.
+   Nothing here is proved. It must do what front.h requires: each connection's bytes are passed
+   on once and in order; chunks are sent in order and whole, or the connection is closed; and the
+   secret can't be guessed.
 
-   One thread does all. It waits for events of at most 1,000 connections, and of the signals that end
-   it. A connection's number is its place in `all`.
+   One thread does everything. It waits for events of at most 1,000 connections, and of the
+   signals that end it. A connection's number is its index in `all`.
 
-   All that one wait brought is kept together and answered then; but many requests are kept before
-   more is read. */
+   The input of one wait is committed together and then answered. After KEPT requests a commit
+   comes before more is read: replies of up to a million bytes each wait in memory until then. */
 #define _GNU_SOURCE
 #include <errno.h>
 #include <netinet/in.h>
@@ -29,18 +29,18 @@
 enum {
     /* The connections that are served at once. */
     MOST = 1000,
-    /* The bytes that are read of a connection before others are, and that are handed on at a time.
+    /* The bytes that are read of a connection before others are, and that are passed on at a time.
        (A request has some 20 bytes or more, and its reply up to a million.) */
     READ = 16 << 10,
     HANDED = 1 << 10,
-    /* The requests that are kept together. */
+    /* The requests that are committed together. */
     KEPT = 128,
     /* A connection that is to be sent more than this isn't read. */
     OWED = 1 << 20,
-    /* The bytes that are to be sent or came of an unfinished request, of all connections together.
-       Where there are more, the connection with the most of them is closed. */
+    /* The bytes to be sent or received of an unfinished request, of all connections together.
+       If there are more, the connection with the most of them is closed. */
     HELD = 64 << 20,
-    /* The milliseconds for a greeting, and for taking what is sent before a connection's end. */
+    /* The milliseconds for a greeting, and for sending the rest before a connection's end. */
     PATIENCE = 10000,
     /* Events that aren't a connection's. */
     LISTENER = MOST + 1,
@@ -50,9 +50,9 @@ enum {
 enum state {
     FREE,
     OPEN,
-    /* Its last piece was told: what comes is dropped, and it is closed once all is sent. */
+    /* It has its last chunk: input is dropped, and it is closed once all is sent. */
     LAST,
-    /* It is closed, and the front isn't told yet. */
+    /* It is closed, and the front isn't notified yet. */
     GONE
 };
 
@@ -62,9 +62,9 @@ struct connection {
     /* What is to be sent: `out` up to `count`, of which `sent` bytes are. */
     uint8_t *out;
     size_t sent, count, room;
-    /* The bytes that were handed on since its last piece: so an unfinished request has no more. */
+    /* The bytes passed on since its last chunk: an unfinished request has at most these. */
     size_t given;
-    /* The bytes that are still to come of a request, or of its length what came: `heads` bytes. */
+    /* The bytes of a request still to come, or the received `heads` bytes of its length. */
     uint32_t body, head;
     int heads;
     /* When it is closed, in milliseconds; 0 for never. */
@@ -77,14 +77,14 @@ struct connection {
 static struct connection all[MOST + 1];
 static int events, listener, signals;
 static size_t held;
-/* The requests that were handed on since the front has kept what it was told. */
+/* The requests passed on since the last commit. */
 static size_t asked;
 static bool is_over;
-/* The connections that were told something, and those that are GONE. */
+/* The connections with new chunks, and those that are GONE. */
 static uint32_t touched[MOST + 1], gone[MOST];
 static size_t touched_count, gone_count;
 
-/* Milliseconds of a clock that nobody sets. */
+/* Milliseconds of a clock that no one can set. */
 static uint64_t now(void) {
     struct timespec at;
     clock_gettime(CLOCK_MONOTONIC, &at);
@@ -97,7 +97,7 @@ static bool is_there(const struct connection *it) {
 
 static size_t owed(const struct connection *it) { return it->count - it->sent; }
 
-/* Makes room for so many bytes more. */
+/* Makes room for this many more bytes. */
 static void make_room(struct connection *it, size_t more) {
     if (it->room - it->count >= more) return;
     size_t left = owed(it), room = it->room ? it->room : 4096;
@@ -116,7 +116,7 @@ static void wait_for(uint32_t number, uint32_t wanted) {
     it->events = wanted;
 }
 
-/* Closes a connection at once. The front is told later: it may be in the middle of telling. */
+/* Closes a connection at once. The front is notified later: its chunks may be half taken. */
 static void shut(uint32_t number) {
     struct connection *it = &all[number];
     if (!is_there(it)) return;
@@ -129,7 +129,7 @@ static void shut(uint32_t number) {
 
 static void send_on(uint32_t number);
 
-/* Closes those that hold most, where all hold too much, unless they take it now. */
+/* Closes those that hold most, if all together hold too much, unless they take it now. */
 static void bound(void) {
     while (held > HELD) {
         uint32_t most = 1;
@@ -141,7 +141,7 @@ static void bound(void) {
     }
 }
 
-/* Takes the pieces that the front has, once what it was told is kept. */
+/* Commits, and takes the chunks of the front. */
 static void take(void) {
     uint32_t number;
     enum next next;
@@ -189,12 +189,12 @@ static void send_on(uint32_t number) {
         it->sent += sent, held -= sent;
     }
     if (!owed(it)) forget_sent(it);
-    /* (its client closes it, or else patience ends: so what was sent isn't lost by what came) */
+    /* (its client closes it, or PATIENCE ends: so unread input doesn't lose what was sent) */
     if (!owed(it) && it->state == LAST) shutdown(it->socket, SHUT_WR);
     wait_for(number, (owed(it) <= OWED ? EPOLLIN : 0) | (owed(it) ? EPOLLOUT : 0));
 }
 
-/* Sends what was told, and tells the front which connections are closed. */
+/* Sends the chunks, and notifies the front which connections are closed. */
 static void finish(void) {
     take();
     while (touched_count || gone_count) {
@@ -226,7 +226,7 @@ static size_t begun(struct connection *it, const uint8_t *bytes, size_t count) {
     return found;
 }
 
-/* Takes what came on a connection, as long as it takes what it is told. */
+/* Reads from a connection, as long as it takes what it is sent. */
 static void read_from(uint32_t number) {
     static uint8_t block[HANDED];
     struct connection *it = &all[number];
@@ -247,17 +247,17 @@ static void read_from(uint32_t number) {
     }
 }
 
-/* Waits for what comes on a descriptor; whether that can be. */
+/* Waits for input on a descriptor from now on. Returns whether that works. */
 static bool is_added(int descriptor, uint32_t number) {
     struct epoll_event event = {.events = EPOLLIN, .data.u32 = number};
     return epoll_ctl(events, EPOLL_CTL_ADD, descriptor, &event) == 0;
 }
 
-/* Takes one who has connected, and closes the connection at once where there is no place. */
+/* Accepts a connection, and closes it at once if there are too many. */
 static bool is_welcomed(void) {
     int on = 1, socket = accept4(listener, NULL, NULL, SOCK_NONBLOCK | SOCK_CLOEXEC);
     if (socket < 0) {
-        /* (where descriptors or memory are short, nobody is welcomed for a second) */
+        /* (if descriptors or memory are short, no connection is accepted for a second) */
         struct epoll_event none = {.data.u32 = LISTENER};
         bool is_short = errno != EAGAIN && errno != EINTR && errno != ECONNABORTED;
         if (is_short) epoll_ctl(events, EPOLL_CTL_MOD, listener, &none);
@@ -273,8 +273,8 @@ static bool is_welcomed(void) {
     return true;
 }
 
-/* Waits at most so long, and does once what each event asks for. Returns how many there were.
-   (connections end before others begin: who closes one and opens another finds its place) */
+/* Waits at most this long, and handles each event once. Returns how many there were.
+   (connections end before others begin: a client that closes one and opens another finds room) */
 static int pass(int milliseconds) {
     static struct epoll_event ready[MOST + 2];
     int count = epoll_wait(events, ready, MOST + 2, milliseconds), most = 0;
@@ -301,8 +301,8 @@ static void look(void) {
     finish();
 }
 
-/* Serves until a signal comes. Ticks keep their distance. After a stall of more than a tick the
-   requests that wait are taken, for at most the time of a tick, and then one tick is given. */
+/* Serves until a signal comes. Ticks are evenly spaced. After a stall of more than a tick the
+   waiting requests are taken, for at most the time of a tick, and then one tick is given. */
 static void serve(uint32_t tick) {
     uint64_t ticks_at = now() + tick, looks_at = now() + 1000;
     while (!is_over) {
@@ -326,7 +326,7 @@ static const char SAID[] =
 static const char OPEN_TO_ALL[] =
     "zk: whoever can connect may do everything: nobody is asked who they are\n";
 
-/* Says where it listens, and what is left once it ends. */
+/* Prints where it listens, and what remains once it ends. */
 static void say(const struct words *words, unsigned port) {
     int host = (int)(strrchr(words->listen, ':') - words->listen);
     fprintf(stderr, SAID, words->tick, host, words->listen, port);

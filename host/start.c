@@ -1,4 +1,4 @@
-/* What comes before a server serves: its words, its place, its signals. */
+/* What comes before a server serves: its words, its address, its signals. */
 #define _GNU_SOURCE
 #include <arpa/inet.h>
 #include <errno.h>
@@ -39,7 +39,7 @@ union address {
     struct sockaddr_in6 six;
 };
 
-/* Reads ADDRESS:PORT. Returns its size, or 0 where it is none. */
+/* Reads ADDRESS:PORT. Returns its size, or 0 if it isn't one. */
 static socklen_t read_address(const char *text, union address *to) {
     char host[INET6_ADDRSTRLEN + 2];
     const char *colon = strrchr(text, ':');
@@ -75,7 +75,7 @@ int listening_at(const char *text, unsigned *port) {
 }
 
 void make_ready(unsigned descriptors) {
-    /* (a socket isn't to be standard input or output, here or in the child) */
+    /* (a socket must not be standard input or output, here or in the child) */
     int at;
     while ((at = open("/dev/null", O_RDWR)) >= 0 && at <= STDERR_FILENO) continue;
     if (at > STDERR_FILENO) close(at);
@@ -110,13 +110,13 @@ static const char USAGE[] =
 static const char NO_CHAIN[] =
     "a chain stands between processes, not in one: this is one server, without --servers";
 
-/* Where a word's value is put: a text, or a number from `least` to `most`. */
+/* Where a word's value is stored: a text, or a number from `least` to `most`. */
 struct place {
     const char *name, **text;
     long *number, least, most;
 };
 
-/* Puts a value in its place. Returns whether it may stand there. */
+/* Stores a value. Returns whether it is allowed. */
 static bool is_put(const struct place *place, const char *value) {
     if (place->text) *place->text = value;
     else *place->number = number_in(value, place->least, place->most);
