@@ -62,7 +62,7 @@ pub record HasLines (t : Tree) : Type 0 where
   pub within : AllNodes IsWithinLimits t.nodes
 
 -- The lines of a tree, played from the initial tree on, make a tree that has the same nodes but
--- those that a session owns, each with the same data and the same TTL.
+-- those that a session owns. Each has the same data and the same TTL.
 abbrev pub ExportsMakeTheirTree : Type 0
 ExportsMakeTheirTree =
     (t : Tree) → HasLines t → (path : Path)

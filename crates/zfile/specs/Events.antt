@@ -53,7 +53,7 @@ abbrev pub folder_synced : Bool → Event
 folder_synced ok = (9, 0, ok, [])
 
 -- a change since the last sync: a write of that many bytes at an offset; a cut to a length; or a
--- new file took the name, synced or not, with these bytes
+-- new file with these bytes took the name, synced or not
 abbrev pub Change : Type 0
 Change = (ℕ × ℕ) ⊎ (ℕ ⊎ (Bool × List ℕ))
 

@@ -14,10 +14,10 @@
 //! - Each call does as `specs/Events.antt` says, and a crash leaves one of the contents there.
 //! - No one else touches the file. The lock keeps out every program that asks for it.
 //!
-//! So a reader has to check these lines: each method of `src/device.rt`, which makes one call and
-//! then records it with its result, `begin` there, the calls of `src/calls.rt`, and
-//! `src/opening.rt`. A body that recorded a sync and made none would be proved as well. No other
-//! function may set a record by a proof by hand.
+//! So a reader has to check these lines: each method of `src/device.rt` with `begin`, the calls of
+//! `src/calls.rt`, and `src/opening.rt`. Each method makes one call and then records it with its
+//! result. A body that recorded a sync and made none would be proved as well. No other function may
+//! set a record by a proof by hand.
 //!
 //! # Why
 //! The device is Rattle over `std::fs`: a host in C would add memory, pointers and a protocol to

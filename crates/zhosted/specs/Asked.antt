@@ -29,7 +29,7 @@ is_dash word = bytes_eq word (codes "-")
 
 -- After the program's name a dash; the milliseconds of a tick, at least 1; the time in
 -- milliseconds. Or a folder and a mode; the number in the head of its journal, 1 to 16; a tick and
--- the time; the MiB from which on the journal is compacted.
+-- the time; the journal's MiB at which compaction begins.
 abbrev pub IsAsked : List (List ℕ) → HostedSettings → Type 0
 IsAsked (name ∷ dash ∷ tick ∷ now ∷ []) asked =
     (is_dash dash ≡ true) × Spells 32 tick asked.tick × Spells 64 now asked.now × (asked.folder ≡ None)

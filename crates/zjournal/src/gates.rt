@@ -1,10 +1,9 @@
 //! The steps that change a file. Each is durable before the next one begins.
 //!
 //! # Why
-//! A commit byte, and no checksum, decides whether a block counts. A checksum alone would need the
-//! premise that no torn block has its own checksum by chance. A commit takes two syncs: one for the
-//! block, one for its commit byte. With one sync for both, the disk would choose which of them is
-//! durable first.
+//! A checksum alone would need the premise that no torn block has its own checksum by chance. So a
+//! commit byte decides whether a block counts. It takes a second sync: with one for both, the disk
+//! could make the commit byte durable first.
 
 ghost use Rattle.std.specs.Prelude.{◌≡◌, ◌<◌, ◌≤◌, ◌^◌, ◌+◌, ◌++◌, [], ◌∷◌, length};
 ghost use Rattle.std.specs.Prelude.{take, drop, OnOk, IsErrOf};

@@ -17,7 +17,7 @@ pub record FileKeeps (servers : ℕ) (t : Tree) (file : List ℕ) : Type 0 where
   pub text : IsTextOf t (joined batches)
 
 -- an incarnation: the calls that it made and may have acknowledged, with their replies; the entries
--- that it committed; and those of the block in flight when it ended, if there was one
+-- that it committed; and those of a block in flight when it ended
 pub record Life : Type 0 where
   pub told : Log
   pub kept : List Entry

@@ -1,5 +1,5 @@
 //! What holds after a refused allocation: in the parts of a server and of a client, in a world, in
-//! a script that is played, and where a cluster starts and is joined.
+//! a script, and where a cluster starts and is joined.
 //!
 //! Each story is one call. If one of its allocations is refused, the answer is the refusal that is
 //! named for it, or a server stops, and what holds then is what its clauses say. If none is

@@ -1,8 +1,8 @@
-//! Tests of the service in threads: what threads share, threads that meet, a server that joins
-//! late, one that leaves, halted servers, a full ring, a client that uses up its steps, stamps that
-//! are learnt, a client that is not put back, what the master says to orders, what a client knows
-//! of the chain, and a ticker. Also what the audit says of the traces of a joined cluster, as they
-//! are and with one thing wrong.
+//! Tests of the service in threads.
+//!
+//! They start clusters whose servers join late, leave or are halted. They fill rings, use up a
+//! client's steps, pass on stamps, give orders to the master, and run a ticker. One client is not
+//! put back. The audit reads the traces of a joined cluster, as they are and with one thing wrong.
 #![tactic(auto)]
 
 #[cfg(test)]

@@ -1,6 +1,6 @@
--- The rows of a whole state: a header, the root, the sessions in the order of their ids, the other
--- nodes in the order of their paths, and the cached replies in the order of their clients. A state
--- has these rows and no others. The rows are this project's profile.
+-- The rows of a whole state: a header, the root, the sessions by id, the other nodes by path, and
+-- the cached replies by client. A state has these rows and no others. The rows are this project's
+-- profile.
 use Rattle.std.specs.Prelude.{◌≡◌, ℕ, ◌+◌, ◌≤◌, nat_lt, Bool, true, false, List, [], ◌∷◌, ◌++◌, map, length, take, drop, Result, Ok, IfOk, IfErr, if◌then◌else◌}
 use Rattle.std.specs.List.{AllByRecursion, flat_map}
 use Rattle.std.specs.Ordering.{nat_cmp}

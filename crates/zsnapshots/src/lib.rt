@@ -1,8 +1,8 @@
 //! The rows of a snapshot: the whole state of a machine as bytes, row by row.
 //!
-//! They are a header, the root, the sessions in the order of their ids, the other nodes in the
-//! order of their paths, and the cached replies in the order of their clients. A row is a frame of
-//! its own (`zwire`), so that no buffer has to hold a state, which is up to 268 MB.
+//! They are a header, the root, the sessions by id, the other nodes by path, and the cached replies
+//! by client. A row is a frame of its own (`zwire`), so that no buffer has to hold a state, which
+//! is up to 268 MB.
 //!
 //! `Writing` returns the rows of a machine in order, or those of its tree alone. `Reading` takes
 //! one row at a time, and returns the machine at the end, or says which row has which fault.
