@@ -5,6 +5,7 @@ Each look gives faults, a line each: the file, the line, and what is wrong there
 import os
 import re
 
+import kit
 from sources import ROOT, known_lines
 
 WIDTH = 100
@@ -118,6 +119,11 @@ def value(text):
     """The number that a literal is, or a shift of two."""
     number, _, shift = text.partition(" << ")
     return int(number, 0) << int(shift or "0", 0)
+
+
+def printed(_):
+    """Tables that differ from what `tools/books` prints."""
+    yield from kit.load("books", f"{ROOT}/tools/books").stale()
 
 
 def named_bodies(pattern):

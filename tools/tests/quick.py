@@ -169,7 +169,7 @@ def tasks():
     yield from ((unread, it) for it in sorted({it.partition("/")[0] for it in paths if "/" in it}))
     of_documents = (
         documents.links, documents.named_paths, documents.wide_lines, documents.citations,
-        documents.numbers, documents.wrong_bodies,
+        documents.numbers, documents.wrong_bodies, documents.printed,
     )
     yield from ((look, paths) for look in (counts, committed, *of_documents))
 
