@@ -14,7 +14,6 @@ from concurrent.futures import ProcessPoolExecutor
 
 import documents
 import kit
-import patterns
 from documents import fault, read
 from sources import ROOT
 
@@ -26,7 +25,6 @@ FILE_LINES, BODY_LINES, CLAUSE_COLUMNS = 600, 45, 102
 # Where Python, shell and C are counted, and how many lines they may have.
 COUNTED, MOST_LINES = r"(?:tools|\.ci|bench)/|(?:zk|library)$", 5000
 PROGRAM = re.compile(r"#!.*\b(?:python3?|bash|sh)\b")
-COMMENT = re.compile(r"(?<!\S)--[^\n]*|\{-.*?-\}", re.S)
 # How `rattle fmt` names a file that isn't in the layout, or the line at which it doesn't parse.
 UNFORMATTED = re.compile(r"(?m)^(.*?\.(?:rt|antt))(?: is|: (?:.*? at )?(\d+):\d+:) (.*)$")
 # A function with a body: its head, and its body by the indentation of its last line.
@@ -36,8 +34,8 @@ FUNCTION = re.compile(
     r"((?:\1 .*\n|\n)*)\1\}"
 )
 CLAUSE = re.compile(r"(?m)^ *(?:requires|ensures|ghost (?:view|invariant))\b.*$")
-# The crates by their names, and the types of each: what the processes of the looks share.
-CRATES, TYPES = {}, {}
+# The crates by their names, which the processes of the looks share.
+CRATES = {}
 
 
 def files_of(name):
@@ -118,15 +116,6 @@ def edits(name):
     yield from (f"{made[path]}:{line}: {why}" for path, line, why in wrong if line)
 
 
-def variables(name):
-    """Variables in patterns that are spelled like a constructor."""
-    for path in (it for it in files_of(name) if it.endswith(".antt")):
-        text = COMMENT.sub(lambda it: re.sub(r"[^\n]", " ", it[0]), read(path))
-        for place, variable, constructor in patterns.faults(text, TYPES):
-            what = f"the pattern's variable {variable} is spelled like {constructor}"
-            yield fault(path, text, place, what)
-
-
 def sizes(name):
     """Files and functions that are too long, and clauses that are too wide."""
     for path, text in ((it, read(it)) for it in files_of(name)):
@@ -164,7 +153,7 @@ def tasks():
         raise OSError("git lists no files here")
     paths = sorted({it for it in listed.stdout.split("\0") if os.path.isfile(f"{ROOT}/{it}")})
     names = sorted(CRATES, key=lambda it: -len(CRATES[it].below()))
-    yield from ((look, it) for look in (texts, edits, variables, sizes) for it in names)
+    yield from ((look, it) for look in (texts, edits, sizes) for it in names)
     yield from ((layout, names[it::4]) for it in range(4))
     yield from ((unread, it) for it in sorted({it.partition("/")[0] for it in paths if "/" in it}))
     of_documents = (
@@ -175,15 +164,11 @@ def tasks():
 
 
 def read_crates():
-    """Reads the crates and their types, as far as the toolchain takes them."""
+    """Reads the crates, as far as the toolchain takes them."""
     rt = kit.toolchain()
     os.chdir(ROOT)
     rt.Crate.allowed = rt.handles_of(ROOT)
     CRATES.update((it.name, it) for it in rt.crates_of(ROOT))
-    for name in CRATES:
-        TYPES[name] = {}
-        for path in files_of(name):
-            TYPES[name].update(patterns.declared(read(path)))
 
 
 def found_by(look, given):
