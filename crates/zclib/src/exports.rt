@@ -3,8 +3,9 @@
 //! # Why
 //!
 //! C holds a service by a pointer to bytes, and each export casts it. The type itself contains
-//! numbers of 128 bits, which an export's type may not reach, not even through a pointer. The
-//! status of an opening is a second loan: a pair would be more to prove by hand.
+//! numbers of 128 bits, which an export's type may not reach, not even through a pointer.
+//! `jellqupas_open` lends the new service again for its status, since a pair is more to prove by
+//! hand.
 
 ghost use Rattle.std.specs.Prelude.{◌≡◌, ℕ, ◌^◌, ◌<◌, List, length};
 ghost use Rattle.std.specs.Mem.{type_size};

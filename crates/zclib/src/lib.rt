@@ -10,7 +10,7 @@
 //! The memory is the caller's, so no contract has to grant a right to free it. Each export calls
 //! one safe function (`service`) and states its contract again: only the lending of memory is
 //! proved by hand. No export both executes a line and reads its answer, since the answer might not
-//! fit.
+//! fit: in the header, `jellqupas_call` does both.
 #![tactic(auto)]
 
 mod exports;

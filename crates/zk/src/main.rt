@@ -18,7 +18,7 @@ fn main(rt: HostRuntime) -> ExitCode {
     ExitCode::from(status)
 }
 
-// Does what the words that the program was started with ask for.
+// Plays the script that the program's arguments ask for, and returns the exit status.
 fn run<S: Source, K: Sink, F: Sink>(
     rt: &HostRuntime,
     source: &mut S,

@@ -73,7 +73,7 @@ impl Ticker {
         ) {
             Ok(thread) => Ok(Ticker { thread, word }),
             Err(refused) => {
-                // So it invokes no tick, and returns its client at once.
+                // The closure runs here: stopped, it invokes no tick, and returns its client.
                 word.store(STOPPED, SeqCst);
                 drop(word);
                 let SpawnError { value: thread } = refused;

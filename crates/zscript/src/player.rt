@@ -3,9 +3,9 @@
 //!
 //! # Why
 //!
-//! The history is cleared between two lines. What is left of the world is all that a player stores,
-//! so the two are compared by an equation. A line is stored cut at one byte more than its limit, so
-//! an endless line takes no more memory.
+//! The history is cleared between two lines. What is left of the world is what a player stores of
+//! it, so the two are compared by an equation. A line is stored cut at one byte more than its
+//! limit, so an endless line takes no more memory.
 
 ghost use Rattle.std.specs.Prelude.{◌≡◌, ◌<◌, ◌≤◌, [], ◌++◌, length, IfOk, IfErr, OnOk, OnErr};
 ghost use Rattle.zdevices.specs.Device.{Between, TookBeginning, Failed};

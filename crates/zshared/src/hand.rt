@@ -7,7 +7,7 @@ use std::collections::LinkedList;
 
 /// What a pass knows. It is never constructed.
 pub struct Hand {
-    /// How many of the parts it holds that together know the whole.
+    /// How many parts it holds. All parts together know the whole.
     pub parts: u64,
     /// The tickets that it has drawn, oldest first.
     pub drawn: LinkedList<u64>,

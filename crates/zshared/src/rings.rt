@@ -164,7 +164,7 @@ impl<M: Drop> Rx<M> {
         self.ring.is_empty()
     }
 
-    /// Receives the oldest message in the ring. None if this end finds none.
+    /// Receives the oldest message in the ring. Returns `None` if this end finds none.
     pub fn take(&mut self) -> Option<M>
         ensures taken { taken_of self.new ≡ taken_of self.old ++ option_to_list result }
         ensures ends { ring_of_rx self.new ≡ ring_of_rx self.old }

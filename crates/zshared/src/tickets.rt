@@ -89,8 +89,8 @@ impl Tickets {
         found
     }
 
-    /// Returns how many numbers were drawn: the passes drew all numbers below it, each once. None
-    /// if not all passes of the word came back.
+    /// Returns how many numbers were drawn: the passes drew all numbers below it, each once.
+    /// Returns `None` unless all passes of the word are given.
     pub fn close(self, mut passes: Vec<Pass>) -> Option<u64>
         requires { All (λ p. IsPassOf self p) passes.items }
         ensures each { IfSome result (λ n.
