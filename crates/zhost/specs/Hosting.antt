@@ -55,8 +55,7 @@ only posts = record { posts = posts; room = 0 }
 abbrev pub ActsAt : Desk → TreeStanding → Desk → TreeStanding → Input → Done → Type 0
 ActsAt a s b s' input done = HasActed (process_of a) s s' input (only []) (only (pending b)) done
 
--- what it sent that isn't on its channels yet, without the failure notice of a process that has
--- stopped
+-- what it sent that isn't on its channels yet: of a process that has stopped, its failure notice
 abbrev pub unsent : Desk → Done → List TreePost
 unsent d done = if is_end done then last_post else pending d
 

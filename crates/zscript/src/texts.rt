@@ -43,7 +43,7 @@ pub(crate) fn write_did(did: Did, history: &[CallEvent], out: &mut String) -> Re
     Ok(())
 }
 
-/// Writes what became of a call that was to be invoked.
+/// Writes whether a call was invoked, or why not.
 pub(crate) fn write_begun(did: Did, out: &mut String) -> Result<(), Memory>
     ensures { OnOk result (Writes out.old out.new (begun_text did)) }
 {

@@ -31,7 +31,7 @@ abbrev pub did_text : Did → List ℕ
 did_text (became.Idle why) = cause_text why
 did_text other = codes "done"
 
--- what became of a call that was to be invoked
+-- whether a call was invoked, or why not
 abbrev pub begun_text : Did → List ℕ
 begun_text (became.Idle why) = cause_text why
 begun_text other = codes "begun"
