@@ -1,9 +1,9 @@
 //! How the file of a folder is found, locked and read, and how a new one is made beside it.
 //!
 //! # Why
-//! The lock is `flock` on the file itself: it ends with the process, and no lock file can be left
-//! after. A process that opened the file just before a rename could lock a file without a name. So
-//! an opening checks the name again under its lock. Each opening syncs the file, its folder and the
+//! The lock is `flock` on the file itself: it ends with the process, so no stale lock file remains.
+//! A process that opened the file just before a rename could lock a file without a name: so an
+//! opening checks the name again under its lock. Each opening syncs the file, its folder and the
 //! folder above, since an earlier process may have been killed before it did.
 
 use crate::FileFault;
@@ -63,8 +63,8 @@ fn lock<R: Files<File = File>>(files: &R, file: &File, path: &str) -> Result<(),
     }
 }
 
-/// A new, empty, locked file. A file that had its name is removed. It is locked before it can get
-/// another name, so no one can lock it then.
+/// A new, empty, locked file. A file that had its name is removed. It is locked before it can take
+/// the other name, so no other process can lock it after that.
 pub(crate) fn new_file<R: Files<File = File>>(files: &R, path: &str) -> Result<File, FileFault> {
     match fs::remove_file(files, path) {
         Err(error) if error.kind() != ErrorKind::NotFound => return Err(FileFault::from(error)),

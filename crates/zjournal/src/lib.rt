@@ -25,8 +25,8 @@
 //! `zkept` joins them into a front end whose changes are durable.
 //!
 //! # Why
-//! A block's text has no byte 0 and ends with one. So no length can tear, and a batch may have any
-//! size.
+//! A block's text has no byte 0, and a byte 0 ends it. So no length can tear, and a batch may have
+//! any size.
 #![tactic(auto)]
 
 mod batches;

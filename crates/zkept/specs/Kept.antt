@@ -68,7 +68,7 @@ IsSameFile old new = new ≡ record old { front = new.front; is_open = new.is_op
 
 -- ---- chunks
 
--- chunks are returned: the service is open, and nothing is left to commit
+-- chunks can be taken: the service is open, and nothing is left to commit
 abbrev pub tells : {D : Type 0} → Kept D → Bool
 tells kept = kept.is_open && (length (made_in kept) == 0)
 

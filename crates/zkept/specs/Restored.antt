@@ -10,8 +10,8 @@ use Rattle.zfront.specs.Restoring.{beginning}
 abbrev pub clock_at : ℕ → ℕ → ℕ → Clock
 clock_at tick now_ms ticks = record { tick = tick; started = now_ms - ticks * tick }
 
--- a front end that begins with this tree, and has memory. Its changes are to be committed until
--- they are taken
+-- a front end that begins with this tree, and has memory. Its changes wait for a commit until they
+-- are taken
 abbrev pub restored : List ℕ → ℕ → ℕ → Tree → ServerView
 restored secret tick now_ms t = record {
   front = beginning t secret (clock_at tick now_ms t.time) true;

@@ -125,7 +125,7 @@ impl<D: Device> Kept<D> {
     }
 
     /// Commits the changes since the last commit, as one block. At `Ok` the block is durable, and
-    /// chunks are returned. Without changes nothing is written. After any fault the service has
+    /// its chunks can be taken. Without changes nothing is written. After any fault the service has
     /// ended; a file that is opened again then has all these changes, or none.
     pub fn commit(&mut self) -> Result<(), KeptFault>
         requires { IsSound D.seen D.may_leave self.old }

@@ -36,7 +36,7 @@ impl<D: Device> Kept<D> {
         self.front.next_piece()
     }
 
-    // Returns whether chunks are returned.
+    // Returns whether chunks can be taken.
     fn tells(&self) -> bool
         ensures { result ≡ tells self.now }
     {

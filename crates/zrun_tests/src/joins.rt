@@ -1,4 +1,4 @@
-//! A server joins a chain whose servers are then halted, in order.
+//! A server joins a chain whose servers are then halted, one by one.
 
 ghost use Rattle.std.specs.Prelude.{◌≡◌};
 ghost use Rattle.zrun.specs.Clients.{SameClient};

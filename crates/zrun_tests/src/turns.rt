@@ -63,7 +63,7 @@ fn hears_answer(client: &mut Client) -> bool
     }
 }
 
-// Makes more calls than the other client sent, in order. The server receives one message of each
+// Makes more calls than the other client sent, one by one. The server receives one message of each
 // client in a round, so it has answered all of the other's before the last of these.
 fn outlast(client: &mut Client, alloc: Global) -> Option<bool>
     ensures { SameClient client.old client.new }
