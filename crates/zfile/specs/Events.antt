@@ -52,7 +52,7 @@ named ok = (8, 0, ok, [])
 abbrev pub folder_synced : Bool → Event
 folder_synced ok = (9, 0, ok, [])
 
--- a change since the last sync: a write of that many bytes at an offset; a cut to a length; or a
+-- a change since the last sync: a write of that many bytes at an offset, or a cut to a length. Or a
 -- new file with these bytes took the name, synced or not
 abbrev pub Change : Type 0
 Change = (ℕ × ℕ) ⊎ (ℕ ⊎ (Bool × List ℕ))

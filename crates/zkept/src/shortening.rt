@@ -30,8 +30,8 @@ use zservice::LocalTree;
 use zstates::Shortening;
 
 impl<D: Device> Kept<D> {
-    /// Returns whether the journal is to be compacted: it has this many bytes, and at least four
-    /// times its size after the last compaction since the service was opened.
+    /// Returns whether the journal is to be compacted: it has at least `least` bytes, and at least
+    /// four times its size after the last compaction since the service was opened.
     pub fn is_long(&self, least: usize) -> bool
         ensures { result ≡ is_long least self.now }
     {
