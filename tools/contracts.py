@@ -3,10 +3,14 @@ import functools
 import glob
 import os
 import re
-from typing import NamedTuple
+from collections import namedtuple
 
 from sources import ROOT
 
+# A definition, by its file's path and the line where it begins.
+Definition = namedtuple("Definition", "place name text")
+# A function that others may call: the names of its clauses, what they cite, the types it handles.
+Function = namedtuple("Function", "path line name is_pub clauses cites types")
 # A word of a definition. A dot joins a module and its word, or a value and its field.
 WORD = re.compile(r"[^\s(){}\[\],;λ\"]+")
 USE = r"^[ \t]*(?:ghost |pub )*use\s+([^\s{};]+?)(?:\.\{([^}]*)\})?(?:\s+as\s+(\S+?))?\s*;?[ \t]*$"
@@ -39,20 +43,15 @@ def files(pattern):
     return sorted(os.path.relpath(it, ROOT) for it in found)
 
 
-def said(path, line=1):
-    """The first sentence of the comment above a line; for the first line, of the file's own."""
-    lines, first, end = raw(path).split("\n"), line - 1, line - 1
-    is_comment = lambda it: re.match(r"--|//!" if line == 1 else r"--| *///", it)
-    while line == 1 and end < len(lines) and is_comment(lines[end]):
-        end += 1
-    while line > 1 and re.match(r" *(?:#\[|ghost )", lines[end - 1]):
-        end -= 1
-        first = end
-    while first and is_comment(lines[first - 1]):
-        first -= 1
-    text = "\n".join(re.sub(r"^ *(?://[/!]|--) ?", "", it) for it in lines[first:end])
-    text = re.split(r"\n\s*\n|:\s*$|(?<=[.])\s+(?=[^a-z])", text)[0].rstrip(".")
-    return re.sub(r"\s+", " ", text)
+def said(path, line=None):
+    """The first sentence of the comment above a line, or of a file's own."""
+    if line:
+        lines = "\n".join(["", *raw(path).split("\n")[max(line - 50, 0) : line - 1]])
+        found = re.search(r"((?:\n *(?:///|--).*)*)(?:\n *(?:#\[|ghost ).*)*\Z", lines)
+    else:
+        found = re.match(r"((?:(?://!|--).*\n)*)", raw(path))
+    text = re.sub(r"(?m)^ *(?://[/!]|--) ?", "", found[1]).strip()
+    return re.sub(r"\s+", " ", re.split(r"\n\s*\n|:$|(?<=[.])\s+(?=[^a-z])", text)[0].rstrip("."))
 
 
 def imports_of(text):
@@ -77,14 +76,6 @@ def cited(text, names, module="", found=(), own=None):
             yield f"{module}.{head}"
 
 
-class Definition(NamedTuple):
-    """A definition: the path of its file and the line where it begins, its name, its lines."""
-
-    place: tuple
-    name: str
-    text: list
-
-
 class Spec:
     """A file of specs/. `found` has its definitions by name, and by constructors of its data."""
 
@@ -104,25 +95,6 @@ class Spec:
                 self.found.setdefault(found[1], here)
             if here and line.strip():
                 here.text.append(line)
-
-    def cites(self, it):
-        return cited("\n".join(it.text), self.names, self.module, self.found, it.name)
-
-
-class Function(NamedTuple):
-    """A function that others may call: whose it is, its clauses by name, and what these cite."""
-
-    path: str
-    line: int
-    owner: str
-    name: str
-    is_pub: bool
-    clauses: list
-    cites: list
-    types: set
-
-    def __str__(self):
-        return f"{self.owner}::{self.name}" if self.owner else self.name
 
 
 def closed(text, head):
@@ -154,10 +126,10 @@ def functions_of(path):
             cites.append(closed(text, here))
             clauses += [here[2].strip()] if here[1] == "ensures" else []
             here = CLAUSE.search(text, here.end() + len(cites[-1]))
+        name = f"{OWNER.match(head)[1]}::{found[3]}" if head else found[3]
         yield Function(
-            path, text.count("\n", 0, found.start(2)) + 1, head and OWNER.match(head)[1], found[3],
-            "pub fn" in found[0] or "trait" in head, clauses,
-            [*cited(" ".join(cites), within(text, block)[0])], {*re.findall(r"\b[A-Z]\w+", types)},
+            path, text.count("\n", 0, found.start(2)) + 1, name, "pub fn" in found[0] or "trait" in head,
+            clauses, [*cited(" ".join(cites), within(text, block)[0])], re.findall(r"\b[A-Z]\w+", types),
         )
 
 
@@ -187,10 +159,9 @@ def models():
 def believed(name):
     """The functions of this name; the definitions on which their contracts rest, in order; and the
     places of those that a contract or another file names."""
-    found, seen, named = [it for it in functions() if name in (it.name, str(it))], {}, set()
-    kinds = {kind for it in found for kind in it.types}
-    paths = [it.cites for it in found] + [models().get(it, ()) for it in kinds]
-    left = [(path, None) for some in paths for path in some]
+    found, seen, named = [it for it in functions() if f"::{it.name}".endswith(f"::{name}")], {}, set()
+    modelled = (models().get(kind, ()) for it in found for kind in it.types)
+    left = [(path, None) for paths in (*(it.cites for it in found), *modelled) for path in paths]
     while left:
         path, source = left.pop()
         parts = path.split(".")
@@ -202,5 +173,7 @@ def believed(name):
             named.add(it.place)
         if it and it.place not in seen:
             seen[it.place] = it
-            left += ((path, spec) for path in spec.cites(it))
+            text = "\n".join(it.text)
+            paths = cited(text, spec.names, spec.module, spec.found, it.name)
+            left += ((path, spec) for path in paths)
     return found, [seen[it] for it in sorted(seen)], named
