@@ -3,8 +3,8 @@
     ./library
     PYTHONPATH=out/library python3 examples/election.py
 
-The last server crashes under the create by which the second client takes over. That client is told
-that it leads, and not that somebody else does.
+The last server crashes during the create by which the second client takes over. That client gets
+the reply that it leads, and not that its own node exists already.
 """
 from jellqupas import Create, NodeExists, Service
 

@@ -3,9 +3,8 @@
        ./library
        cc -I out/library -o lock examples/lock.c out/library/libjellqupas.a && ./lock
 
-   Each client makes an ephemeral sequential node beneath /lock, and the first in the queue holds
-   the lock. Over three servers, of which the one in the middle crashes while the second client
-   asks.
+   Each client makes an ephemeral sequential node below /lock, and the first in the queue holds the
+   lock. The middle one of three servers crashes while the second client asks.
 
    A holder may have lost its session without knowing. So it writes in a multi that checks its own
    node: the name of a sequential node never comes twice, so it is a fencing token. */
@@ -24,7 +23,7 @@ static void want(int holds, const char *what) {
     if (!holds) stop(what);
 }
 
-/* Plays a line, and returns its answer, which stands until the next call. */
+/* Plays a line, and returns its answer, which remains until the next call. */
 static const char *ask(jellqupas *service, const char *format, ...) {
     static char *answer;
     static size_t room;
@@ -47,7 +46,7 @@ static const char *ask(jellqupas *service, const char *format, ...) {
     return answer;
 }
 
-/* A client's session, and the node that stands for it in the queue. */
+/* A client's session, and the node that represents it in the queue. */
 struct client {
     int number;
     unsigned long long session;
@@ -91,7 +90,7 @@ static void queue_up(jellqupas *service, struct client *clients) {
     told = ask(service, "1 create /lock/n- es:%llu -", clients[0].session);
     want(sscanf(told, "ok /lock/%31s", clients[0].node) == 1, "no node");
 
-    /* The second client's create is on its way through the chain when server 2 crashes: it is done
+    /* The second client's create is in flight through the chain when server 2 crashes: it is done
        all the same, and once. */
     ask(service, "2 begin create /lock/n- es:%llu -", clients[1].session);
     ask(service, "take c2 s1");
@@ -111,7 +110,7 @@ int main(void) {
     want(write_setting(service, &clients[0], "Ynkx"), "the holder can't write");
     puts("client 1 writes");
 
-    /* The first client is heard of no more, and its session ends. */
+    /* The first client pings no more, and its session ends. */
     ask(service, "0 tick");
     want(strcmp(ask(service, "0 tick"), "ok tick 2 ended 1\n") == 0, "the session hasn't ended");
     puts("client 1's session ends");

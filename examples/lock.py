@@ -3,8 +3,8 @@
     ./library
     PYTHONPATH=out/library python3 examples/lock.py
 
-Each client makes an ephemeral sequential node beneath /lock, and the first in the queue holds the
-lock. Over three servers, of which the one in the middle crashes while the second client asks.
+Each client makes an ephemeral sequential node below /lock, and the first in the queue holds the
+lock. The middle one of three servers crashes while the second client asks.
 
 A holder may have lost its session without knowing. So it writes in a multi that checks its own
 node: the name of a sequential node never comes twice, so it is a fencing token. (The name of a lock
@@ -41,7 +41,7 @@ def main():
         sessions = one.open(2), two.open(20)
         first = one.create("/lock/n-", ephemeral=sessions[0], sequential=True)
 
-        # The second client's create is on its way through the chain when server 2 crashes: it is
+        # The second client's create is in flight through the chain when server 2 crashes: it is
         # done all the same, and once.
         service.begin(2, Create("/lock/n-", ephemeral=sessions[1], sequential=True))
         service.take("c2", "s1")
@@ -54,7 +54,7 @@ def main():
         assert write(one, first, b"by 1")
         print("client 1 writes")
 
-        # The first client is heard of no more, and its session ends.
+        # The first client pings no more, and its session ends.
         service.tick()
         assert service.tick().ended == 1
         print("client 1's session ends")

@@ -1,16 +1,16 @@
-"""A setting: who changes it names the version that it has read, so nobody overwrites unread news.
+"""A setting: each change names the version that was read, so no client overwrites unread data.
 
     ./library
     PYTHONPATH=out/library python3 examples/setting.py
 
-Server 2 crashes under a change, which counts once. Later server 4 joins, both servers that are left
-of the first ones crash, and the setting is still there.
+Server 2 crashes during a change, which acts once. Later server 4 joins, servers 1 and 3 crash, and
+the setting is still there.
 """
 from jellqupas import BadVersion, Service, Set
 
 
 def change(client, path, how):
-    """Sets a node to what `how` makes of its data, as often as somebody else was faster."""
+    """Sets a node to what `how` makes of its data, again as long as another client was faster."""
     while True:
         data, stat = client.get(path)
         try:

@@ -16,18 +16,17 @@
 
    The library has five functions: jellqupas_size, _open, _hear, _tell and _close. What each does
    is proved of its code, for every line and every sequence of calls, as long as the caller upholds
-   what follows. Nothing can check it. The other three functions stand below, in C, and aren't
-   proved: jellqupas_call is jellqupas_hear and then jellqupas_tell.
+   what follows. Nothing can check it. The other three functions are below, in C, and aren't proved:
+   jellqupas_call is jellqupas_hear and then jellqupas_tell.
 
-   - Room. Where a service is, there are jellqupas_size() bytes, aligned as malloc aligns them (to
-     16). They belong to the caller, who neither reads nor writes them between jellqupas_open and
-     jellqupas_close, and neither moves nor copies them. jellqupas_open is given room without a
-     service in it. The other calls are given an open one: jellqupas_open was given it (whatever
-     it returned), and jellqupas_close wasn't since.
-   - Buffers. Behind the pointer of a line there are `length` bytes, and behind the pointer of a
-     buffer `room` bytes. They have values, and nothing changes them during the call but the call.
-     Neither overlaps a service. No pointer is null, not even at a length of 0. Lengths are below
-     2^63.
+   - Room. A service has jellqupas_size() bytes, aligned as malloc aligns them (to 16). They belong
+     to the caller, who doesn't read, write, move or copy them from jellqupas_open to
+     jellqupas_close. jellqupas_open is given room without a service in it. The other calls are
+     given an open one: jellqupas_open was given it (whatever it returned), and jellqupas_close
+     wasn't since.
+   - Buffers. A line has `length` bytes, and a buffer `room` bytes. They are initialized, and only
+     the call itself changes them during the call. Neither overlaps a service. No pointer is null,
+     not even at a length of 0. Lengths are below 2^63.
    - Threads. A service stays on the thread that opened it. Several services may be used at the
      same time, each on its own thread. No call is made in a signal handler, nor in the child of a
      fork of a process with threads.
@@ -45,7 +44,7 @@
 extern "C" {
 #endif
 
-/* The version of this header and of the library that was built with it. It stands here alone. */
+/* The version of this header and of the library that was built with it. No other file has it. */
 #define JELLQUPAS_VERSION "0.1.0"
 
 /* A service. It has no fields for a caller: make room for it by jellqupas_size(). */
@@ -55,14 +54,13 @@ typedef struct jellqupas jellqupas;
 enum jellqupas_status {
     /* It was done. */
     JELLQUPAS_DONE = 0,
-    /* An earlier answer is still to be told, and nothing was done. Tell it, and then call again. */
+    /* An earlier answer still waits, and nothing was done. Fetch it, and then call again. */
     JELLQUPAS_PENDING = 1,
     /* Out of memory, and nothing is promised of the line. It is so for good: the service has freed
-       its servers, every later line comes to this too, and nothing is to be told. What is left to
-       do is to close it. */
+       its servers, every later line comes to this too, and no answer waits. Close it. */
     JELLQUPAS_MEMORY = 2,
-    /* The service was opened with a number that isn't 1 to 16. Every line comes to this, and
-       nothing is to be told. Close it, too. */
+    /* The service was opened with a number that isn't 1 to 16. Every line comes to this, and no
+       answer waits. Close it, too. */
     JELLQUPAS_NO_SERVERS = 3,
     /* Of jellqupas_call alone: the line was played, and there was no room for its answer. */
     JELLQUPAS_LONGER = 4
@@ -71,38 +69,36 @@ enum jellqupas_status {
 /* How many bytes a service takes. It is the same at every call. */
 size_t jellqupas_size(void);
 
-/* Makes a service with an empty tree, of which the chain begins with so many servers, 1 to 16. The
+/* Makes a service with an empty tree, whose chain begins with that many servers, 1 to 16. The
    other servers, up to 16, are spare: a line lets them join.
-   JELLQUPAS_DONE: it is open, and nothing is to be told. JELLQUPAS_MEMORY, JELLQUPAS_NO_SERVERS:
-   as above. Whatever it returns, there is a service now, which jellqupas_close closes. */
+   JELLQUPAS_DONE: it is open, and no answer waits. JELLQUPAS_MEMORY, JELLQUPAS_NO_SERVERS: as
+   above. Whatever it returns, there is a service now, which jellqupas_close closes. */
 uint32_t jellqupas_open(uint8_t servers, jellqupas *service);
 
 /* Plays one line, given without its LF. Any bytes are a line: an LF or a NUL in it is a byte like
    others. A line that isn't understood, or has over 524,288 bytes, is answered with `bad line`.
-   JELLQUPAS_DONE: it was played, and its answer is now to be told. JELLQUPAS_PENDING,
-   JELLQUPAS_MEMORY, JELLQUPAS_NO_SERVERS: as above. The line is read during the call alone. */
+   JELLQUPAS_DONE: it was played, and its answer waits. JELLQUPAS_PENDING, JELLQUPAS_MEMORY,
+   JELLQUPAS_NO_SERVERS: as above. The line is read during the call alone. */
 uint32_t jellqupas_hear(jellqupas *service, const uint8_t *line, size_t length);
 
-/* Tells the answer to the last line that was played. It is one or more lines of visible ASCII and
-   spaces, each with an LF at its end. No NUL stands behind them.
-   Returns how many bytes the answer has, or 0 if nothing is to be told. THIS MAY BE MORE THAN
-   `room`: then nothing was done, and `to` is as it was. Call it again with that much room. If it
-   is at most `room`, the answer stands in `to` and isn't told again. What is behind it in `to` is
-   as it was. */
+/* Writes the answer to the last line that was played. It is one or more lines of visible ASCII and
+   spaces, each with an LF at its end. No NUL follows.
+   Returns how many bytes the answer has, or 0 if none waits. THIS MAY BE MORE THAN `room`: then
+   nothing was done, and `to` is as it was. Call it again with that much room. If it is at most
+   `room`, the answer is in `to` and no longer waits. The bytes of `to` after it are unchanged. */
 size_t jellqupas_tell(jellqupas *service, uint8_t *to, size_t room);
 
 /* Ends a service and frees all memory that it took. Its room is left, which is the caller's to
-   free, or to open again. An answer that wasn't told is dropped. */
+   free, or to open again. An answer that still waits is dropped. */
 void jellqupas_close(jellqupas *service);
 
-/* Plays one line, and tells its answer as a string of C: with its LFs, and a NUL behind it. So an
-   answer of n bytes wants a room of n + 1. Where there is room, `to` is a string after every call,
+/* Plays one line, and writes its answer as a string of C: with its LFs, and a NUL at the end. So an
+   answer of n bytes wants a room of n + 1. Where `room` isn't 0, `to` is a string after every call,
    and printing it reads nothing else.
    JELLQUPAS_DONE: the line was played, and `to` is its whole answer.
    JELLQUPAS_LONGER: the line was played, and its answer wants more room. `to` is empty, and the
-   answer is still to be told: jellqupas_tell(service, (uint8_t *)to, 0) returns its bytes, without
-   the NUL, and jellqupas_tell with that much room tells it. Until then each line is
-   JELLQUPAS_PENDING.
+   answer waits: jellqupas_tell(service, (uint8_t *)to, 0) returns its bytes, without the NUL, and
+   jellqupas_tell with that much room writes it. Until then each line is JELLQUPAS_PENDING.
    JELLQUPAS_PENDING, JELLQUPAS_MEMORY, JELLQUPAS_NO_SERVERS: as above, and `to` is empty. */
 static inline uint32_t jellqupas_call(jellqupas *service, const char *line, size_t length,
                                       char *to, size_t room) {

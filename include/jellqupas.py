@@ -1,5 +1,5 @@
-"""Jellqupas, a coordination service, from Python: a class over libjellqupas.so.0, which lies beside
-this file. It needs ctypes alone, and Python 3.8.
+"""Jellqupas, a coordination service, from Python: a class over libjellqupas.so.0, which is in the
+folder of this file. It needs ctypes alone, and Python 3.8.
 
     from jellqupas import Service
 
@@ -9,24 +9,24 @@ this file. It needs ctypes alone, and Python 3.8.
         client.get("/color")                        # (b'red', Stat(czxid=1, mzxid=1, ..))
         service.call("1 get /color")                # 'ok data cmVk stat 1 1 1 0 0 0 0 0 3 0'
 
-A service is all servers of a chain, their master and their clients, in one thread: nothing listens,
-and nothing is kept when it is closed. docs/GUIDE.md has what each call does, and the lines that
+A service is all servers of a chain, their master and their clients, in one thread. Nothing listens,
+and all state is lost when it is closed. docs/GUIDE.md has what each call does, and the lines that
 `Service.call` plays.
 
 - A path is a str: absolute, of visible ASCII without spaces ("/lock/n-0000000007").
 - Data is bytes, at most 65,536 of them; whatever has the bytes of a buffer is taken too.
 - A version is an int, or None for any version.
 - A session is what `Client.open` returned, or its number.
-- Time is in ticks: it goes on by `Service.tick` alone. zxids number the changes from 1 on.
+- Time is in ticks: only `Service.tick` moves the clock on. zxids number the changes from 1 on.
 
 Errors. Each refusal of the service is a class of its own below `Refusal`; a call that is refused
 changed nothing. `Unanswered`, `Busy`, `BadPath` and the others below `Error` say what they are.
 MemoryError: the service is out of memory, for good; close it. TypeError and ValueError: an
 argument isn't what the call takes, and no line was made of it.
 
-An exception that comes from outside, as KeyboardInterrupt does, may end a call at any place. The
-service goes on. If the line was played, its answer is kept for the client (`Client.answer`); that
-to a line of `Service.call` is in `Service.missed`.
+An exception that comes from outside, as KeyboardInterrupt does, may end a call at any point. The
+service continues. If the line was played, its answer is cached for the client (`Client.answer`);
+that to a line of `Service.call` is in `Service.missed`.
 """
 import binascii
 import ctypes
@@ -75,26 +75,26 @@ def status_text(status: int) -> str:
 
 
 class Error(Exception):
-    """What a service or a client says in the place of a result."""
+    """What a service or a client raises instead of a result."""
 
 
 class Unanswered(Error):
-    """Nobody has answered, and the client still waits for its call, which may be done or not.
+    """No reply came, and the client still waits for it. The call may be done or not.
 
-    The client's next call is `Busy` until the answer came. `Client.retry` sends the call again:
-    it acts once, however often it is sent. `Service.settle` delivers what is under way, and
-    `Client.answer` then gives the answer."""
+    The client's next call is `Busy` until the reply has come. `Client.retry` sends the call again:
+    it acts once, however often it is sent. `Service.settle` delivers what is in flight, and
+    `Client.answer` then returns the answer."""
 
 
 class Busy(Error):
     """The client still waits for an earlier call, so nothing was done.
 
-    `Client.retry` sends that call again, `Service.settle` delivers what is under way, and
-    `Client.answer` then gives its answer."""
+    `Client.retry` sends that call again, `Service.settle` delivers what is in flight, and
+    `Client.answer` then returns its answer."""
 
 
 class Idle(Error):
-    """`Client.answer` was called, but the client waits for nothing and no answer is kept."""
+    """`Client.answer` was called, but the client waits for nothing and no answer is cached."""
 
 
 class BadPath(Error, ValueError):
@@ -130,8 +130,8 @@ class Forked(Error, RuntimeError):
 
 
 class Refusal(Error):
-    """The service refused a call, and nothing changed. `part` is the place of the refused part in
-    the list of a multi, from 0 on, and None of another call."""
+    """The service refused a call, and nothing changed. `part` is the index of the refused part of a
+    multi, from 0 on, and None for another call."""
 
     part: Optional[int] = None
 
@@ -224,7 +224,7 @@ REFUSALS: Dict[str, Type[Refusal]] = {it.__name__: it for it in Refusal.__subcla
 
 
 class Stat(NamedTuple):
-    """What a node has besides its data. The fields stand in the order of the text's."""
+    """What a node has besides its data. The fields have the order of the text."""
 
     czxid: int
     """The change that made it."""
@@ -256,8 +256,8 @@ class Session(NamedTuple):
 
 
 class Ticked(NamedTuple):
-    """What the clock shows, how many sessions ended at this tick, and how many nodes went since
-    their time to live was over."""
+    """What the clock shows, how many sessions ended at this tick, and how many nodes were removed
+    because their time to live was over."""
 
     now: int
     ended: int
@@ -340,7 +340,7 @@ def _line(words: Sequence[bytes]) -> bytes:
 
 
 class Call:
-    """A call of a client, as a value. `words` are its line's, and `read` makes its result of the
+    """A call of a client, as a value. `words` are those of its line. `read` makes its result of the
     words of the answer."""
 
     ABSENT: ClassVar[Tuple[str, ...]] = ()
@@ -525,7 +525,7 @@ class Close(Call):
 
 @dataclass(frozen=True)
 class Tick(Call):
-    """The clock goes on by a tick; see `Service.tick`."""
+    """Moves the clock on by a tick; see `Service.tick`."""
 
     def words(self) -> List[bytes]:
         return [b"tick"]
@@ -618,9 +618,9 @@ class _Caller:
         return self._service._event(b"retry", b"c%d" % self.number) == "done"
 
     def answer(self) -> Any:
-        """The result of the oldest call that was answered meanwhile, or its error, and forgets it.
-        It is the text of the answer where the call was begun by `Service.call`.
-        Unanswered: the client still waits. Idle: it waits for nothing, and none is kept."""
+        """Returns the result of the oldest call that was answered meanwhile, or raises its error,
+        and forgets it. It is the text of the answer where the call was begun by `Service.call`.
+        Unanswered: the client still waits. Idle: it waits for nothing, and none is cached."""
         return self._service._answer(self.number)
 
     def _do(self, call: Call) -> Any:
@@ -637,8 +637,8 @@ class Client(_Caller):
         """Makes a node, and returns its path.
 
         ephemeral: the session whose end deletes it. sequential: ten digits of the parent's counter
-        are added to the name, so that no name comes twice. ttl: after so many ticks without a set,
-        1 to 1,048,576, a childless node is deleted.
+        are added to the name, so that no name comes twice. ttl: after that many ticks without a
+        set, 1 to 1,048,576, a childless node is deleted.
         SessionGone, NodeExists, NoNode, NoChildrenForEphemerals, SequenceFull, PathLimit, Full,
         BadData."""
         return self._do(Create(path, data, ephemeral, sequential, ttl))
@@ -666,12 +666,12 @@ class Client(_Caller):
     def multi(self, parts: Sequence[Part]) -> List[Union[None, str, Stat]]:
         """Does 1 to 64 parts (`Create`, `Delete`, `Set`, `Check`), all of them or none, and returns
         a result for each: the path of a create, the stat of a set, else None. The refusal is that
-        of the first part that is refused, and `part` is its place in the list."""
+        of the first part that is refused, and `part` is its index."""
         return self._do(Multi(parts))
 
     def open(self, timeout: int) -> Session:
-        """Opens a session, which ends when no ping came for so many ticks. The timeout that it has
-        is the nearest of 2 to 20. TooManySessions."""
+        """Opens a session, which ends when no ping came for its timeout. That is what is asked for,
+        or the nearer of 2 and 20 ticks. TooManySessions."""
         return self._do(Open(timeout))
 
     def ping(self, session: Union[Session, int]) -> None:
@@ -687,7 +687,7 @@ class Clock(_Caller):
     """The client 0, which gives the ticks and nothing else."""
 
     def tick(self) -> Ticked:
-        """The clock goes on by one tick; see `Service.tick`."""
+        """Moves the clock on by one tick; see `Service.tick`."""
         return self._do(Tick())
 
 
@@ -704,15 +704,15 @@ class _Asked(NamedTuple):
 
 
 class _State(NamedTuple):
-    """What a service keeps between lines. It is replaced as a whole and never changed, so whoever
-    interrupts leaves the old one or the new one."""
+    """What a service stores between lines. It is replaced as a whole and never changed, so an
+    interrupt leaves the old one or the new one."""
 
     noted: Optional[_Asked]
     """The last line whose answer is noted here."""
     waiting: Dict[int, Call]
     """The call that each client waits for."""
     kept: Dict[int, Tuple[Tuple[Optional[Call], str], ...]]
-    """The answers for each client that nobody has fetched yet, and what they are answers to."""
+    """The answers for each client that weren't fetched yet, and what they are answers to."""
     missed: Tuple[Tuple[str, str], ...]
     """Lines that aren't calls and were interrupted, and their answers."""
 
@@ -769,7 +769,7 @@ class Service:
         number = int(_number(servers, "the number of servers", 1, MAX_SERVERS))
         # (aligned to 16 within the room, which Python doesn't move)
         self._room = ctypes.create_string_buffer(LIBRARY.jellqupas_size() + 15)
-        # (what stands in the buffer ends at its first NUL, which no answer has)
+        # (what is in the buffer ends at its first NUL, which no answer has)
         self._buffer = ctypes.create_string_buffer(BUFFER)
         # (the line that is being played, until the state has noted its answer)
         self._asked: Optional[_Asked] = None
@@ -803,13 +803,13 @@ class Service:
         return Clock(self, 0)
 
     def tick(self) -> Ticked:
-        """The clock goes on by one tick. It ends each session whose deadline it reaches, and then
+        """Moves the clock on by one tick. It ends each session whose deadline it reaches, and then
         deletes each childless node whose time to live is over. Unanswered, Busy, Exhausted."""
         return self.clock.tick()
 
     def begin(self, client: int, call: Call) -> None:
-        """Begins a client's call, and delivers nothing: its request is on its way. `settle`
-        delivers it, and `Client.answer` then gives its result. Busy, Numbers, BadPath, BadData."""
+        """Begins a client's call, and delivers nothing: its request is in flight. `settle` delivers
+        it, and `Client.answer` then returns its result. Busy, Numbers, BadPath, BadData."""
         if not isinstance(call, Call):
             raise TypeError("a call is Create, Delete, Set, Get, .., as begin(1, Get('/a'))")
         word = _number(client, "a client", 0, MAX_CLIENTS - 1)
@@ -841,14 +841,13 @@ class Service:
         self._order(b"retire", _server(server))
 
     def settle(self) -> bool:
-        """Delivers messages until none is under way. Returns whether it came so far: False after
+        """Delivers messages until none is in flight. Returns whether it came so far: False after
         100,000 events."""
         return self._event(b"settle") == "quiet"
 
     def missed(self) -> List[Tuple[str, str]]:
-        """The lines that were played and whose answer an exception from outside kept from their
-        caller, with their answers, and forgets them. Those to calls of clients aren't here, but at
-        `Client.answer`."""
+        """Returns the lines that were played and whose caller was interrupted by an exception from
+        outside, with their answers, and forgets them. For calls of clients see `Client.answer`."""
         self._recover(self._here())
         after, missed = self._state._replace(missed=()), list(self._state.missed)
         self._state = after
@@ -858,7 +857,7 @@ class Service:
         """Ends the service. It may be called again. In the child of a fork it only forgets it."""
         if self._at is not None and os.getpid() == self._process:
             self._here()
-            # (in this order: whoever interrupts leaves nothing that is closed twice)
+            # (in this order: after an interrupt nothing is closed twice)
             at, self._at = self._at, None
             LIBRARY.jellqupas_close(at)
         self._at = None
@@ -883,7 +882,7 @@ class Service:
         warn(said, ResourceWarning, source=self)
 
     def _here(self) -> int:
-        """Where the service lies, for its own thread."""
+        """The service's address, for its own thread."""
         at = self._at
         if at is None:
             raise Closed("the service is closed")
@@ -894,8 +893,8 @@ class Service:
         return at
 
     def _told(self, at: int) -> str:
-        """The answer that is to be told, or that stands in the buffer since it was told; "" if
-        there is none. Until `_clear` it may be asked for again."""
+        """The answer that waits, or that was already written to the buffer; "" if there is none.
+        Until `_clear` it may be asked for again."""
         while True:
             buffer = self._buffer
             text = buffer.value
@@ -931,7 +930,7 @@ class Service:
         self._asked = asked
         status = LIBRARY.jellqupas_hear(at, asked.line, len(asked.line))
         if status == PENDING:
-            # (somebody called the library's own functions on this service)
+            # (another caller used the library's own functions on this service)
             self._told(at)
             self._clear()
             status = LIBRARY.jellqupas_hear(at, asked.line, len(asked.line))
@@ -971,7 +970,7 @@ class Service:
         return self._state.waiting.get(client)
 
     def _answer(self, client: int) -> Any:
-        """The oldest answer that is kept for a client, as a result."""
+        """The oldest answer that is cached for a client, as a result."""
         self._recover(self._here())
         answers = self._state.kept.get(client, ())
         if not answers:

@@ -1,7 +1,7 @@
-"""Builds the wheel of the folder in which this file lies, as `pip install FOLDER` asks for it.
+"""Builds the wheel of this file's folder, as `pip install FOLDER` asks for it.
 
-It needs neither a network nor another package. The wheel has a package of one module, with the
-shared object beside it. (The hooks are those of PEP 517.)
+It needs neither a network nor another package. The wheel has a package of one module and the shared
+object. (The hooks are those of PEP 517.)
 """
 import base64
 import hashlib
@@ -42,7 +42,7 @@ def read(name):
 
 
 def version():
-    """The version that the module tells."""
+    """The module's version."""
     return re.search(r'^__version__ = "(.*)"$', read(f"{NAME}.py").decode(), re.M)[1]
 
 
