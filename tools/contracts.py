@@ -20,7 +20,6 @@ HEAD = re.compile(KINDS + r"(?:(record|data)\s+([^\s:({]+)|([^\s:=({]+)\s*:(?=\s
 FUNCTION = re.compile(r"^( *)([\w() ]*)\bfn\s+(\w+)", re.M)
 CLAUSE = re.compile(r"\b(requires|ensures|ghost)\b([^{;]*)\{|[;{]")
 BLOCK = re.compile(r"^(?:pub )?(?:impl|trait)\b[^{;]*\{", re.M)
-OWNER = re.compile(r"(?s)(?:pub )?(?:trait|impl(?:<.*?>(?=\s))?)\s+(?:.*\sfor\s+)?(\w+|\S)")
 MODEL = re.compile(r"^impl\b[^{;]*\bModel for (\w+)[^{;]*\{|^pub trait (\w+)[^{;]*\{", re.M)
 
 
@@ -66,13 +65,13 @@ def imports_of(text):
     return names
 
 
-def cited(text, names, module="", found=(), own=None):
+def cited(text, names, module="", found=()):
     """The paths of the words that an import, or the file itself, names."""
     for word in WORD.findall(text):
         head, dot, tail = word.partition(".")
         if word in names or head in names:
             yield names.get(word) or names[head] + (dot + tail if tail else "")
-        elif head in found and head != own:
+        elif head in found:
             yield f"{module}.{head}"
 
 
@@ -112,30 +111,32 @@ def within(text, block):
     return imports_of("\n".join([*TOP.findall(text), inside])), inside
 
 
-def functions_of(path):
-    """The functions of a source that others may call."""
-    text, blocks = bare(path), [*BLOCK.finditer(bare(path))]
+@functools.cache
+def functions():
+    """The functions of all sources that others may call."""
+    return [it for path in files("*/src/**/*.rt") for it in functions_of(path, bare(path))]
+
+
+def functions_of(path, text):
+    blocks = [*BLOCK.finditer(text)]
     for found in FUNCTION.finditer(text):
         block = [it for it in blocks if it.start() < found.start()][-1] if found[1] else None
-        head, clauses, cites = block[0] if block else "", [], []
+        head, clauses, inside = block[0] if block else "", [], []
         if "pub" not in found[2] and not re.match(r".* for |(?:pub )?trait", head):
             continue
         here = CLAUSE.search(text, found.end())
         types = text[found.end() : here.start()] + head.rpartition(" for ")[2]
         while here[1]:
-            cites.append(closed(text, here))
+            inside.append(closed(text, here))
             clauses += [here[2].strip()] if here[1] == "ensures" else []
-            here = CLAUSE.search(text, here.end() + len(cites[-1]))
-        name = f"{OWNER.match(head)[1]}::{found[3]}" if head else found[3]
-        yield Function(
-            path, text.count("\n", 0, found.start(2)) + 1, name, "pub fn" in found[0] or "trait" in head,
-            clauses, [*cited(" ".join(cites), within(text, block)[0])], re.findall(r"\b[A-Z]\w+", types),
-        )
-
-
-@functools.cache
-def functions():
-    return [it for path in files("*/src/**/*.rt") for it in functions_of(path)]
+            here = CLAUSE.search(text, here.end() + len(inside[-1]))
+        line, names = text.count("\n", 0, found.start(2)) + 1, within(text, block)[0]
+        plain = functools.reduce(lambda it, _: re.sub(r"<[^<>]*>", "", it), range(4), head)
+        owner = re.findall(r"\w+", re.split(r"(?<!:):(?!:)|\bwhere\b", plain)[0])[-1:]
+        name = "::".join([*owner, found[3]])
+        types, cites = re.findall(r"\b[A-Z]\w+", types), [*cited(" ".join(inside), names)]
+        is_pub = "pub fn" in found[0] or "trait" in head
+        yield Function(path, line, name, is_pub, clauses, cites, types)
 
 
 @functools.cache
@@ -159,9 +160,10 @@ def models():
 def believed(name):
     """The functions of this name; the definitions on which their contracts rest, in order; and the
     places of those that a contract or another file names."""
-    found, seen, named = [it for it in functions() if f"::{it.name}".endswith(f"::{name}")], {}, set()
+    found = [it for it in functions() if f"::{it.name}".endswith(f"::{name}")]
     modelled = (models().get(kind, ()) for it in found for kind in it.types)
     left = [(path, None) for paths in (*(it.cites for it in found), *modelled) for path in paths]
+    seen, named = {}, set()
     while left:
         path, source = left.pop()
         parts = path.split(".")
@@ -173,7 +175,6 @@ def believed(name):
             named.add(it.place)
         if it and it.place not in seen:
             seen[it.place] = it
-            text = "\n".join(it.text)
-            paths = cited(text, spec.names, spec.module, spec.found, it.name)
-            left += ((path, spec) for path in paths)
+            cites = cited("\n".join(it.text), spec.names, spec.module, spec.found)
+            left += ((path, spec) for path in cites)
     return found, [seen[it] for it in sorted(seen)], named

@@ -5,7 +5,6 @@ Each look gives faults, a line each: the file, the line, and what is wrong there
 import os
 import re
 
-import kit
 from sources import ROOT, known_lines
 
 WIDTH = 100
@@ -17,24 +16,14 @@ WRONG_BODIES = "docs/WRONG_BODIES.md"
 CITES = re.compile(r"\b(?:document 0[0-9]|[Dd]emand [0-9]+|[TDWR][0-9]{1,2}\b)")
 FOLDER = re.compile(r"/(?:work|farm|root|tmp)/")
 CITING = (".rt", ".antt", ".md", ".edit", ".txt")
-# Where the constants are that a document or an interface repeats.
-CONSTANTS = {
-    "MAX_SERVERS": "crates/zprotocol/src/limits.rt", "MAX_CLIENTS": "crates/ztree/src/limits.rt",
-    "MAX_DATA": "crates/ztree/src/limits.rt", "MAX_TTL": "crates/ztree/src/limits.rt",
-}
-# A file, what a number in it has to be, and where it is. Each of the places has to be there.
+# What repeats a constant of a file limits.rt, or one less, in a document or an interface.
+REPEATING = re.compile(r"(?:README\.md|GUIDE\.md|usage\.py|jellqupas\.(?:py|h))$")
 NUMBERS = (
-    ("include/jellqupas.py", "MAX_SERVERS", r"^MAX_SERVERS = (.+)$|\b1 to (\d+) se|s1 to s(\d+)"),
-    ("include/jellqupas.py", "MAX_CLIENTS", r"^MAX_CLIENTS = (.+)$"),
-    ("include/jellqupas.py", "MAX_CLIENTS - 1", r"\bc0 to c(\d+)|number, 1 to (\d+)"),
-    ("include/jellqupas.py", "MAX_DATA", r"^MAX_DATA = (.+)$"),
-    ("include/jellqupas.py", "MAX_TTL", r"^MAX_TTL = (.+)$"),
-    ("include/jellqupas.h", "MAX_SERVERS", r"\b1 to (\d+)|servers, up to (\d+), are spare"),
-    ("tools/usage.py", "MAX_SERVERS", r"\bN is 1 to (\d+)"),
-    ("tools/usage.py", "MAX_CLIENTS - 1", r"\bC clients 1 to (\d+)"),
-    ("README.md", "MAX_SERVERS", r"\b1 to (\d+) servers"),
-    ("docs/GUIDE.md", "MAX_SERVERS", r"\b1 to (\d+) servers"),
-    ("docs/GUIDE.md", "MAX_CLIENTS - 1", r"CLIENT is a number from 1 to (\d+)"),
+    ("MAX_SERVERS", 0, r"^MAX_SERVERS = (.+)$|\b1 to (\d+) servers|N is 1 to (\d+)|s1 to s(\d+)"),
+    ("MAX_CLIENTS", 0, r"^MAX_CLIENTS = (.+)$"),
+    ("MAX_CLIENTS", 1, r"c0 to c(\d+)|umber,? (?:from )?1 to (\d+)\b|C clients 1 to (\d+)"),
+    ("MAX_DATA", 0, r"^MAX_DATA = (.+)$"),
+    ("MAX_TTL", 0, r"^MAX_TTL = (.+)$"),
 )
 
 
@@ -99,31 +88,21 @@ def citations(paths):
                 yield fault(path, text, it.start(), f"cites {it[0]}")
 
 
-def numbers(_):
+def numbers(paths):
     """Numbers that repeat a constant of a crate, and differ from it."""
-    known = {}
-    for name, path in CONSTANTS.items():
-        known[name] = value(re.search(rf"(?m)^pub const {name}: \w+ = (.+);$", read(path))[1])
-        known[f"{name} - 1"] = known[name] - 1
-    for path, name, pattern in NUMBERS:
-        text = read(path)
-        found = [*re.finditer(pattern, text, re.M)]
-        for place in {*range(1, re.compile(pattern).groups + 1)} - {it.lastindex for it in found}:
-            yield f"{path}:1: place {place} of {pattern} isn't there"
-        for it in found:
-            if value(it[it.lastindex]) != known[name]:
-                yield fault(path, text, it.start(), f"{it[0]}: {name} is {known[name]}")
+    limits = "".join(read(it) for it in paths if it.endswith("/src/limits.rt"))
+    known = dict(re.findall(r"(?m)^pub const (\w+): \w+ = (.+);$", limits))
+    for path, text in ((it, read(it)) for it in paths if REPEATING.search(it)):
+        for name, less, pattern in NUMBERS:
+            for it in re.finditer(pattern, text, re.M):
+                if value(it[it.lastindex]) != value(known[name]) - less:
+                    yield fault(path, text, it.start(), f"{it[0]}: {name} is {known[name]}")
 
 
 def value(text):
     """The number that a literal is, or a shift of two."""
     number, _, shift = text.partition(" << ")
     return int(number, 0) << int(shift or "0", 0)
-
-
-def printed(_):
-    """Tables that differ from what `tools/books` prints."""
-    yield from kit.load("books", f"{ROOT}/tools/books").stale()
 
 
 def named_bodies(pattern):

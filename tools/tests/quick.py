@@ -60,17 +60,7 @@ def texts(name):
     """What `rt ci` refuses in a crate before any proof."""
     rt, crate = kit.toolchain(), CRATES[name]
     looks = (rt.rtlib.stop_on_links, crate.folder), (rt.rtlib.stop_on_text, crate, "verdict")
-    refused = [it for look in (*looks, (rt.stop_on_words, crate)) for it in refusals(*look)]
-    yield from refused
-    words = [(rt.RENAMES, "renames std, or takes it whole"), (rt.IGNORED, "a test that is ignored")]
-    handles = [it for it in rt.REACHES if it not in crate.allowed]
-    words += [(rt.REACHES[it], f"needs the handle {it}") for it in handles]
-    for path, text in (() if refused else rt.rtlib.blanked(crate.folder).items()):
-        path = os.path.relpath(path, ROOT)
-        for pattern, why in words if path.endswith(".rt") else ():
-            yield from (fault(path, text, it.start(), why) for it in re.finditer(pattern, text))
-        if re.search(r"/src/(?:main|lib)\.rt$", path) and not re.search(rt.ASKS, text):
-            yield f"{path}:1: there is no line #![tactic(auto)]"
+    return [it for look in (*looks, (rt.stop_on_words, crate)) for it in refusals(*look)]
 
 
 def unread(folder):
@@ -158,9 +148,10 @@ def tasks():
     yield from ((unread, it) for it in sorted({it.partition("/")[0] for it in paths if "/" in it}))
     of_documents = (
         documents.links, documents.named_paths, documents.wide_lines, documents.citations,
-        documents.numbers, documents.wrong_bodies, documents.printed,
+        documents.numbers, documents.wrong_bodies,
     )
     yield from ((look, paths) for look in (counts, committed, *of_documents))
+    yield kit.load("books", f"{ROOT}/tools/books").stale, False
 
 
 def read_crates():
