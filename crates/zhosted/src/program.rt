@@ -183,7 +183,7 @@ fn tell_opening<F: Sink>(alloc: Global, mode: SyncMode, size: usize, faults: &mu
     if mode == SyncMode::Never {
         tell(
             faults,
-            "zk: --sync never: a power cut may lose or damage what was told",
+            "zk: --sync never: a power cut may lose or damage acknowledged changes",
         );
     }
     if size >= LONG {
