@@ -4,11 +4,11 @@
 A race has 1,000 rounds of three calls. Its time is that of the program, with its start, its audit
 and its lines.
 
-At rest (the program zrest) one client makes 500 updates, with a pause of 10 ms before each. The
+At rest (the program zrun_bench) one client makes 500 updates, with a pause of 10 ms before each. The
 table has the processors' time over the time that passed; the switches of all threads a second; and
 of the calls' microseconds the median, what nine of ten don't exceed, and the most.
 
-Through many calls (the program zlong) one client sets and reads one node by turns. Nothing may be
+Through many calls (the same program) one client sets and reads one node by turns. Nothing may be
 lost, and the memory in use may grow by a megabyte.
 """
 import itertools
@@ -59,7 +59,7 @@ def used(pid):
 def at_rest(program, servers):
     """Prints the row of a cluster at rest."""
     with subprocess.Popen([program], **PIPES) as ran:
-        ran.stdin.write(f"{servers} {CALLS} {PAUSE}\n")
+        ran.stdin.write(f"rest {servers} {CALLS} {PAUSE}\n")
         ran.stdin.close()
         time.sleep(0.5)
         began, first = time.monotonic(), used(ran.pid)
@@ -76,7 +76,7 @@ def many(program, calls):
     """Prints the rows of many calls over three servers."""
     uses, line, done, began = [], "", 0, time.monotonic()
     with subprocess.Popen([program], **PIPES) as ran:
-        ran.stdin.write(f"3 {calls}\n")
+        ran.stdin.write(f"long 3 {calls}\n")
         ran.stdin.flush()
         for line in map(str.strip, ran.stdout):
             if not line.isdigit():
@@ -86,7 +86,7 @@ def many(program, calls):
             measuring.row(f"{here:,}", f"{(here - done) / (now - began):,.0f}", f"{uses[-1]:,}")
             done, began = here, now
         ran.stdin.close()
-    measuring.want(line == "nothing lost", f"zlong printed: {line}")
+    measuring.want(line == "nothing lost", f"it printed: {line}")
     measuring.want(uses[-1] - uses[0] <= GROWTH, f"it grew by {uses[-1] - uses[0]:,} kB")
 
 
@@ -101,9 +101,9 @@ def main():
             races(builds.program("zk_race"), servers, clients, given.times)
         measuring.head("Servers", "Processors", "Switches a second", "Median, µs", "Nine", "Most")
         for servers in (1, 3):
-            at_rest(builds.program("zrest"), servers)
+            at_rest(builds.program("zrun_bench"), servers)
         measuring.head("Calls", "Calls a second", "Memory in use, kB")
-        many(builds.program("zlong"), given.calls)
+        many(builds.program("zrun_bench"), given.calls)
 
 
 if __name__ == "__main__":

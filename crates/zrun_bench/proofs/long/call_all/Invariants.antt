@@ -1,5 +1,5 @@
 use Rattle.zrun.specs.Clients.{SameClient}
-use Rattle.zlong.proofs.call_all.Given as goal
+use Rattle.zrun_bench.proofs.long.call_all.Given as goal
 
 abbrev pub invariant-loop-part : goal.invariant-loop-part
 invariant-loop-part g l = SameClient l.fn.client l.client

@@ -1,59 +1,29 @@
-//! An untraced cluster, and one client that makes many calls. `bench/threads.py` measures its calls
-//! a second, and its memory meanwhile.
-//!
-//! Each line of the input is an order `SERVERS CALLS`: the servers of the chain, and the number of
-//! calls. They are alternately a set of one node and a read of it. After each tenth of the calls it
-//! writes how many are done, and at the end whether nothing was lost.
-#![tactic(auto)]
-
-mod order;
+//! An untraced cluster, and one client that makes many calls, so its calls a second and its memory
+//! are measured. They are alternately a set of one node and a read of it. After each tenth of the
+//! calls it writes how many are done, and at the end whether nothing was lost.
 
 ghost use Rattle.std.specs.Prelude.{◌≡◌};
 ghost use Rattle.zrun.specs.Clients.{SameClient};
 ghost use Rattle.zrun.specs.Members.{clients_run};
 
-use order::Order;
+use crate::calls::{PATIENCE, create, get, set};
+use crate::order::Long;
 use std::alloc::Global;
-use std::io;
 use std::io::Write;
 use std::sync::Wait;
 use std::thread::Threads;
-use zrun::{
-    Call, Client, ClientId, Clients, Cluster, Data, Expected, Fault, Path, Patience, open_gates,
-};
-
-// How long to wait for a reply.
-const PATIENCE: Patience = Patience {
-    turns: 100_000,
-    retries: 1_000,
-};
+use zrun::{Call, Client, ClientId, Clients, Cluster, Fault, open_gates};
 
 // In how many parts of all calls it reports how many are done.
 const PARTS: u64 = 10;
 
-fn main(rt: HostRuntime) -> io::Result<()> {
-    for line in rt.lines(rt.alloc()) {
-        let line = line?;
-        let order = Order::read(&line);
-        drop(line);
-        let mut out = rt.stdout();
-        match went(rt, &mut out, rt.alloc(), order) {
-            Some(true) => println!(rt; "nothing lost")?,
-            Some(false) => println!(rt; "lost")?,
-            None => println!(rt; "trouble")?,
-        }
-    }
-    Ok(())
-}
-
-// Starts a cluster, lets a client call, and ends it. Returns whether nothing was lost.
-fn went<R: Threads + Wait + Copy + Send + 'static, W: Write>(
+/// Starts a cluster, lets a client make calls, and ends it. Returns whether nothing was lost.
+pub fn went<R: Threads + Wait + Copy + Send + 'static, W: Write>(
     rt: R,
     out: &mut W,
     alloc: Global,
-    order: Option<Order>,
+    order: Long,
 ) -> Option<bool> {
-    let order = order?;
     let gates = open_gates(alloc).ok()?;
     let (cluster, console, mut clients) = Cluster::start_untraced(
         rt, alloc, order.last, 1, gates,
@@ -118,16 +88,4 @@ fn ask(client: &mut Client, call: Result<Call, Fault>) -> Result<(), Fault>
 {
     drop(client.ask(call?, PATIENCE)?);
     Ok(())
-}
-
-fn create(alloc: Global) -> Result<Call, Fault> {
-    Ok(Call::create(Path::parse(alloc, "/a")?, Data::empty()))
-}
-
-fn set(alloc: Global) -> Result<Call, Fault> {
-    Ok(Call::set(Path::parse(alloc, "/a")?, Data::empty(), Expected::Any))
-}
-
-fn get(alloc: Global) -> Result<Call, Fault> {
-    Ok(Call::get(Path::parse(alloc, "/a")?))
 }
