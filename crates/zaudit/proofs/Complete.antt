@@ -4,14 +4,14 @@ use Rattle.std.specs.Prelude.{Result, Ok, Err, IfOk}
 use mathlib.Core.Logic.{∥∥₁_elim}
 use mathlib.Core.HLevel.{⊥_prop}
 use Rattle.zalloc.specs.declared.memory.Memory as zpath_memory
-use Rattle.zprotocol.specs.server.Machine.{kept_tree}
+use Rattle.zprotocol.specs.server.Machine.{cached_tree}
 use Rattle.zworld.specs.Steps.{WorldView, world_in}
-use Rattle.ztraces.specs.Traces.{client_count}
-use Rattle.zworld_model.specs.World.{opening_world}
-use Rattle.ztraces.specs.declared.trace.Traces.{Traces}
-use Rattle.ztraces.specs.Lawful.{AreLawful}
-use Rattle.ztraces.specs.Audit.{opening_of, is_any_cut, IsDisordered, IsMismatched}
-use Rattle.ztraces.proofs.Found.{lawful_not_disordered, lawful_not_mismatched}
+use Rattle.zprotocol.specs.traces.Traces.{client_count}
+use Rattle.zprotocol.specs.world.World.{opening_world}
+use Rattle.zprotocol.specs.declared.traces.trace.Traces.{Traces}
+use Rattle.zprotocol.specs.traces.Lawful.{AreLawful}
+use Rattle.zprotocol.specs.traces.Audit.{opening_of, is_any_cut, IsDisordered, IsMismatched}
+use Rattle.zprotocol.proofs.traces_lemmas.Found.{lawful_not_disordered, lawful_not_mismatched}
 use Rattle.zaudit.specs.declared.faults.AuditFault.{AuditFault}
 use Rattle.zaudit.specs.declared.faults.AuditFault.TheVariants.{Cut, Disorder, Mismatch, Memory}
 
@@ -26,7 +26,7 @@ only_memory t Mismatch cut disorder mismatch lawful whole = absurd (∥∥₁_el
 only_memory t Memory cut disorder mismatch lawful whole = refl
 
 pub opened_so : (t : Traces) (n : ℕ) → n ≡ client_count t → (r : Result WorldView zpath_memory.Memory)
-    → IfOk r (λ w. world_in w ≡ opening_world kept_tree t.last n)
+    → IfOk r (λ w. world_in w ≡ opening_world cached_tree t.last n)
     → IfOk r (λ w. opening_of t ≡ world_in w)
-opened_so t n count (Ok w) same = sym (same ∙ ap (opening_world kept_tree t.last) count)
+opened_so t n count (Ok w) same = sym (same ∙ ap (opening_world cached_tree t.last) count)
 opened_so t n count (Err memory) same = tt

@@ -7,8 +7,8 @@ use zcalls::{
     Update,
 };
 use zpath::{Name, Path};
+use zprotocol::world::CallEvent;
 use ztree::Data;
-use zworld_model::CallEvent;
 
 fn is_same_path(a: &Path, b: &Path) -> bool
     ensures yes { result ≡ true → a.now ≡ b.now }

@@ -5,7 +5,7 @@ use Rattle.std.specs.Str.{bytes_eq}
 use Rattle.std.specs.FinMap as finite
 use Rattle.std.specs.FinSet as sets
 use Rattle.std.specs.Fmt.{decimal}
-use Rattle.ztables.specs.Tables.{sent, closed}
+use Rattle.zconnections.specs.Tables.{sent, closed}
 use Rattle.zfront.specs.Front.{FrontView, with_tables}
 use Rattle.zfront.specs.declared.word.Word.{Word}
 use Rattle.zfront.specs.declared.word.Word.TheVariants.{Ruok, Isro, Envi, Srvr, Mntr}
@@ -37,7 +37,7 @@ abbrev pub mntr_text : FrontView → List ℕ
 mntr_text v =
     codes "zk_version\tjellqupas-0.1.0\nzk_server_state\tstandalone\n"
     ++ (number_line (codes "zk_num_alive_connections\t") (finite.len v.tables.streams)
-    ++ (number_line (codes "zk_global_sessions\t") (finite.len v.tables.sittings)
+    ++ (number_line (codes "zk_global_sessions\t") (finite.len v.tables.attachments)
     ++ number_line (codes "zk_watch_count\t") (sets.len v.tables.watches)))
 
 -- the answer to a word

@@ -7,8 +7,8 @@
 
 ghost use Rattle.std.specs.Prelude.{◌≡◌, true, false, IfOk, IsErr, OnErr, OnOk};
 ghost use Rattle.std.specs.Option.{option_copied};
-ghost use Rattle.zpieces.specs.Inputs.{input_of};
-ghost use Rattle.zpieces.specs.Outbox.{first_of};
+ghost use Rattle.zconnections.specs.buffers.Inputs.{input_of};
+ghost use Rattle.zconnections.specs.buffers.Outbox.{first_of};
 ghost use Rattle.zfront.specs.Inputs.{Does, IsSound, without_first};
 ghost use Rattle.zfront.specs.Restoring.{all_taken, beginning};
 
@@ -16,11 +16,11 @@ use crate::inner::Inner;
 use std::alloc::Global;
 use std::marker::Model;
 use zalloc::Memory;
-use zanswering::Clock;
 use zcalls::Update;
+use zconnections::buffers::{Chunk, Input};
 use zpasswords::Secret;
-use zpieces::{Input, Piece};
-use zservice::TreeService;
+use zresponses::Clock;
+use ztree_service::TreeService;
 
 /// A front end for ZooKeeper's clients, over a service of one tree.
 ///
@@ -80,18 +80,18 @@ impl<T: TreeService + Drop> Front<T> {
     }
 
     /// Returns the chunk to be sent first, if there is one.
-    pub fn first_piece(&self) -> Option<&Piece>
+    pub fn first_chunk(&self) -> Option<&Chunk>
         ensures { option_copied result ≡ first_of self.now.front.tables.unsent }
     {
-        self.inner.tables.first_piece()
+        self.inner.tables.first_chunk()
     }
 
     /// Removes and returns the chunk to be sent first, if there is one.
-    pub fn next_piece(&mut self) -> Option<Piece>
+    pub fn next_chunk(&mut self) -> Option<Chunk>
         ensures first { result ≡ first_of self.old.front.tables.unsent }
         ensures rest { self.new ≡ record self.old { front = without_first self.old.front } }
     {
-        self.inner.tables.next_piece()
+        self.inner.tables.next_chunk()
     }
 
     /// Returns the recorded updates, in order.

@@ -7,12 +7,12 @@ ghost use Rattle.zfront.specs.Greeting.{greeted, greeted_by, opened, opening, re
 
 use crate::inner::Inner;
 use zalloc::Memory;
-use zasking::{TickLength, ticks_asked};
 use zcalls::{Call, Reply, Update};
 use zjute::{ConnectRequest, ReadError, read_connect};
-use zservice::TreeService;
-use zserving::{Granted, come_back, is_ahead, turn_away, welcome};
+use zrequests::{TickLength, ticks_asked};
+use zresponses::effects::{Granted, come_back, is_ahead, turn_away, welcome};
 use ztree::SessionId;
+use ztree_service::TreeService;
 
 impl<T: TreeService> Inner<T> {
     // Handles the first frame of a connection. Invalid bytes close the connection.
@@ -46,11 +46,11 @@ impl<T: TreeService> Inner<T> {
     {
         let calls = [opening(self.clock.tick, greeting)];
         let replies = self.ask(&calls)?;
-        self.tell_opened(greeting, connection, &replies)
+        self.report_opened(greeting, connection, &replies)
     }
 
     // Sends a client its new session, or closes the connection if none was opened.
-    fn tell_opened(
+    fn report_opened(
         &mut self,
         greeting: &ConnectRequest,
         connection: u32,

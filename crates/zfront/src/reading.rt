@@ -14,9 +14,9 @@ ghost use Rattle.zfront.specs.Reading.{is_too_long, Keeps, Reads};
 use crate::inner::Inner;
 use crate::limits::MAX_KEPT;
 use zalloc::Memory;
+use zconnections::buffers::Phase;
 use zjute::{Next, next_frame};
-use zpieces::Phase;
-use zservice::TreeService;
+use ztree_service::TreeService;
 
 impl<T: TreeService> Inner<T> {
     // Reads bytes that arrived on a connection. They are dropped unless it is open.

@@ -11,15 +11,15 @@ ghost use Rattle.zcalls.specs.declared.call.Update.TheVariants.{Close, Open, Pin
 ghost use Rattle.zcalls.specs.declared.refusal.Refusal.{Refusal};
 ghost use Rattle.zcalls.specs.declared.reply.Reply.{Reply};
 ghost use Rattle.zcalls.specs.declared.reply.Reply.TheVariants as reply;
-ghost use Rattle.zworld_model.specs.PlainTree.{serve};
+ghost use Rattle.zprotocol.specs.world.PlainTree.{serve};
 ghost use Rattle.zjute.specs.Frames.{next_of};
-ghost use Rattle.zanswering.specs.declared.clock.Clock.{Clock};
+ghost use Rattle.zresponses.specs.declared.clock.Clock.{Clock};
 ghost use Rattle.zpasswords.specs.Passwords.{password_of};
-ghost use Rattle.zpieces.specs.declared.phase.Phase.TheVariants.{Closing, Silent, Speaking};
-ghost use Rattle.zsittings.specs.Sittings.{restored_sitting};
-ghost use Rattle.ztables.specs.Tables.{TablesView, closed, is_open};
-ghost use Rattle.zserving.specs.Greeting.{came_back, turned_away, welcomed};
-ghost use Rattle.zserving.specs.support.Samples.{greeting};
+ghost use Rattle.zconnections.specs.declared.buffers.phase.Phase.TheVariants.{Closing, Silent, Speaking};
+ghost use Rattle.zconnections.specs.attachments.Attachments.{restored_attachment};
+ghost use Rattle.zconnections.specs.Tables.{TablesView, closed, is_open};
+ghost use Rattle.zresponses.specs.effects.Greeting.{came_back, turned_away, welcomed};
+ghost use Rattle.zresponses.specs.effects.support.Samples.{greeting};
 ghost use Rattle.zfront.specs.declared.word.Word.TheVariants as word;
 ghost use Rattle.zfront.specs.Front.{FrontView, asked, left_of, may_end, replies_to, takes_nodes, Tidies};
 ghost use Rattle.zfront.specs.Greeting.{opened, opening, returned};
@@ -116,7 +116,7 @@ pub fn rests()
 pub fn sessions_are_restored()
     ensures none { tables_of [] ≡ no_tables }
     ensures two { tables_of (7 ∷ 9 ∷ []) ≡ record no_tables {
-      sittings = insert (insert empty 7 restored_sitting) 9 restored_sitting;
+      attachments = insert (insert empty 7 restored_attachment) 9 restored_attachment;
     } }
     ensures new { (secret : List ℕ) (times : Clock)
         → (beginning opening_tree secret times false).tree ≡ opening_tree }

@@ -3,10 +3,10 @@ use Rattle.std.proofs.Common.{◌≡◌, ℕ, ◌+◌, ◌≤◌, Bool, true, fa
 use Rattle.std.specs.Prelude.{nat_lt, ◌||◌, if◌then◌else◌}
 use Rattle.std.proofs.lemmas.Bool.{ltb-false}
 use Rattle.zjute.specs.Frames.{next_of}
-use Rattle.zpieces.specs.declared.phase.Phase.{Phase}
-use Rattle.zpieces.specs.declared.phase.Phase.TheVariants.{Silent, Speaking, Closing}
-use Rattle.zpieces.specs.Streams.{bytes_of, held_of, phase_of, with_bytes}
-use Rattle.ztables.specs.Tables.{TablesView, closed, is_open}
+use Rattle.zconnections.specs.declared.buffers.phase.Phase.{Phase}
+use Rattle.zconnections.specs.declared.buffers.phase.Phase.TheVariants.{Silent, Speaking, Closing}
+use Rattle.zconnections.specs.buffers.Streams.{bytes_of, held_of, phase_of, with_bytes}
+use Rattle.zconnections.specs.Tables.{TablesView, closed, is_open}
 use Rattle.zfront.specs.declared.limits.TheConstants.{MAX_KEPT}
 use Rattle.zfront.specs.Front.{FrontView, with_tables}
 use Rattle.zfront.specs.Reading.{HandlesIn, Handles, HandlesAll, is_too_long, kept, keeps, Keeps}
@@ -16,7 +16,7 @@ use Rattle.zfront_laws.specs.Logs.{done_by, frame_calls, frame_log, frames_log, 
 use Rattle.zfront_laws.specs.Runs.{KeepsFew}
 use Rattle.zfront_laws.proofs.Changes.{says}
 use Rattle.zfront_laws.proofs.Held.{held-changed}
-use Rattle.zfront_laws.proofs.Kept.{Kept, closes_kept, bytes_kept}
+use Rattle.zfront_laws.proofs.Cached.{Cached, closes_kept, bytes_kept}
 use Rattle.zfront_laws.proofs.Lighter.{Lighter, carries_lighter, closes, none_more}
 use Rattle.zfront_laws.proofs.Steps.{Goes, both, retabled, same, seats_kept, tables_change, then_none}
 use Rattle.zfront_laws.proofs.Serving.{serves, greets}
@@ -57,7 +57,7 @@ keeps_by false true rest c t is few = omega (arith, (closes c t).0, few)
 keeps_by false false rest c t is few = with_rest rest c t is
 
 rest_kept : (over : Bool) (rest : List ℕ) (c : ℕ) (t : TablesView)
-    → Kept t (if over then closed c t else record t { streams = with_bytes t.streams c rest })
+    → Cached t (if over then closed c t else record t { streams = with_bytes t.streams c rest })
 rest_kept true rest c t = closes_kept c t
 rest_kept false rest c t = bytes_kept c rest t
 

@@ -1,13 +1,13 @@
 -- A step at any input, and steps one after the other. What holds of all of them holds from a
 -- beginning on.
 use Rattle.std.proofs.Common.{◌∙◌, true, List, [], ◌∷◌, refl}
-use Rattle.zpieces.specs.Inputs.{InputView}
-use Rattle.zpieces.specs.Inputs.InputView.{Opened, Came, Ended, Tick}
-use Rattle.zpieces.specs.Streams.{held_of}
-use Rattle.zpieces.specs.Streams as streams
-use Rattle.zsittings.specs.Sittings.{touched_ids}
-use Rattle.zlogs.proofs.Lives.{leads_more}
-use Rattle.ztables.specs.Tables as tables
+use Rattle.zconnections.specs.buffers.Inputs.{InputView}
+use Rattle.zconnections.specs.buffers.Inputs.InputView.{Opened, Came, Ended, Tick}
+use Rattle.zconnections.specs.buffers.Streams.{held_of}
+use Rattle.zconnections.specs.buffers.Streams as streams
+use Rattle.zconnections.specs.attachments.Attachments.{touched_ids}
+use Rattle.ztree_service.proofs.log_lemmas.Incarnations.{leads_more}
+use Rattle.zconnections.specs.Tables as tables
 use Rattle.ztree.specs.Tree.{opening_tree}
 use Rattle.zfront.specs.Front.{FrontView, asked}
 use Rattle.zfront.specs.Inputs as inputs
@@ -23,15 +23,15 @@ use Rattle.zfront_laws.specs.Seats.{EveryFrontIsSeated}
 use Rattle.zfront_laws.proofs.Calling.{makes}
 use Rattle.zfront_laws.proofs.Coming.{comes, empties, handles_all}
 use Rattle.zfront_laws.proofs.Held.{held-insert, held-remove}
-use Rattle.zfront_laws.proofs.Kept.{ends_kept, opens_kept, rests_kept}
+use Rattle.zfront_laws.proofs.Cached.{ends_kept, opens_kept, rests_kept}
 use Rattle.zfront_laws.proofs.Lighter.{as_many, none_more, unmoved}
 use Rattle.zfront_laws.proofs.Restored.{is_few, is_fine}
 use Rattle.zfront_laws.proofs.Seated.{has_seat}
 use Rattle.zfront_laws.proofs.Steps.{Goes, both, retabled, same, takes}
 
-ticks : (old new : FrontView) → Ticks old new → Goes [] (done_by (tick_calls (touched_ids old.tables.sittings)) old) old new
+ticks : (old new : FrontView) → Ticks old new → Goes [] (done_by (tick_calls (touched_ids old.tables.attachments)) old) old new
 ticks old new has =
-    let calls = tick_calls (touched_ids old.tables.sittings) in
+    let calls = tick_calls (touched_ids old.tables.attachments) in
     makes calls (rested (asked calls old)).tables old new (as_many (held_of old.tables.streams), rests_kept old.tables) has
 
 takes_input : (input : InputView) (old new : FrontView) → KeepsFew old → (does : inputs.Does input old new)

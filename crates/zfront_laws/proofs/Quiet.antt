@@ -6,11 +6,11 @@ use Rattle.std.specs.Cmp.{nat_cmp_total}
 use Rattle.std.specs.FinMap.{get, insert, nat_cmp-IsAntisymmetric}
 use Rattle.std.specs.Option.{option_map, option_map_or}
 use Rattle.ztree.proofs.Maps.{same_some, none_some, get-insert-here, get-insert-elsewhere}
-use Rattle.zpieces.specs.declared.phase.Phase.{Phase}
-use Rattle.zpieces.specs.declared.phase.Phase.TheVariants.{Closing}
-use Rattle.zpieces.specs.Streams.{StreamView, StreamRows, changed, empty_in, phase_of}
-use Rattle.zpieces.specs.Streams as stream
-use Rattle.ztables.specs.Tables.{TablesView, is_open, closing, closed, moved, connection_of}
+use Rattle.zconnections.specs.declared.buffers.phase.Phase.{Phase}
+use Rattle.zconnections.specs.declared.buffers.phase.Phase.TheVariants.{Closing}
+use Rattle.zconnections.specs.buffers.Streams.{StreamView, StreamRows, changed, empty_in, phase_of}
+use Rattle.zconnections.specs.buffers.Streams as stream
+use Rattle.zconnections.specs.Tables.{TablesView, is_open, closing, closed, moved, connection_of}
 use Rattle.zfront_laws.proofs.Seated.{same_number}
 use Rattle.zfront_laws.proofs.Changes.{Carries}
 
@@ -81,7 +81,7 @@ closes_quiet c t = elim (is_open t c) as (λ b. Quiet t (if b then closing c t e
 ]
 
 pub moves_quiet : (session : ℕ) (t : TablesView) → Quiet t (moved session t)
-moves_quiet session t = elim (connection_of t.sittings session) as (λ o. Quiet t (option_map_or (λ c. closed c t) o t)) [
+moves_quiet session t = elim (connection_of t.attachments session) as (λ o. Quiet t (option_map_or (λ c. closed c t) o t)) [
   | None ↦ unmoved t
   | Some c ↦ closes_quiet c t
 ]
@@ -91,9 +91,9 @@ carries_quiet = record {
   none = unmoved;
   both = λ t u v one two c. stays_both t.streams u.streams v.streams c (one c) (two c);
   closes = closes_quiet;
-  piece = λ p t. unmoved t;
+  chunk = λ p t. unmoved t;
   watches = λ w t. unmoved t;
-  notes = λ update told t. unmoved t;
+  notes = λ update reported t. unmoved t;
   touches = λ session t. unmoved t;
   rests = λ t. unmoved t;
   sweeps = moves_quiet;

@@ -3,9 +3,9 @@ use Rattle.std.specs.Prelude.{◌≡◌, ℕ, Bool, true, List, [], ◌∷◌, �
 use Rattle.std.specs.FinMap.{contains_key, get}
 use Rattle.ztree.specs.Tree.{Tree}
 use Rattle.zcalls.specs.declared.call.Update.{Update}
-use Rattle.zanswering.specs.declared.clock.Clock.{Clock}
-use Rattle.zsittings.specs.declared.sitting.Sitting.{Sitting}
-use Rattle.zlogs.specs.Logs.{Log, calls_of}
+use Rattle.zresponses.specs.declared.clock.Clock.{Clock}
+use Rattle.zconnections.specs.declared.attachments.attachment.Attachment.{Attachment}
+use Rattle.ztree_service.specs.log.Logs.{Log, calls_of}
 use Rattle.zfront.specs.Front.{FrontView, updates_among}
 use Rattle.zfront.specs.Restoring.{beginning}
 use Rattle.zfront_laws.specs.Runs.{Step, Took, Does, KeepsFew, Runs}
@@ -38,7 +38,7 @@ EveryStepMakesMore =
 abbrev pub EverySessionIsRestored : Type 0
 EverySessionIsRestored =
     (t : Tree) (secret : List ℕ) (times : Clock) (is_kept : Bool) (session : ℕ) → contains_key t.sessions session ≡ true
-    → (s : Sitting) × (get (beginning t secret times is_kept).tables.sittings session ≡ Some s) × (s.connection ≡ None)
+    → (s : Attachment) × (get (beginning t secret times is_kept).tables.attachments session ≡ Some s) × (s.connection ≡ None)
 
 -- the updates of the log are those taken and those still recorded: each once, in order
 abbrev pub EveryChangeIsMade : Type 0

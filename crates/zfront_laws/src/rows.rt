@@ -2,7 +2,7 @@
 
 ghost use Rattle.std.specs.Prelude.{◌≡◌, ℕ, pos, true, false, List, [], ◌∷◌, ◌++◌, None, Some};
 ghost use Rattle.std.specs.Prelude.{Ok, Err};
-ghost use Rattle.zforms.specs.declared.fault.Fault.{Fault};
+ghost use Rattle.zcodec.specs.declared.fault.Fault.{Fault};
 ghost use Rattle.zcalls.specs.declared.call.Call.{Call};
 ghost use Rattle.zcalls.specs.declared.call.Call.TheVariants.{Query, Update};
 ghost use Rattle.zcalls.specs.declared.call.Query.{Query as Asked};
@@ -11,12 +11,12 @@ ghost use Rattle.zcalls.specs.declared.call.Update.TheVariants as act;
 ghost use Rattle.zcalls.specs.declared.reply.Reply.{Reply};
 ghost use Rattle.zjute.specs.declared.connecting.ConnectRequest.{ConnectRequest};
 ghost use Rattle.zpasswords.specs.Passwords.{password_of};
-ghost use Rattle.zpieces.specs.declared.phase.Phase.TheVariants.{Closing, Speaking};
-ghost use Rattle.zpieces.specs.Inputs.InputView.{Opened, Came, Ended, Tick};
-ghost use Rattle.zpieces.specs.Streams.{phase_of};
-ghost use Rattle.zworld_model.specs.PlainTree.{serve};
-ghost use Rattle.zserving.specs.Greeting.{given, is_ahead};
-ghost use Rattle.ztables.specs.Tables.{TablesView, connection_of};
+ghost use Rattle.zconnections.specs.declared.buffers.phase.Phase.TheVariants.{Closing, Speaking};
+ghost use Rattle.zconnections.specs.buffers.Inputs.InputView.{Opened, Came, Ended, Tick};
+ghost use Rattle.zconnections.specs.buffers.Streams.{phase_of};
+ghost use Rattle.zprotocol.specs.world.PlainTree.{serve};
+ghost use Rattle.zresponses.specs.effects.Greeting.{given, is_ahead};
+ghost use Rattle.zconnections.specs.Tables.{TablesView, connection_of};
 ghost use Rattle.zfront.specs.Front.{FrontView};
 ghost use Rattle.zfront.specs.Greeting.{opening};
 ghost use Rattle.zfront.specs.Restoring.{all_taken};
@@ -74,13 +74,13 @@ pub fn steps_are_logged()
 /// The connection that has a session is the one attached to it.
 pub fn seats()
     ensures { (t : TablesView) → IsSeated t → phase_of t.streams 3 ≡ Some (Speaking 7)
-        → connection_of t.sittings 7 ≡ Some 3 }
+        → connection_of t.attachments 7 ≡ Some 3 }
 {}
 
 /// The bytes that arrived on connection 1 since it was opened.
 pub fn bytes_since()
     ensures opened { since_opened 1 (Takes (Opened 1) ∷ []) None ≡ Some [] }
-    ensures pieces { since_opened 1 (Takes (Opened 1) ∷ Takes (Came 1 (7 ∷ [])) ∷
+    ensures chunks { since_opened 1 (Takes (Opened 1) ∷ Takes (Came 1 (7 ∷ [])) ∷
         Takes (Came 2 (8 ∷ [])) ∷ Takes Tick ∷ Sent ∷ Takes (Came 1 (9 ∷ [])) ∷ []) None
         ≡ Some (7 ∷ 9 ∷ []) }
     ensures again { since_opened 1 (Takes (Opened 1) ∷ Takes (Came 1 (7 ∷ [])) ∷

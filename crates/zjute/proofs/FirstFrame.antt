@@ -1,17 +1,17 @@
 -- What all bytes of the first frame are read as is spelled so, and what fits is read again.
 use Rattle.std.proofs.Common.{◌≡◌, ℕ, Bool, true, false, List, [], ◌∷◌, ◌++◌, Option, Some, None, Result, Ok, Err, refl, sym, ap, subst, ◌∙◌}
 use Rattle.std.specs.Prelude.{IfOk}
-use Rattle.zforms.specs.declared.fault.ReadError.{ReadError}
-use Rattle.zforms.specs.Forms.{number_at}
-use Rattle.zforms.specs.Choices.{flag}
-use Rattle.zforms.specs.Laws.{IsBytes}
-use Rattle.zforms.specs.Readers.{Gives, whole}
-use Rattle.zforms.proofs.Bytes.{bind_ok, done, ok_is}
-use Rattle.zforms.proofs.Choices.{is_flag}
+use Rattle.zcodec.specs.declared.fault.ReadError.{ReadError}
+use Rattle.zcodec.specs.Forms.{number_at}
+use Rattle.zcodec.specs.Choices.{flag}
+use Rattle.zcodec.specs.Laws.{IsBytes}
+use Rattle.zcodec.specs.Readers.{Gives, whole}
+use Rattle.zcodec.proofs.Bytes.{bind_ok, done, ok_is}
+use Rattle.zcodec.proofs.Choices.{is_flag}
 use Rattle.zjute.specs.declared.connecting.ConnectRequest.{ConnectRequest}
 use Rattle.zjute.specs.Jute.{int, long, buffer}
 use Rattle.zjute.specs.Connecting.{flag_if_any, flag_or_end, last_flag, connect_request}
-use Rattle.zjute.specs.Laws.{GreetingsAreToldApart}
+use Rattle.zjute.specs.Laws.{GreetingsAreDistinct}
 use Rattle.zjute.proofs.Signed.{is_int, is_long}
 use Rattle.zjute.proofs.Before.{IsFormBefore, Nothing, both_before, fields_before, last_takes, last_again}
 use Rattle.zjute.proofs.Records.{is_buffer}
@@ -50,5 +50,5 @@ connect_found bytes (Err e) are given = tt
 pub connect_again : (it : ConnectRequest) → connect_request.Fits it → whole connect_request (connect_request.spell it) ≡ Ok it
 connect_again it fits = last_again connect_request request_is it fits
 
-pub greetings_apart : GreetingsAreToldApart
+pub greetings_apart : GreetingsAreDistinct
 greetings_apart x y fits also same = ok_is x y (sym (connect_again x fits) ∙ ap (whole connect_request) same ∙ connect_again y also)

@@ -2,8 +2,8 @@
 
 ghost use Rattle.std.specs.Prelude.{◌≡◌, ◌≤◌, [], codes};
 ghost use Rattle.zdevices.specs.Device.{sink_run};
-ghost use Rattle.zcli.specs.Telling.{IsTold};
-ghost use Rattle.zcli.specs.Asked.{texts_of};
+ghost use Rattle.zarguments.specs.Reporting.{IsReported};
+ghost use Rattle.zarguments.specs.Asked.{texts_of};
 ghost use Rattle.zrace.specs.declared.plan.Race.{Race};
 ghost use Rattle.zrace.specs.Asked.{IsRaceAsked};
 ghost use Rattle.zrace.specs.Run.{IsGoodRace, IsNotGood};
@@ -14,7 +14,7 @@ use crate::words::race_settings;
 use std::alloc::Global;
 use std::sync::Wait;
 use std::thread::Threads;
-use zcli::refuse;
+use zarguments::refuse;
 use zdevices::Sink;
 
 /// Runs the race that the words ask for, and writes its lines to `sink`. A fault is written to
@@ -46,7 +46,7 @@ pub fn race_command<R: Threads + Wait + Copy + Send + 'static, K: Sink, F: Sink>
     // The words are bad, and nothing was written.
     ensures bad { result ≡ 2 → (race : Race) → IsRaceAsked (texts_of words.now) race → ⊥ }
     ensures idle { result ≡ 2 → sink.new ≡ sink.old }
-    ensures refused { result ≡ 2 → IsTold
+    ensures refused { result ≡ 2 → IsReported
         (sink_run F.took F.failed faults.old faults.new) (codes "zk: bad words") }
 {
     let race_asked = match race_settings(alloc, words) {

@@ -2,16 +2,16 @@
 
 ghost use Rattle.std.specs.Prelude.{◌≡◌, [], IfOk};
 ghost use Rattle.std.specs.Arc.{arc_value};
-ghost use Rattle.zshared.specs.Passes.{IsPassOf};
+ghost use Rattle.zchannels.specs.Passes.{IsPassOf};
 ghost use Rattle.zrun.specs.Clients.{SameClient};
 
 use crate::racer::{Racer, Seen};
 use std::alloc::Global;
 use std::sync::Arc;
 use zalloc::Memory;
+use zchannels::tickets::{Pass, Tickets};
 use zprotocol::ServerId;
 use zrun::Client;
-use zshared::tickets::{Pass, Tickets};
 
 // How often a pass may draw.
 const DRAWS: u64 = 1 << 32;

@@ -6,7 +6,7 @@
 //! So a test counts the resends in the trace.
 
 ghost use Rattle.std.specs.Prelude.{IfErr, IfOk};
-ghost use Rattle.zhost.specs.Callers.{SameLearnt};
+ghost use Rattle.zthreads.specs.Callers.{SameLearnt};
 ghost use Rattle.zrun.specs.Asked.{AskedWithinInVain, AskedWithinUntil};
 ghost use Rattle.zrun.specs.Asked.{InsistedWithinInVain, InsistedWithinUntil};
 ghost use Rattle.zrun.specs.Clients.{BeganNothing, caller_of, SameClient};
@@ -51,7 +51,8 @@ impl Client {
         began: Option<Instant>,
         limit: Duration,
     ) -> Result<Reply, Unanswered>
-        ensures reply { IfOk result (InsistedWithinUntil (caller_of self.old) (caller_of self.new)) }
+        ensures reply { IfOk result (InsistedWithinUntil (caller_of self.old) (caller_of
+            self.new)) }
         ensures unanswered { IfErr result (InsistedWithinInVain self.old self.new) }
         ensures learnt { SameLearnt (caller_of self.old) (caller_of self.new) }
         ensures same { SameClient self.old self.new }

@@ -13,10 +13,10 @@ use std::thread::Threads;
 use zaudit::{AuditFault, audit};
 use zcalls::Reply;
 use zprotocol::MAX_SERVERS;
+use zprotocol::traces::Traces;
+use zprotocol::world::CallEvent;
 use zrun::{Client, Clients};
 use ztesting::{call_number, client, server};
-use ztraces::Traces;
-use zworld_model::CallEvent;
 
 // What the client of a run does.
 #[derive(Clone, Copy, PartialEq, Eq)]
@@ -120,7 +120,7 @@ fn one_stamp_twice_is_disorder(rt: HostRuntime) -> Result<(), Fail> {
 }
 
 #[test]
-fn a_cut_trace_is_told(rt: HostRuntime) -> Result<(), Fail> {
+fn a_cut_trace_is_reported(rt: HostRuntime) -> Result<(), Fail> {
     let mut traces = traces_of(rt, rt.alloc(), Work::CreatesAndGets)?;
     traces.master.is_cut = true;
     assert!(rt; verdict(rt.alloc(), &traces) == Err(AuditFault::Cut));

@@ -1,7 +1,7 @@
 -- Laws of the definitions.
 use Rattle.std.specs.Prelude.{◌≡◌, ◌≢◌, ℕ, ◌+◌, ◌≤◌, true, List, [], ◌++◌, length, map}
-use Rattle.zforms.specs.Forms.{Form}
-use Rattle.zforms.specs.Laws.{IsForm}
+use Rattle.zcodec.specs.Forms.{Form}
+use Rattle.zcodec.specs.Laws.{IsForm}
 use Rattle.zops.specs.Machine.{MachineState}
 use Rattle.zwire.specs.declared.fault.FrameFault.{FrameFault}
 use Rattle.zwire.specs.declared.fault.FrameFault.TheVariants.{Cut}
@@ -28,8 +28,8 @@ abbrev pub RowsAreOfOneState : Type 0
 RowsAreOfOneState = (s w : MachineState) → rows_of s ≡ rows_of w → s ≡ w
 
 -- two readable states whose rows have the same bytes are one
-abbrev pub RowsTellApart : Type 0
-RowsTellApart =
+abbrev pub RowsAreDistinct : Type 0
+RowsAreDistinct =
     (s w : MachineState) → IsReadable s → IsReadable w →
     map spelled (rows_of s) ≡ map spelled (rows_of w) → s ≡ w
 

@@ -1,7 +1,7 @@
 //! Worked examples of the definitions. Each function's contract has some; its body is empty.
 
 ghost use Rattle.std.specs.Prelude.{◌≡◌, [], ◌∷◌, Some, Ok};
-ghost use Rattle.zforms.specs.declared.fault.Fault.TheVariants.{Short, Invalid, Trailing};
+ghost use Rattle.zcodec.specs.declared.fault.Fault.TheVariants.{Short, Invalid, Trailing};
 ghost use Rattle.zwire.specs.declared.fault.FrameFault.TheVariants.{Cut, TooLong, Contents};
 ghost use Rattle.zwire.specs.Frames.{IsFaultOf};
 ghost use Rattle.zsnapshots.specs.Rows.{header_text, session_text, node_text, reply_text, row};
@@ -60,7 +60,7 @@ pub fn frames_are_followed()
 {}
 
 /// Bytes that don't begin with a row.
-pub fn faults_are_told()
+pub fn faults_are_reported()
     ensures none { IsFaultOf node_text [] Cut }
     ensures part { IsFaultOf reply_text (0 ∷ 0 ∷ 0 ∷ 10 ∷ 2 ∷ 0 ∷ 0 ∷ 0 ∷ 0 ∷ []) Cut }
     ensures too_long { IsFaultOf node_text (0 ∷ 128 ∷ 0 ∷ 1 ∷ []) TooLong }

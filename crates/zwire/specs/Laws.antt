@@ -1,6 +1,6 @@
 -- Laws of the definitions.
 use Rattle.std.specs.Prelude.{◌≡◌, ◌≢◌, List, ℕ, [], ◌++◌, Ok}
-use Rattle.zforms.specs.Laws.{IsBytes}
+use Rattle.zcodec.specs.Laws.{IsBytes}
 use Rattle.zwire.specs.declared.frame.Frame.{Frame}
 use Rattle.zwire.specs.declared.fault.FrameFault.{FrameFault}
 use Rattle.zwire.specs.declared.fault.FrameFault.TheVariants.{Cut}
@@ -18,8 +18,8 @@ WasSpelled =
     (bytes ≡ frame.spell x.0 ++ x.1) × frame.Fits x.0
 
 -- no stream begins with two different frames
-abbrev pub AreToldApart : Type 0
-AreToldApart =
+abbrev pub AreDistinct : Type 0
+AreDistinct =
     (f g : Frame) (x y : List ℕ) → frame.Fits f → frame.Fits g →
     frame.spell f ++ x ≡ frame.spell g ++ y → (f ≡ g) × (x ≡ y)
 

@@ -11,7 +11,7 @@ use mathlib.Core.Bool.{true≢false}
 use mathlib.Core.Path.{fun_ext}
 use Rattle.ztree.specs.Tree.{Tree}
 use Rattle.ztree.specs.declared.limits.TheConstants.{MAX_CLIENTS}
-use Rattle.zcalls.specs.Kept.{KeptState}
+use Rattle.zcalls.specs.Cached.{CachedState}
 use Rattle.zcalls.proofs.Among.{test}
 use Rattle.zprotocol.specs.declared.limits.TheConstants.{MAX_SERVERS, PROCESSES}
 use Rattle.zprotocol.specs.declared.process.Process.{Process}
@@ -21,12 +21,12 @@ use Rattle.zprotocol.proofs.Places.{place_of-server, place_of-client}
 use Rattle.zprotocol.specs.server.Machine.{Does}
 use Rattle.zprotocol.specs.server.View.{opening_server, spare}
 use Rattle.zprotocol.specs.client.View as client
-use Rattle.zlinks.specs.Places.{links_of, Notes}
-use Rattle.zlinks.specs.support.Counts.{passing}
-use Rattle.zlinks.proofs.Places.{process_at-place_of}
+use Rattle.zworld.specs.links.Places.{links_of, Notes}
+use Rattle.zworld.specs.links.support.Counts.{passing}
+use Rattle.zworld.proofs.links_lemmas.Places.{process_at-place_of}
 use Rattle.zactor.specs.Acting.{TreeStanding, TreePost, can_stand, has_stopped}
-use Rattle.zworld_model.specs.Does.{AtServer, AtClient}
-use Rattle.zworld_model.specs.World.{opening_world}
+use Rattle.zprotocol.specs.world.Does.{AtServer, AtClient}
+use Rattle.zprotocol.specs.world.World.{opening_world}
 use Rattle.zworld.specs.Held.{HeldChannels, bystander, standing_at, master_of, view_of, client_of, nobody, kept_world}
 use Rattle.zworld.specs.support.Opening.{opening_actor}
 use Rattle.zworld.specs.support.Standing.{waits, IsFull}
@@ -35,7 +35,7 @@ use Rattle.zworld.specs.support.Standing.{waits, IsFull}
 few_behind : {limit : ℕ} (n m : ℕ) → n ≤ limit → limit ≤ m → n ≤ m
 few_behind n m few behind = omega (arith, few, behind)
 
-module _ (machine : Does (KeptState Tree)) (last clients : ℕ) (few : last ≤ MAX_SERVERS) (few_clients : clients ≤ MAX_CLIENTS) where
+module _ (machine : Does (CachedState Tree)) (last clients : ℕ) (few : last ≤ MAX_SERVERS) (few_clients : clients ≤ MAX_CLIENTS) where
   abbrev at : Process → TreeStanding
   at p = opening_actor machine last clients p
 

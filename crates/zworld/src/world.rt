@@ -14,12 +14,12 @@
 
 ghost use Rattle.std.specs.Prelude.{◌≡◌, ◌≤◌, [], true, false, IfOk, IsErr, OnErr, OnOk};
 ghost use Rattle.ztree.specs.declared.limits.TheConstants.{MAX_CLIENTS};
-ghost use Rattle.zprotocol.specs.server.Machine.{kept_tree};
-ghost use Rattle.zworld_model.specs.PlainTree.{IsExplained};
+ghost use Rattle.zprotocol.specs.server.Machine.{cached_tree};
+ghost use Rattle.zprotocol.specs.world.PlainTree.{IsExplained};
 ghost use Rattle.zserver.specs.Server.{IsFresh};
-ghost use Rattle.zworld_model.specs.FromTree.{CanStart, opening_world_from};
-ghost use Rattle.zworld_model.specs.World.{opening_world};
-ghost use Rattle.zworld_model.specs.declared.settled.Settled.TheVariants.{Quiet};
+ghost use Rattle.zprotocol.specs.world.FromTree.{CanStart, opening_world_from};
+ghost use Rattle.zprotocol.specs.world.World.{opening_world};
+ghost use Rattle.zprotocol.specs.declared.world.settled.Settled.TheVariants.{Quiet};
 ghost use Rattle.zworld.specs.Did.{HasCause, is_idle};
 ghost use Rattle.zworld.specs.Steps.{CanWantMemory, CanWantMemoryToSettle, HasRunOut};
 ghost use Rattle.zworld.specs.Steps.{HasBegunToRun, HasDone, HasRun, IsAtRest, IsExplainedFromStart};
@@ -32,8 +32,8 @@ use std::alloc::Global;
 use std::marker::Model;
 use zalloc::Memory;
 use zprotocol::ServerId;
+use zprotocol::world::{CallEvent, Event, Settled};
 use zserver::Snapshot;
-use zworld_model::{CallEvent, Event, Settled};
 
 /// All processes with their channels, and the history of what callers saw.
 ///
@@ -78,7 +78,7 @@ impl World {
     /// There are `clients` clients, numbered from 0, and the history is empty.
     pub fn new(alloc: Global, last: ServerId, clients: u8) -> Result<World, Memory>
         requires { clients ≤ MAX_CLIENTS }
-        ensures world { IfOk result (λ w. world_in w ≡ opening_world kept_tree last clients) }
+        ensures world { IfOk result (λ w. world_in w ≡ opening_world cached_tree last clients) }
         ensures whole { IfOk result (λ w. w.has_forgotten ≡ false) }
         ensures initial { IfOk result (λ w. w.is_restored ≡ false) }
         ensures sound { IfOk result IsSound }
@@ -258,11 +258,11 @@ impl World {
         if self.is_broken {
             return Err(Memory);
         }
-        let told = self.history.len();
+        let reported = self.history.len();
         match self.processes.settle(limit, strict, &mut self.history) {
             Ok(settled) => Ok(settled),
             Err(memory) => {
-                self.history.truncate(told);
+                self.history.truncate(reported);
                 self.is_broken = true;
                 Err(memory)
             }

@@ -5,8 +5,8 @@ use crate::trouble::Trouble;
 use std::alloc::Global;
 use zcalls::{Call, Create, Data, Kind, Query, Reply, Update};
 use zpath::Path;
+use zprotocol::world::{CallEvent, Event, Settled};
 use zworld::World;
-use zworld_model::{CallEvent, Event, Settled};
 
 // Far more events than any settling here takes.
 const LIMIT: usize = 1000;

@@ -6,8 +6,8 @@ use crate::trouble::Trouble;
 use std::alloc::Global;
 use zcalls::{Kind, Lifetime};
 use zprotocol::Process;
+use zprotocol::world::Event;
 use zworld::World;
-use zworld_model::Event;
 
 /// How many calls the list has. Each is five events.
 const CALLS: usize = 2_000;
@@ -15,9 +15,9 @@ const CALLS: usize = 2_000;
 /// Runs the list over a chain of two, and answers how many events the history has.
 pub fn long(alloc: Global) -> Result<usize, Trouble> {
     let mut world = World::new(alloc, server(2)?, 2)?;
-    let told = run_in(&mut world, alloc);
+    let reported = run_in(&mut world, alloc);
     drop(world);
-    told
+    reported
 }
 
 // The run in this world.

@@ -1,13 +1,13 @@
 -- The part of a line's effect that happens on a world, and the text that is written for it.
 use Rattle.std.specs.Prelude.{◌≡◌, ℕ, Bool, true, false, List, [], ◌∷◌, ◌++◌, codes, Option, None, Some, String}
 use Rattle.std.specs.List.{flat_map}
-use Rattle.zworld_model.specs.declared.event.Event.{Event}
-use Rattle.zworld_model.specs.declared.history.CallEvent.TheVariants as call_event
-use Rattle.zworld_model.specs.declared.outcome.Outcome.{Outcome}
-use Rattle.zworld_model.specs.History.{History}
-use Rattle.zlines.specs.declared.request.LineFault.{LineFault}
-use Rattle.zlines.specs.declared.request.LineFault.TheVariants as line_fault
-use Rattle.zlines.specs.Texts.{Writes}
+use Rattle.zprotocol.specs.declared.world.event.Event.{Event}
+use Rattle.zprotocol.specs.declared.world.history.CallEvent.TheVariants as call_event
+use Rattle.zprotocol.specs.declared.world.outcome.Outcome.{Outcome}
+use Rattle.zprotocol.specs.world.History.{History}
+use Rattle.zscript_text.specs.declared.request.LineFault.{LineFault}
+use Rattle.zscript_text.specs.declared.request.LineFault.TheVariants as line_fault
+use Rattle.zscript_text.specs.Texts.{Writes}
 use Rattle.zworld.specs.declared.did.Did.{Did}
 use Rattle.zworld.specs.declared.did.Did.TheVariants as became
 use Rattle.zworld.specs.declared.did.IdleCause.{IdleCause}
@@ -62,19 +62,19 @@ pub record LeadsTo (effect : LineEffect) (new : ServiceWorld) (own : Option (ℕ
 -- the effect happened from one world to another, with these outcomes, and was answered this way,
 -- except for the LF
 pub record IsEffectDone (old new : ServiceWorld) (effect : ScriptState → LineEffect) (writes : List ℕ → Type 0) : Type 0 where
-  pub told : List Outcome
+  pub reported : List Outcome
   pub own : Option (ℕ × ℕ)
   pub result : List ℕ
-  pub leads : (later : List Outcome) → LeadsTo (effect (script_state old (told ++ later))) new own result later
+  pub leads : (later : List Outcome) → LeadsTo (effect (script_state old (reported ++ later))) new own result later
   pub written : writes (flat_map (taken_text own) new.history ++ result)
 
 -- where it is strict, no server may run out of memory
-abbrev pub MayTell : Bool → List Outcome → Type 0
-MayTell strict told = strict ≡ true → AreActed told
+abbrev pub MayReport : Bool → List Outcome → Type 0
+MayReport strict reported = strict ≡ true → AreActed reported
 
 -- the same, strictly or not
 abbrev pub IsEffectDoneBy : Bool → (old new : ServiceWorld) → (ScriptState → LineEffect) → (List ℕ → Type 0) → Type 0
-IsEffectDoneBy strict old new effect writes = (done : IsEffectDone old new effect writes) × MayTell strict done.told
+IsEffectDoneBy strict old new effect writes = (done : IsEffectDone old new effect writes) × MayReport strict done.reported
 
 -- the effect happened on a world, and its answer was written, except for the LF
 abbrev pub Plays : {A : Type 0} → Bool → (ScriptState → LineEffect) → WorldView → WorldView → String A → String A → Type 0

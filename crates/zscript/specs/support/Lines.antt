@@ -1,6 +1,6 @@
 -- Lines as a player reads them: a line that has begun continues from block to block.
 use Rattle.std.specs.Prelude.{◌≡◌, ℕ, false, List, [], ◌∷◌, ◌++◌, ◌==◌, if◌then◌else◌}
-use Rattle.zworld_model.specs.declared.outcome.Outcome.{Outcome}
+use Rattle.zprotocol.specs.declared.world.outcome.Outcome.{Outcome}
 use Rattle.zscript.specs.Line.{ServiceWorld, ScriptState, script_state, after, answers}
 
 -- The lines that end within some bytes, each without its LF, where a line has begun before them.
@@ -31,11 +31,11 @@ after_all state (line ∷ lines) = after_all (after state line) lines
 -- Lines were executed, one after the other, and this was written: these outcomes occurred at them,
 -- whatever comes after them.
 pub record AreLinesDone (old : ServiceWorld) (lines : List (List ℕ)) (new : ServiceWorld) (writes : List ℕ → Type 0) : Type 0 where
-  pub told : List Outcome
+  pub reported : List Outcome
   pub text : List ℕ
   pub written : writes text
-  pub left : (later : List Outcome) → after_all (script_state old (told ++ later)) lines ≡ script_state new later
-  pub answered : (later : List Outcome) → answers (script_state old (told ++ later)) lines ≡ text
+  pub left : (later : List Outcome) → after_all (script_state old (reported ++ later)) lines ≡ script_state new later
+  pub answered : (later : List Outcome) → answers (script_state old (reported ++ later)) lines ≡ text
 
 -- These bytes have no LF.
 abbrev pub IsPart : List ℕ → Type 0

@@ -1,0 +1,4 @@
+pub mod Asked
+pub mod Words
+pub mod Reporting
+pub mod support

@@ -1,4 +1,0 @@
-pub mod Asked
-pub mod Words
-pub mod Telling
-pub mod support

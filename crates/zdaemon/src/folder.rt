@@ -1,0 +1,82 @@
+//! A server with a folder, as a service of its host.
+
+ghost use Rattle.std.specs.Prelude.{◌≡◌, Err, Ok, OnOk};
+ghost use Rattle.zdaemon.specs.Folder.{HasReported, IsGood, IsReported, Keeps, Takes, chunks_left};
+
+use crate::pipe::{Chunk, Input, ServeFault, Service};
+use zdurable::{DurableFault, DurableFront};
+use zjournal::Device;
+
+/// A server with a folder, as a service of its host.
+#[derive(Drop)]
+pub struct InFolder<D: Device> {
+    kept: DurableFront<D>,
+    // From this many bytes on its journal is compacted.
+    long: usize,
+}
+
+impl<D: Device> InFolder<D> {
+    /// Wraps a front end. The journal is compacted once it has `long` bytes and is four times its
+    /// size after the last compaction.
+    pub fn new(kept: DurableFront<D>, long: usize) -> InFolder<D>
+        ensures { result.kept ≡ kept }
+    {
+        InFolder { kept, long }
+    }
+}
+
+impl<D: Device> Service for InFolder<D> {
+    ghost took = { λ s input t. Takes D.seen D.may_leave input s.kept t.kept };
+
+    ghost kept = { λ s t. Keeps D.seen D.may_leave s.kept t.kept };
+
+    ghost reported = { λ s chunk t. IsReported chunk s.kept t.kept };
+
+    ghost has_reported = { λ s. HasReported s.kept };
+
+    ghost chunks_left = { λ s. chunks_left s.kept };
+
+    ghost is_sound = { λ s. IsGood D.seen D.may_leave s.kept };
+
+    fn take(&mut self, input: Input<'_>) -> Result<(), ServeFault> {
+        match self.kept.take(input) {
+            Ok(()) => Ok(()),
+            Err(fault) => Err(unkept(fault)),
+        }
+    }
+
+    fn keep(&mut self) -> Result<(), ServeFault> {
+        match keep(&mut self.kept, self.long) {
+            Ok(()) => Ok(()),
+            Err(fault) => Err(unkept(fault)),
+        }
+    }
+
+    fn next_chunk(&mut self) -> Option<Chunk> {
+        self.kept.next_chunk()
+    }
+}
+
+// Commits the changes: by one more block, or in a new file if the journal is long.
+fn keep<D: Device>(kept: &mut DurableFront<D>, long: usize) -> Result<(), DurableFault>
+    requires { IsGood D.seen D.may_leave kept.old }
+    ensures keeps { OnOk result (Keeps D.seen D.may_leave kept.old kept.new) }
+    ensures good { OnOk result (IsGood D.seen D.may_leave kept.new) }
+{
+    if kept.is_long(long) {
+        kept.compact()?;
+        return Ok(());
+    }
+    kept.commit()?;
+    Ok(())
+}
+
+/// Why a service has ended, in the words of a host.
+pub(crate) fn unkept(fault: DurableFault) -> ServeFault {
+    match fault {
+        DurableFault::Memory => ServeFault::Memory,
+        DurableFault::Failed => ServeFault::Disk,
+        DurableFault::Full => ServeFault::Full,
+        DurableFault::Ended => ServeFault::Ended,
+    }
+}

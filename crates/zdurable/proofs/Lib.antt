@@ -1,0 +1,7 @@
+pub mod Logs
+pub mod Incarnations
+pub mod Serving
+pub mod Leading
+pub mod Opening
+pub mod Renewing
+pub mod Storing

@@ -1,0 +1,15 @@
+pub mod Views
+pub mod Free
+pub mod Calm
+pub mod Fronts
+pub mod Others
+pub mod Talking
+pub mod Cutting
+pub mod Doing
+pub mod Own
+pub mod Greeting
+pub mod Reading
+pub mod Coming
+pub mod Behind
+pub mod Before
+pub mod Inputs

@@ -1,9 +1,0 @@
-pub mod Making
-pub mod Lives
-pub mod Laws
-pub mod Restored
-pub mod Kept
-pub mod Shortening
-pub mod Faults
-pub mod Looking
-pub mod Stored

@@ -1,0 +1,10 @@
+pub mod Runs
+pub mod Headline
+pub mod CutRuns
+pub mod Tails
+pub mod Reported
+pub mod legal_lemmas
+pub mod chain_lemmas
+pub mod servers_lemmas
+pub mod clients_lemmas
+pub mod master_lemmas

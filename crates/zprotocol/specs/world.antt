@@ -1,0 +1,15 @@
+pub mod History
+pub mod LegalOrder
+pub mod PlainTree
+pub mod FromTree
+pub mod Incarnations
+pub mod Links
+pub mod World
+pub mod Orders
+pub mod Does
+pub mod Events
+pub mod Reading
+pub mod Settle
+pub mod Keeping
+pub mod Laws
+pub mod support

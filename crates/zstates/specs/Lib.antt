@@ -1,7 +1,0 @@
-pub mod Entries
-pub mod States
-pub mod Texts
-pub mod Shortening
-pub mod Faults
-pub mod Laws
-pub mod support

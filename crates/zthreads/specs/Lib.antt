@@ -1,0 +1,16 @@
+pub mod Endpoints
+pub mod Endings
+pub mod Waiting
+pub mod Untraced
+pub mod Threads
+pub mod Owned
+pub mod Acts
+pub mod Outcomes
+pub mod Said
+pub mod Rounds
+pub mod Callers
+pub mod Steps
+pub mod Reported
+pub mod Hosting
+pub mod Hosts
+pub mod Standings

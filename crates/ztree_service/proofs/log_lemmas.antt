@@ -1,0 +1,2 @@
+pub mod Incarnations
+pub mod Logs

@@ -1,0 +1,10 @@
+pub mod Counts
+pub mod Results
+pub mod Places
+pub mod Order
+pub mod Sorted
+pub mod Noted
+pub mod Flags
+pub mod Cached
+pub mod Calls
+pub mod Searches
