@@ -17,13 +17,14 @@ CITES = re.compile(r"\b(?:document 0[0-9]|[Dd]emand [0-9]+|[TDWR][0-9]{1,2}\b)")
 FOLDER = re.compile(r"/(?:work|farm|root|tmp)/")
 CITING = (".rt", ".antt", ".md", ".edit", ".txt")
 # What repeats a constant of a file limits.rt, or one less, in a document or an interface.
-REPEATING = re.compile(r"(?:README\.md|GUIDE\.md|usage\.py|jellqupas\.(?:py|h))$")
+REPEATING = re.compile(r"(?:README\.md|GUIDE\.md|usage\.py|jellqupas\.(?:py|h)|piped\.c)$")
 NUMBERS = (
     ("MAX_SERVERS", 0, r"^MAX_SERVERS = (.+)$|\b1 to (\d+) servers|N is 1 to (\d+)|s1 to s(\d+)"),
     ("MAX_CLIENTS", 0, r"^MAX_CLIENTS = (.+)$"),
     ("MAX_CLIENTS", 1, r"c0 to c(\d+)|umber,? (?:from )?1 to (\d+)\b|C clients 1 to (\d+)"),
     ("MAX_DATA", 0, r"^MAX_DATA = (.+)$"),
     ("MAX_TTL", 0, r"^MAX_TTL = (.+)$"),
+    ("MAX_CAME", 0, r"MOST_CAME = (\d+)"),
 )
 
 
@@ -90,7 +91,7 @@ def citations(paths):
 
 def numbers(paths):
     """Numbers that repeat a constant of a crate, and differ from it."""
-    limits = "".join(read(it) for it in paths if it.endswith("/src/limits.rt"))
+    limits = "".join(read(it) for it in paths if it.endswith("/limits.rt"))
     known = dict(re.findall(r"(?m)^pub const (\w+): \w+ = (.+);$", limits))
     for path, text in ((it, read(it)) for it in paths if REPEATING.search(it)):
         for name, less, pattern in NUMBERS:
@@ -102,7 +103,7 @@ def numbers(paths):
 def value(text):
     """The number that a literal is, or a shift of two."""
     number, _, shift = text.partition(" << ")
-    return int(number, 0) << int(shift or "0", 0)
+    return int(number.replace("_", ""), 0) << int(shift or "0", 0)
 
 
 def named_bodies(pattern):
