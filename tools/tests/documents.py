@@ -40,8 +40,7 @@ def fault(path, text, place, what):
     return f"{path}:{text.count(chr(10), 0, place) + 1}: {what}"
 
 
-def documents(paths):
-    return [(it, read(it)) for it in paths if it.endswith(".md")]
+documents = lambda paths: [(it, read(it)) for it in paths if it.endswith(".md")]
 
 
 def headings(path):
