@@ -50,13 +50,13 @@ static int status_of_child(void) {
         if (errno != EINTR) return 1;
     }
     if (WIFEXITED(status)) return WEXITSTATUS(status);
-    stop(1, "what serves was ended by signal %d", WTERMSIG(status));
+    stop(1, "zk_serve was ended by signal %d", WTERMSIG(status));
 }
 
 /* Ends with the status of a child that has ended. The child printed why. */
 static _Noreturn void end_with_child(void) {
     int status = status_of_child();
-    if (!status) stop(1, "what serves has ended");
+    if (!status) stop(1, "zk_serve has ended");
     exit(status);
 }
 

@@ -324,13 +324,13 @@ static const char SAID[] =
     "zk: jellqupas " JELLQUPAS_VERSION " for ZooKeeper's clients: one server, ticks of %ld ms\n"
     "zk: listening on %.*s:%u\n";
 static const char OPEN_TO_ALL[] =
-    "zk: whoever can connect may do everything: nobody is asked who they are\n";
+    "zk: anyone who can connect may do everything: clients aren't authenticated\n";
 
 /* Prints where it listens, and what remains once it ends. */
 static void say(const struct words *words, unsigned port) {
     int host = (int)(strrchr(words->listen, ':') - words->listen);
     fprintf(stderr, SAID, words->tick, host, words->listen, port);
-    if (words->data) fprintf(stderr, "zk: what is told is kept in %s\n", words->data);
+    if (words->data) fprintf(stderr, "zk: acknowledged changes are stored in %s\n", words->data);
     else fputs("zk: all is in memory: when it ends, nothing is left\n", stderr);
     fputs(OPEN_TO_ALL, stderr);
 }

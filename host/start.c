@@ -63,7 +63,7 @@ int listening_at(const char *text, unsigned *port) {
     int on = 1;
     union address at;
     socklen_t size = read_address(text, &at);
-    if (!size) stop(2, "--listen wants ADDRESS:PORT, as 127.0.0.1:2181, not '%s'", text);
+    if (!size) stop(2, "--listen is ADDRESS:PORT, as 127.0.0.1:2181, not '%s'", text);
     int found = socket(at.any.sa_family, SOCK_STREAM | SOCK_NONBLOCK | SOCK_CLOEXEC, 0);
     if (found >= 0) setsockopt(found, SOL_SOCKET, SO_REUSEADDR, &on, sizeof on);
     if (found < 0 || bind(found, &at.any, size) || listen(found, SOMAXCONN) ||
@@ -100,15 +100,14 @@ static const char USAGE[] =
     "Serves ZooKeeper's clients, until SIGINT or SIGTERM comes.\n\n"
     "  --listen ADDRESS:PORT    where it listens (127.0.0.1:2181); port 0 is any that is free\n"
     "  --tick MS                the milliseconds of a tick, 10 to 3600000 (2000)\n"
-    "  --data DIR               keeps what it tells in this folder\n"
-    "  --sync batch|never       whether it waits for the disk (batch)\n"
-    "  --journal MIB            from which size on its journal is shortened, 1 to 1048576 (64)\n"
-    "  --program PROGRAM        what serves behind it: zk_serve\n"
+    "  --data DIR               stores its state in this folder\n"
+    "  --sync batch|never       whether a reply waits for the disk (batch)\n"
+    "  --journal MIB            compacts its journal from this size on, 1 to 1048576 (64)\n"
+    "  --program PROGRAM        the program that it starts: zk_serve\n"
     "  --version, --help\n\n"
     "Without --data all is in memory. Nothing reads standard input.\n";
 
-static const char NO_CHAIN[] =
-    "a chain stands between processes, not in one: this is one server, without --servers";
+static const char NO_CHAIN[] = "--servers isn't taken: this is one server, without a chain";
 
 /* Where a word's value is stored: a text, or a number from `least` to `most`. */
 struct place {

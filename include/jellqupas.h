@@ -93,10 +93,10 @@ size_t jellqupas_tell(jellqupas *service, uint8_t *to, size_t room);
 void jellqupas_close(jellqupas *service);
 
 /* Plays one line, and writes its answer as a string of C: with its LFs, and a NUL at the end. So an
-   answer of n bytes wants a room of n + 1. Where `room` isn't 0, `to` is a string after every call,
+   answer of n bytes needs a room of n + 1. Where `room` isn't 0, `to` is a string after every call,
    and printing it reads nothing else.
    JELLQUPAS_DONE: the line was played, and `to` is its whole answer.
-   JELLQUPAS_LONGER: the line was played, and its answer wants more room. `to` is empty, and the
+   JELLQUPAS_LONGER: the line was played, and its answer needs more room. `to` is empty, and the
    answer waits: jellqupas_tell(service, (uint8_t *)to, 0) returns its bytes, without the NUL, and
    jellqupas_tell with that much room writes it. Until then each line is JELLQUPAS_PENDING.
    JELLQUPAS_PENDING, JELLQUPAS_MEMORY, JELLQUPAS_NO_SERVERS: as above, and `to` is empty. */
@@ -122,7 +122,7 @@ static inline const char *jellqupas_version(void) { return JELLQUPAS_VERSION; }
 static inline const char *jellqupas_status_text(uint32_t status) {
     switch (status) {
     case JELLQUPAS_DONE: return "done";
-    case JELLQUPAS_PENDING: return "an earlier answer is still to be told";
+    case JELLQUPAS_PENDING: return "an earlier answer wasn't fetched yet";
     case JELLQUPAS_MEMORY: return "out of memory";
     case JELLQUPAS_NO_SERVERS: return "a chain begins with 1 to 16 servers";
     case JELLQUPAS_LONGER: return "the answer is longer than the buffer";

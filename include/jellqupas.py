@@ -66,7 +66,7 @@ BUFFER = 4096
 
 def status_text(status: int) -> str:
     """What a status of the five functions of C says, in a few words."""
-    texts = ("done", "an earlier answer is still to be told", "out of memory",
+    texts = ("done", "an earlier answer wasn't fetched yet", "out of memory",
              "a chain begins with 1 to 16 servers")
     return texts[status] if 0 <= status < len(texts) else "there is no such status"
 
@@ -938,8 +938,8 @@ class Service:
             raise MemoryError("the service is out of memory, for good: close it")
         text = self._told(at)
         if self._asked is not asked:
-            raise RuntimeError("the service was called in a signal handler meanwhile; what this"
-                               " call was answered is kept (Client.answer, Service.missed)")
+            raise RuntimeError("the service was called in a signal handler meanwhile; the answer"
+                               " to this call is cached (Client.answer, Service.missed)")
         return self._hand_out(lambda: read(text), _noted(self._state, asked, text, False))
 
     def _hand_out(self, read: Callable[[], Any], after: _State) -> Any:
@@ -977,7 +977,7 @@ class Service:
             call = self._state.waiting.get(client)
             if call is not None:
                 _result(call, client, "unanswered")
-            raise Idle(f"client {client} waits for nothing, and no answer is kept for it")
+            raise Idle(f"client {client} waits for nothing, and no answer is cached for it")
         call, reply = answers[0]
         after = self._state._replace(kept={**self._state.kept, client: answers[1:]})
         return self._hand_out(lambda: _result(call, client, reply) if call else reply, after)

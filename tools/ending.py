@@ -22,7 +22,29 @@ def teller(name):
 
 
 def stopped(number, _):
-    raise Stopped("stopped; the next call goes on from here", 128 + number)
+    raise Stopped("stopped; the next call continues from here", 128 + number)
+
+
+def open_closed():
+    """Opens closed standard descriptors, so that no other file has their numbers."""
+    for number, path in enumerate((os.devnull, "/dev/full", os.devnull)):
+        try:
+            os.fstat(number)
+        except OSError:
+            os.set_inheritable(os.open(path, os.O_RDWR), True)
+    sys.stdout = open(1, "w", encoding="utf-8", errors="surrogateescape", closefd=False)
+
+
+def flush():
+    """Writes what was printed, unless whoever reads it has enough of it."""
+    try:
+        sys.stdout.flush()
+    except OSError as error:
+        os.dup2(os.open(os.devnull, os.O_WRONLY), 1)
+        if isinstance(error, BrokenPipeError):
+            sys.exit(141)
+        why = error.strerror.lower() if IS_OPEN else "it is closed"
+        raise Stopped(f"standard output: {why}") from None
 
 
 def run(tell, do, *given):

@@ -1,6 +1,6 @@
 """The server for ZooKeeper's clients: a host in C, and the program zk_serve that it starts.
 
-The host is kept by the sum of what it is compiled of. It wants the machine's own C compiler: that
+The host is kept by the sum of what it is compiled of. It needs the machine's own C compiler: that
 of the toolchain has no headers.
 """
 import hashlib

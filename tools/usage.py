@@ -23,16 +23,16 @@ A coordination service with ZooKeeper's data model and chain replication.
                               serves ZooKeeper's clients at 127.0.0.1:2181, in
                               memory: MS is 10 to 3600000 (2000)
 ./zk serve --data DIR [--sync batch|never] [--journal MIB] ..
-                              keeps its state in DIR, never: until a power cut;
-                              shortened from MIB on (64)
-./zk compact --data DIR       shortens a server's folder that isn't in use
+                              stores its state in DIR; with never a power cut may
+                              lose it; compacts its journal from MIB on (64)
+./zk compact --data DIR       compacts a server's journal that isn't in use
 ./zk export|stat --data DIR   writes its tree as a script; says how large it is
 Without a proved program each builds one without proof, in a minute, and says so.
 
 ./zk prove [script|race|serve|library]
                               proves the program of a command, or the library, by
                               the toolchain's rt ci, in half an hour on four
-                              cores; stopped, it goes on
+                              cores; stopped, it continues
 ./zk --proved script ..       runs the proved program, or nothing; others too
 ./zk --unproved script ..     runs the one without proof; others too
 ./zk --version                the version, and which program would run

@@ -72,9 +72,9 @@ def read(command, words):
         choices = ("batch", "never") if name == "--sync" else None
         parser.add_argument(name, type=kind, choices=choices, required=command in AT_REST)
     if command == "serve" and any(it.startswith("--servers") for it in words):
-        parser.error("a chain stands between processes, not in one: this is one server")
+        parser.error("--servers isn't taken: this is one server, without a chain")
     found = parser.parse_args(words)
     for name in ("sync", "journal"):
         if getattr(found, name, None) and not found.data:
-            parser.error(f"--{name} wants --data beside it")
+            parser.error(f"--{name} needs --data")
     return found

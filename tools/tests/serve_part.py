@@ -49,7 +49,7 @@ def words(builds):
         want_same((status, out, said.count("\n")), (2, "", 1), f"{given}: {said}")
     for given, has in (("--help", "--listen"), ("--version", "jellqupas ")):
         want(has in ended([own[0], given])[1], given)
-    want("between processes" in ended([*own, "--servers=3"])[2], "why there is no --servers")
+    want("without a chain" in ended([*own, "--servers=3"])[2], "why there is no --servers")
     for given in ("--listen=127.0.0.1:0", "--tick=10", "--tick 3600000"):
         with Server(builds, words=given.split(" ")) as server:
             want(server.serves(), given)

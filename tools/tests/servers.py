@@ -12,7 +12,7 @@ from wire import Client, Ended, until
 # (another status than any of the host's, and what was freed isn't held for long)
 ENVIRONMENT = {**os.environ, "ASAN_OPTIONS": "exitcode=99:quarantine_size_mb=8"}
 # The last line that a server says before it serves.
-LAST = "zk: whoever can connect may do everything: nobody is asked who they are\n"
+LAST = "zk: anyone who can connect may do everything: clients aren't authenticated\n"
 
 
 def new_folder(builds):
