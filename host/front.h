@@ -17,8 +17,8 @@
    - The secret. Passwords of sessions are derived from it, and a client that gives a session's
      password has the session. So no one must be able to guess it. A folder's secret is the same
      at each opening.
-   - Time. Ticks come about as far apart as the words say, and the time at front_open is right.
-     Only clients' timeouts and the times in a stat depend on it.
+   - Time. Ticks come as far apart as the words say, but for stalls of the machine, and the time
+     at front_open is right. Only clients' timeouts and the times in a stat depend on it.
 
    Each function ends the process if the child has ended, with the child's status. */
 #ifndef FRONT_H

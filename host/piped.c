@@ -26,7 +26,7 @@
 
 /* The tags of records, and their limits. */
 enum { OPENED, CAME, ENDED, TICK, KEEP };
-enum { PIECE, END };
+enum { CHUNK, END };
 enum { MOST_CAME = 65536 };
 
 static pid_t child;
@@ -134,6 +134,7 @@ static void take_head(void) {
     connection = take_number();
     take_bytes(&is_last, 1);
     length = take_number();
+    if (tag != CHUNK || is_last > 1) stop(1, "zk_serve sent no chunk: %u, %u", tag, is_last);
     next = is_last ? LAST_ONE : ONE;
 }
 

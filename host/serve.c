@@ -37,9 +37,11 @@ enum {
     KEPT = 128,
     /* A connection that is to be sent more than this isn't read. */
     OWED = 1 << 20,
-    /* The bytes to be sent or received of an unfinished request, of all connections together.
-       If there are more, the connection with the most of them is closed. */
+    /* The bytes to be sent, and those of unfinished requests, of all connections together. If
+       there are more, the connection with the most of them is closed. (The front stores 16 MiB of
+       unfinished requests, and closes the connection whose bytes don't fit: here it never does.) */
     HELD = 64 << 20,
+    UNFINISHED = 15 << 20,
     /* The milliseconds for a greeting, and for sending the rest before a connection's end. */
     PATIENCE = 10000,
     /* Events that aren't a connection's. */
@@ -62,9 +64,9 @@ struct connection {
     /* What is to be sent: `out` up to `count`, of which `sent` bytes are. */
     uint8_t *out;
     size_t sent, count, room;
-    /* The bytes passed on since its last chunk: an unfinished request has at most these. */
-    size_t given;
-    /* The bytes of a request still to come, or the received `heads` bytes of its length. */
+    /* Of its unfinished request: the bytes passed on, those still to come, and the first `heads`
+       bytes of its length. */
+    size_t part;
     uint32_t body, head;
     int heads;
     /* When it is closed, in milliseconds; 0 for never. */
@@ -76,7 +78,10 @@ struct connection {
 
 static struct connection all[MOST + 1];
 static int events, listener, signals;
-static size_t held;
+static size_t held, unfinished;
+/* The milliseconds of a tick, when the next one is due, and whether it was put off. */
+static uint64_t tick, ticks_at;
+static bool is_put_off;
 /* The requests passed on since the last commit. */
 static size_t asked;
 static bool is_over;
@@ -120,7 +125,7 @@ static void wait_for(uint32_t number, uint32_t wanted) {
 static void shut(uint32_t number) {
     struct connection *it = &all[number];
     if (!is_there(it)) return;
-    held -= owed(it) + it->given;
+    held -= owed(it), unfinished -= it->part;
     close(it->socket);
     free(it->out);
     *it = (struct connection){.state = GONE, .is_touched = it->is_touched};
@@ -129,16 +134,33 @@ static void shut(uint32_t number) {
 
 static void send_on(uint32_t number);
 
-/* Closes those that hold most, if all together hold too much, unless they take it now. */
-static void bound(void) {
+/* Closes those that are owed most, if too much is owed, unless they take it now. */
+static void bound_owed(void) {
     while (held > HELD) {
         uint32_t most = 1;
         for (uint32_t i = 2; i <= MOST; i++) {
-            if (owed(&all[i]) + all[i].given > owed(&all[most]) + all[most].given) most = i;
+            if (owed(&all[i]) > owed(&all[most])) most = i;
         }
         send_on(most);
         if (held > HELD) shut(most);
     }
+}
+
+/* Closes those with the longest unfinished requests, if too much is unfinished. */
+static void bound_unfinished(void) {
+    while (unfinished > UNFINISHED) {
+        uint32_t most = 1;
+        for (uint32_t i = 2; i <= MOST; i++) {
+            if (all[i].part > all[most].part) most = i;
+        }
+        shut(most);
+    }
+}
+
+/* The connection of the next chunk. A wrong number, and a wrong length, end the server. */
+static struct connection *connection_of(uint32_t number) {
+    if (number >= 1 && number <= MOST && all[number].state != FREE) return &all[number];
+    stop(1, "zk_serve sent a chunk of connection %u, which isn't there", number);
 }
 
 /* Commits, and takes the chunks of the front. */
@@ -148,22 +170,24 @@ static void take(void) {
     front_keep();
     asked = 0;
     while ((next = front_next(&number)) != NOTHING) {
-        if (number < 1 || number > MOST) stop(1, "what serves told connection %u", number);
-        struct connection *it = &all[number];
+        struct connection *it = connection_of(number);
         size_t count = 4096;
         do {
+            if (count > HELD) stop(1, "zk_serve sent a chunk of %zu bytes", count);
             make_room(it, count);
             count = front_take(it->out + it->count, it->room - it->count);
         } while (count > it->room - it->count);
         if (it->state != OPEN) continue;
         it->count += count;
         it->until = 0;
-        if (next == LAST_ONE) it->state = LAST, it->until = now() + PATIENCE;
         if (!it->is_touched) touched[touched_count++] = number;
         it->is_touched = true;
-        held += count - it->given;
-        it->given = 0;
-        bound();
+        held += count;
+        if (next == LAST_ONE) {
+            it->state = LAST, it->until = now() + PATIENCE;
+            unfinished -= it->part, it->part = 0;
+        }
+        bound_owed();
     }
 }
 
@@ -194,6 +218,16 @@ static void send_on(uint32_t number) {
     wait_for(number, (owed(it) <= OWED ? EPOLLIN : 0) | (owed(it) ? EPOLLOUT : 0));
 }
 
+/* Notifies the front which connections are closed. All chunks are taken. */
+static void end_gone(void) {
+    while (gone_count) {
+        uint32_t number = gone[--gone_count];
+        front_ended(number);
+        free(all[number].out);
+        all[number] = (struct connection){.is_touched = all[number].is_touched};
+    }
+}
+
 /* Sends the chunks, and notifies the front which connections are closed. */
 static void finish(void) {
     take();
@@ -203,24 +237,31 @@ static void finish(void) {
             all[number].is_touched = false;
             send_on(number);
         }
-        while (gone_count) {
-            uint32_t number = gone[--gone_count];
-            front_ended(number);
-            free(all[number].out);
-            all[number] = (struct connection){.is_touched = all[number].is_touched};
-        }
+        end_gone();
     }
+}
+
+/* Gives the tick that is due. Ticks are evenly spaced, also under load. After a stall of more than
+   a tick it is put off by a tick, once: the requests that wait come first. */
+static void keep_time(void) {
+    uint64_t at = now();
+    if (at < ticks_at) return;
+    bool is_stalled = at > ticks_at + tick;
+    ticks_at = (is_stalled ? at : ticks_at) + tick;
+    is_put_off = is_stalled && !is_put_off;
+    if (!is_put_off) front_tick();
 }
 
 /* How many requests begin in these bytes of a connection. */
 static size_t begun(struct connection *it, const uint8_t *bytes, size_t count) {
     size_t found = 0;
     while (count) {
-        size_t part = it->body < count ? it->body : count;
-        it->body -= (uint32_t)part, bytes += part, count -= part;
+        size_t more = it->body < count ? it->body : count;
+        it->body -= (uint32_t)more, it->part += more, bytes += more, count -= more;
+        if (!it->body && !it->heads) it->part = 0;
         if (!count) break;
         if (!it->heads) found++;
-        it->head = it->head << 8 | *bytes++, count--;
+        it->head = it->head << 8 | *bytes++, it->part++, count--;
         if (++it->heads == 4) it->body = it->head, it->head = 0, it->heads = 0;
     }
     return found;
@@ -231,6 +272,7 @@ static void read_from(uint32_t number) {
     static uint8_t block[HANDED];
     struct connection *it = &all[number];
     for (int parts = READ / HANDED; parts && is_there(it) && owed(it) <= OWED; parts--) {
+        keep_time();
         ssize_t count = recv(it->socket, block, HANDED, 0);
         if (count < 0 && (errno == EAGAIN || errno == EINTR)) return;
         if (count <= 0) {
@@ -238,10 +280,13 @@ static void read_from(uint32_t number) {
             return;
         }
         if (it->state == OPEN) {
-            it->given += count, held += count, asked += begun(it, block, count);
+            end_gone();
+            unfinished -= it->part;
+            asked += begun(it, block, (size_t)count);
+            unfinished += it->part;
             front_came(number, block, (size_t)count);
             if (asked >= KEPT) take();
-            bound();
+            bound_unfinished();
         }
         if (count < HANDED) return;
     }
@@ -273,9 +318,9 @@ static bool is_welcomed(void) {
     return true;
 }
 
-/* Waits at most this long, and handles each event once. Returns how many there were.
+/* Waits at most this long, and handles each event once.
    (connections end before others begin: a client that closes one and opens another finds room) */
-static int pass(int milliseconds) {
+static void pass(int milliseconds) {
     static struct epoll_event ready[MOST + 2];
     int count = epoll_wait(events, ready, MOST + 2, milliseconds), most = 0;
     for (int i = 0; i < count; i++) {
@@ -288,7 +333,6 @@ static int pass(int milliseconds) {
     finish();
     while (most && is_welcomed()) most--;
     finish();
-    return count;
 }
 
 /* Closes those whose patience has ended; once a second. */
@@ -301,22 +345,16 @@ static void look(void) {
     finish();
 }
 
-/* Serves until a signal comes. Ticks are evenly spaced. After a stall of more than a tick the
-   waiting requests are taken, for at most the time of a tick, and then one tick is given. */
-static void serve(uint32_t tick) {
-    uint64_t ticks_at = now() + tick, looks_at = now() + 1000;
+/* Serves until a signal comes. */
+static void serve(void) {
+    uint64_t looks_at = now() + 1000;
+    ticks_at = now() + tick;
     while (!is_over) {
         uint64_t at = now(), next = ticks_at < looks_at ? ticks_at : looks_at;
         pass(at < next ? (int)(next - at) : 0);
         if (now() >= looks_at) look(), looks_at = now() + 1000;
-        if (now() < ticks_at) continue;
-        bool is_stalled = now() > ticks_at + tick;
-        for (uint64_t most = now() + tick; is_stalled && !is_over && now() < most;) {
-            if (pass(0) <= 0) break;
-        }
-        front_tick();
+        keep_time();
         finish();
-        ticks_at = is_stalled ? now() + tick : ticks_at + tick;
     }
 }
 
@@ -351,7 +389,8 @@ int main(int count, char **given) {
     if (!is_added(signals, SIGNALS) || !is_added(listener, LISTENER)) {
         stop(3, "nothing can be waited for: %s", strerror(errno));
     }
-    serve((uint32_t)words.tick);
+    tick = (uint64_t)words.tick;
+    serve();
     for (uint32_t i = 1; i <= MOST; i++) shut(i);
     for (uint32_t i = 1; i <= MOST; i++) free(all[i].out);
     front_close();
