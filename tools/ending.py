@@ -1,7 +1,11 @@
 """How a program of this folder ends, and how it prints its progress."""
+import contextlib
 import os
 import signal
 import sys
+
+# Whether standard output is open.
+IS_OPEN = sys.stdout is not None
 
 
 class Stopped(Exception):
@@ -16,7 +20,8 @@ def teller(name):
     """A function that prints a line on standard error under this name."""
 
     def tell(text):
-        print(f"{name}: {text}", file=sys.stderr, flush=True)
+        with contextlib.suppress(OSError):
+            os.write(2, f"{name}: {text}\n".encode(errors="backslashreplace"))
 
     return tell
 
@@ -52,15 +57,12 @@ def run(tell, do, *given):
     for it in (signal.SIGINT, signal.SIGTERM, signal.SIGHUP):
         signal.signal(it, stopped)
     try:
+        open_closed()
         do(*given)
-        sys.stdout.flush()
+        flush()
     except Stopped as error:
         tell(str(error))
         return error.status
-    except BrokenPipeError:
-        # (whoever read the output has enough of it)
-        os.dup2(os.open(os.devnull, os.O_WRONLY), 1)
-        return 141
     except OSError as error:
         tell(f"{error.filename or 'the toolchain'}: {(error.strerror or str(error)).lower()}")
         return 3
