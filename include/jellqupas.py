@@ -759,9 +759,9 @@ LIBRARY = _loaded(os.path.join(os.path.dirname(os.path.abspath(__file__)), "libj
 class Service:
     """A service of which the chain begins with 1 to 16 servers, and with an empty tree.
 
-    It stays on the thread and in the process that made it (`WrongThread`, `Forked`). It is closed
-    at the end of its `with`, or by `close`. One that isn't closed is freed with its last reference,
-    and a ResourceWarning says so."""
+    It stays on the thread and in the process that made it (`WrongThread`, `Forked`). It can't be
+    copied or pickled (TypeError). It is closed at the end of its `with`, or by `close`. One that
+    isn't closed is freed with its last reference, and a ResourceWarning says so."""
 
     _at: Optional[int] = None
 
@@ -861,6 +861,9 @@ class Service:
             at, self._at = self._at, None
             LIBRARY.jellqupas_close(at)
         self._at = None
+
+    def __reduce_ex__(self, protocol: Any) -> Any:
+        raise TypeError("a service can't be copied or pickled")
 
     def __enter__(self) -> "Service":
         return self

@@ -1,5 +1,7 @@
 """Tests of the Python class, by unittest in a process of its own."""
+import copy
 import os
+import pickle
 import sys
 import unittest
 from concurrent.futures import ThreadPoolExecutor
@@ -101,7 +103,7 @@ class Calls(unittest.TestCase):
                             getattr(target, name)(*words, **named)
                         library.jellqupas_hear.assert_not_called()
 
-    def test_threads_and_forks(self):
+    def test_threads_forks_and_copies(self):
         with ThreadPoolExecutor(1) as pool:
             with self.assertRaises(WrongThread):
                 pool.submit(self.one.get, "/").result()
@@ -113,6 +115,8 @@ class Calls(unittest.TestCase):
                 os._exit(7)
             os._exit(1)
         self.assertEqual(os.waitstatus_to_exitcode(os.waitpid(child, 0)[1]), 7)
+        for copied in (copy.copy, copy.deepcopy, pickle.dumps):
+            self.assertRaises(TypeError, copied, self.service)
         self.service.close()
         self.assertRaises(Closed, lambda: self.one.get("/"))
 
