@@ -16,13 +16,13 @@ import os
 import shutil
 import socket
 import statistics
-import struct
 import subprocess
 import sys
 import tempfile
 import time
 
 import measuring
+import frames
 import serving
 
 ROUNDS, SHAPES = 5, ((1, 1), (4, 1), (1, 200), (4, 200))
@@ -35,20 +35,15 @@ ZOOKEEPER = f"""java -Xmx512m -cp {':'.join(JARS)} -Dzookeeper.forceSync={{force
     org.apache.zookeeper.server.ZooKeeperServerMain {{port}} {{folder}} 2000 0"""
 
 
-text = lambda data: struct.pack(">i", len(data)) + data
-
-
 def requests(op, size):
     """The bytes of a greeting and of a request for each node, and those of an answer."""
-    acl = struct.pack(">ii", 1, 31) + text(b"world") + text(b"anyone") + bytes(4)
-    number, rest, answer = {
-        "create": (1, text(bytes(size)) + acl, 12), "delete": (2, b"\xff" * 4, 0),
-        "get": (4, b"\0", 72 + size),
+    number, body, answer = {
+        "create": (frames.CREATE, lambda path: frames.create_body(path, bytes(size)), 12),
+        "delete": (frames.DELETE, frames.at_version, 0),
+        "get": (frames.GET, frames.look_body, 72 + size),
     }[op]
-    made = [text(struct.pack(">iqiq", 0, 0, 30000, 0) + text(bytes(16)) + b"\0")]
-    for it in range(NODES):
-        made.append(text(struct.pack(">ii", it, number) + text(b"/n-%05d" % it) + rest))
-    return b"".join(made), len(made[1]), 20 + answer
+    made = [frames.request(it, number, body(f"/n-{it:05}")) for it in range(NODES)]
+    return frames.greeting(30000) + b"".join(made), len(made[0]), 20 + answer
 
 
 def start(load, port, shape, calls, op, size=10):

@@ -4,7 +4,7 @@ import time
 from frames import *
 from report import want, want_same
 from servers import Server, until
-from wire import NO_SESSION, Answer, Ended, Event, Wire, greeted, refused
+from wire import NO_SESSION, Answer, Event, greeted, refused
 
 BAD_PATHS = (
     b"", b"a", b"//", b"/.", b"/a\0b", b"/a\x7f", b"/a/", b"/a/..", b"/a b", b"/\xff", None,
@@ -149,15 +149,6 @@ def sessions(builds):
             want(short.is_ended(), "its connection is closed")
 
 
-def is_room(server):
-    """Whether one more session is opened."""
-    try:
-        with Wire(server.address) as wire:
-            return bool(wire.greet())
-    except Ended:
-        return False
-
-
 def limits(builds):
     """Nodes, the depth of a path, watches and sessions that are too many."""
     with Server(builds) as server, server.client() as it, server.client() as other:
@@ -177,6 +168,6 @@ def limits(builds):
         it.create("/w0")
         want_same((it.events(), refused(other.get, "/", True)), ([(CREATED, "/w0")], None), "room")
         count = 0
-        while count < 1024 and is_room(server):
+        while count < 1024 and server.serves():
             count += 1
         want(1000 < count < 1024, f"{count} sessions beside those that were there")

@@ -7,11 +7,21 @@ import threading
 import programs
 import serving
 import unproved
-from report import Failed, Skipped
+from report import Failed, Skipped, want
 from sources import ROOT
 from ending import Stopped
 
 SANITIZERS = "-g -fsanitize=address,undefined -fno-sanitize-recover=all".split()
+# (another status than any of the programs', and what was freed isn't held for long)
+ENVIRONMENT = {**os.environ, "ASAN_OPTIONS": "exitcode=99:quarantine_size_mb=8"}
+
+
+def ended(words, seconds=120, **given):
+    """How a program ended: its status, its output, and what it said on standard error."""
+    given = {"stdin": subprocess.DEVNULL, **given} if "input" not in given else given
+    given = {"stdout": subprocess.PIPE, "stderr": subprocess.PIPE, "text": True, **given}
+    ran = subprocess.run(words, env=ENVIRONMENT, timeout=seconds, **given)
+    return ran.returncode, ran.stdout, ran.stderr
 
 
 class Builds:
@@ -69,10 +79,6 @@ class Builds:
     def compile(self, name, files, flags):
         path = f"{self.room}/{name}"
         words = [self.compiler(), *serving.FLAGS, f"-I{ROOT}/include", "-o", path]
-        ran = subprocess.run(
-            [*words, *(it if os.path.isabs(it) else f"{ROOT}/{it}" for it in files), *flags],
-            stdin=subprocess.DEVNULL, stdout=subprocess.PIPE, stderr=subprocess.STDOUT, text=True,
-        )
-        if ran.returncode:
-            raise Failed(f"{name} doesn't compile: {ran.stdout[-1500:]}")
+        status, _, said = ended([*words, *(os.path.join(ROOT, it) for it in files), *flags])
+        want(not status, f"{name} doesn't compile: {said[-1500:]}")
         return path

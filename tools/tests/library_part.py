@@ -14,7 +14,8 @@ import sys
 import kit
 import rows_part
 import usage
-from report import Failed, Skipped, Test, want, want_same
+from builds import ended
+from report import Skipped, Test, want, want_same
 from sources import ROOT
 
 SECONDS = 1800
@@ -38,13 +39,10 @@ ADDRESSES = "-g -O1 -fsanitize=address -fno-omit-frame-pointer".split()
 
 def ran(words, **changes):
     """What a program prints; it ends well."""
-    done = subprocess.run(
-        words, stdin=subprocess.DEVNULL, stdout=subprocess.PIPE, stderr=subprocess.STDOUT,
-        timeout=SECONDS, text=True, errors="replace", cwd=ROOT, env={**os.environ, **changes},
-    )
-    if done.returncode:
-        raise Failed(f"{words}: status {done.returncode}: {done.stdout[-1500:]}")
-    return done.stdout
+    given = {"stderr": subprocess.STDOUT, "errors": "replace", "cwd": ROOT}
+    status, out, _ = ended(["env", *map("=".join, changes.items()), *words], SECONDS, **given)
+    want(not status, f"{words}: status {status}: {out[-1500:]}")
+    return out
 
 
 def installed(builds):
@@ -88,9 +86,9 @@ def play_bytes(builds, _):
     lines += [b"1 get /" + b"a" * it for it in (524280, 524281, 524282, 1 << 20)]
     lines += [b" ".join(chance.choices(words, k=chance.randrange(1, 8))) for _ in range(2000)]
     text = b"\n".join(lines) + b"\n"
-    answers, program = played(builds, 3, text), [builds.program("zk"), "script", "--servers", "3"]
-    ran = subprocess.run(program, input=text, stdout=subprocess.PIPE, timeout=SECONDS)
-    want(answers == ran.stdout, "lines of any bytes are answered as by the program")
+    program = [builds.program("zk"), "script", "--servers", "3"]
+    out = ended(program, SECONDS, input=text, text=False)[1]
+    want(played(builds, 3, text) == out, "lines of any bytes are answered as by the program")
     with module(builds).Service(1) as service:
         want_same(service.call(b"1 get /\n1 get /"), b"bad line", "an LF in the middle")
 

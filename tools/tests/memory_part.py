@@ -7,74 +7,41 @@ A story ends done, refused, not begun or WRONG. It is WRONG where an answer came
 refusal, or where the state isn't the one that its clauses name. A run is wrong, too, where two
 stories met the refusal, or where one met what was not refused. Each story is refused in some run.
 """
-import collections
 import concurrent.futures
-import os
 import re
-import subprocess
-from typing import NamedTuple
 
+from builds import ended
 from report import Skipped, Test, want, want_same
 from sources import ROOT
 
 # The programs, and about how many seconds their runs take.
 CRATES = {"zmemory_drill": 100, "zfolder_memory_drill": 100}
-# More runs than a program has, the seconds of one, and how many go at once.
-MOST, SECONDS, AT_ONCE = 100_000, 60, 3
+# How many runs go at once.
+AT_ONCE = 3
 FLAGS = ("-Werror", "-fPIC", "-shared", "-fno-builtin")
 END = "the end"
 LINE = re.compile(r"([^:\n]+): (done|refused|not begun|WRONG)")
 CALLS = re.compile(r"(\d+) allocations\n")
 
 
-class Run(NamedTuple):
-    """A run in which the call of this number was refused, if there was one; at 0 none was.
+def run(program, preloaded, names, number):
+    """The run in which the call of this number is refused, if there is one; at 0 none is.
 
-    Of each story it has how that ended.
+    Gives how many calls there were, and the stories that were refused.
     """
-
-    number: int
-    calls: int
-    ended: dict
-
-    def met(self):
-        """The stories that met the refusal."""
-        return [name for name, it in self.ended.items() if it in ("refused", "not begun")]
-
-    def check(self, names):
-        """Fails where it isn't as a run is to be."""
-        what = f"run {self.number} of {self.calls}"
-        want_same(list(self.ended), names, f"{what}: the stories")
-        is_wrong = [name for name, it in self.ended.items() if it == "WRONG"]
-        want(not is_wrong, f"{what}: WRONG: {', '.join(is_wrong)}")
-        most = 1 if 0 < self.number <= self.calls else 0
-        want(len(self.met()) <= most, f"{what}: refused: {', '.join(self.met())}")
-        want_same(END in self.met(), self.number == self.calls, f"{what}: the last call is refused")
-
-
-def make(program, preloaded, names, number):
-    """Makes the run in which the call of this number is refused."""
-    ran = subprocess.run(
-        [program], stdin=subprocess.DEVNULL, capture_output=True, text=True, timeout=SECONDS,
-        env={**os.environ, "LD_PRELOAD": preloaded, "REFUSED": str(number)},
-    )
-    calls = CALLS.fullmatch(ran.stderr)
-    want(calls and not ran.returncode, f"run {number}: {ran.returncode}: {ran.stderr[-300:]!r}")
-    lines = filter(None, map(LINE.fullmatch, ran.stdout.splitlines()))
-    run = Run(number, int(calls[1]), dict(it.groups() for it in lines))
-    run.check(names)
-    return run
-
-
-def runs_of(program, preloaded, names):
-    """All runs of a program. Its threads make a block of them at a time."""
-    with concurrent.futures.ThreadPoolExecutor(AT_ONCE) as pool:
-        for first in range(0, MOST, 8 * AT_ONCE):
-            numbers = range(first, first + 8 * AT_ONCE)
-            for run in pool.map(lambda it: make(program, preloaded, names, it), numbers):
-                yield run
-                if run.number > run.calls:
-                    return
+    words = ["env", f"LD_PRELOAD={preloaded}", f"REFUSED={number}", program]
+    status, out, error = ended(words)
+    calls = CALLS.fullmatch(error)
+    want(calls and not status, f"run {number}: {status}: {error[-300:]!r}")
+    calls, what = int(calls[1]), f"run {number} of {calls[1]}"
+    stories = dict(it.groups() for it in filter(None, map(LINE.fullmatch, out.splitlines())))
+    want_same(list(stories), names, f"{what}: the stories")
+    by = lambda *ends: [name for name, it in stories.items() if it in ends]
+    met, most = by("refused", "not begun"), 1 if 0 < number <= calls else 0
+    want(not by("WRONG"), f"{what}: WRONG: {by('WRONG')}")
+    want(len(met) <= most, f"{what}: refused: {met}")
+    want_same(END in met, number == calls, f"{what}: the last call is refused")
+    return calls, by("refused")
 
 
 def refuse(tally, builds, crate):
@@ -86,18 +53,17 @@ def refuse(tally, builds, crate):
     preloaded = builds.compiled("refusals.so", ["tools/tests/refusals.c"], FLAGS)
     with open(f"{ROOT}/crates/{crate}/stdout", encoding="utf-8") as file:
         names = [LINE.fullmatch(it)[1] for it in file.read().splitlines()]
-    refused, run = collections.Counter(), None
-    for run in runs_of(program, preloaded, names):
-        refused.update(name for name, it in run.ended.items() if it == "refused")
-        tally.passes()
-    want(run.number > run.calls, f"{crate}: run {run.number} is the last one")
-    want_same([it for it in names if not refused[it]], [], f"{crate}: stories that met no refusal")
-
-
-def test(builds, crate, seconds):
-    body = lambda tally: refuse(tally, builds, crate)
-    return Test(f"refusals of {crate}", seconds, body)
+    one = lambda number: run(program, preloaded, names, number)
+    # (each call is refused in turn, and then one that there isn't)
+    numbers, refused = range(1, one(0)[0] + 2), set()
+    with concurrent.futures.ThreadPoolExecutor(AT_ONCE) as pool:
+        for number, (calls, stories) in zip(numbers, pool.map(one, numbers)):
+            refused.update(stories)
+            tally.passes()
+    want(number > calls, f"{crate}: run {number} of {calls} is the last one")
+    want_same(sorted({*names} - refused), [], f"{crate}: stories that met no refusal")
 
 
 def tests(builds):
-    return [test(builds, *it) for it in CRATES.items()]
+    body = lambda crate: lambda tally: refuse(tally, builds, crate)
+    return [Test(f"refusals of {it}", seconds, body(it)) for it, seconds in CRATES.items()]

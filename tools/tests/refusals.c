@@ -39,29 +39,17 @@ void _exit(int status) {
 
 static int is_refused(void) {
     if (!has_begun || atomic_fetch_add(&calls, 1) + 1 != refused) return 0;
-    errno = ENOMEM;
-    return 1;
+    return errno = ENOMEM, 1;
 }
 
 void *malloc(size_t size) { return is_refused() ? NULL : __libc_malloc(size); }
+void *calloc(size_t count, size_t size) { return is_refused() ? NULL : __libc_calloc(count, size); }
+void *realloc(void *old, size_t size) { return is_refused() ? NULL : __libc_realloc(old, size); }
+void *memalign(size_t to, size_t size) { return is_refused() ? NULL : __libc_memalign(to, size); }
+void *aligned_alloc(size_t to, size_t size) { return memalign(to, size); }
 
-void *calloc(size_t count, size_t size) {
-    return is_refused() ? NULL : __libc_calloc(count, size);
-}
-
-void *realloc(void *block, size_t size) {
-    return is_refused() ? NULL : __libc_realloc(block, size);
-}
-
-void *memalign(size_t alignment, size_t size) {
-    return is_refused() ? NULL : __libc_memalign(alignment, size);
-}
-
-void *aligned_alloc(size_t alignment, size_t size) { return memalign(alignment, size); }
-
-int posix_memalign(void **block, size_t alignment, size_t size) {
-    void *found = memalign(alignment, size);
-    if (!found) return ENOMEM;
-    *block = found;
-    return 0;
+int posix_memalign(void **block, size_t to, size_t size) {
+    void *found = memalign(to, size);
+    if (found) *block = found;
+    return found ? 0 : ENOMEM;
 }

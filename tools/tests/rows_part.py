@@ -21,10 +21,10 @@ import os
 import re
 import subprocess
 
+from builds import ended
 from report import Test
 from sources import ROOT
 
-SECONDS = 120
 SETTINGS = {"servers", "words", "alone", "bare", "input", "output", "status", "error"}
 
 
@@ -82,9 +82,6 @@ class Rows:
             text = b"\n".join(asked for asked, _ in rows) + (end if rows else b"")
             yield text, b"".join(answer + b"\n" for _, answers in rows for answer in answers)
 
-    def is_race(self):
-        return self.settings.get("words", "").startswith("race")
-
 
 def run(program, words, settings, text):
     """The output, the standard error and the exit status of one run."""
@@ -95,10 +92,8 @@ def run(program, words, settings, text):
             files.callback(os.close, given["stdin"])
         if "output" in settings:
             out = files.enter_context(open(settings["output"], "wb"))
-        done = subprocess.run(
-            [program, *words], stdout=out, stderr=subprocess.PIPE, timeout=SECONDS, **given
-        )
-    return done.stdout or b"", done.stderr, done.returncode
+        status, out, error = ended([program, *words], stdout=out, text=False, **given)
+    return out or b"", error, status
 
 
 def differing(name, wanted, got):
@@ -125,9 +120,9 @@ def play(tally, program, path, rows):
 def test(builds, path):
     """The test that a file is."""
     rows = Rows(path)
-    crate = "zk_race" if rows.is_race() else "zk"
-    seconds = 100 if path.endswith("/log_at_size.rows") else 5 if rows.is_race() else 1
-    body = lambda tally: play(tally, builds.program(crate), path, rows)
+    is_race = rows.settings.get("words", "").startswith("race")
+    seconds = 100 if path.endswith("/log_at_size.rows") else 5 if is_race else 1
+    body = lambda tally: play(tally, builds.program("zk_race" if is_race else "zk"), path, rows)
     return Test(os.path.basename(path), seconds, body)
 
 

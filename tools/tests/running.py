@@ -1,6 +1,8 @@
 """Runs tests on all processors, says how far it is, and leaves nothing in its place."""
 import concurrent.futures
+import contextlib
 import ctypes
+import glob
 import os
 import shutil
 import signal
@@ -35,19 +37,12 @@ def refuse(text, status):
 
 def children(top=None):
     """The processes below this one, or below `top`; also those whose parent has ended."""
-    found, parents = set(), {}
-    for pid in filter(str.isdigit, os.listdir("/proc")):
-        try:
-            with open(f"/proc/{pid}/stat", "rb") as file:
-                parents[int(pid)] = int(file.read().rpartition(b")")[2].split()[1])
-        except (OSError, IndexError):
-            pass  # it has just ended
-    left = [top or os.getpid()]
-    while left:
-        at = left.pop()
-        more = [pid for pid, parent in parents.items() if parent == at and pid not in found]
-        found.update(more)
-        left += more
+    found = []
+    for path in glob.glob(f"/proc/{top or os.getpid()}/task/*/children"):
+        # (a process may just have ended)
+        with contextlib.suppress(OSError), open(path, encoding="ascii") as file:
+            for it in map(int, file.read().split()):
+                found += [it, *children(it)]
     return found
 
 
@@ -56,15 +51,11 @@ def end_children():
     for _ in range(50):
         left = children()
         for pid in left:
-            try:
+            with contextlib.suppress(OSError):
                 os.kill(pid, signal.SIGKILL)
-            except OSError:
-                pass
-        try:
+        with contextlib.suppress(ChildProcessError):
             while os.waitpid(-1, os.WNOHANG)[0]:
                 pass
-        except ChildProcessError:
-            pass
         if not left:
             return
         time.sleep(0.02)

@@ -4,13 +4,12 @@ import signal
 import subprocess
 import tempfile
 
+import running
 import serving
-from builds import SANITIZERS
+from builds import ENVIRONMENT, SANITIZERS, ended
 from report import Failed, want, want_same
 from wire import Client, Ended, until
 
-# (another status than any of the host's, and what was freed isn't held for long)
-ENVIRONMENT = {**os.environ, "ASAN_OPTIONS": "exitcode=99:quarantine_size_mb=8"}
 # The last line that a server says before it serves.
 LAST = "zk: anyone who can connect may do everything: clients aren't authenticated\n"
 
@@ -93,16 +92,16 @@ class Server:
             return int(file.read().split()[1]) * os.sysconf("SC_PAGE_SIZE") >> 20
 
     def below(self):
-        """The processes that the host has started: what serves behind it."""
-        with open(f"/proc/{self.ran.pid}/task/{self.ran.pid}/children", encoding="ascii") as file:
-            return [int(it) for it in file.read().split()]
+        """The process that the host has started."""
+        return running.children(self.ran.pid)[0]
 
     def kill(self, of_child=False):
-        """Kills the host, or what serves behind it: then both end. Returns the host's status."""
-        below = self.below() if self.ran.poll() is None else []
-        os.kill(below[0], signal.SIGKILL) if of_child else self.ran.kill()
+        """Kills the host, or the process that it started: then both end. The host's status."""
+        below = self.below() if self.ran.poll() is None else 0
+        os.kill(below, signal.SIGKILL) if of_child else self.ran.kill()
         status = self.ran.wait(60)
-        want(until(lambda: not any(map(is_running, below))), "what serves behind it ends")
+        # (a process that has ended runs no program, whether or not its parent knows)
+        want(until(lambda: not os.path.exists(f"/proc/{below}/exe")), "its process ends")
         return status
 
     def stop(self, sent=signal.SIGTERM, status=0, said=""):

@@ -5,9 +5,9 @@ are drawn, of 12,000 calls each, of which it is known how many changes they are.
 """
 import os
 import re
-import subprocess
 
 import rows_part
+from builds import ended
 from report import Test
 
 CRATE, SECONDS, PARTS = "zfolder_drill", 300, 2
@@ -24,27 +24,19 @@ def scripts():
                 yield os.path.basename(path), text
 
 
-def play(tally, program, name, text):
-    ran = subprocess.run(
-        [program], input=text, stdout=subprocess.PIPE, stderr=subprocess.STDOUT, timeout=SECONDS
-    )
-    said = SAID.fullmatch(ran.stdout)
-    if said and not ran.returncode and said[1] == DRAWN.get(text, said[1]):
-        tally.passes()
-    else:
-        tally.fails(f"states of {name}", f"status {ran.returncode}: {ran.stdout[-1000:]!r}")
-
-
-def test(builds, name, seconds, found):
-    def body(tally):
-        for script, text in found:
-            play(tally, builds.program(CRATE), script, text)
-
-    return Test(f"states of {name}", seconds, body)
+def play(tally, builds, found):
+    for name, text in found:
+        status, out, error = ended([builds.program(CRATE)], SECONDS, input=text, text=False)
+        said = SAID.fullmatch(out)
+        if said and not status and said[1] == DRAWN.get(text, said[1]):
+            tally.passes()
+        else:
+            tally.fails(f"states of {name}", f"status {status}: {out[-1000:]!r} {error[-1000:]!r}")
 
 
 def tests(builds):
     found = list(scripts())
     parts = [(f"rows, part {it + 1}", 5, found[it::PARTS]) for it in range(PARTS)]
     parts += [(it.decode().strip(), n, [("drawn", it)]) for n, it in zip((100, 40), DRAWN)]
-    return [test(builds, *it) for it in parts]
+    body = lambda found: lambda tally: play(tally, builds, found)
+    return [Test(f"states of {name}", seconds, body(it)) for name, seconds, it in parts]

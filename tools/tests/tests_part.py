@@ -3,27 +3,20 @@ import glob
 import re
 import subprocess
 
+from builds import ended
 from report import Test, want
 from sources import ROOT, text_of
 
-SECONDS = 120
 LISTED = re.compile(r"(?m)^(\S+): test$")
-
-
-def call(program, word):
-    """What a call prints, and its status."""
-    pipes = {"stdin": subprocess.DEVNULL, "stdout": subprocess.PIPE, "stderr": subprocess.STDOUT}
-    ran = subprocess.run([program, word], text=True, errors="replace", timeout=SECONDS, **pipes)
-    return ran.stdout, ran.returncode
 
 
 def call_all(tally, builds, crate):
     """Calls each test function of a crate."""
-    program = builds.tests(crate)
-    names = LISTED.findall(call(program, "--list")[0])
+    program, given = builds.tests(crate), {"stderr": subprocess.STDOUT, "errors": "replace"}
+    names = LISTED.findall(ended([program, "--list"], **given)[1])
     want(names, "no test is listed")
     for name in names:
-        said, status = call(program, name)
+        status, said, _ = ended([program, name], **given)
         is_ok = not status and said.endswith("test result: ok\n")
         tally.passes() if is_ok else tally.fails(f"{crate}::{name}", f"status {status}: {said}")
 
