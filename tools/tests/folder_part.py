@@ -2,6 +2,7 @@
 import base64
 import os
 import random
+import re
 import shutil
 import signal
 import tempfile
@@ -9,8 +10,8 @@ import threading
 import time
 
 from frames import *
-from report import Failed, Skipped, Test, want, want_same
-from servers import Server, ended, new_folder, serving, until, words_of
+from report import Failed, Test, want, want_same
+from servers import Server, ended, new_folder, program, serving, until, words_of
 from wire import NO_SESSION, Ended, greeted, refused
 
 LIVES = 10
@@ -277,19 +278,20 @@ def full_disk(builds):
 
 
 def synced(builds):
-    """A change is synced before it is acknowledged, and with `--sync never` it isn't."""
-    if not shutil.which("strace"):
-        raise Skipped("strace isn't there")
-    for mode in ("batch", "never"):
-        trace = f"{tempfile.mkdtemp(dir=builds.room)}/trace"
-        wrap = ("strace", "-D", "-f", "-e", "trace=fsync,fdatasync", "-o", trace)
-        server = Server(builds, new_folder(builds), wrap=wrap, sync=mode)
-        with server.client() as it, open(trace, encoding="utf-8") as file:
-            for number in range(5):
+    """Each write is synced before the next and before a reply. With `--sync never` none is."""
+    library = builds.compiled("syncs.so", ["tools/tests/syncs.c"], ["-shared", "-fPIC"])
+    for mode, calls in (("batch", "(?:(?:ws)*r)+"), ("never", "[wr]+")):
+        folder, own = new_folder(builds), builds.program(serving.PROGRAM)
+        text = f"LD_PRELOAD={library} NOTED={folder}/noted exec {own} \"$@\""
+        given = ("--program", program(builds, text))
+        with Server(builds, folder, given, sync=mode) as server, server.client() as it:
+            with open(f"{folder}/noted", encoding="ascii") as file:
                 file.read()
-                it.create(f"/n{number}")
-                want_same(" = 0" in file.read(), mode == "batch", f"a sync at {mode}")
-        server.kill()
+                for number in range(5):
+                    it.create(f"/n{number}")
+                notes = file.read()
+        is_so = re.fullmatch(calls, notes) and notes.count("w") >= 5
+        want(is_so, f"five calls at {mode}: {notes}")
 
 
 def tests(builds):

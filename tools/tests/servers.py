@@ -29,22 +29,12 @@ def words_of(builds, folder=None, sync="never"):
     return [*words, *(("--data", folder, "--sync", sync) if folder else ())]
 
 
-def ended(words, seconds=60, **given):
-    """How a program ended: its status, and what it said."""
-    given = {"stdin": subprocess.DEVNULL, **given} if "input" not in given else given
-    ran = subprocess.run(
-        words, stdout=subprocess.PIPE, stderr=subprocess.PIPE, text=True, env=ENVIRONMENT,
-        timeout=seconds, **given,
-    )
-    return ran.returncode, ran.stdout, ran.stderr
-
-
-def is_running(pid):
-    try:
-        with open(f"/proc/{pid}/stat", encoding="ascii") as file:
-            return file.read().rpartition(")")[2].split()[0] not in "ZX"
-    except OSError:
-        return False
+def program(builds, text):
+    """A program of sh, which may be started in the place of zk_serve."""
+    path = f"{tempfile.mkdtemp(dir=builds.room)}/program"
+    # (by a process of its own: no file that a fork of this one holds open for writing is run)
+    want_same(ended(["install", "/dev/stdin", path], input=f"#!/bin/sh\n{text}\n")[0], 0, path)
+    return path
 
 
 class Server:
