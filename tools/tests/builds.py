@@ -27,8 +27,8 @@ def ended(words, seconds=120, **given):
 class Builds:
     """What the tests of one run are given to run."""
 
-    def __init__(self, is_proved, room, say):
-        self.is_proved, self.room, self.say = is_proved, room, say
+    def __init__(self, is_proved, room, say, is_long=False):
+        self.is_proved, self.is_long, self.room, self.say = is_proved, is_long, room, say
         self.locks, self.alone, self.made = {}, threading.Lock(), {}
 
     def once(self, name, make):

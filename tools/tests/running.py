@@ -99,11 +99,11 @@ class Run:
         return 1 if self.tally.failures or not self.tally.passed else 0
 
 
-def tests_of(parts, is_proved, room):
+def tests_of(parts, is_proved, is_long, room):
     """The tests of these parts."""
     from builds import Builds
 
-    builds, found = Builds(is_proved, room, say), []
+    builds, found = Builds(is_proved, room, say, is_long), []
     for name in parts:
         found += __import__(f"{name}_part").tests(builds)
     return found
@@ -114,7 +114,7 @@ def ended(number, _):
     raise Stopped(f"ended by {signal.Signals(number).name}", 128 + number)
 
 
-def run(parts, is_proved):
+def run(parts, is_proved, is_long):
     """Runs the tests of these parts in a folder that is removed afterwards."""
     cache, room = places.made(places.cache()), tempfile.mkdtemp(prefix="jellqupas-test-")
     os.environ["TMPDIR"] = tempfile.tempdir = room
@@ -126,7 +126,7 @@ def run(parts, is_proved):
                 raise Stopped(f"{it}: less than {NEEDED >> 20} MiB of disk are free")
         child = os.fork()
         if not child:
-            os._exit(Run(tests_of(parts, is_proved, room)).all())
+            os._exit(Run(tests_of(parts, is_proved, is_long, room)).all())
         for it in (signal.SIGINT, signal.SIGTERM, signal.SIGHUP):
             signal.signal(it, ended)
         return abs(os.waitstatus_to_exitcode(os.waitpid(child, 0)[1]))
@@ -140,6 +140,7 @@ def main(words, usage):
     if words in (["--help"], ["-h"], ["help"]):
         say(usage)
         return 0
+    is_long, words = "--long" in words, [it for it in words if it != "--long"]
     is_proved, is_quick = words[:1] == ["--proved"], words == ["--quick"]
     parts = words[1:] if is_proved else [] if is_quick else words
     wrong = next((it for it in parts if it not in PARTS), None)
@@ -152,7 +153,7 @@ def main(words, usage):
 
             return quick.main()
         every = [it for it in PARTS if not (is_proved and it == OF_THE_GATE)]
-        return run([it for it in PARTS if it in (parts or every)], is_proved)
+        return run([it for it in PARTS if it in (parts or every)], is_proved, is_long)
     except Stopped as error:
         return refuse(str(error), error.status)
     except OSError as error:

@@ -1,17 +1,21 @@
 """The server for ZooKeeper's clients: its bytes, its host, and the recipes of kazoo over it."""
+import contextlib
 import os
 import resource
 import signal
 import socket
+import struct
+import subprocess
 import sys
+import tempfile
 import time
 
 import asking
 import hostile
-from frames import CREATE, GET, SEQUENTIAL, create_body, greeting, look_body, request
+from frames import *
 from report import Skipped, Test, want, want_same
-from servers import Server, ended, until, words_of
-from wire import NO_SESSION, Wire, greeted
+from servers import Server, ended, program, until, words_of
+from wire import NO_SESSION, Ended, Wire, greeted
 
 RECIPES = f"{os.path.dirname(os.path.abspath(__file__))}/recipes.py"
 MOST, DATA, ESTABLISHED = 1000, 1 << 16, 1
@@ -134,7 +138,7 @@ def many(builds):
                 want(wire.is_ended(), "one more is closed at once")
         for _ in range(20):
             clients.pop().drop()
-            want(until(lambda: asking.is_room(server)), "who ends leaves a place")
+            want(until(server.serves), "who ends leaves a place")
         for it in clients:
             it.drop()
         want(until(server.serves), "all places are free again")
@@ -154,7 +158,7 @@ def readers(builds):
             # (who is closed is sent so in answer to a byte)
             push(it, b"\0")
         want(until(lambda: 0 < closed(slow) < 60), f"{closed(slow)} of 60 are closed")
-        want(server.resident() < 200, f"{server.resident()} MiB for who never reads")
+        want(server.memory("VmRSS") < 200, f"{server.memory('VmRSS')} MiB for who never reads")
         got = [late.next() for _ in range(100)]
         want_same([it.xid for it in got], list(range(1, 101)), "all that was asked for")
         want({len(it.body) for it in got} == {DATA + 72}, "and whole")
@@ -190,16 +194,85 @@ def late(builds):
         want(it.ping(), "who waits is served before the tick")
 
 
+def clock(builds):
+    """Under full load there is a tick each second, for 10 s or for 60."""
+    load, size = builds.compiled("load", ["bench/load.c"]), len(request(1, GET, look_body("/")))
+    with Server(builds, tick=1000) as server, server.client() as it:
+        it.create("/a")
+        with tempfile.TemporaryFile() as file:
+            file.write(greeting() + request(1, GET, look_body("/")) * 700 * 64)
+            file.seek(0)
+            began, first = time.monotonic(), it.set("/a").mtime
+            words = load, server.address[1], 64, 700, 10**9, size, 92
+            with subprocess.Popen([*map(str, words)], stdin=file) as ran:
+                time.sleep(60 if builds.is_long else 10)
+                want(ran.poll() is None, "the load is answered")
+                ran.kill()
+        ticks, took = (it.set("/a").mtime - first) / 1000, time.monotonic() - began
+        want(abs(ticks - took) <= 1, f"{ticks} ticks in {took} s")
+
+
+def unfinished(builds):
+    """Those with the longest unfinished requests are closed, and others are served in parts."""
+    with Server(builds) as server, server.client() as it, server.client() as other:
+        long, half = request(1, SET, hostile.LONGEST), request(1, CREATE, create_body("/a"))
+        several = [server.client() for _ in range(20)]
+        for one in several:
+            with contextlib.suppress(Ended):
+                one.send(long[:-1])
+            it.send(half[:9])
+            want(other.ping(), "a part comes on its own")
+            it.send(half[9:])
+            it.answer(1)
+        want(until(lambda: closed(several) == 6), f"{closed(several)} of 20 are closed")
+
+
+def chunks(builds):
+    """Chunks of no connection, of no length and of no tag end the host."""
+    no_one = "a chunk of connection {}, which isn't there".format
+    for *head, said in (
+        (0, 0, 0, 0, no_one(0)), (0, 2, 0, 0, no_one(2)), (0, 1001, 1, 5, no_one(1001)),
+        (7, 1, 1, 0, "no chunk: 7, 1"), (0, 1, 2, 0, "no chunk: 0, 2"),
+        (0, 1, 0, 2**32 - 1, "a chunk of 4294967295 bytes"),
+    ):
+        text = "".join(map("\\{:03o}".format, struct.pack(">BBIBI", 1, *head)))
+        own = program(builds, f"printf '{text}'; exec cat >/dev/null")
+        server = Server(builds, words=("--program", own))
+        with Wire(server.address) as it:
+            want(it.is_ended(), "the host has ended")
+        server.stop(0, 1, f"zk: zk_serve sent {said}\n")
+
+
+def drill(builds):
+    """Opens, calls, watches and closes over and over, in the memory of the first 500 rounds."""
+    calls = ((GET, look_body("/a", True)), (EXISTS, look_body("/b", True)), (SET, set_body("/a")),
+             (LS, look_body("/a", True)), (CREATE, create_body("/e-", kind=EPHEMERAL | SEQUENTIAL)))
+    data, size = greeting(timeout=100) + b"".join(request(1, *it) for it in calls), 0
+    with Server(builds, tick=50) as server, server.client() as it:
+        it.create("/a")
+        for number in range(100000 if builds.is_long else 5000):
+            with Wire(server.address) as it:
+                # (one session of four isn't closed, and runs out)
+                it.send(data + request(1, CLOSE) * (number % 4 < 3))
+                found = it.rest() if number % 4 < 3 else it.take(size - 20)
+                size = size or len(found)
+                want(len(found) == size or number % 4 == 3, f"round {number}: {found}")
+            if number == 500:
+                own, host = server.below(), server.memory("VmRSS")
+                most = server.memory("VmPeak", own) + 2 << 20
+                resource.prlimit(own, resource.RLIMIT_AS, (most, most))
+        want(server.memory("VmRSS") < host + 16, f"{host} MiB of the host after 500 rounds")
+
+
 EACH = (
-    asking.limits, asking.sessions, many, readers, silence, words,
-    asking.requests, asking.watches, hostile.frames, addresses, ends, four_letters, secrets, late,
+    asking.limits, asking.sessions, clock, drill, many, readers, silence, words, asking.requests,
+    asking.watches, hostile.frames, addresses, ends, four_letters, secrets, late, unfinished,
+    chunks,
 )
 
 
 def tests(builds):
     found = [Test("serve: recipes of kazoo", 100, lambda tally: recipes(builds, tally))]
     found += [Test(f"serve: {it.__name__}", 10, lambda _, it=it: it(builds)) for it in EACH]
-    for first in range(0, 1000, 250):
-        body = lambda _, first=first: hostile.pieces(builds, first)
-        found.append(Test(f"serve: pieces from {first} on", 20, body))
-    return found
+    body = lambda first: lambda _: hostile.pieces(builds, first)
+    return found + [Test(f"serve: pieces from {it} on", 20, body(it)) for it in range(0, 1000, 250)]

@@ -76,10 +76,10 @@ class Server:
         except Ended:
             return False
 
-    def resident(self):
-        """The MiB that the host has in memory."""
-        with open(f"/proc/{self.ran.pid}/statm", encoding="ascii") as file:
-            return int(file.read().split()[1]) * os.sysconf("SC_PAGE_SIZE") >> 20
+    def memory(self, word, pid=None):
+        """The MiB that the status of a process, of the host's, has by this word."""
+        with open(f"/proc/{pid or self.ran.pid}/status", encoding="ascii") as file:
+            return int(file.read().partition(f"{word}:")[2].split()[0]) >> 10
 
     def below(self):
         """The process that the host has started."""
