@@ -6,7 +6,7 @@
    secret can't be guessed.
 
    One thread does everything. It waits for events of at most 1,000 connections, and of the
-   signals that end it. A connection's number is its index in `all`.
+   signals that end it.
 
    The input of one wait is committed together and then answered. After KEPT requests a commit
    comes before more is read: replies of up to a million bytes each wait in memory until then. */
@@ -20,226 +20,28 @@
 #include <string.h>
 #include <sys/epoll.h>
 #include <sys/socket.h>
-#include <time.h>
 #include <unistd.h>
+#include "connections.h"
 #include "front.h"
 #include "jellqupas.h"
 #include "start.h"
 
 enum {
-    /* The connections that are served at once. */
-    MOST = 1000,
     /* The bytes that are read of a connection before others are, and that are passed on at a time.
        (A request has some 20 bytes or more, and its reply up to a million.) */
     READ = 16 << 10,
     HANDED = 1 << 10,
     /* The requests that are committed together. */
     KEPT = 128,
-    /* A connection that is to be sent more than this isn't read. */
-    OWED = 1 << 20,
-    /* The bytes to be sent, and those of unfinished requests, of all connections together. If
-       there are more, the connection with the most of them is closed. (The front stores 16 MiB of
-       unfinished requests, and closes the connection whose bytes don't fit: here it never does.) */
-    HELD = 64 << 20,
-    UNFINISHED = 15 << 20,
-    /* The milliseconds for a greeting, and for sending the rest before a connection's end. */
-    PATIENCE = 10000,
     /* Events that aren't a connection's. */
     LISTENER = MOST + 1,
     SIGNALS
 };
 
-enum state {
-    FREE,
-    OPEN,
-    /* It has its last chunk: input is dropped, and it is closed once all is sent. */
-    LAST,
-    /* It is closed, and the front isn't notified yet. */
-    GONE
-};
-
-struct connection {
-    enum state state;
-    int socket;
-    /* What is to be sent: `out` up to `count`, of which `sent` bytes are. */
-    uint8_t *out;
-    size_t sent, count, room;
-    /* Of its unfinished request: the bytes passed on, those still to come, and the first `heads`
-       bytes of its length. */
-    size_t part;
-    uint32_t body, head;
-    int heads;
-    /* When it is closed, in milliseconds; 0 for never. */
-    uint64_t until;
-    /* The events that it waits for. */
-    uint32_t events;
-    bool is_touched;
-};
-
-static struct connection all[MOST + 1];
-static int events, listener, signals;
-static size_t held, unfinished;
+static int listener, signals;
 /* The milliseconds of a tick, when the next one is due, and whether it was put off. */
 static uint64_t tick, ticks_at;
-static bool is_put_off;
-/* The requests passed on since the last commit. */
-static size_t asked;
-static bool is_over;
-/* The connections with new chunks, and those that are GONE. */
-static uint32_t touched[MOST + 1], gone[MOST];
-static size_t touched_count, gone_count;
-
-/* Milliseconds of a clock that no one can set. */
-static uint64_t now(void) {
-    struct timespec at;
-    clock_gettime(CLOCK_MONOTONIC, &at);
-    return (uint64_t)at.tv_sec * 1000 + (uint64_t)at.tv_nsec / 1000000;
-}
-
-static bool is_there(const struct connection *it) {
-    return it->state == OPEN || it->state == LAST;
-}
-
-static size_t owed(const struct connection *it) { return it->count - it->sent; }
-
-/* Makes room for this many more bytes. */
-static void make_room(struct connection *it, size_t more) {
-    if (it->room - it->count >= more) return;
-    size_t left = owed(it), room = it->room ? it->room : 4096;
-    while (room - left < more) room *= 2;
-    if (it->sent) memmove(it->out, it->out + it->sent, left);
-    if (room > it->room) it->out = realloc(it->out, room);
-    if (!it->out) stop(1, "out of memory");
-    it->sent = 0, it->count = left, it->room = room;
-}
-
-/* Waits for these events of a connection from now on. */
-static void wait_for(uint32_t number, uint32_t wanted) {
-    struct connection *it = &all[number];
-    struct epoll_event event = {.events = wanted, .data.u32 = number};
-    if (wanted != it->events) epoll_ctl(events, EPOLL_CTL_MOD, it->socket, &event);
-    it->events = wanted;
-}
-
-/* Closes a connection at once. The front is notified later: its chunks may be half taken. */
-static void shut(uint32_t number) {
-    struct connection *it = &all[number];
-    if (!is_there(it)) return;
-    held -= owed(it), unfinished -= it->part;
-    close(it->socket);
-    free(it->out);
-    *it = (struct connection){.state = GONE, .is_touched = it->is_touched};
-    gone[gone_count++] = number;
-}
-
-static void send_on(uint32_t number);
-
-/* Closes those that are owed most, if too much is owed, unless they take it now. */
-static void bound_owed(void) {
-    while (held > HELD) {
-        uint32_t most = 1;
-        for (uint32_t i = 2; i <= MOST; i++) {
-            if (owed(&all[i]) > owed(&all[most])) most = i;
-        }
-        send_on(most);
-        if (held > HELD) shut(most);
-    }
-}
-
-/* Closes those with the longest unfinished requests, if too much is unfinished. */
-static void bound_unfinished(void) {
-    while (unfinished > UNFINISHED) {
-        uint32_t most = 1;
-        for (uint32_t i = 2; i <= MOST; i++) {
-            if (all[i].part > all[most].part) most = i;
-        }
-        shut(most);
-    }
-}
-
-/* The connection of the next chunk. A wrong number, and a wrong length, end the server. */
-static struct connection *connection_of(uint32_t number) {
-    if (number >= 1 && number <= MOST && all[number].state != FREE) return &all[number];
-    stop(1, "zk_serve sent a chunk of connection %u, which isn't there", number);
-}
-
-/* Commits, and takes the chunks of the front. */
-static void take(void) {
-    uint32_t number;
-    enum next next;
-    front_keep();
-    asked = 0;
-    while ((next = front_next(&number)) != NOTHING) {
-        struct connection *it = connection_of(number);
-        size_t count = 4096;
-        do {
-            if (count > HELD) stop(1, "zk_serve sent a chunk of %zu bytes", count);
-            make_room(it, count);
-            count = front_take(it->out + it->count, it->room - it->count);
-        } while (count > it->room - it->count);
-        if (it->state != OPEN) continue;
-        it->count += count;
-        it->until = 0;
-        if (!it->is_touched) touched[touched_count++] = number;
-        it->is_touched = true;
-        held += count;
-        if (next == LAST_ONE) {
-            it->state = LAST, it->until = now() + PATIENCE;
-            unfinished -= it->part, it->part = 0;
-        }
-        bound_owed();
-    }
-}
-
-static void forget_sent(struct connection *it) {
-    it->sent = it->count = 0;
-    if (it->room <= 65536) return;
-    free(it->out);
-    it->out = NULL, it->room = 0;
-}
-
-/* Sends what can be sent on a connection. */
-static void send_on(uint32_t number) {
-    struct connection *it = &all[number];
-    if (!is_there(it)) return;
-    while (owed(it)) {
-        ssize_t sent = send(it->socket, it->out + it->sent, owed(it), MSG_NOSIGNAL);
-        if (sent < 0 && errno == EINTR) continue;
-        if (sent < 0 && errno == EAGAIN) break;
-        if (sent < 0) {
-            shut(number);
-            return;
-        }
-        it->sent += sent, held -= sent;
-    }
-    if (!owed(it)) forget_sent(it);
-    /* (its client closes it, or PATIENCE ends: so unread input doesn't lose what was sent) */
-    if (!owed(it) && it->state == LAST) shutdown(it->socket, SHUT_WR);
-    wait_for(number, (owed(it) <= OWED ? EPOLLIN : 0) | (owed(it) ? EPOLLOUT : 0));
-}
-
-/* Notifies the front which connections are closed. All chunks are taken. */
-static void end_gone(void) {
-    while (gone_count) {
-        uint32_t number = gone[--gone_count];
-        front_ended(number);
-        free(all[number].out);
-        all[number] = (struct connection){.is_touched = all[number].is_touched};
-    }
-}
-
-/* Sends the chunks, and notifies the front which connections are closed. */
-static void finish(void) {
-    take();
-    while (touched_count || gone_count) {
-        while (touched_count) {
-            uint32_t number = touched[--touched_count];
-            all[number].is_touched = false;
-            send_on(number);
-        }
-        end_gone();
-    }
-}
+static bool is_put_off, is_over;
 
 /* Gives the tick that is due. Ticks are evenly spaced, also under load. After a stall of more than
    a tick it is put off by a tick, once: the requests that wait come first. */

@@ -17,8 +17,8 @@ from ending import Stopped
 # The program behind the host.
 PROGRAM = "zk_serve"
 # What the host is compiled of.
-HOST = ("host/serve.c", "host/start.c", "host/piped.c", "host/folder.c")
-HEADERS = ("host/front.h", "host/start.h", "include/jellqupas.h")
+HOST = tuple(f"host/{it}.c" for it in ("serve", "connections", "start", "piped", "folder"))
+HEADERS = ("host/connections.h", "host/front.h", "host/start.h", "include/jellqupas.h")
 FLAGS = "-std=c11 -O2 -Wall -Wextra".split()
 COMPILERS = ("cc", "gcc", "clang")
 
