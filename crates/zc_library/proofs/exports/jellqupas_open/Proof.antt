@@ -56,7 +56,7 @@ use Rattle.std_heap.proofs.Handle.{handle, heap_val, heap_Tells}
 use Rattle.std_heap.specs.contracts.Global as HP
 use Rattle.std_heap.proofs.Global.TheLaws as HP'
 use Rattle.zc_library.proofs.service.Service.TheLaws as S'
-use Rattle.bytes.proofs.Walks.{reports}
+use Rattle.bytes.proofs.Walks.{tells}
 
 abbrev stayed : Stays (f.ended).signature.params (f.ended).kept
 stayed = (stay_none (λ _. HP.the_row) yes, (stay_none (λ _. u8) yes, (stay_none (λ _. RawPtr) yes, tt)))
@@ -133,7 +133,7 @@ module _ {M : Type 1} {𝓤 : Ura M} (𝓛 : Logic 𝓤) (at_mem : Memory → SP
         ⊛ some (λ (ws : Lasts of.ended tt (handle, (m, tt))). ‵ (lasts of.ended tt (handle, (m, tt)) ws) ⊛ raw (fact 𝓤 (IsOpened m r))))))
         (id⊢ 𝓤 _) $ await ! tt $ pick ! (λ r.
         split ! $ move ! (1 ∷ []) $ pick ! (λ ws. split ! $ move ! (1 ∷ []) $ heard ! (IsOpened m r) (λ e. drop ! $ split ! $ drop ! $
-        reports ! S S'.the_row_laws r (v ∷ []) (λ w is good. lands_as ! (ap only is) refl good $
+        tells ! S S'.the_row_laws r (v ∷ []) (λ w is good. lands_as ! (ap only is) refl good $
         -- at.write(..)
         assigns ! (of_opd ! (get ! refl)) (through ! refl (stop !)) (init ! 2 refl good) $
         move ! (2 ∷ 0 ∷ []) $ use2 𝓛 (‵ (part_at S full_share r b o)) (part_in 𝓛 S refl full_share r b o w) $
