@@ -92,7 +92,7 @@ def do(is_folder, words):
         by_command = {"serve": serve, **dict.fromkeys(words_of.AT_REST, at_rest)}
         by_command.get(command, play)(mode, command, words, given)
     elif mode:
-        refuse(f"{mode} is followed by script, race, serve, compact, export or stat, not '{command}'")
+        refuse(f"{mode} takes script, race, serve, compact, export or stat, not '{command}'")
     elif command == "prove":
         prove(words)
     elif command == "clean" and words in ([], ["--all"]):

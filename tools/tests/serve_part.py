@@ -20,8 +20,9 @@ from wire import NO_SESSION, Ended, Wire, greeted
 RECIPES = f"{os.path.dirname(os.path.abspath(__file__))}/recipes.py"
 MOST, DATA, ESTABLISHED = 1000, 1 << 16, 1
 BAD_WORDS = (
-    "frob", "--frob", "--servers", "--servers 3", "--servers=1", "--program=", "--tick 9", f"--tick {'9' * 20}", "--tick 1e3", "--sync often", "--journal 0", "--listen",
-    "--data ", "--tick 2000 ", *(f"--listen {it}" for it in (
+    "frob", "--frob", "--servers", "--servers 3", "--servers=1", "--program=", "--tick 9",
+    f"--tick {'9' * 20}", "--tick 1e3", "--sync often", "--journal 0", "--listen", "--data ",
+    "--tick 2000 ", *(f"--listen {it}" for it in (
         "2181", "127.0.0.1", "127.0.0.1:", ":1", "127.0.0.1:65536", "127.0.0.1:-1", "999.0.0.1:1",
         "somewhere:1", "::1:2181", "[::g]:1", "[]:1", "1" * 999 + ":1")),
 )
@@ -247,7 +248,7 @@ def chunks(builds):
 
 
 def drill(builds):
-    """Opens, calls, watches and closes over and over, in the memory of the first 500 rounds."""
+    """Opens, calls, watches, and closes three of four, in the memory of the first 500 rounds."""
     calls = ((GET, look_body("/a", True)), (EXISTS, look_body("/b", True)), (SET, set_body("/a")),
              (LS, look_body("/a", True)), (CREATE, create_body("/e-", kind=EPHEMERAL | SEQUENTIAL)))
     data, size = greeting(timeout=100) + b"".join(request(1, *it) for it in calls), 0
@@ -255,7 +256,6 @@ def drill(builds):
         it.create("/a")
         for number in range(100000 if builds.is_long else 5000):
             with Wire(server.address) as it:
-                # (one session of four isn't closed, and runs out)
                 it.send(data + request(1, CLOSE) * (number % 4 < 3))
                 found = it.rest() if number % 4 < 3 else it.take(size - 20)
                 size = size or len(found)
