@@ -1,0 +1,14 @@
+pub mod OneLogs
+pub mod Known
+pub mod KnownSteps
+pub mod Shown
+pub mod Represents
+pub mod Mirrored
+pub mod Unseen
+pub mod Fits
+pub mod Quiet
+pub mod Holds
+pub mod Appended
+pub mod Calls
+pub mod Acknowledges
+pub mod OneTree

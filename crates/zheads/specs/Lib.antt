@@ -1,0 +1,4 @@
+pub mod Heads
+pub mod OneLog
+pub mod Law
+pub mod support
