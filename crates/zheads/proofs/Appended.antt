@@ -1,7 +1,7 @@
 -- An update at a head, in the log world: it is the only call of a fresh client, whose request is
 -- taken at once.
 use Rattle.std.specs.Prelude.{◌&&◌, not, if◌then◌else◌}
-use Rattle.std.proofs.Common.{◌≡◌, ℕ, ◌+◌, ◌<◌, ◌≤◌, Bool, true, false, nat_lt, ◌==◌, List, [], ◌∷◌, ◌++◌, drop, length, Option, Some, None, refl, sym, ap, ◌∙◌, subst, inl, inr, arith, eq-eqb, length-append, append-nil}
+use Rattle.std.proofs.Common.{◌≡◌, ℕ, ◌+◌, ◌<◌, ◌≤◌, Bool, true, false, nat_lt, ◌==◌, List, [], ◌∷◌, ◌++◌, drop, length, Option, Some, None, refl, ap, ◌∙◌, subst, inl, inr, arith, eq-eqb, length-append, append-nil}
 use Rattle.zcalls.specs.declared.call.Call.{Call}
 use Rattle.zcalls.specs.declared.call.Call.TheVariants as call
 use Rattle.zcalls.specs.declared.call.Entry.{Entry}
@@ -16,24 +16,23 @@ use Rattle.zprotocol.specs.declared.process.Process.{Process}
 use Rattle.zprotocol.specs.declared.process.Process.TheVariants.{Master, Server, Client}
 use Rattle.zprotocol.specs.declared.world.event.Event.{Event}
 use Rattle.zprotocol.specs.declared.world.event.Event.TheVariants.{Take}
-use Rattle.zprotocol.specs.declared.world.history.CallEvent.{CallEvent}
 use Rattle.zprotocol.specs.declared.world.history.CallEvent.TheVariants.{Begin, Answer}
 use Rattle.zprotocol.specs.server.View.{ServerView, Neighbour, Transfer, Post}
 use Rattle.zprotocol.specs.server.Table as server
 use Rattle.zprotocol.proofs.server_lemmas.Fields.{view_of}
 use Rattle.zprotocol.specs.client.View.{ClientView}
 use Rattle.zprotocol.specs.client.Table as client
-use Rattle.zprotocol.specs.world.History.{History, HasBegun}
-use Rattle.zprotocol.specs.world.Links.{Links, is_same, messages_to, put, without_front}
+use Rattle.zprotocol.specs.world.History.{HasBegun}
+use Rattle.zprotocol.specs.world.Links.{messages_to, put, without_front}
 use Rattle.zprotocol.specs.world.World.{at}
-use Rattle.zprotocol.specs.world.Does.{Hear, server_effect}
-use Rattle.zprotocol.specs.world.Events.{front_is, is_enabled, did_in, does_in, front_step}
-use Rattle.zlinearizability.specs.chain.Flow.{log_machine, LogWorld, LogMessage, Log, log_at, length_of}
+use Rattle.zprotocol.specs.world.Does.{server_effect}
+use Rattle.zprotocol.specs.world.Events.{front_is, is_enabled, did_in, front_step}
+use Rattle.zlinearizability.specs.chain.Flow.{log_machine, LogWorld, LogMessage, Log}
 use Rattle.zlinearizability.specs.chain.Last.{LastsAreLengths, IsExact}
 use Rattle.zlinearizability.specs.chain.Account.{Account, next_account}
 use Rattle.zlinearizability.specs.chain.Sound.{IsSound}
 use Rattle.zlinearizability.proofs.legal_lemmas.lists.Members.{among_last}
-use Rattle.zlinearizability.proofs.chain_lemmas.links.Links.{AllPosts, all_none, all_and, put_among, at_cases, at_same}
+use Rattle.zlinearizability.proofs.chain_lemmas.links.Links.{put_among, at_cases, at_same}
 use Rattle.zlinearizability.proofs.chain_lemmas.links.LaterWorlds.{justified_later}
 use Rattle.zlinearizability.proofs.clients_lemmas.ClientSteps.{with_client, begin_sound}
 use Rattle.zlinearizability.proofs.Runs.{next_world}

@@ -1,15 +1,13 @@
 -- A call at a head: what holds of the heads still does.
-use Rattle.std.specs.Prelude.{◌&&◌, not, is_none, nat_le, if◌then◌else◌, filter}
-use Rattle.std.proofs.Common.{◌≡◌, ℕ, ◌+◌, ◌<◌, ◌≤◌, Bool, true, false, nat_lt, List, [], ◌∷◌, ◌++◌, map, length, Option, Some, None, refl, sym, ap, ◌∙◌, subst, inl, inr, arith, append-nil}
+use Rattle.std.specs.Prelude.{is_none, if◌then◌else◌}
+use Rattle.std.proofs.Common.{◌≡◌, ℕ, ◌+◌, ◌≤◌, Bool, true, false, List, [], ◌∷◌, ◌++◌, map, length, Option, Some, None, refl, sym, ap, ◌∙◌, subst, inl, inr, arith, append-nil}
 use Rattle.std.proofs.lemmas.List.{map-append}
-use Rattle.std.proofs.lemmas.Bool.Decides.{nat_tests}
 use Rattle.zcalls.specs.declared.call.Call.TheVariants as call
 use Rattle.zcalls.specs.declared.call.Entry.{Entry}
 use Rattle.zcalls.specs.declared.call.Query.{Query}
 use Rattle.zcalls.specs.declared.call.Update.{Update}
 use Rattle.zcalls.specs.Cached.{Plain, CachedState}
 use Rattle.zcalls.specs.Lists.{Among, ComesBefore}
-use Rattle.zcalls.proofs.Among.{test, among_cases}
 use Rattle.zprotocol.specs.declared.message.Message.TheVariants as message
 use Rattle.zprotocol.specs.declared.process.Process.{Process}
 use Rattle.zprotocol.specs.declared.process.Process.TheVariants.{Master, Server, Client}
@@ -18,30 +16,25 @@ use Rattle.zprotocol.specs.declared.world.event.Event.TheVariants.{Take}
 use Rattle.zprotocol.specs.server.Machine.{Does, machine_of}
 use Rattle.zprotocol.specs.server.View.{ServerView, Neighbour}
 use Rattle.zprotocol.specs.server.Table as server
-use Rattle.zprotocol.specs.master.View.{is_among}
 use Rattle.zprotocol.specs.world.World.{World}
 use Rattle.zprotocol.specs.world.Does.{Hear, server_effect}
 use Rattle.zprotocol.specs.world.Events.{did_in, does_in, let_go}
-use Rattle.zprotocol.proofs.world_lemmas.Among.{among_map, among_image}
 use Rattle.zprotocol.proofs.world_lemmas.Orders.{Stand, stand}
 use Rattle.zlinearizability.specs.legal.Prefix.{IsPrefix}
-use Rattle.zlinearizability.specs.chain.Flow.{log_machine, LogWorld, LogMessage, Log, log_at, length_of, or_else, first_snapshot_by, first_log}
-use Rattle.zlinearizability.specs.chain.Account.{Account, next_account}
+use Rattle.zlinearizability.specs.chain.Flow.{log_machine, LogWorld, LogMessage, Log, log_at, length_of, or_else, first_snapshot_by}
+use Rattle.zlinearizability.specs.chain.Account.{Account}
 use Rattle.zlinearizability.proofs.legal_lemmas.lists.Members.{among_left, among_mid, among_last}
-use Rattle.zlinearizability.proofs.legal_lemmas.lists.Places.{before_second}
-use Rattle.zlinearizability.proofs.legal_lemmas.lists.Tests.{left_of, right_of, not_true}
 use Rattle.zlinearizability.proofs.chain_lemmas.links.Links.{at_same}
 use Rattle.zlinearizability.proofs.chain_lemmas.places.Pairs.{log_member}
-use Rattle.zlinearizability.proofs.chain_lemmas.steps.Opening.{tested_among}
 use Rattle.zlinearizability.proofs.Runs.{each_event, lasts_next}
-use Rattle.zheads.specs.Heads.{Note, Seen, Begun, Acknowledged, Heads, head_machine, update_entry, update_input, update_note, query_note, begun, has_left_sent, is_acknowledged, acknowledge}
-use Rattle.zheads.specs.OneLog.{state_of, Fits, IsNoLater}
+use Rattle.zheads.specs.Heads.{Note, Seen, Begun, Acknowledged, Heads, head_machine, update_input, update_note, query_note, begun}
+use Rattle.zheads.specs.OneLog.{Fits, IsNoLater}
 use Rattle.zheads.proofs.KnownSteps.{IsKnown, known_more, take_known, prefix_length}
-use Rattle.zheads.proofs.Shown.{front_entry, shown_sent, IsInside, machine_after, shown_machine, shown_view, shown, IsShown, submit_shown}
+use Rattle.zheads.proofs.Shown.{IsInside, machine_after, shown_machine, shown_view, shown, IsShown, submit_shown}
 use Rattle.zheads.proofs.Represents.{Represents, is_out, let_go_shown, server_did}
-use Rattle.zheads.proofs.Fits.{updates, prefix_updates, updates_length, fits_more, fits_front, place_in, state_is, reply_is}
+use Rattle.zheads.proofs.Fits.{updates, prefix_updates, updates_length, fits_more, place_in, state_is, reply_is}
 use Rattle.zheads.proofs.Quiet.{IsQuiet, quiet_server}
-use Rattle.zheads.proofs.Holds.{MadeIn, IsFresh, machine, IsNoted, Holds, HoldsAfter, noted_grown}
+use Rattle.zheads.proofs.Holds.{MadeIn, IsFresh, IsNoted, Holds, HoldsAfter, noted_grown}
 use Rattle.zheads.proofs.Appended.{fresh_client, called, appended, entry_of_call, called_sound, called_exact, called_known, link_is, taken, taken_silent, taken_fresh, world_is, appended_log}
 
 -- a head, by its own view

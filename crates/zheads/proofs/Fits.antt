@@ -1,15 +1,15 @@
 -- Calls that fit a log fit a longer one, and the shown machine of a log replies as the service does
 -- after its updates.
-use Rattle.std.proofs.Common.{◌≡◌, ℕ, ◌+◌, ◌≤◌, List, [], ◌∷◌, ◌++◌, map, length, Option, Some, None, refl, sym, ap, ◌∙◌, subst, arith, append_assoc, length-append}
+use Rattle.std.proofs.Common.{◌≡◌, ℕ, ◌+◌, ◌≤◌, List, [], ◌∷◌, ◌++◌, map, length, Option, Some, refl, sym, ap, ◌∙◌, arith, append_assoc, length-append}
 use Rattle.std.proofs.lemmas.List.{map-append}
-use Rattle.std.specs.FinMap.{get, get-empty}
+use Rattle.std.specs.FinMap.{get-empty}
 use Rattle.std.specs.Ordering.{nat_cmp}
 use Rattle.zcalls.specs.declared.call.Call.{Call}
 use Rattle.zcalls.specs.declared.call.Call.TheVariants as call
 use Rattle.zcalls.specs.declared.call.Entry.{Entry}
 use Rattle.zcalls.specs.declared.call.Update.{Update}
 use Rattle.zcalls.specs.declared.reply.Reply.{Reply}
-use Rattle.zcalls.specs.Cached.{Plain, Cached, CachedState, nothing_cached, last_of, act_result, entry_step}
+use Rattle.zcalls.specs.Cached.{Plain, CachedState, nothing_cached, last_of, act_result, entry_step}
 use Rattle.zcalls.specs.CachedLaws.{last_number}
 use Rattle.zcalls.specs.Operation.{Operation}
 use Rattle.zcalls.proofs.ActedLogs.{after}
@@ -140,4 +140,5 @@ entry_of (e ∷ log) n [] u (after, is, at) = ([], log, e, refl, cc is, refl)
 entry_of (e ∷ log) n (b ∷ before) u (after, is, at) =
     let tails : updates log ≡ before ++ u ∷ after = cc is in
     let more = entry_of log (length before + 1) before u (after, tails, refl) in
-    (e ∷ more.0, more.1, more.2, ap (λ l. e ∷ l) more.3, more.4, (let same : length more.0 ≡ length before = more.5 in omega (arith, same)))
+    let same : log ≡ more.0 ++ more.2 ∷ more.1 = more.3 in
+    (e ∷ more.0, more.1, more.2, (λ i. e ∷ same i), more.4, (let size : length more.0 ≡ length before = more.5 in omega (arith, size)))

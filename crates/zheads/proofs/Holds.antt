@@ -1,6 +1,6 @@
 -- What holds of the heads of a chain beside a log world: it is shown, it is sound, what left Sent is
 -- committed, and each call fits the log of its head.
-use Rattle.std.proofs.Common.{◌≡◌, ℕ, ◌+◌, ◌<◌, ◌≤◌, Bool, true, false, List, [], ◌∷◌, ◌++◌, length, take, zero, suc, Option, Some, None, refl, sym, ap, ◌∙◌, subst, inl, inr, arith}
+use Rattle.std.proofs.Common.{◌≡◌, ℕ, ◌<◌, ◌≤◌, Bool, true, false, List, [], length, take, Some, sym, ap, ◌∙◌, subst}
 use Rattle.std.specs.Prelude.{◌&&◌, if◌then◌else◌}
 use Rattle.zcalls.specs.declared.call.Call.TheVariants as call
 use Rattle.zcalls.specs.declared.call.Entry.{Entry}
@@ -14,7 +14,6 @@ use Rattle.zprotocol.specs.declared.world.event.Event.{Event}
 use Rattle.zprotocol.specs.declared.world.event.Event.TheVariants.{Begin, Retry, Take, Ignore, Fail, Order}
 use Rattle.zprotocol.specs.server.Machine.{Does, machine_of}
 use Rattle.zprotocol.specs.world.History.{History, HasBegun}
-use Rattle.zprotocol.specs.world.World.{World}
 use Rattle.zprotocol.specs.world.Events.{happens}
 use Rattle.zprotocol.specs.world.Keeping.{keeps}
 use Rattle.zlinearizability.specs.legal.Prefix.{IsPrefix}

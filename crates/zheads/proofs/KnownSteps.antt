@@ -1,6 +1,6 @@
 -- Each event of the chain preserves what is known of views and messages.
 use Rattle.std.specs.Prelude.{is_none, not, if◌then◌else◌}
-use Rattle.std.proofs.Common.{◌≡◌, ℕ, ◌+◌, ◌≤◌, Bool, true, false, ◌==◌, List, [], ◌∷◌, ◌++◌, length, Option, Some, None, refl, sym, ap, ◌∙◌, subst, inl, inr, arith}
+use Rattle.std.proofs.Common.{◌≡◌, ℕ, ◌+◌, ◌≤◌, Bool, true, false, List, [], ◌∷◌, ◌++◌, length, Option, Some, None, refl, sym, ap, ◌∙◌, subst, inl, inr, arith}
 use Rattle.std.proofs.Common.{length-append}
 use Rattle.zcalls.specs.declared.call.Entry.{Entry}
 use Rattle.zcalls.specs.declared.call.Update.{Update}
@@ -11,7 +11,7 @@ use Rattle.zprotocol.specs.declared.message.Message.TheVariants as message
 use Rattle.zprotocol.specs.declared.process.Process.{Process}
 use Rattle.zprotocol.specs.declared.process.Process.TheVariants.{Master, Server, Client}
 use Rattle.zprotocol.specs.declared.world.event.Event.{Event}
-use Rattle.zprotocol.specs.declared.world.event.Event.TheVariants.{Begin, Retry, Take, Ignore, Fail, Order}
+use Rattle.zprotocol.specs.declared.world.event.Event.TheVariants.{Take, Ignore, Fail, Order}
 use Rattle.zprotocol.specs.server.View.{ServerView, Neighbour, Post}
 use Rattle.zprotocol.specs.server.Table as server
 use Rattle.zprotocol.proofs.server_lemmas.Cases.{server_case}
@@ -22,7 +22,7 @@ use Rattle.zprotocol.specs.world.Events.{front_is, has_failed, is_enabled, did_i
 use Rattle.zlinearizability.specs.legal.Prefix.{IsPrefix}
 use Rattle.zlinearizability.specs.chain.Flow.{log_machine, LogWorld, LogMessage, Log}
 use Rattle.zlinearizability.specs.chain.Last.{LastsAreLengths}
-use Rattle.zlinearizability.specs.chain.Account.{Account, tail_log, committed_after, committed_by, account_by, next_account}
+use Rattle.zlinearizability.specs.chain.Account.{Account, tail_log, committed_after, account_by, next_account}
 use Rattle.zlinearizability.specs.chain.Sound.{IsSound}
 use Rattle.zlinearizability.specs.Cuts.{Stays, cut}
 use Rattle.zlinearizability.proofs.legal_lemmas.lists.Tests.{left_of}

@@ -1,9 +1,7 @@
 -- Each event does the same in the chain's world without clients and in the log world that it shows.
-use Rattle.std.specs.Prelude.{◌&&◌, not, is_some, is_none, if◌then◌else◌}
-use Rattle.std.proofs.Common.{◌≡◌, ℕ, ◌≤◌, Bool, true, false, nat_lt, ◌==◌, List, [], ◌∷◌, ◌++◌, map, drop, take, zero, suc, Option, Some, None, refl, sym, ap, ◌∙◌, subst, inl, inr, arith, le-ltb}
-use Rattle.zcalls.specs.declared.call.Call.{Call}
+use Rattle.std.specs.Prelude.{◌&&◌, not, is_none, if◌then◌else◌}
+use Rattle.std.proofs.Common.{◌≡◌, ℕ, Bool, true, false, nat_lt, ◌==◌, List, [], ◌∷◌, map, take, zero, suc, refl, sym, ap, ◌∙◌, subst, inl, inr}
 use Rattle.zcalls.specs.declared.call.Entry.{Entry}
-use Rattle.zcalls.specs.declared.reply.Reply.{Reply}
 use Rattle.zcalls.specs.Cached.{Plain}
 use Rattle.zcalls.proofs.Among.{test}
 use Rattle.zprotocol.specs.declared.message.Message.{Message}
@@ -11,11 +9,11 @@ use Rattle.zprotocol.specs.declared.message.Message.TheVariants as message
 use Rattle.zprotocol.specs.declared.process.Process.{Process}
 use Rattle.zprotocol.specs.declared.process.Process.TheVariants.{Master, Server, Client}
 use Rattle.zprotocol.specs.declared.world.event.Event.{Event}
-use Rattle.zprotocol.specs.declared.world.event.Event.TheVariants.{Begin, Retry, Take, Ignore, Fail, Order}
+use Rattle.zprotocol.specs.declared.world.event.Event.TheVariants.{Take, Ignore, Fail, Order}
 use Rattle.zprotocol.specs.declared.master.order.Order.{Order as MasterOrder}
 use Rattle.zprotocol.specs.Places.{is_server}
 use Rattle.zprotocol.specs.server.Machine.{Does}
-use Rattle.zprotocol.specs.server.View.{ServerView, Neighbour, Transfer, MessageOf, Post, spare, opening_server, member}
+use Rattle.zprotocol.specs.server.View.{ServerView, Transfer, MessageOf, spare}
 use Rattle.zprotocol.specs.server.Table as server
 use Rattle.zprotocol.specs.server.support.Homomorphism.{posts_with}
 use Rattle.zprotocol.specs.master.Order.{server_of}
@@ -25,19 +23,17 @@ use Rattle.zprotocol.specs.master.support.Cases.{IsMasterRow, Ignores, Reports, 
 use Rattle.zprotocol.proofs.master_lemmas.Cases.{master_case}
 use Rattle.zprotocol.proofs.master_lemmas.Orders.{order_counts}
 use Rattle.zprotocol.proofs.master_lemmas.Projection as masters
-use Rattle.zprotocol.specs.client.Table as client
-use Rattle.zprotocol.specs.client.View.{ClientView}
-use Rattle.zprotocol.specs.world.Links.{Links, is_same, messages_to, put, without_front}
-use Rattle.zprotocol.specs.world.World.{World, at, opening_world}
-use Rattle.zprotocol.specs.world.Does.{Hear, master_effect, server_effect, stop_effect, client_effect}
-use Rattle.zprotocol.specs.world.Events.{front_is, is_request, has_failed, is_enabled, did_in, does_in, front_step, acts, let_go, happens}
+use Rattle.zprotocol.specs.world.Links.{without_front}
+use Rattle.zprotocol.specs.world.World.{World, opening_world}
+use Rattle.zprotocol.specs.world.Does.{Hear, master_effect, server_effect, stop_effect}
+use Rattle.zprotocol.specs.world.Events.{front_is, is_request, is_enabled, did_in, does_in, front_step, acts, let_go, happens}
 use Rattle.zprotocol.specs.world.Keeping.{keeps}
 use Rattle.zlinearizability.specs.chain.Flow.{log_machine, LogWorld, LogMessage}
 use Rattle.zlinearizability.specs.chain.Last.{HasExactLast}
 use Rattle.zlinearizability.specs.Cuts.{Stays, cut_links, cut}
 use Rattle.zlinearizability.proofs.chain_lemmas.tables.OtherPosts.{master_orders, order_orders}
-use Rattle.zheads.proofs.Shown.{IsInside, machine_after, shown_view, shown, SamePosts, IsShown, table_shown}
-use Rattle.zheads.proofs.Represents.{Represents, is_out, has_failed_is, same_out, and_false, happens_idle, happens_does, keeps_idle, keeps_does, let_go_shown, pop_shown, pop_outside, server_did, stop_did, master_did, orders_shown, master_shown, retire_shown}
+use Rattle.zheads.proofs.Shown.{IsInside, machine_after, shown_view, shown, IsShown, table_shown}
+use Rattle.zheads.proofs.Represents.{Represents, is_out, has_failed_is, same_out, and_false, happens_idle, happens_does, keeps_idle, keeps_does, let_go_shown, pop_shown, server_did, stop_did, master_did, orders_shown, master_shown, retire_shown}
 
 -- the master knows of as many clients as before
 master_counts : {T : Type 0} (v : MasterView) (from : Process) (m : Message T) (r : master.MasterResult T) → IsMasterRow v from m r → r.0.clients ≡ v.clients

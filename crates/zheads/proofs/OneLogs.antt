@@ -1,11 +1,12 @@
--- Logs that explain nothing.
-use Rattle.std.proofs.Common.{◌≡◌, ℕ, ◌+◌, List, [], ◌∷◌, ◌++◌, inl, inr, refl, sym, ap, ◌∙◌, Option, Some, length, arith, tests}
+-- A log that explains what callers saw of two heads, and logs that explain nothing.
+use Rattle.std.proofs.Common.{◌≡◌, ℕ, ◌+◌, ◌<◌, ◌≤◌, List, [], ◌∷◌, ◌++◌, inl, inr, refl, sym, ap, ◌∙◌, subst, Option, Some, length, arith}
+use Rattle.zcalls.specs.declared.call.Call.TheVariants as call
 use Rattle.zcalls.specs.declared.call.Update.{Update}
-use Rattle.zcalls.specs.declared.reply.Reply.{Reply}
-use Rattle.zprotocol.specs.world.support.Counter.{create_update, name_reply, count_reply}
+use Rattle.zcalls.specs.Lists.{Among, ComesBefore}
+use Rattle.zprotocol.specs.world.support.Counter.{create_update, name_reply}
 use Rattle.zheads.specs.Heads.{Note, Seen, Begun, Acknowledged}
-use Rattle.zheads.specs.OneLog.{IsEntryAfter, state_of, IsOneLog}
-use Rattle.zheads.specs.support.HeadRows.{counting, Explains, made, saw, emptied, misnamed, empty_update, done, one_after_the_other}
+use Rattle.zheads.specs.OneLog.{IsEntryAfter, state_of, Fits, IsNoLater, IsOneLog}
+use Rattle.zheads.specs.support.HeadRows.{counting, Explains, made, saw, emptied, misnamed, empty_update, done, one_after_the_other, two_creates}
 
 -- nothing is in an empty log
 in_nothing : (n : ℕ) (before : List Update) (u : Update) → IsEntryAfter [] n before u → ⊥
@@ -55,3 +56,51 @@ stale_query log x =
 pub stale_update : (log : List Update) → Explains (one_after_the_other (saw 1 1) (made 2 0)) log → ⊥
 stale_update log x =
     let late = x.in_time (saw 1 1) (made 2 0) (inr (inl (refl, inl refl))) in omega arith
+
+-- two heads, one after the other
+begun_is_not : (a b : Note) → Begun a ≡ Acknowledged b → ⊥
+begun_is_not a b e = cc
+
+one_note : (a b : Note) → Acknowledged a ≡ Acknowledged b → a ≡ b
+one_note a b e = cc
+
+no_entry : (before after : List Update) (u : Update) → [] ≡ before ++ u ∷ after → ⊥
+no_entry [] after u e = cc
+no_entry (b ∷ before) after u e = cc
+
+two_fit : (note : Note) → Among (Acknowledged note) (one_after_the_other (made 1 0) (made 2 1)) → Fits counting two_creates note
+two_fit note (inl e) = absurd (begun_is_not (made 1 0) note e)
+two_fit note (inr (inl e)) = subst (Fits counting two_creates) (one_note (made 1 0) note e) ([], (create_update ∷ [], refl, refl), refl)
+two_fit note (inr (inr (inl e))) = absurd (begun_is_not (made 2 1) note e)
+two_fit note (inr (inr (inr (inl e)))) = subst (Fits counting two_creates) (one_note (made 2 1) note e) (create_update ∷ [], ([], refl, refl), refl)
+two_fit note (inr (inr (inr (inr none)))) = absurd none
+
+later_is : (second : Note) → Among (Begun second) (done (made 2 1)) → made 2 1 ≡ second
+later_is second (inl e) = cc e
+later_is second (inr (inl e)) = absurd (begun_is_not second (made 2 1) (sym e))
+later_is second (inr (inr none)) = absurd none
+
+one_then_two : IsNoLater (made 1 0).place (made 2 1).place (made 2 1).call
+one_then_two = omega arith
+
+two_in_time : (first second : Note) → ComesBefore (Acknowledged first) (Begun second) (one_after_the_other (made 1 0) (made 2 1))
+    → IsNoLater first.place second.place second.call
+two_in_time first second (inl p) = absurd (begun_is_not (made 1 0) first p.0)
+two_in_time first second (inr (inl (e, later))) =
+    subst (λ (a : Note). IsNoLater a.place second.place second.call) (one_note (made 1 0) first e)
+    (subst (λ (b : Note). IsNoLater (made 1 0).place b.place b.call) (later_is second later) one_then_two)
+two_in_time first second (inr (inr (inl p))) = absurd (begun_is_not (made 2 1) first p.0)
+two_in_time first second (inr (inr (inr (inl p)))) = absurd p.1
+two_in_time first second (inr (inr (inr (inr none)))) = absurd none
+
+two_made : (n : ℕ) (before : List Update) (u : Update) → IsEntryAfter two_creates n before u
+    → (note : Note) × Among (Begun note) (one_after_the_other (made 1 0) (made 2 1)) × (note.call ≡ call.Update u) × (note.place ≡ n)
+two_made n [] u (after, is, at) =
+    let same : create_update ≡ u = cc is in (made 1 0, inl refl, ap call.Update same, sym at)
+two_made n (b ∷ []) u (after, is, at) =
+    let same : create_update ≡ u = cc is in (made 2 1, inr (inr (inl refl)), ap call.Update same, sym at)
+two_made n (b ∷ (c ∷ before)) u (after, is, at) =
+    let tails : [] ≡ before ++ u ∷ after = cc is in absurd (no_entry before after u tails)
+
+pub explained : Explains (one_after_the_other (made 1 0) (made 2 1)) two_creates
+explained = record { fits = two_fit; in_time = two_in_time; made = two_made }

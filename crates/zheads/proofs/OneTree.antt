@@ -1,33 +1,30 @@
 -- What all heads of a chain acknowledge is one plain service, in real time.
 use Rattle.std.specs.Prelude.{if◌then◌else◌}
-use Rattle.std.proofs.Common.{◌≡◌, ℕ, ◌+◌, Bool, true, false, ◌==◌, nat_lt, List, [], ◌∷◌, ◌++◌, length, Option, Some, None, refl, sym, ap, ◌∙◌, subst, inl, inr, arith}
+use Rattle.std.proofs.Common.{◌≡◌, ℕ, ◌+◌, Bool, true, false, ◌==◌, nat_lt, List, [], ◌∷◌, ◌++◌, length, Option, Some, None, refl, sym, ap, ◌∙◌, arith}
 use Rattle.zcalls.specs.declared.call.Call.TheVariants as call
 use Rattle.zcalls.specs.declared.call.Entry.{Entry}
-use Rattle.zcalls.specs.declared.call.Update.{Update}
 use Rattle.zcalls.specs.Cached.{Plain, CachedState}
-use Rattle.zcalls.specs.Lists.{Among}
 use Rattle.zcalls.specs.PlainTree.{plain_tree}
 use Rattle.zprotocol.specs.server.Machine.{Does, machine_of}
 use Rattle.zprotocol.specs.server.View.{ServerView, Neighbour, member, spare}
 use Rattle.zprotocol.specs.server.Table as server
 use Rattle.zprotocol.specs.declared.process.Process.TheVariants.{Server}
-use Rattle.zprotocol.specs.world.World.{opening_world}
 use Rattle.zprotocol.specs.world.Events.{does_in, let_go}
-use Rattle.zlinearizability.specs.legal.Prefix.{IsPrefix, IsEntry}
+use Rattle.zlinearizability.specs.legal.Prefix.{IsPrefix}
 use Rattle.zlinearizability.specs.chain.Flow.{log_machine, Log}
 use Rattle.zlinearizability.specs.chain.Account.{Account, opening_account}
 use Rattle.zlinearizability.specs.Cuts.{Stays}
 use Rattle.zlinearizability.proofs.legal_lemmas.lists.Prefixes.{prefix_same, prefix_of}
 use Rattle.zlinearizability.proofs.chain_lemmas.tables.Lasts.{lasts_kept}
 use Rattle.zlinearizability.proofs.chain_lemmas.steps.Opening.{opening_sound}
-use Rattle.zheads.specs.Heads.{Seen, Heads, HeadEvent, Append, Look, InChain, head_machine, update_input, update_note, query_note, begun, acts, acknowledge, next, run_heads, opening_heads}
-use Rattle.zheads.specs.OneLog.{IsEntryAfter, IsOneLog}
+use Rattle.zheads.specs.Heads.{Heads, HeadEvent, Append, Look, InChain, head_machine, update_input, update_note, query_note, begun, acts, next, run_heads, opening_heads}
+use Rattle.zheads.specs.OneLog.{IsOneLog}
 use Rattle.zheads.specs.Law.{AcknowledgedIsOneTree}
-use Rattle.zheads.proofs.Known.{AllMade, IsKnownView}
+use Rattle.zheads.proofs.Known.{IsKnownView}
 use Rattle.zheads.proofs.KnownSteps.{IsKnown}
 use Rattle.zheads.proofs.Mirrored.{opening_shown}
 use Rattle.zheads.proofs.Fits.{updates, prefix_updates, entry_of}
-use Rattle.zheads.proofs.Holds.{MadeIn, machine, Holds, HoldsAfter, cut_heads, cut_account, holds_cut, mirrored, holds_event}
+use Rattle.zheads.proofs.Holds.{MadeIn, Holds, HoldsAfter, cut_heads, cut_account, holds_cut, mirrored, holds_event}
 use Rattle.zheads.proofs.Appended.{appended}
 use Rattle.zheads.proofs.Calls.{holds_look, holds_append}
 use Rattle.zheads.proofs.Acknowledges.{holds_acknowledge}

@@ -1,13 +1,11 @@
 -- What an event of the chain leaves of a log world: the history, empty channels from clients, and
 -- logs that only grow.
-use Rattle.std.specs.Prelude.{◌&&◌, not, if◌then◌else◌}
-use Rattle.std.proofs.Common.{◌≡◌, ℕ, ◌+◌, eqb-true, Bool, true, false, ◌==◌, List, [], ◌∷◌, ◌++◌, drop, Option, Some, None, refl, sym, ap, ◌∙◌, subst, inl, inr}
+use Rattle.std.specs.Prelude.{◌&&◌, if◌then◌else◌}
+use Rattle.std.proofs.Common.{◌≡◌, ℕ, ◌+◌, eqb-true, Bool, true, false, ◌==◌, List, [], ◌∷◌, ◌++◌, drop, Some, None, refl, sym, ap, ◌∙◌, subst}
 use Rattle.zcalls.specs.declared.call.Entry.{Entry}
 use Rattle.zcalls.specs.Cached.{Plain}
-use Rattle.zcalls.proofs.Among.{test}
 use Rattle.zprotocol.specs.declared.process.Process.{Process}
 use Rattle.zprotocol.specs.declared.process.Process.TheVariants.{Master, Server, Client}
-use Rattle.zprotocol.specs.declared.world.event.Event.{Event}
 use Rattle.zprotocol.specs.declared.world.event.Event.TheVariants.{Take, Ignore, Fail, Order}
 use Rattle.zprotocol.specs.server.View.{ServerView, Transfer}
 use Rattle.zprotocol.specs.server.Table as server
@@ -15,8 +13,8 @@ use Rattle.zprotocol.specs.server.support.Cases.{IsAccepted, IsRow, Processes, F
 use Rattle.zprotocol.specs.server.support.Cases.{Asks, Acknowledges, Shows, Turns, Follows, Leads, Ends}
 use Rattle.zprotocol.proofs.server_lemmas.Cases.{server_case}
 use Rattle.zprotocol.specs.master.Table as master
-use Rattle.zprotocol.specs.world.Links.{Links, is_same, put, without_front}
-use Rattle.zprotocol.specs.world.Does.{Effect, Hear, master_effect, server_effect, stop_effect}
+use Rattle.zprotocol.specs.world.Links.{is_same, without_front}
+use Rattle.zprotocol.specs.world.Does.{Hear, master_effect, server_effect, stop_effect}
 use Rattle.zprotocol.specs.world.Events.{is_enabled, did_in, does_in, front_step, acts}
 use Rattle.zprotocol.specs.world.Keeping.{keeps}
 use Rattle.zprotocol.proofs.world_lemmas.Effects.{by_choice}

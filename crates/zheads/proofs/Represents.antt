@@ -1,17 +1,14 @@
 -- The chain's world without clients, and the log world that it shows: each event does the same in
 -- both, but for what is put for clients.
-use Rattle.std.specs.Prelude.{◌&&◌, not, is_some, if◌then◌else◌}
-use Rattle.std.proofs.Common.{◌≡◌, ℕ, Bool, true, false, nat_lt, ◌==◌, List, [], ◌∷◌, ◌++◌, map, drop, take, Option, Some, None, refl, sym, ap, ◌∙◌, subst, inl, inr}
+use Rattle.std.specs.Prelude.{◌&&◌, if◌then◌else◌}
+use Rattle.std.proofs.Common.{◌≡◌, ℕ, Bool, true, false, ◌==◌, List, [], ◌∷◌, ◌++◌, map, drop, None, refl, sym, ap, ◌∙◌, inl, inr}
 use Rattle.std.proofs.lemmas.List.{map-append, drop-map}
 use Rattle.zcalls.specs.declared.call.Entry.{Entry}
 use Rattle.zcalls.specs.Cached.{Plain}
-use Rattle.zcalls.specs.Lists.{Among}
-use Rattle.zcalls.proofs.Among.{test}
 use Rattle.zprotocol.specs.declared.message.Message.TheVariants as message
 use Rattle.zprotocol.specs.declared.process.Process.{Process}
 use Rattle.zprotocol.specs.declared.process.Process.TheVariants.{Master, Server, Client}
 use Rattle.zprotocol.specs.declared.world.event.Event.{Event}
-use Rattle.zprotocol.specs.declared.world.event.Event.TheVariants.{Begin, Retry, Take, Ignore, Fail, Order}
 use Rattle.zprotocol.specs.server.Machine.{Does}
 use Rattle.zprotocol.specs.server.View.{ServerView, Transfer, MessageOf, Post, spare}
 use Rattle.zprotocol.specs.server.Table as server
@@ -19,19 +16,15 @@ use Rattle.zprotocol.specs.server.support.Homomorphism.{message_with, posts_with
 use Rattle.zprotocol.specs.master.View.{MasterView}
 use Rattle.zprotocol.specs.master.Table as master
 use Rattle.zprotocol.proofs.master_lemmas.Projection as masters
-use Rattle.zprotocol.specs.client.Table as client
-use Rattle.zprotocol.specs.client.View.{ClientView}
-use Rattle.zprotocol.specs.world.Links.{Links, is_same, messages_to, put, without_front}
+use Rattle.zprotocol.specs.world.Links.{is_same, messages_to, put, without_front}
 use Rattle.zprotocol.specs.world.World.{World, at}
-use Rattle.zprotocol.specs.world.Does.{Hear, master_effect, server_effect, stop_effect, last_post}
-use Rattle.zprotocol.specs.world.Events.{front_is, is_request, has_failed, is_enabled, did_in, does_in, front_step, acts, let_go, happens}
+use Rattle.zprotocol.specs.world.Does.{master_effect, server_effect, stop_effect, last_post}
+use Rattle.zprotocol.specs.world.Events.{has_failed, is_enabled, did_in, acts, let_go, happens}
 use Rattle.zprotocol.specs.world.Keeping.{keeps}
 use Rattle.zlinearizability.specs.chain.Flow.{log_machine, LogWorld, LogMessage}
-use Rattle.zlinearizability.specs.chain.Last.{LastsAreLengths}
-use Rattle.zlinearizability.specs.Cuts.{Stays, cut_links, cut}
-use Rattle.zlinearizability.proofs.chain_lemmas.links.Links.{AllPosts, all_none, all_and}
-use Rattle.zlinearizability.proofs.chain_lemmas.tables.OtherPosts.{IsOrder, master_orders, order_orders}
-use Rattle.zheads.proofs.Shown.{IsInside, machine_after, shown_view, shown, SamePosts, IsShown, none_shown, cons_shown, table_shown}
+use Rattle.zlinearizability.proofs.chain_lemmas.links.Links.{AllPosts}
+use Rattle.zlinearizability.proofs.chain_lemmas.tables.OtherPosts.{IsOrder}
+use Rattle.zheads.proofs.Shown.{IsInside, machine_after, shown_view, shown, SamePosts, IsShown, none_shown, cons_shown}
 
 -- a process has failed
 abbrev pub is_out : (ℕ → Bool) → Process → Bool

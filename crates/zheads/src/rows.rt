@@ -8,7 +8,7 @@ ghost use Rattle.zheads.specs.Heads.{Begun, Acknowledged};
 ghost use Rattle.zheads.specs.support.HeadRows.{callers_saw, creates, asks, fails, uncut, made, saw};
 ghost use Rattle.zheads.specs.support.HeadRows.{update_of_head, query_and_update, two_heads};
 ghost use Rattle.zheads.specs.support.HeadRows.{successor_has_it, successor_lacks_it};
-ghost use Rattle.zheads.specs.support.HeadRows.{head_is_cut_off, Explains, misnamed, emptied};
+ghost use Rattle.zheads.specs.support.HeadRows.{head_is_cut_off, Explains, misnamed, emptied, two_creates};
 ghost use Rattle.zheads.specs.support.HeadRows.{done, one_after_the_other};
 
 /// An update is acknowledged once its entry has gone through the whole chain, and not before. A
@@ -53,6 +53,11 @@ pub fn cut_off_head_is_silent()
         ≡ Begun (made 1 0) ∷ Begun (saw 1 1) ∷ Begun (made 1 1)
         ∷ Begun (saw 2 0) ∷ Begun (made 2 0) ∷ Acknowledged (saw 2 0)
         ∷ Acknowledged (made 2 0) ∷ [] }
+{}
+
+/// One log explains what callers saw of two heads.
+pub fn one_log_explains_two_heads()
+    ensures { Explains (callers_saw 3 two_heads) two_creates }
 {}
 
 /// What no log explains: an entry that is missing, a reply of another place, an entry that no one

@@ -114,3 +114,7 @@ one_after_the_other first second = done first ++ done second
 -- an update with the reply of another place
 abbrev pub misnamed : Note
 misnamed = record (made 1 0) { reply = Some (name_reply 1) }
+
+-- the log of two creates
+abbrev pub two_creates : List Update
+two_creates = create_update ∷ create_update ∷ []
