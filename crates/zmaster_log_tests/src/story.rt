@@ -8,7 +8,7 @@ use zmaster_log::{
     EntryCount, LogEntry, MasterReplica, News, NodeName, NodeNames, PlayFault, Report, entry_text,
     read_entry,
 };
-use zprotocol::Message;
+use zprotocol::{Message, ServerId};
 use ztesting::{epoch, server};
 
 // An order of the master.
@@ -32,7 +32,8 @@ const ORDERS: [(u8, [Kind; 6]); 3] = [
 fn each_server_has_its_orders(rt: HostRuntime) {
     for (number, orders) in &ORDERS {
         let mut replica = MasterReplica::new();
-        replica.act_as(server(&rt, *number));
+        let own = ServerId::new(*number).expect(&rt, "it is a number of a server");
+        replica.act_as(own);
         for at in 0..6 {
             let order = played(&rt, rt.alloc(), &mut replica, at);
             assert!(rt; order == orders[at]);
@@ -47,10 +48,10 @@ fn servers_come_and_go(rt: HostRuntime) {
     for at in 0..6 {
         let _ = played(&rt, rt.alloc(), &mut replica, at);
     }
-    assert!(rt; !replica.is_live(server(&rt, 1)));
-    assert!(rt; replica.is_live(server(&rt, 3)));
-    assert!(rt; replica.reports_of(server(&rt, 3)) == 2);
-    assert!(rt; replica.next_server() == Some(server(&rt, 4)));
+    assert!(rt; !replica.is_live(server(1)));
+    assert!(rt; replica.is_live(server(3)));
+    assert!(rt; replica.reports_of(server(3)) == 2);
+    assert!(rt; replica.next_server() == Some(server(4)));
     drop(replica);
 }
 
@@ -85,11 +86,11 @@ fn played(rt: &impl Abort, alloc: Global, replica: &mut MasterReplica, at: usize
 fn entry(rt: &impl Abort, alloc: Global, at: usize) -> LogEntry {
     match at {
         0 => opening(rt, alloc),
-        1 => LogEntry::Join(server(rt, 3), node(rt, alloc, b"c")),
-        2 => said(rt, 3, 0, News::Have(epoch(rt, 1), None)),
-        3 => said(rt, 3, 1, News::Joined(epoch(rt, 1))),
-        4 => said(rt, 2, 0, News::Gone(server(rt, 1))),
-        _ => said(rt, 1, 0, News::Gone(server(rt, 2))),
+        1 => LogEntry::Join(server(3), node(rt, alloc, b"c")),
+        2 => said(rt, server(3), 0, News::Have(epoch(1), None)),
+        3 => said(rt, server(3), 1, News::Joined(epoch(1))),
+        4 => said(rt, server(2), 0, News::Gone(server(1))),
+        _ => said(rt, server(1), 0, News::Gone(server(2))),
     }
 }
 
@@ -109,9 +110,9 @@ fn node(rt: &impl Abort, alloc: Global, name: &[u8]) -> NodeName {
     NodeName::new(bytes).expect(rt, "it is a name")
 }
 
-fn said(rt: &impl Abort, author: u8, earlier: u64, news: News) -> LogEntry {
+fn said(rt: &impl Abort, author: ServerId, earlier: u64, news: News) -> LogEntry {
     LogEntry::Reported(Report {
-        author: server(rt, author),
+        author,
         earlier: EntryCount::new(earlier).expect(rt, "it is small"),
         news,
     })
