@@ -1,11 +1,11 @@
 -- A log that explains what callers saw of two heads, and logs that explain nothing.
-use Rattle.std.proofs.Common.{◌≡◌, ℕ, ◌+◌, ◌<◌, ◌≤◌, List, [], ◌∷◌, ◌++◌, inl, inr, refl, sym, ap, ◌∙◌, subst, Option, Some, length, arith}
+use Rattle.std.proofs.Common.{◌≡◌, ℕ, ◌+◌, List, [], ◌∷◌, ◌++◌, inl, inr, refl, sym, ap, ◌∙◌, subst, Some, length, arith}
 use Rattle.zcalls.specs.declared.call.Call.TheVariants as call
 use Rattle.zcalls.specs.declared.call.Update.{Update}
 use Rattle.zcalls.specs.Lists.{Among, ComesBefore}
 use Rattle.zprotocol.specs.world.support.Counter.{create_update, name_reply}
-use Rattle.zheads.specs.Heads.{Note, Seen, Begun, Acknowledged}
-use Rattle.zheads.specs.OneLog.{IsEntryAfter, state_of, Fits, IsNoLater, IsOneLog}
+use Rattle.zheads.specs.Heads.{Note, Begun, Acknowledged}
+use Rattle.zheads.specs.OneLog.{IsEntryAfter, state_of, Fits, IsNoLater}
 use Rattle.zheads.specs.support.HeadRows.{counting, Explains, made, saw, emptied, misnamed, empty_update, done, one_after_the_other, two_creates}
 
 -- nothing is in an empty log

@@ -5,7 +5,7 @@ use Rattle.zcalls.specs.declared.call.Call.TheVariants as call
 use Rattle.zcalls.specs.declared.call.Entry.{Entry}
 use Rattle.zcalls.specs.Cached.{Plain, CachedState}
 use Rattle.zcalls.specs.PlainTree.{plain_tree}
-use Rattle.zprotocol.specs.server.Machine.{Does, machine_of}
+use Rattle.zprotocol.specs.server.Machine.{Does, machine_of, plain_from}
 use Rattle.zprotocol.specs.server.View.{ServerView, Neighbour, member, spare}
 use Rattle.zprotocol.specs.server.Table as server
 use Rattle.zprotocol.specs.declared.process.Process.TheVariants.{Server}
@@ -19,7 +19,7 @@ use Rattle.zlinearizability.proofs.chain_lemmas.tables.Lasts.{lasts_kept}
 use Rattle.zlinearizability.proofs.chain_lemmas.steps.Opening.{opening_sound}
 use Rattle.zheads.specs.Heads.{Heads, HeadEvent, Append, Look, InChain, head_machine, update_input, update_note, query_note, begun, acts, next, run_heads, opening_heads}
 use Rattle.zheads.specs.OneLog.{IsOneLog}
-use Rattle.zheads.specs.Law.{AcknowledgedIsOneTree}
+use Rattle.zheads.specs.Law.{AcknowledgedIsOne, AcknowledgedIsOneTree, AcknowledgedFromIsOneTree}
 use Rattle.zheads.proofs.Known.{IsKnownView}
 use Rattle.zheads.proofs.KnownSteps.{IsKnown}
 use Rattle.zheads.proofs.Mirrored.{opening_shown}
@@ -160,15 +160,22 @@ module _ {P : Type 0} (plain : Plain P) where
         (made.0, made.1, made.2 ∙ ap call.Update found.4, made.3);
   }
 
--- over the plain tree
-pub acknowledged_is_one_tree : AcknowledgedIsOneTree
-acknowledged_is_one_tree servers =
-    let own = machine_of plain_tree in
+-- the log of each list of events, over any service
+pub acknowledged_is_one : {P : Type 0} (plain : Plain P) (servers : ℕ) → AcknowledgedIsOne plain servers
+acknowledged_is_one plain servers =
+    let own = machine_of plain in
     let h = opening_heads own servers in
-    let t = opening_account plain_tree servers 0 in
-    let x = holds_opening plain_tree servers in (
-      λ steps. updates (account_run plain_tree h t steps).committed,
-      λ steps. explained plain_tree (run_heads own h steps) (account_run plain_tree h t steps) (holds_run plain_tree h t x steps).0,
-      λ steps more. prefix_updates (account_run plain_tree h t steps).committed (account_run plain_tree h t (steps ++ more)).committed
-          (runs_on plain_tree h t x steps more),
+    let t = opening_account plain servers 0 in
+    let x = holds_opening plain servers in (
+      λ steps. updates (account_run plain h t steps).committed,
+      λ steps. explained plain (run_heads own h steps) (account_run plain h t steps) (holds_run plain h t x steps).0,
+      λ steps more. prefix_updates (account_run plain h t steps).committed (account_run plain h t (steps ++ more)).committed
+          (runs_on plain h t x steps more),
     )
+
+-- over the plain tree, and from any tree on
+pub acknowledged_is_one_tree : AcknowledgedIsOneTree
+acknowledged_is_one_tree servers = acknowledged_is_one plain_tree servers
+
+pub acknowledged_from_is_one_tree : AcknowledgedFromIsOneTree
+acknowledged_from_is_one_tree t servers = acknowledged_is_one (plain_from t) servers

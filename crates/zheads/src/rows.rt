@@ -5,10 +5,12 @@ ghost use Rattle.std.specs.Prelude.{◌≡◌, List, [], ◌∷◌, ◌++◌, ta
 ghost use Rattle.zcalls.specs.declared.call.Update.{Update};
 ghost use Rattle.zprotocol.specs.world.support.Counter.{create_update};
 ghost use Rattle.zheads.specs.Heads.{Begun, Acknowledged};
-ghost use Rattle.zheads.specs.support.HeadRows.{callers_saw, creates, asks, fails, uncut, made, saw};
+ghost use Rattle.zheads.specs.support.HeadRows.{callers_saw, creates, asks, fails, uncut};
+ghost use Rattle.zheads.specs.support.HeadRows.{made, saw};
 ghost use Rattle.zheads.specs.support.HeadRows.{update_of_head, query_and_update, two_heads};
 ghost use Rattle.zheads.specs.support.HeadRows.{successor_has_it, successor_lacks_it};
-ghost use Rattle.zheads.specs.support.HeadRows.{head_is_cut_off, Explains, misnamed, emptied, two_creates};
+ghost use Rattle.zheads.specs.support.HeadRows.{head_is_cut_off, Explains, misnamed, emptied};
+ghost use Rattle.zheads.specs.support.HeadRows.{two_creates};
 ghost use Rattle.zheads.specs.support.HeadRows.{done, one_after_the_other};
 
 /// An update is acknowledged once its entry has gone through the whole chain, and not before. A
