@@ -1,7 +1,7 @@
 /* The front end of the server: it runs in a child, behind two pipes.
 
    The child is the proved program zk_serve. It receives the secret first. Then it takes messages
-   and answers them with chunks, in the records of crates/zpipe/specs. Inputs wait here until
+   and answers them with chunks, in the records of crates/zdaemon/specs. Inputs wait here until
    front_keep, which sends them together: so they are one batch, and one commit. The answer ends
    before any other input is sent.
 

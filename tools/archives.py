@@ -1,6 +1,6 @@
 """Archives of crates for programs of other languages: proved, built, and kept.
 
-    folder = built("zclib", f"library-{version}", make, tell)
+    folder = built("zc_library", f"library-{version}", make, tell)
 """
 import os
 import subprocess

@@ -18,7 +18,7 @@ from report import Skipped, Test, want, want_same
 from sources import ROOT
 
 # The programs, and about how many seconds their runs take.
-CRATES = {"zmemory_tests": 100, "zmemory_kept_tests": 100}
+CRATES = {"zmemory_drill": 100, "zfolder_memory_drill": 100}
 # More runs than a program has, the seconds of one, and how many go at once.
 MOST, SECONDS, AT_ONCE = 100_000, 60, 3
 FLAGS = ("-Werror", "-fPIC", "-shared", "-fno-builtin")

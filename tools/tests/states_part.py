@@ -10,7 +10,7 @@ import subprocess
 import rows_part
 from report import Test
 
-CRATE, SECONDS, PARTS = "zstates_drill", 300, 2
+CRATE, SECONDS, PARTS = "zfolder_drill", 300, 2
 SAID = re.compile(rb"(\d+ changes), \d+ states of at most \d+ rows: all are read again\n")
 # All calls are changes, but for a TTL of 0 and for retries of a client that has called nothing.
 DRAWN = {b"drill 1\n": b"11995 changes", b"drill 2\n": b"11992 changes"}

@@ -22,10 +22,10 @@ use Rattle.zprotocol.specs.client.Table.{begin_fault}
 use Rattle.zclient.specs.Core.{IsResend}
 use Rattle.zmaster.specs.declared.limits.TheConstants.{MAX_POSTS}
 use Rattle.zserver.specs.Server.{TreeMessage, TreeOut}
-use Rattle.zworld_model.specs.declared.history.CallEvent.TheVariants as call_event
-use Rattle.zworld_model.specs.History.{History}
-use Rattle.zworld_model.specs.Does as given
-use Rattle.zworld_model.specs.Does.{Standing, AtMaster, AtServer, AtClient, Out, Effect, accepts, does, idle_effect, last_post}
+use Rattle.zprotocol.specs.declared.world.history.CallEvent.TheVariants as call_event
+use Rattle.zprotocol.specs.world.History.{History}
+use Rattle.zprotocol.specs.world.Does as given
+use Rattle.zprotocol.specs.world.Does.{Standing, AtMaster, AtServer, AtClient, Out, Effect, accepts, does, idle_effect, last_post}
 use Rattle.zactor.specs.declared.input.Input.{Input}
 use Rattle.zactor.specs.declared.input.Input.TheVariants.{Hear, Begin, Retry, Obey, Stop}
 use Rattle.zactor.specs.declared.done.Done.{Done}

@@ -2,7 +2,7 @@
 
 ghost use Rattle.std.specs.Prelude.{◌≡◌, None, IfErr, IfNone, IfOk, IfSome, OnErr};
 ghost use Rattle.std.specs.Option.{option_copied};
-ghost use Rattle.zworld_model.specs.Does.{AtMaster, AtServer, AtClient};
+ghost use Rattle.zprotocol.specs.world.Does.{AtMaster, AtServer, AtClient};
 ghost use Rattle.zactor.specs.Acting.{Acts, IsActFault, IsAccepted, IsRefused};
 ghost use Rattle.zactor.specs.Acting.{client_in, handed_by, has_stopped, master_in, refusal_of};
 

@@ -1,7 +1,7 @@
 //! Messages that are handled.
 
 ghost use Rattle.std.specs.Prelude.{◌≡◌, IfErr, IfOk, OnErr};
-ghost use Rattle.zworld_model.specs.Does.{AtMaster, AtClient};
+ghost use Rattle.zprotocol.specs.world.Does.{AtMaster, AtClient};
 ghost use Rattle.zactor.specs.declared.input.Input.TheVariants.{Hear};
 ghost use Rattle.zactor.specs.Acting.{Acts, handed_by, IsActFault};
 ghost use Rattle.zactor.specs.support.Kinds.{answered_number, done_of, end_of, GoesOn, IsRare};

@@ -1,7 +1,7 @@
 //! Inputs that are refused.
 
 ghost use Rattle.std.specs.Prelude.{◌≡◌};
-ghost use Rattle.zworld_model.specs.Does.{AtMaster, AtServer, AtClient};
+ghost use Rattle.zprotocol.specs.world.Does.{AtMaster, AtServer, AtClient};
 ghost use Rattle.zserver.specs.Server.{TreeView};
 ghost use Rattle.zactor.specs.Acting.{refusal_of};
 ghost use Rattle.zactor.specs.support.Kinds.{standing_of};

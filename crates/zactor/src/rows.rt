@@ -14,9 +14,9 @@ ghost use Rattle.zprotocol.specs.declared.process.Process.TheVariants.{Master, S
 ghost use Rattle.zprotocol.specs.master.support.Rows.{three};
 ghost use Rattle.zprotocol.specs.client.support.Rows.{asking, idle, update_call, updating};
 ghost use Rattle.zprotocol.specs.client.support.Rows.{with_calls};
-ghost use Rattle.zworld_model.specs.Does.{AtMaster, AtClient, Out};
-ghost use Rattle.zworld_model.specs.Does.{idle_effect, stop_effect};
-ghost use Rattle.zworld_model.specs.declared.history.CallEvent.TheVariants as call_event;
+ghost use Rattle.zprotocol.specs.world.Does.{AtMaster, AtClient, Out};
+ghost use Rattle.zprotocol.specs.world.Does.{idle_effect, stop_effect};
+ghost use Rattle.zprotocol.specs.declared.world.history.CallEvent.TheVariants as call_event;
 ghost use Rattle.zactor.specs.declared.act_fault.ActFault.TheVariants.{Memory, Refused};
 ghost use Rattle.zactor.specs.declared.handed.Handed.TheVariants as handed;
 ghost use Rattle.zactor.specs.declared.input.Input.TheVariants as input;

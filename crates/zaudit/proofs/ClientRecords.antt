@@ -4,9 +4,9 @@ use Rattle.std.proofs.Math.Seq.{split_at, take-length}
 use Rattle.std.proofs.lemmas.Bool.Decides.{nat_tests}
 use Rattle.std.proofs.lemmas.List.{length-append, append_cancel_left}
 use Rattle.std.proofs.lemmas.List.Elements.{filter-append}
-use Rattle.zworld_model.specs.declared.history.CallEvent.{CallEvent}
-use Rattle.zworld_model.specs.History.{History}
-use Rattle.ztraces.specs.Traces.{client_of, told_of}
+use Rattle.zprotocol.specs.declared.world.history.CallEvent.{CallEvent}
+use Rattle.zprotocol.specs.world.History.{History}
+use Rattle.zprotocol.specs.traces.Traces.{client_of, told_of}
 
 same_number : (a b : ℕ) → a ≡ b → (a == b) ≡ true
 same_number a b same = grind (arith, nat_tests)

@@ -6,12 +6,12 @@ use mathlib.Core.HLevel.{⊥_prop}
 use Rattle.zalloc.specs.declared.memory.Memory as zpath_memory
 use Rattle.zprotocol.specs.server.Machine.{kept_tree}
 use Rattle.zworld.specs.Steps.{WorldView, world_in}
-use Rattle.ztraces.specs.Traces.{client_count}
-use Rattle.zworld_model.specs.World.{opening_world}
-use Rattle.ztraces.specs.declared.trace.Traces.{Traces}
-use Rattle.ztraces.specs.Lawful.{AreLawful}
-use Rattle.ztraces.specs.Audit.{opening_of, is_any_cut, IsDisordered, IsMismatched}
-use Rattle.ztraces.proofs.Found.{lawful_not_disordered, lawful_not_mismatched}
+use Rattle.zprotocol.specs.traces.Traces.{client_count}
+use Rattle.zprotocol.specs.world.World.{opening_world}
+use Rattle.zprotocol.specs.declared.traces.trace.Traces.{Traces}
+use Rattle.zprotocol.specs.traces.Lawful.{AreLawful}
+use Rattle.zprotocol.specs.traces.Audit.{opening_of, is_any_cut, IsDisordered, IsMismatched}
+use Rattle.zprotocol.proofs.traces_lemmas.Found.{lawful_not_disordered, lawful_not_mismatched}
 use Rattle.zaudit.specs.declared.faults.AuditFault.{AuditFault}
 use Rattle.zaudit.specs.declared.faults.AuditFault.TheVariants.{Cut, Disorder, Mismatch, Memory}
 

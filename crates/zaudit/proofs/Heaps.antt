@@ -10,11 +10,11 @@ use Rattle.std.proofs.lemmas.Bool.Decides.{nat_tests}
 use Rattle.std.proofs.lemmas.List.{get_or-set_other}
 use Rattle.std.proofs.lemmas.List.Sums.{sum_by-cons}
 use Rattle.zcalls.proofs.Among.{test}
-use Rattle.ztraces.specs.declared.trace.TraceEvent.{TraceEvent}
-use Rattle.ztraces.specs.declared.trace.Traces.{Traces}
-use Rattle.ztraces.specs.Traces.{trace_of}
-use Rattle.ztraces.specs.support.Places.{place_count, process_at, head_at, stamp_at_front, IsLeast}
-use Rattle.ztraces.proofs.Places.{next_front, front_is, is_unread}
+use Rattle.zprotocol.specs.declared.traces.trace.TraceEvent.{TraceEvent}
+use Rattle.zprotocol.specs.declared.traces.trace.Traces.{Traces}
+use Rattle.zprotocol.specs.traces.Traces.{trace_of}
+use Rattle.zprotocol.specs.traces.support.Places.{place_count, process_at, head_at, stamp_at_front, IsLeast}
+use Rattle.zprotocol.proofs.traces_lemmas.Places.{next_front, front_is, is_unread}
 use Rattle.zaudit.specs.support.Heads.{Head, is_before, count_of, count_at, count_below, HoldsHeads, IsFirstTaken, IsNext}
 
 -- one where the test holds

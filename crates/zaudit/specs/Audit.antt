@@ -1,7 +1,7 @@
 -- What an audit requires of traces first.
 use Rattle.std.specs.Prelude.{◌≡◌, false}
-use Rattle.ztraces.specs.declared.trace.Traces.{Traces}
-use Rattle.ztraces.specs.Audit.{is_any_cut}
+use Rattle.zprotocol.specs.declared.traces.trace.Traces.{Traces}
+use Rattle.zprotocol.specs.traces.Audit.{is_any_cut}
 
 -- no trace is cut
 abbrev pub AreUncut : Traces → Type 0

@@ -1,11 +1,11 @@
 //! The audit of a run.
 
 ghost use Rattle.std.specs.Prelude.{◌≡◌, true, false, Err, IfOk, IfErr, IsOkUnless};
-ghost use Rattle.zworld_model.specs.PlainTree.{IsExplained};
+ghost use Rattle.zprotocol.specs.world.PlainTree.{IsExplained};
 ghost use Rattle.zworld.specs.Steps.{world_in};
-ghost use Rattle.ztraces.specs.Lawful.{AreLawful};
-ghost use Rattle.ztraces.specs.Audit.{opening_of, is_any_cut, IsFound, IsDisordered, IsMismatched};
-ghost use Rattle.ztraces.specs.Audit.{HasFallingStamp};
+ghost use Rattle.zprotocol.specs.traces.Lawful.{AreLawful};
+ghost use Rattle.zprotocol.specs.traces.Audit.{opening_of, is_any_cut, IsFound, IsDisordered, IsMismatched};
+ghost use Rattle.zprotocol.specs.traces.Audit.{HasFallingStamp};
 ghost use Rattle.zaudit.specs.Audit.{AreUncut};
 ghost use Rattle.zaudit.specs.declared.faults.AuditFault.TheVariants.{Cut, Disorder, Mismatch, Memory};
 
@@ -14,9 +14,9 @@ use crate::records::agree;
 use crate::replaying::replay;
 use crate::stamps::{all_rise, has_cut};
 use std::alloc::Global;
-use ztraces::Traces;
+use zprotocol::traces::Traces;
 use zworld::World;
-use zworld_model::CallEvent;
+use zprotocol::world::CallEvent;
 
 // Returns the initial world of the run.
 fn opened(alloc: Global, traces: &Traces) -> Result<World, zalloc::Memory>

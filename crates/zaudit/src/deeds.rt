@@ -1,7 +1,7 @@
 //! One step of a trace, on the world.
 
 ghost use Rattle.std.specs.Prelude.{◌≡◌, ◌⊎◌, IfOk, IfErr, OnOk};
-ghost use Rattle.ztraces.specs.Traces.{event_of};
+ghost use Rattle.zprotocol.specs.traces.Traces.{event_of};
 ghost use Rattle.zaudit.specs.support.Replays.{HappensInPlace, CannotHappen, ActsInPlace, CannotAct};
 ghost use Rattle.zaudit.specs.support.Verdict.{asks_the_master, verdict};
 ghost use Rattle.zaudit.specs.declared.faults.AuditFault.TheVariants.{Disorder, Memory};
@@ -9,9 +9,9 @@ ghost use Rattle.zaudit.specs.declared.faults.AuditFault.TheVariants.{Disorder, 
 use crate::faults::AuditFault;
 use std::alloc::Global;
 use zprotocol::Process;
-use ztraces::Act;
+use zprotocol::traces::Act;
 use zworld::{Did, World};
-use zworld_model::{Event, Outcome};
+use zprotocol::world::{Event, Outcome};
 
 // Returns the event of the world that a step represents, if there is one.
 fn event_for(alloc: Global, process: Process, act: &Act) -> Result<Option<Event>, zalloc::Memory>

@@ -2,7 +2,7 @@
 
 ghost use Rattle.std.specs.Prelude.{◌≡◌, ◌<◌, ◌+◌, ◌^◌, [], None, length, get_or, IfOk, IfNone, IfSome, OnOk};
 ghost use Rattle.std.specs.BinaryHeap.{heap_items, IsHeap, KeepsHeap};
-ghost use Rattle.ztraces.specs.support.Places.{place_count, IsLeast};
+ghost use Rattle.zprotocol.specs.traces.support.Places.{place_count, IsLeast};
 ghost use Rattle.zaudit.specs.support.Heads.{head_cmp, HoldsAll, PutsHead, TakesFirst, TakesNext};
 
 use crate::places::{count_of, event_at, head_of};
@@ -10,7 +10,7 @@ use std::alloc::Global;
 use std::cmp::Reverse;
 use std::collections::BinaryHeap;
 use zalloc::Memory;
-use ztraces::{TraceEvent, Traces};
+use zprotocol::traces::{TraceEvent, Traces};
 
 /// The next event of a trace: its timestamp, and the trace's index. A heap of them has the least on
 /// top.

@@ -2,12 +2,12 @@
 
 ghost use Rattle.std.specs.Prelude.{◌≡◌, ◌<◌, ◌≤◌, ◌+◌, ◌^◌, length, get_or};
 ghost use Rattle.zprotocol.specs.declared.limits.TheConstants.{PROCESSES};
-ghost use Rattle.ztraces.specs.support.Places.{place_count, process_at, head_at};
+ghost use Rattle.zprotocol.specs.traces.support.Places.{place_count, process_at, head_at};
 ghost use Rattle.zaudit.specs.support.Heads.{trace_at, IsNextAt};
 
 use zcalls::ClientId;
 use zprotocol::{Process, ServerId};
-use ztraces::{TraceEvent, Traces};
+use zprotocol::traces::{TraceEvent, Traces};
 
 /// Returns how many traces there are.
 pub(crate) fn count_of(traces: &Traces) -> usize

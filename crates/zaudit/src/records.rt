@@ -1,13 +1,13 @@
 //! Clients' records compared with a history.
 
 ghost use Rattle.std.specs.Prelude.{◌≡◌, true, false};
-ghost use Rattle.ztraces.specs.Traces.{told_of, AgreesWithRecords};
-ghost use Rattle.ztraces.specs.Traces as traces_of;
+ghost use Rattle.zprotocol.specs.traces.Traces.{told_of, AgreesWithRecords};
+ghost use Rattle.zprotocol.specs.traces.Traces as traces_of;
 ghost use Rattle.zaudit.specs.support.Findings.{DiffersFromRecord};
 
 use crate::sameness::is_same_event;
-use ztraces::Traces;
-use zworld_model::CallEvent;
+use zprotocol::traces::Traces;
+use zprotocol::world::CallEvent;
 
 // Returns whose event it is.
 fn client_of(event: &CallEvent) -> u8

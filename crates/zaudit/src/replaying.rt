@@ -4,8 +4,8 @@ ghost use Rattle.std.specs.Prelude.{◌≡◌, ◌⊎◌, ◌≤◌, true, false
 ghost use Rattle.std.specs.BinaryHeap.{heap_items, IsHeap};
 ghost use Rattle.zprotocol.specs.declared.limits.TheConstants.{PROCESSES};
 ghost use Rattle.zworld.specs.Steps.{world_in};
-ghost use Rattle.ztraces.specs.Audit.{opening_of};
-ghost use Rattle.ztraces.specs.support.Places.{place_count, HasReplayed, IsAllRead, IsReplayFault};
+ghost use Rattle.zprotocol.specs.traces.Audit.{opening_of};
+ghost use Rattle.zprotocol.specs.traces.support.Places.{place_count, HasReplayed, IsAllRead, IsReplayFault};
 ghost use Rattle.zaudit.specs.support.Heads.{head_cmp, HoldsAll};
 ghost use Rattle.zaudit.specs.support.Replays.{LeavesFewer, HasReplayedAll};
 ghost use Rattle.zaudit.specs.declared.faults.AuditFault.TheVariants.{Disorder, Memory};
@@ -16,7 +16,7 @@ use crate::heads::{Head, heads_of, next_event, put_head};
 use crate::places::{count_of, process_in};
 use std::alloc::Global;
 use std::collections::BinaryHeap;
-use ztraces::Traces;
+use zprotocol::traces::Traces;
 use zworld::World;
 
 // Replays the next event; returns false where none is left.

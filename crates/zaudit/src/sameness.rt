@@ -8,7 +8,7 @@ use zcalls::{
 };
 use zpath::{Name, Path};
 use ztree::Data;
-use zworld_model::CallEvent;
+use zprotocol::world::CallEvent;
 
 fn is_same_path(a: &Path, b: &Path) -> bool
     ensures yes { result ≡ true → a.now ≡ b.now }

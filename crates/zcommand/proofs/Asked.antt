@@ -1,7 +1,7 @@
 -- What is answered is what was asked for.
 use Rattle.std.proofs.Common.{◌≡◌, ◌⊎◌, ℕ, inr, Result, Ok, Err, IfOk, IfErr}
-use Rattle.zcli.specs.declared.fault.WordsFault.{WordsFault}
-use Rattle.zcli.specs.declared.fault.WordsFault.TheVariants.{Memory}
+use Rattle.zarguments.specs.declared.fault.WordsFault.{WordsFault}
+use Rattle.zarguments.specs.declared.fault.WordsFault.TheVariants.{Memory}
 
 pub asked-ok : (asked answer : Result ℕ WordsFault) → asked ≡ answer → IfOk answer (λ settings. asked ≡ Ok settings)
 asked-ok asked (Ok settings) is = is

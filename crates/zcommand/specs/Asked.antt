@@ -1,9 +1,9 @@
 -- What a program's words ask for, by the number that they give: this project's profile.
 use Rattle.std.specs.Prelude.{◌≡◌, ◌⊎◌, ℕ, ◌&&◌, nat_le, if◌then◌else◌, List, [], ◌∷◌, codes, Option, Some, Result, Ok, Err}
 use Rattle.zprotocol.specs.declared.limits.TheConstants.{MAX_SERVERS}
-use Rattle.zcli.specs.Asked.{asked_of}
-use Rattle.zcli.specs.declared.fault.WordsFault.{WordsFault}
-use Rattle.zcli.specs.declared.fault.WordsFault.TheVariants.{Memory, BadWords}
+use Rattle.zarguments.specs.Asked.{asked_of}
+use Rattle.zarguments.specs.declared.fault.WordsFault.{WordsFault}
+use Rattle.zarguments.specs.declared.fault.WordsFault.TheVariants.{Memory, BadWords}
 
 -- A number that was given asks for a script over exactly this many servers, if a chain may begin
 -- with this many.

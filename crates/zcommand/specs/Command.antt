@@ -1,7 +1,7 @@
 -- How a run of the program ends, by its words and by what its devices did.
 use Rattle.std.specs.Prelude.{ℕ, ◌≡◌, ◌⊎◌, List, Ok}
 use Rattle.zdevices.specs.Device.{SourceRun, SinkRun}
-use Rattle.zcli.specs.Telling.{IsTold}
+use Rattle.zarguments.specs.Telling.{IsTold}
 use Rattle.zscript.specs.Outcome.{IsPlayed, IsCutBy, IsIdle, play_fault_text}
 use Rattle.zscript.specs.Servers.{IsServers}
 use Rattle.zscript.specs.declared.fault.PlayFault.{PlayFault}

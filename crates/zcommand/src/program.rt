@@ -1,15 +1,15 @@
 //! A run of the program, without its devices.
 
 ghost use Rattle.std.specs.Prelude.{◌≡◌, ◌≤◌, [], codes, Err};
-ghost use Rattle.zcli.specs.Asked.{texts_of};
+ghost use Rattle.zarguments.specs.Asked.{texts_of};
 ghost use Rattle.zdevices.specs.Device.{source_run, sink_run};
 ghost use Rattle.zcommand.specs.Asked.{settings_asked};
-ghost use Rattle.zcli.specs.Telling.{IsTold};
+ghost use Rattle.zarguments.specs.Telling.{IsTold};
 ghost use Rattle.zcommand.specs.Command.{IsPlayedAsAsked, IsCutAndTold};
 
 use crate::words::settings;
 use std::alloc::Global;
-use zcli::{WordsFault, refuse, tell};
+use zarguments::{WordsFault, refuse, tell};
 use zscript::{Sink, Source, play};
 
 /// Does what the words ask for, reports a fault on `faults`, and returns the exit status.

@@ -3,7 +3,7 @@
 ghost use Rattle.std.specs.Prelude.{◌≡◌, codes, Err, Ok};
 ghost use Rattle.zcommand.specs.support.Rows.{text_asked};
 
-use zcli::WordsFault;
+use zarguments::WordsFault;
 
 /// Words of the program, separated by spaces, and how many servers they ask for.
 pub fn words_ask_for_servers()

@@ -1,12 +1,12 @@
 //! A program's words.
 
 ghost use Rattle.std.specs.Prelude.{◌≡◌, IfErr, IfOk, Ok, Some};
-ghost use Rattle.zcli.specs.Asked.{texts_of};
+ghost use Rattle.zarguments.specs.Asked.{texts_of};
 ghost use Rattle.zscript.specs.Servers.{IsServers};
 ghost use Rattle.zcommand.specs.Asked.{settings_asked, settings_of, IsFaultOf};
 
 use std::alloc::Global;
-use zcli::{NumberOption, WordsFault, numbers_asked};
+use zarguments::{NumberOption, WordsFault, numbers_asked};
 use zprotocol::ServerId;
 
 // The option of a script.

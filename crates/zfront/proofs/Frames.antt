@@ -6,7 +6,7 @@ use Rattle.std.proofs.lemmas.Bool.{ltb-false}
 use Rattle.std.proofs.lemmas.List.{length-drop}
 use Rattle.zjute.specs.declared.limits.TheConstants.{MAX_FRAME}
 use Rattle.zjute.specs.Frames.{Whole, Partial, TooLong, next_of, cut_at, behind_length}
-use Rattle.ztables.specs.Tables.{is_open}
+use Rattle.zconnections.specs.Tables.{is_open}
 use Rattle.zfront.specs.Front.{FrontView}
 use Rattle.zfront.specs.Reading.{Cuts, Handles, HandlesAll}
 

@@ -1,7 +1,7 @@
 -- On texts that are written one after the other.
 use Rattle.std.proofs.Common.{◌∙◌, ap, append_assoc, Result, Ok, Err, OnOk, List, ℕ, ◌++◌}
 use Rattle.std.specs.Prelude.{String, string_bytes}
-use Rattle.zlines.specs.Texts.{Writes}
+use Rattle.zscript_text.specs.Texts.{Writes}
 
 -- what follows from what holds where there is no error
 pub on_ok : {T E P Q : Type 0} (r : Result T E) → (P → Q) → OnOk r P → OnOk r Q

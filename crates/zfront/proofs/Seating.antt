@@ -2,8 +2,8 @@
 use Rattle.std.proofs.Common.{◌≡◌, ◌∙◌, ℕ, ◌+◌, ◌<◌, ◌≤◌, List, length, drop, get_or, sym, ap}
 use Rattle.std.proofs.lemmas.List.{drop_all}
 use Rattle.std.specs.FinMap.{insert}
-use Rattle.zsittings.specs.Sittings.{restored_sitting}
-use Rattle.ztables.specs.Tables.{TablesView}
+use Rattle.zconnections.specs.attachments.Sittings.{restored_sitting}
+use Rattle.zconnections.specs.Tables.{TablesView}
 use Rattle.zfront.specs.Restoring.{seated, tables_of}
 use Rattle.zfront.proofs.Asked.{ahead}
 

@@ -12,15 +12,15 @@ use Rattle.zcalls.specs.declared.call.Update.TheVariants as act
 use Rattle.zcalls.specs.declared.reply.Reply.{Reply}
 use Rattle.zcalls.specs.declared.reply.Reply.TheVariants as reply
 use Rattle.zcalls.specs.Step.{query_reply}
-use Rattle.zanswering.specs.declared.clock.Clock.{Clock}
-use Rattle.zlogs.specs.Logs.{served, tree_after}
+use Rattle.zresponses.specs.declared.clock.Clock.{Clock}
+use Rattle.ztree_service.specs.log.Logs.{served, tree_after}
 use Rattle.zwatches.specs.declared.place.Place.{Place}
 use Rattle.zwatches.specs.Places.{node_places}
 use Rattle.zwatches.specs.Events.{Lists}
-use Rattle.ztables.specs.Tables.{TablesView}
-use Rattle.ztables.specs.Telling.{told_all}
-use Rattle.ztables.specs.Sweeping.{gone, swept_all, some_made_one}
-use Rattle.zserving.specs.Looking.{seen}
+use Rattle.zconnections.specs.Tables.{TablesView}
+use Rattle.zconnections.specs.Telling.{told_all}
+use Rattle.zconnections.specs.Sweeping.{gone, swept_all, some_made_one}
+use Rattle.zresponses.specs.effects.Looking.{seen}
 
 -- the tree, the tables, whether updates are recorded and those not yet taken, the secret of
 -- passwords, and the conversion of ticks to times

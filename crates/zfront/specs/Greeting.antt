@@ -4,8 +4,8 @@ use Rattle.std.specs.Prelude.{ℕ, ℤ, pos, negsuc, List, [], ◌∷◌, Result
 use Rattle.std.specs.Option.{option_map_or}
 use Rattle.std.specs.Ordering.{int_eq}
 use Rattle.std.specs.FinMap.{get}
-use Rattle.zforms.specs.Readers.{whole}
-use Rattle.zforms.specs.declared.fault.Fault.{Fault}
+use Rattle.zcodec.specs.Readers.{whole}
+use Rattle.zcodec.specs.declared.fault.Fault.{Fault}
 use Rattle.zcalls.specs.declared.call.Call.{Call}
 use Rattle.zcalls.specs.declared.call.Call.TheVariants.{Update}
 use Rattle.zcalls.specs.declared.call.Update.TheVariants.{Open}
@@ -13,10 +13,10 @@ use Rattle.zcalls.specs.declared.reply.Reply.{Reply}
 use Rattle.zcalls.specs.declared.reply.Reply.TheVariants.{Opened}
 use Rattle.zjute.specs.Connecting.{connect_request}
 use Rattle.zjute.specs.declared.connecting.ConnectRequest.{ConnectRequest}
-use Rattle.zasking.specs.Timeouts.{ticks_asked}
+use Rattle.zrequests.specs.Timeouts.{ticks_asked}
 use Rattle.zpasswords.specs.Passwords.{password_of}
-use Rattle.ztables.specs.Tables.{TablesView, closed}
-use Rattle.zserving.specs.Greeting.{welcomed, came_back, turned_away, is_ahead}
+use Rattle.zconnections.specs.Tables.{TablesView, closed}
+use Rattle.zresponses.specs.effects.Greeting.{welcomed, came_back, turned_away, is_ahead}
 use Rattle.zfront.specs.Front.{FrontView, with_tables, asked, replies_to}
 
 -- the call that opens a session

@@ -1,10 +1,10 @@
 -- The inputs of a front end for ZooKeeper's clients, and the effect of each.
 use Rattle.std.specs.Prelude.{◌≡◌, ℕ, Bool, false, drop}
 use Rattle.std.specs.FinMap as finite
-use Rattle.zpieces.specs.Inputs.{InputView}
-use Rattle.zpieces.specs.Inputs.InputView.{Opened, Came, Ended, Tick}
-use Rattle.zpieces.specs.Streams as streams
-use Rattle.ztables.specs.Tables as tables
+use Rattle.zconnections.specs.buffers.Inputs.{InputView}
+use Rattle.zconnections.specs.buffers.Inputs.InputView.{Opened, Came, Ended, Tick}
+use Rattle.zconnections.specs.buffers.Streams as streams
+use Rattle.zconnections.specs.Tables as tables
 use Rattle.zfront.specs.Front.{FrontView, with_tables}
 use Rattle.zfront.specs.Reading.{Comes}
 use Rattle.zfront.specs.Ticking.{Ticks}

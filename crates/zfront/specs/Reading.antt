@@ -3,10 +3,10 @@
 -- is this project's profile.
 use Rattle.std.specs.Prelude.{◌≡◌, ℕ, ◌+◌, ◌<◌, ◌^◌, Bool, true, false, ◌||◌, nat_lt, List, [], ◌∷◌, ◌++◌, length, Option, None, Some, if◌then◌else◌}
 use Rattle.zjute.specs.Frames.{Front, Whole, TooLong, next_of, IsEnd}
-use Rattle.zpieces.specs.declared.phase.Phase.{Phase}
-use Rattle.zpieces.specs.declared.phase.Phase.TheVariants.{Silent, Speaking, Closing}
-use Rattle.zpieces.specs.Streams.{bytes_of, held_of, phase_of, with_bytes}
-use Rattle.ztables.specs.Tables.{TablesView, is_open, closed}
+use Rattle.zconnections.specs.declared.buffers.phase.Phase.{Phase}
+use Rattle.zconnections.specs.declared.buffers.phase.Phase.TheVariants.{Silent, Speaking, Closing}
+use Rattle.zconnections.specs.buffers.Streams.{bytes_of, held_of, phase_of, with_bytes}
+use Rattle.zconnections.specs.Tables.{TablesView, is_open, closed}
 use Rattle.zfront.specs.declared.limits.TheConstants.{MAX_KEPT}
 use Rattle.zfront.specs.Front.{FrontView, with_tables}
 use Rattle.zfront.specs.Requests.{Serves}

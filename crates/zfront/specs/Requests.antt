@@ -1,18 +1,18 @@
 -- The effect of a request. The source is zookeeper.jute and the ZooKeeper Programmer's Guide.
 use Rattle.std.specs.Prelude.{◌≡◌, ℕ, List, Result, Ok, Err}
-use Rattle.zforms.specs.Readers.{whole}
-use Rattle.zforms.specs.declared.fault.Fault.{Fault}
+use Rattle.zcodec.specs.Readers.{whole}
+use Rattle.zcodec.specs.declared.fault.Fault.{Fault}
 use Rattle.zcalls.specs.declared.call.Call.{Call}
 use Rattle.zjute.specs.Asking.{request}
 use Rattle.zjute.specs.declared.request.Request.{Request}
-use Rattle.zasking.specs.declared.fault.Unasked.TheVariants.{Refused, Memory}
-use Rattle.zasking.specs.Asking.{Meaning}
-use Rattle.zasking.specs.Requests.{calls_in}
-use Rattle.zanswering.specs.Answers.{failed}
-use Rattle.zsittings.specs.Sittings.{touched, with_changed}
-use Rattle.ztables.specs.Tables.{closed}
-use Rattle.zserving.specs.Answering.{answered, now_of}
-use Rattle.zserving.specs.Replying.{replied}
+use Rattle.zrequests.specs.declared.fault.Unasked.TheVariants.{Refused, Memory}
+use Rattle.zrequests.specs.Asking.{Meaning}
+use Rattle.zrequests.specs.Requests.{calls_in}
+use Rattle.zresponses.specs.Answers.{failed}
+use Rattle.zconnections.specs.attachments.Sittings.{touched, with_changed}
+use Rattle.zconnections.specs.Tables.{closed}
+use Rattle.zresponses.specs.effects.Answering.{answered, now_of}
+use Rattle.zresponses.specs.effects.Replying.{replied}
 use Rattle.zfront.specs.Front.{FrontView, with_tables, asked, replies_to, Tidies}
 
 -- the flag of the request's session is set

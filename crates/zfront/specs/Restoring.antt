@@ -5,9 +5,9 @@ use Rattle.std.specs.Prelude.{ℕ, Bool, List, [], ◌∷◌}
 use Rattle.std.specs.FinMap as finite
 use Rattle.std.specs.FinSet as sets
 use Rattle.ztree.specs.Tree.{Tree}
-use Rattle.zanswering.specs.declared.clock.Clock.{Clock}
-use Rattle.zsittings.specs.Sittings.{SittingsView, restored_sitting}
-use Rattle.ztables.specs.Tables.{TablesView}
+use Rattle.zresponses.specs.declared.clock.Clock.{Clock}
+use Rattle.zconnections.specs.attachments.Sittings.{SittingsView, restored_sitting}
+use Rattle.zconnections.specs.Tables.{TablesView}
 use Rattle.zfront.specs.Front.{FrontView}
 
 -- these sessions are added, without a connection

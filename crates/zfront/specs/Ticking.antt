@@ -4,7 +4,7 @@ use Rattle.std.specs.Prelude.{ℕ, List, [], ◌∷◌, ◌++◌, map}
 use Rattle.zcalls.specs.declared.call.Call.{Call}
 use Rattle.zcalls.specs.declared.call.Call.TheVariants.{Update}
 use Rattle.zcalls.specs.declared.call.Update.TheVariants.{Ping, Tick}
-use Rattle.zsittings.specs.Sittings.{all_rested, touched_ids}
+use Rattle.zconnections.specs.attachments.Sittings.{all_rested, touched_ids}
 use Rattle.zfront.specs.Front.{FrontView, with_tables, asked, replies_to, Tidies}
 
 -- the call that renews a session

@@ -5,7 +5,7 @@ use Rattle.std.specs.Str.{bytes_eq}
 use Rattle.std.specs.FinMap as finite
 use Rattle.std.specs.FinSet as sets
 use Rattle.std.specs.Fmt.{decimal}
-use Rattle.ztables.specs.Tables.{sent, closed}
+use Rattle.zconnections.specs.Tables.{sent, closed}
 use Rattle.zfront.specs.Front.{FrontView, with_tables}
 use Rattle.zfront.specs.declared.word.Word.{Word}
 use Rattle.zfront.specs.declared.word.Word.TheVariants.{Ruok, Isro, Envi, Srvr, Mntr}

@@ -7,13 +7,13 @@
 
 ghost use Rattle.std.specs.Prelude.{◌≡◌, ◌++◌, [], ◌∷◌, IfOk, OnOk};
 ghost use Rattle.zcalls.specs.declared.call.Call.TheVariants as call;
-ghost use Rattle.zworld_model.specs.PlainTree.{serve};
+ghost use Rattle.zprotocol.specs.world.PlainTree.{serve};
 ghost use Rattle.zfront.specs.Front.{asked, replies_to};
 
 use crate::inner::Inner;
 use zalloc::Memory;
 use zcalls::{Call, Reply, Update};
-use zservice::TreeService;
+use ztree_service::TreeService;
 use ztree::Zxid;
 
 impl<T: TreeService> Inner<T> {

@@ -5,7 +5,7 @@ ghost use Rattle.zfront.specs.Restoring.{tables_of};
 
 use std::alloc::Global;
 use zalloc::Memory;
-use ztables::Tables;
+use zconnections::Tables;
 use ztree::SessionId;
 
 /// Returns tables with these sessions, without connections.

@@ -7,8 +7,8 @@
 
 ghost use Rattle.std.specs.Prelude.{◌≡◌, true, false, IfOk, IsErr, OnErr, OnOk};
 ghost use Rattle.std.specs.Option.{option_copied};
-ghost use Rattle.zpieces.specs.Inputs.{input_of};
-ghost use Rattle.zpieces.specs.Outbox.{first_of};
+ghost use Rattle.zconnections.specs.buffers.Inputs.{input_of};
+ghost use Rattle.zconnections.specs.buffers.Outbox.{first_of};
 ghost use Rattle.zfront.specs.Inputs.{Does, IsSound, without_first};
 ghost use Rattle.zfront.specs.Restoring.{all_taken, beginning};
 
@@ -16,11 +16,11 @@ use crate::inner::Inner;
 use std::alloc::Global;
 use std::marker::Model;
 use zalloc::Memory;
-use zanswering::Clock;
+use zresponses::Clock;
 use zcalls::Update;
 use zpasswords::Secret;
-use zpieces::{Input, Piece};
-use zservice::TreeService;
+use zconnections::buffers::{Input, Piece};
+use ztree_service::TreeService;
 
 /// A front end for ZooKeeper's clients, over a service of one tree.
 ///

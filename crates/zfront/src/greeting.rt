@@ -7,11 +7,11 @@ ghost use Rattle.zfront.specs.Greeting.{greeted, greeted_by, opened, opening, re
 
 use crate::inner::Inner;
 use zalloc::Memory;
-use zasking::{TickLength, ticks_asked};
+use zrequests::{TickLength, ticks_asked};
 use zcalls::{Call, Reply, Update};
 use zjute::{ConnectRequest, ReadError, read_connect};
-use zservice::TreeService;
-use zserving::{Granted, come_back, is_ahead, turn_away, welcome};
+use ztree_service::TreeService;
+use zresponses::effects::{Granted, come_back, is_ahead, turn_away, welcome};
 use ztree::SessionId;
 
 impl<T: TreeService> Inner<T> {

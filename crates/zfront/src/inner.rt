@@ -1,7 +1,7 @@
 //! The state of a front that has memory.
 
 ghost use Rattle.std.specs.Prelude.{◌≡◌, IfOk, OnOk};
-ghost use Rattle.zpieces.specs.Inputs.{input_of};
+ghost use Rattle.zconnections.specs.buffers.Inputs.{input_of};
 ghost use Rattle.zfront.specs.Inputs.{Does};
 ghost use Rattle.zfront.specs.Restoring.{all_taken, beginning};
 
@@ -10,12 +10,12 @@ use std::alloc::Global;
 use std::marker::Model;
 use std::mem;
 use zalloc::Memory;
-use zanswering::Clock;
+use zresponses::Clock;
 use zcalls::Update;
 use zpasswords::Secret;
-use zpieces::Input;
-use zservice::TreeService;
-use ztables::Tables;
+use zconnections::buffers::Input;
+use ztree_service::TreeService;
+use zconnections::Tables;
 
 // The service of the tree, the tables, and the recorded updates. After a call ran out of memory,
 // the contracts promise nothing of it.

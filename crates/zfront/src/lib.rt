@@ -1,7 +1,7 @@
 //! A front end for ZooKeeper's clients, without sockets and without a clock.
 //!
 //! A host passes it inputs: connections that open and end, the bytes that arrive on them, and
-//! ticks. It returns chunks to be sent. It works over any service of one tree (`zservice`), and
+//! ticks. It returns chunks to be sent. It works over any service of one tree (`ztree_service`), and
 //! makes the calls of all connections on that tree, one after the other.
 //!
 //! `specs/` says exactly what each input does. `Front::take_made` returns the updates to be stored.
@@ -29,7 +29,7 @@ mod words;
 
 pub use front::Front;
 pub use zalloc::Memory;
-pub use zanswering::Clock;
-pub use zasking::TickLength;
+pub use zresponses::Clock;
+pub use zrequests::TickLength;
 pub use zpasswords::Secret;
-pub use zpieces::{Input, Piece};
+pub use zconnections::buffers::{Input, Piece};

@@ -13,15 +13,15 @@
 
 ghost use Rattle.std.specs.Prelude.{◌≡◌, IfOk, OnOk};
 ghost use Rattle.std.specs.List.{filter, list_any};
-ghost use Rattle.ztables.specs.Sweeping.{is_gone};
+ghost use Rattle.zconnections.specs.Sweeping.{is_gone};
 ghost use Rattle.zfront.specs.Front.{gone_from, LooksIf, looked, Looks, looks, may_end, swept, took_unnamed};
 ghost use Rattle.zfront.specs.Front.{takes_nodes, Tidies, TidiesIf};
 
 use crate::inner::Inner;
 use zalloc::Memory;
 use zcalls::{Call, Query, Reply, Update};
-use zservice::TreeService;
-use zserving::look;
+use ztree_service::TreeService;
+use zresponses::effects::look;
 use ztree::SessionId;
 use zwatches::Place;
 

@@ -15,8 +15,8 @@ use crate::inner::Inner;
 use crate::limits::MAX_KEPT;
 use zalloc::Memory;
 use zjute::{Next, next_frame};
-use zpieces::Phase;
-use zservice::TreeService;
+use zconnections::buffers::Phase;
+use ztree_service::TreeService;
 
 impl<T: TreeService> Inner<T> {
     // Reads bytes that arrived on a connection. They are dropped unless it is open.

@@ -6,21 +6,21 @@
 //! getChildren2, and a create2 returns the stat that its node then has.
 
 ghost use Rattle.std.specs.Prelude.{◌≡◌, OnOk};
-ghost use Rattle.zasking.specs.Requests.{calls_in};
-ghost use Rattle.zanswering.specs.Answers.{failed};
-ghost use Rattle.zserving.specs.Answering.{answered, now_of};
-ghost use Rattle.zserving.specs.Replying.{replied};
+ghost use Rattle.zrequests.specs.Requests.{calls_in};
+ghost use Rattle.zresponses.specs.Answers.{failed};
+ghost use Rattle.zresponses.specs.effects.Answering.{answered, now_of};
+ghost use Rattle.zresponses.specs.effects.Replying.{replied};
 ghost use Rattle.zfront.specs.Front.{with_tables};
 ghost use Rattle.zfront.specs.Requests.{Acts, Makes, Serves};
 
 use crate::inner::Inner;
 use zalloc::Memory;
-use zanswering::{Answer, Now};
-use zasking::{Unasked, calls_of};
+use zresponses::{Answer, Now};
+use zrequests::{Unasked, calls_of};
 use zcalls::{Call, Reply};
 use zjute::{Body, Code, ReadError, Request, read_request};
-use zservice::TreeService;
-use zserving::{Done, answer, reply};
+use ztree_service::TreeService;
+use zresponses::effects::{Done, answer, reply};
 use ztree::SessionId;
 
 impl<T: TreeService> Inner<T> {

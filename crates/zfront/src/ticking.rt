@@ -12,7 +12,7 @@ use crate::inner::Inner;
 use std::alloc::Global;
 use zalloc::Memory;
 use zcalls::{Call, Update};
-use zservice::TreeService;
+use ztree_service::TreeService;
 use ztree::SessionId;
 
 impl<T: TreeService> Inner<T> {

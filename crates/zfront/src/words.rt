@@ -6,16 +6,16 @@
 //! version of Debian's ZooKeeper, which the answers were compared with.
 
 ghost use Rattle.std.specs.Prelude.{◌≡◌, string_bytes, IfOk, OnOk};
-ghost use Rattle.zlines.specs.Texts.{Writes};
-ghost use Rattle.zpieces.specs.Streams.{phase_of};
+ghost use Rattle.zscript_text.specs.Texts.{Writes};
+ghost use Rattle.zconnections.specs.buffers.Streams.{phase_of};
 ghost use Rattle.zfront.specs.Reading.{word_asked};
 ghost use Rattle.zfront.specs.Words as table;
 
 use crate::inner::Inner;
 use crate::word::Word;
 use zalloc::Memory;
-use zpieces::Phase;
-use zservice::TreeService;
+use zconnections::buffers::Phase;
+use ztree_service::TreeService;
 
 impl<T: TreeService> Inner<T> {
     // Returns the word at the beginning of the bytes, if nothing was read on the connection.

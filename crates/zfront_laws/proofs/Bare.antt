@@ -9,11 +9,11 @@ use Rattle.std.specs.List.{list_any}
 use Rattle.std.specs.Option.{option_map}
 use Rattle.std.specs.Ordering.{eq_by_cmp, nat_cmp}
 use Rattle.ztree.proofs.Maps.{get-insert-here, get-insert-elsewhere, get-inserted, none_some, tied, tied_same}
-use Rattle.zpieces.specs.declared.phase.Phase.{Phase}
-use Rattle.zpieces.specs.Streams.{StreamRows, StreamView, phase_of}
-use Rattle.zsittings.specs.declared.sitting.Sitting.{Sitting}
-use Rattle.zsittings.specs.Sittings.{SittingsView, restored_sitting}
-use Rattle.ztables.specs.Tables.{TablesView, connection_of}
+use Rattle.zconnections.specs.declared.buffers.phase.Phase.{Phase}
+use Rattle.zconnections.specs.buffers.Streams.{StreamRows, StreamView, phase_of}
+use Rattle.zconnections.specs.declared.attachments.sitting.Sitting.{Sitting}
+use Rattle.zconnections.specs.attachments.Sittings.{SittingsView, restored_sitting}
+use Rattle.zconnections.specs.Tables.{TablesView, connection_of}
 use Rattle.zfront.specs.Restoring.{no_tables, seated, tables_of}
 use Rattle.zfront_laws.proofs.Seated.{Has, connection_in, same_number}
 

@@ -4,11 +4,11 @@ use Rattle.std.specs.FinMap.{contains_key}
 use Rattle.std.specs.List.{list_any}
 use Rattle.zcalls.specs.declared.call.Call.{Call}
 use Rattle.zcalls.specs.declared.reply.Reply.{Reply}
-use Rattle.zpieces.specs.Streams.{held_of}
-use Rattle.zlogs.specs.Logs.{tree_after}
-use Rattle.zlogs.proofs.Lives.{calls_zipped, leads_by, trees_can_start_again}
-use Rattle.ztables.specs.Tables.{TablesView}
-use Rattle.zserving.specs.Looking.{seen}
+use Rattle.zconnections.specs.buffers.Streams.{held_of}
+use Rattle.ztree_service.specs.log.Logs.{tree_after}
+use Rattle.ztree_service.proofs.log_lemmas.Lives.{calls_zipped, leads_by, trees_can_start_again}
+use Rattle.zconnections.specs.Tables.{TablesView}
+use Rattle.zresponses.specs.effects.Looking.{seen}
 use Rattle.zfront.specs.Front.{FrontView, with_tables, asked, replies_to, updates_among, left_of, gone_from, swept, may_end, took_unnamed}
 use Rattle.zfront.specs.Front.{looks, looked, LooksIf, TidiesIf, Tidies}
 use Rattle.zfront_laws.specs.Logs.{done_by}

@@ -6,18 +6,18 @@ use Rattle.zcalls.specs.declared.call.Call.{Call}
 use Rattle.zcalls.specs.declared.call.Call.TheVariants.{Update, Query}
 use Rattle.zcalls.specs.declared.call.Update.{Update as Act}
 use Rattle.zcalls.specs.declared.reply.Reply.{Reply}
-use Rattle.zevents.specs.declared.event.Event.{Event}
-use Rattle.zevents.specs.Events.{events_of}
-use Rattle.zanswering.specs.declared.answer.Answer.{Answer}
-use Rattle.zpieces.specs.Outbox.{PieceView}
-use Rattle.zsittings.specs.Sittings.{all_rested, touched, with_changed}
+use Rattle.zwatches.specs.declared.changes.event.Event.{Event}
+use Rattle.zwatches.specs.changes.Events.{events_of}
+use Rattle.zresponses.specs.declared.answer.Answer.{Answer}
+use Rattle.zconnections.specs.buffers.Outbox.{PieceView}
+use Rattle.zconnections.specs.attachments.Sittings.{all_rested, touched, with_changed}
 use Rattle.zwatches.specs.Events as watch
 use Rattle.zwatches.specs.Watches.{Watches}
-use Rattle.ztables.specs.Tables.{TablesView, is_open, piece, with_piece, sent, closed}
-use Rattle.ztables.specs.Telling.{event_frame, sent_on, unwatched, in_order, told, told_all}
-use Rattle.ztables.specs.Sweeping.{noted, swept_all, swept}
-use Rattle.zserving.specs.Frames.{answer_frame, ends_connection}
-use Rattle.zserving.specs.Replying.{absorbed, absorbed_all, replied}
+use Rattle.zconnections.specs.Tables.{TablesView, is_open, piece, with_piece, sent, closed}
+use Rattle.zconnections.specs.Telling.{event_frame, sent_on, unwatched, in_order, told, told_all}
+use Rattle.zconnections.specs.Sweeping.{noted, swept_all, swept}
+use Rattle.zresponses.specs.effects.Frames.{answer_frame, ends_connection}
+use Rattle.zresponses.specs.effects.Replying.{absorbed, absorbed_all, replied}
 
 -- each single change carries it
 pub record Carries (R : TablesView → TablesView → Type 0) : Type 0 where

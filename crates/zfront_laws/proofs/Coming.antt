@@ -3,10 +3,10 @@ use Rattle.std.proofs.Common.{◌≡◌, ℕ, ◌+◌, ◌≤◌, Bool, true, fa
 use Rattle.std.specs.Prelude.{nat_lt, ◌||◌, if◌then◌else◌}
 use Rattle.std.proofs.lemmas.Bool.{ltb-false}
 use Rattle.zjute.specs.Frames.{next_of}
-use Rattle.zpieces.specs.declared.phase.Phase.{Phase}
-use Rattle.zpieces.specs.declared.phase.Phase.TheVariants.{Silent, Speaking, Closing}
-use Rattle.zpieces.specs.Streams.{bytes_of, held_of, phase_of, with_bytes}
-use Rattle.ztables.specs.Tables.{TablesView, closed, is_open}
+use Rattle.zconnections.specs.declared.buffers.phase.Phase.{Phase}
+use Rattle.zconnections.specs.declared.buffers.phase.Phase.TheVariants.{Silent, Speaking, Closing}
+use Rattle.zconnections.specs.buffers.Streams.{bytes_of, held_of, phase_of, with_bytes}
+use Rattle.zconnections.specs.Tables.{TablesView, closed, is_open}
 use Rattle.zfront.specs.declared.limits.TheConstants.{MAX_KEPT}
 use Rattle.zfront.specs.Front.{FrontView, with_tables}
 use Rattle.zfront.specs.Reading.{HandlesIn, Handles, HandlesAll, is_too_long, kept, keeps, Keeps}

@@ -7,11 +7,11 @@ use Rattle.std.specs.FinMap.{get, insert, nat_cmp-IsAntisymmetric}
 use Rattle.std.specs.Option.{option_map_or}
 use Rattle.ztree.proofs.Maps.{same_some, get-insert-here, get-insert-elsewhere, get-removed}
 use Rattle.zjute.specs.Frames.{Whole, next_of}
-use Rattle.zpieces.specs.Inputs.InputView.{Opened, Came, Ended}
-use Rattle.zpieces.specs.declared.phase.Phase.{Phase}
-use Rattle.zpieces.specs.declared.phase.Phase.TheVariants.{Silent, Speaking, Closing}
-use Rattle.zpieces.specs.Streams.{StreamView, StreamRows, bytes_of, held_of, opened, phase_of, with_bytes}
-use Rattle.ztables.specs.Tables.{TablesView, may_send, is_open, closed, ended}
+use Rattle.zconnections.specs.buffers.Inputs.InputView.{Opened, Came, Ended}
+use Rattle.zconnections.specs.declared.buffers.phase.Phase.{Phase}
+use Rattle.zconnections.specs.declared.buffers.phase.Phase.TheVariants.{Silent, Speaking, Closing}
+use Rattle.zconnections.specs.buffers.Streams.{StreamView, StreamRows, bytes_of, held_of, opened, phase_of, with_bytes}
+use Rattle.zconnections.specs.Tables.{TablesView, may_send, is_open, closed, ended}
 use Rattle.zfront.specs.declared.limits.TheConstants.{MAX_KEPT}
 use Rattle.zfront.specs.Front.{FrontView, with_tables}
 use Rattle.zfront.specs.Inputs as inputs

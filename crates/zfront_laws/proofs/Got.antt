@@ -3,10 +3,10 @@ use Rattle.std.proofs.Common.{◌≡◌, ◌⊎◌, inl, inr, ◌∙◌, ℕ, Li
 use Rattle.std.proofs.lemmas.Bool.{eq-eqb}
 use Rattle.std.proofs.lemmas.List.{append-nil}
 use Rattle.std.specs.List.{AllByRecursion}
-use Rattle.zpieces.specs.Inputs.InputView.{Opened, Came, Ended, Tick}
-use Rattle.zpieces.specs.declared.phase.Phase.TheVariants.{Silent, Speaking}
-use Rattle.zpieces.specs.Streams.{bytes_of, phase_of}
-use Rattle.ztables.specs.Tables.{is_open}
+use Rattle.zconnections.specs.buffers.Inputs.InputView.{Opened, Came, Ended, Tick}
+use Rattle.zconnections.specs.declared.buffers.phase.Phase.TheVariants.{Silent, Speaking}
+use Rattle.zconnections.specs.buffers.Streams.{bytes_of, phase_of}
+use Rattle.zconnections.specs.Tables.{is_open}
 use Rattle.zfront.specs.Front.{FrontView}
 use Rattle.zfront.specs.Inputs.{without_first}
 use Rattle.zfront.specs.Restoring.{beginning, all_taken}

@@ -11,22 +11,22 @@ use Rattle.std.specs.Ordering.{int_eq}
 use lib.Pointwise.{pointwise}
 use Rattle.ztree.proofs.Maps.{is_there}
 use Rattle.ztree.specs.declared.session.Session.{Session}
-use Rattle.zforms.specs.Readers.{whole}
-use Rattle.zforms.specs.declared.fault.Fault.{Fault}
+use Rattle.zcodec.specs.Readers.{whole}
+use Rattle.zcodec.specs.declared.fault.Fault.{Fault}
 use Rattle.zcalls.specs.declared.reply.Reply.{Reply}
 use Rattle.zcalls.specs.declared.reply.Reply.TheVariants as reply
 use Rattle.zjute.specs.Connecting.{connect_request}
 use Rattle.zjute.specs.declared.connecting.ConnectRequest.{ConnectRequest}
-use Rattle.zasking.specs.Timeouts.{millis_told}
+use Rattle.zrequests.specs.Timeouts.{millis_told}
 use Rattle.zpasswords.specs.Passwords.{password_of}
-use Rattle.zpieces.specs.declared.phase.Phase.{Phase}
-use Rattle.zpieces.specs.declared.phase.Phase.TheVariants.{Silent, Speaking, Closing}
-use Rattle.zpieces.specs.Streams.{phase_of, with_phase}
-use Rattle.zsittings.specs.Sittings.{SittingsView}
-use Rattle.zworld_model.specs.PlainTree.{serve}
-use Rattle.ztables.proofs.Closed.{nothing_behind}
-use Rattle.ztables.specs.Tables.{TablesView, may_send, is_open, piece, sent, with_piece, closed, moved, sitting, taken_up}
-use Rattle.zserving.specs.Greeting.{session_told, turned_away, given, came_back, is_ahead}
+use Rattle.zconnections.specs.declared.buffers.phase.Phase.{Phase}
+use Rattle.zconnections.specs.declared.buffers.phase.Phase.TheVariants.{Silent, Speaking, Closing}
+use Rattle.zconnections.specs.buffers.Streams.{phase_of, with_phase}
+use Rattle.zconnections.specs.attachments.Sittings.{SittingsView}
+use Rattle.zprotocol.specs.world.PlainTree.{serve}
+use Rattle.zconnections.proofs.Closed.{nothing_behind}
+use Rattle.zconnections.specs.Tables.{TablesView, may_send, is_open, piece, sent, with_piece, closed, moved, sitting, taken_up}
+use Rattle.zresponses.specs.effects.Greeting.{session_told, turned_away, given, came_back, is_ahead}
 use Rattle.zfront.specs.Front.{FrontView, with_tables}
 use Rattle.zfront.specs.Greeting.{opening, opened, with_session, returned, greeted_by, greeted}
 use Rattle.zfront_laws.specs.Given.{Gains}

@@ -1,9 +1,9 @@
 -- What frames of a connection do: the first may be a greeting, and no other gives a session.
 use Rattle.std.proofs.Common.{◌≡◌, ◌⊎◌, inl, inr, ◌∙◌, ℕ, List, [], ◌∷◌, Option, None, Some, refl, sym, subst}
-use Rattle.zpieces.specs.declared.phase.Phase.{Phase}
-use Rattle.zpieces.specs.declared.phase.Phase.TheVariants.{Silent, Speaking, Closing}
-use Rattle.zpieces.specs.Streams.{phase_of}
-use Rattle.ztables.specs.Tables.{TablesView}
+use Rattle.zconnections.specs.declared.buffers.phase.Phase.{Phase}
+use Rattle.zconnections.specs.declared.buffers.phase.Phase.TheVariants.{Silent, Speaking, Closing}
+use Rattle.zconnections.specs.buffers.Streams.{phase_of}
+use Rattle.zconnections.specs.Tables.{TablesView}
 use Rattle.zfront.specs.Front.{FrontView}
 use Rattle.zfront.specs.Reading.{HandlesIn, HandlesAll}
 use Rattle.zfront_laws.proofs.Working as working

@@ -2,10 +2,10 @@
 use Rattle.std.proofs.Common.{◌≡◌, ◌≢◌, ◌⊎◌, inl, inr, ◌∙◌, ℕ, Bool, true, false, List, [], ◌∷◌, ◌++◌, Option, None, Some, refl, sym, ap, subst}
 use Rattle.std.proofs.lemmas.Bool.{eq-eqb, ne_eqb}
 use Rattle.std.specs.Option.{option_map}
-use Rattle.zpieces.specs.Inputs.InputView.{Came}
-use Rattle.zpieces.specs.declared.phase.Phase.TheVariants.{Silent, Speaking}
-use Rattle.zpieces.specs.Streams.{StreamRows, bytes_of, phase_of}
-use Rattle.ztables.specs.Tables.{is_open}
+use Rattle.zconnections.specs.buffers.Inputs.InputView.{Came}
+use Rattle.zconnections.specs.declared.buffers.phase.Phase.TheVariants.{Silent, Speaking}
+use Rattle.zconnections.specs.buffers.Streams.{StreamRows, bytes_of, phase_of}
+use Rattle.zconnections.specs.Tables.{is_open}
 use Rattle.zfront.specs.Front.{FrontView}
 use Rattle.zfront.specs.Reading.{Cuts, Reads, keeps, word_asked, ComesBy, ComesIf, emptied}
 use Rattle.zfront.specs.Words.{said, text_of_word}

@@ -12,8 +12,8 @@ use Rattle.std.specs.Option.{option_map_or}
 use Rattle.std.specs.Ordering.{is_eq, nat_cmp}
 use Rattle.std.proofs.lemmas.List.Sums.{sum_by-cons}
 use Rattle.ztree.proofs.Sorted.{both_parts, entries-remove, find_below, other_than}
-use Rattle.zpieces.specs.Streams.{StreamView, StreamRows, changed, held_of}
-use Rattle.zpieces.specs.support.Entries.{size_of, size_of_all}
+use Rattle.zconnections.specs.buffers.Streams.{StreamView, StreamRows, changed, held_of}
+use Rattle.zconnections.specs.buffers.support.Entries.{size_of, size_of_all}
 
 abbrev Rows : Type 0
 Rows = List (ℕ × StreamView)

@@ -1,13 +1,13 @@
 -- A step at any input, and steps one after the other. What holds of all of them holds from a
 -- beginning on.
 use Rattle.std.proofs.Common.{◌∙◌, true, List, [], ◌∷◌, refl}
-use Rattle.zpieces.specs.Inputs.{InputView}
-use Rattle.zpieces.specs.Inputs.InputView.{Opened, Came, Ended, Tick}
-use Rattle.zpieces.specs.Streams.{held_of}
-use Rattle.zpieces.specs.Streams as streams
-use Rattle.zsittings.specs.Sittings.{touched_ids}
-use Rattle.zlogs.proofs.Lives.{leads_more}
-use Rattle.ztables.specs.Tables as tables
+use Rattle.zconnections.specs.buffers.Inputs.{InputView}
+use Rattle.zconnections.specs.buffers.Inputs.InputView.{Opened, Came, Ended, Tick}
+use Rattle.zconnections.specs.buffers.Streams.{held_of}
+use Rattle.zconnections.specs.buffers.Streams as streams
+use Rattle.zconnections.specs.attachments.Sittings.{touched_ids}
+use Rattle.ztree_service.proofs.log_lemmas.Lives.{leads_more}
+use Rattle.zconnections.specs.Tables as tables
 use Rattle.ztree.specs.Tree.{opening_tree}
 use Rattle.zfront.specs.Front.{FrontView, asked}
 use Rattle.zfront.specs.Inputs as inputs

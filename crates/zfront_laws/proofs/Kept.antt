@@ -12,14 +12,14 @@ use Rattle.zcalls.specs.declared.call.Update.{Update}
 use Rattle.zcalls.specs.declared.call.Update.TheVariants as act
 use Rattle.zcalls.specs.declared.reply.Reply.{Reply}
 use Rattle.zcalls.specs.declared.reply.Reply.TheVariants as reply
-use Rattle.zpieces.specs.declared.phase.Phase.{Phase}
-use Rattle.zpieces.specs.declared.phase.Phase.TheVariants.{Silent, Speaking}
-use Rattle.zpieces.specs.Streams.{StreamView, with_bytes, opened, phase_of}
-use Rattle.zsittings.specs.declared.sitting.Sitting.{Sitting}
-use Rattle.zsittings.specs.Sittings.{SittingsView, all_rested, left, rested, touched, with_changed, with_ephemeral}
-use Rattle.zsittings.proofs.Changed.{each_rests}
-use Rattle.ztables.specs.Tables.{TablesView, is_open, session_in, without_seat, closing, closed, ended, connection_of, moved}
-use Rattle.ztables.specs.Sweeping.{owner_in, made_by, made_by_parts, noted, swept}
+use Rattle.zconnections.specs.declared.buffers.phase.Phase.{Phase}
+use Rattle.zconnections.specs.declared.buffers.phase.Phase.TheVariants.{Silent, Speaking}
+use Rattle.zconnections.specs.buffers.Streams.{StreamView, with_bytes, opened, phase_of}
+use Rattle.zconnections.specs.declared.attachments.sitting.Sitting.{Sitting}
+use Rattle.zconnections.specs.attachments.Sittings.{SittingsView, all_rested, left, rested, touched, with_changed, with_ephemeral}
+use Rattle.zconnections.proofs.attachments_lemmas.Changed.{each_rests}
+use Rattle.zconnections.specs.Tables.{TablesView, is_open, session_in, without_seat, closing, closed, ended, connection_of, moved}
+use Rattle.zconnections.specs.Sweeping.{owner_in, made_by, made_by_parts, noted, swept}
 use Rattle.zfront_laws.specs.Seats.{IsSeated}
 use Rattle.zfront_laws.proofs.Seated.{Has, connection_in, same_number, phase_elsewhere, phase_here, seat_elsewhere}
 use Rattle.zfront_laws.proofs.Seated.{seat_here, closes, ends, sweeps}

@@ -1,3 +1,5 @@
+pub mod frames_lemmas
+pub mod watches_lemmas
 pub mod Held
 pub mod Seated
 pub mod Kept

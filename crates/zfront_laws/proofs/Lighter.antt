@@ -2,12 +2,12 @@
 use Rattle.std.proofs.Common.{ℕ, ◌+◌, ◌≤◌, true, false, None, Some, arith}
 use Rattle.std.specs.Prelude.{if◌then◌else◌}
 use Rattle.std.specs.Option.{option_map_or}
-use Rattle.zpieces.specs.declared.phase.Phase.{Phase}
-use Rattle.zpieces.specs.declared.phase.Phase.TheVariants.{Closing}
-use Rattle.zpieces.specs.Streams.{StreamRows, empty_in, held_of}
-use Rattle.zpieces.specs.Streams as stream
-use Rattle.ztables.specs.Tables.{TablesView, is_open, closed, closing, connection_of, moved}
-use Rattle.ztables.specs.Sweeping.{swept}
+use Rattle.zconnections.specs.declared.buffers.phase.Phase.{Phase}
+use Rattle.zconnections.specs.declared.buffers.phase.Phase.TheVariants.{Closing}
+use Rattle.zconnections.specs.buffers.Streams.{StreamRows, empty_in, held_of}
+use Rattle.zconnections.specs.buffers.Streams as stream
+use Rattle.zconnections.specs.Tables.{TablesView, is_open, closed, closing, connection_of, moved}
+use Rattle.zconnections.specs.Sweeping.{swept}
 use Rattle.zfront_laws.proofs.Held.{held-changed}
 use Rattle.zfront_laws.proofs.Kept.{Kept, unchanged, kept_both, closes_kept, noted_kept, rests_kept, sweeps_kept, touched_kept}
 use Rattle.zfront_laws.proofs.Changes.{Carries}

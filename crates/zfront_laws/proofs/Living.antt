@@ -8,8 +8,8 @@ use Rattle.std.specs.List.{filter, list_any}
 use Rattle.std.specs.Ordering.{eq_by_cmp, nat_cmp}
 use Rattle.ztree.proofs.Maps.{is_there, tied_same, get-removed}
 use Rattle.ztree.specs.Tree.{Sessions}
-use Rattle.ztables.specs.Sweeping.{gone, is_gone, swept, swept_all}
-use Rattle.ztables.specs.Tables.{TablesView, moved}
+use Rattle.zconnections.specs.Sweeping.{gone, is_gone, swept, swept_all}
+use Rattle.zconnections.specs.Tables.{TablesView, moved}
 use Rattle.zfront_laws.proofs.Changes.{sweeps_all}
 use Rattle.zfront_laws.proofs.Lighter.{Lighter, carries_lighter}
 use Rattle.zfront_laws.proofs.Seated.{Has}

@@ -6,11 +6,11 @@ use Rattle.std.specs.Cmp.{nat_cmp_total}
 use Rattle.std.specs.FinMap.{get, insert, nat_cmp-IsAntisymmetric}
 use Rattle.std.specs.Option.{option_map, option_map_or}
 use Rattle.ztree.proofs.Maps.{same_some, none_some, get-insert-here, get-insert-elsewhere}
-use Rattle.zpieces.specs.declared.phase.Phase.{Phase}
-use Rattle.zpieces.specs.declared.phase.Phase.TheVariants.{Closing}
-use Rattle.zpieces.specs.Streams.{StreamView, StreamRows, changed, empty_in, phase_of}
-use Rattle.zpieces.specs.Streams as stream
-use Rattle.ztables.specs.Tables.{TablesView, is_open, closing, closed, moved, connection_of}
+use Rattle.zconnections.specs.declared.buffers.phase.Phase.{Phase}
+use Rattle.zconnections.specs.declared.buffers.phase.Phase.TheVariants.{Closing}
+use Rattle.zconnections.specs.buffers.Streams.{StreamView, StreamRows, changed, empty_in, phase_of}
+use Rattle.zconnections.specs.buffers.Streams as stream
+use Rattle.zconnections.specs.Tables.{TablesView, is_open, closing, closed, moved, connection_of}
 use Rattle.zfront_laws.proofs.Seated.{same_number}
 use Rattle.zfront_laws.proofs.Changes.{Carries}
 

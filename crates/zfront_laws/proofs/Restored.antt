@@ -4,9 +4,9 @@ use Rattle.std.proofs.Common.{◌≡◌, ◌∙◌, ℕ, List, Bool, true, sym, 
 use Rattle.std.specs.FinMap as finite
 use Rattle.std.specs.FinMap.{contains_key}
 use Rattle.ztree.specs.Tree.{Tree}
-use Rattle.zanswering.specs.declared.clock.Clock.{Clock}
-use Rattle.zpieces.specs.declared.phase.Phase.TheVariants.{Speaking}
-use Rattle.zworld_model.specs.FromTree.{CanStart}
+use Rattle.zresponses.specs.declared.clock.Clock.{Clock}
+use Rattle.zconnections.specs.declared.buffers.phase.Phase.TheVariants.{Speaking}
+use Rattle.zprotocol.specs.world.FromTree.{CanStart}
 use Rattle.zfront.specs.Front.{FrontView}
 use Rattle.zfront.specs.Restoring.{beginning}
 use Rattle.zfront_laws.specs.Making.{EverySessionIsRestored}

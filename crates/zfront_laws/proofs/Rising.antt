@@ -23,8 +23,8 @@ use Rattle.zcalls.specs.SessionLaws.{IsOwnClose, IsItsTick}
 use Rattle.zcalls.specs.Step.{step, is_exhausted, granted_timeout}
 use Rattle.zcalls.proofs.Sessions.{ends_only_so}
 use Rattle.zcalls.proofs.Taking.{changes_take_one_zxid}
-use Rattle.zworld_model.specs.PlainTree.{serve}
-use Rattle.zlogs.specs.Logs.{tree_after}
+use Rattle.zprotocol.specs.world.PlainTree.{serve}
+use Rattle.ztree_service.specs.log.Logs.{tree_after}
 use Rattle.zfront.specs.Front.{may_end}
 
 -- ---- what an open gives

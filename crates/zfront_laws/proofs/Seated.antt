@@ -5,19 +5,19 @@ use Rattle.std.specs.Cmp.{nat_cmp_total}
 use Rattle.std.specs.FinMap.{get, insert, remove, nat_cmp-IsAntisymmetric}
 use Rattle.std.specs.Option.{option_map, option_map_or, option_and_then}
 use Rattle.ztree.proofs.Maps.{same_some, none_some, same_or_other, get-insert-here, get-insert-elsewhere, get-remove-here, get-remove-elsewhere}
-use Rattle.zevents.specs.declared.event.Event.{Event}
-use Rattle.zpieces.specs.declared.phase.Phase.{Phase}
-use Rattle.zpieces.specs.declared.phase.Phase.TheVariants.{Silent, Speaking, Closing}
-use Rattle.zpieces.specs.Streams.{StreamView, StreamRows, changed, empty_in, phase_of, with_phase}
-use Rattle.zpieces.specs.Streams as stream
-use Rattle.zsittings.specs.declared.sitting.Sitting.{Sitting}
-use Rattle.zsittings.specs.Sittings.{SittingsView, left, new_sitting, restored_sitting, with_changed, with_seat}
-use Rattle.zsittings.specs.Sittings as seats
+use Rattle.zwatches.specs.declared.changes.event.Event.{Event}
+use Rattle.zconnections.specs.declared.buffers.phase.Phase.{Phase}
+use Rattle.zconnections.specs.declared.buffers.phase.Phase.TheVariants.{Silent, Speaking, Closing}
+use Rattle.zconnections.specs.buffers.Streams.{StreamView, StreamRows, changed, empty_in, phase_of, with_phase}
+use Rattle.zconnections.specs.buffers.Streams as stream
+use Rattle.zconnections.specs.declared.attachments.sitting.Sitting.{Sitting}
+use Rattle.zconnections.specs.attachments.Sittings.{SittingsView, left, new_sitting, restored_sitting, with_changed, with_seat}
+use Rattle.zconnections.specs.attachments.Sittings as seats
 use Rattle.zwatches.specs.Events as watches
-use Rattle.ztables.specs.Tables.{TablesView, may_send, is_open, session_in, without_seat, closing, closed, ended, sent}
-use Rattle.ztables.specs.Tables.{piece, with_piece, connection_of, moved, taken_up, sitting}
-use Rattle.ztables.specs.Telling.{event_frame, sent_on, unwatched, in_order, told, told_all}
-use Rattle.ztables.specs.Sweeping.{swept, swept_all}
+use Rattle.zconnections.specs.Tables.{TablesView, may_send, is_open, session_in, without_seat, closing, closed, ended, sent}
+use Rattle.zconnections.specs.Tables.{piece, with_piece, connection_of, moved, taken_up, sitting}
+use Rattle.zconnections.specs.Telling.{event_frame, sent_on, unwatched, in_order, told, told_all}
+use Rattle.zconnections.specs.Sweeping.{swept, swept_all}
 use Rattle.zfront_laws.specs.Seats.{IsSeated, OneSpeaks, SeatsAreKept}
 
 pub same_number : (c d : ℕ) → (c ≡ d) ⊎ (c ≢ d)

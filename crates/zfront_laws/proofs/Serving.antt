@@ -9,8 +9,8 @@ use Rattle.std.specs.Ordering.{int_eq}
 use lib.Pointwise.{pointwise}
 use Rattle.ztree.proofs.Maps.{get-inserted, is_there}
 use Rattle.ztree.specs.declared.session.Session.{Session}
-use Rattle.zforms.specs.Readers.{whole}
-use Rattle.zforms.specs.declared.fault.Fault.{Fault}
+use Rattle.zcodec.specs.Readers.{whole}
+use Rattle.zcodec.specs.declared.fault.Fault.{Fault}
 use Rattle.zcalls.specs.declared.call.Call.{Call}
 use Rattle.zcalls.specs.declared.reply.Reply.{Reply}
 use Rattle.zcalls.specs.declared.reply.Reply.TheVariants.{Opened}
@@ -18,24 +18,24 @@ use Rattle.zjute.specs.Asking.{request}
 use Rattle.zjute.specs.Connecting.{connect_request}
 use Rattle.zjute.specs.declared.connecting.ConnectRequest.{ConnectRequest}
 use Rattle.zjute.specs.declared.request.Request.{Request}
-use Rattle.zasking.specs.Asking.{Meaning}
-use Rattle.zasking.specs.Requests.{calls_in}
-use Rattle.zasking.specs.Timeouts.{millis_told, ticks_asked}
-use Rattle.zasking.specs.declared.fault.Unasked.TheVariants.{Refused, Memory}
-use Rattle.zanswering.specs.Answers.{failed}
-use Rattle.zanswering.specs.Stats.{long_of}
+use Rattle.zrequests.specs.Asking.{Meaning}
+use Rattle.zrequests.specs.Requests.{calls_in}
+use Rattle.zrequests.specs.Timeouts.{millis_told, ticks_asked}
+use Rattle.zrequests.specs.declared.fault.Unasked.TheVariants.{Refused, Memory}
+use Rattle.zresponses.specs.Answers.{failed}
+use Rattle.zresponses.specs.Stats.{long_of}
 use Rattle.zpasswords.specs.Passwords.{password_of}
-use Rattle.zpieces.specs.Streams.{held_of}
-use Rattle.zpieces.specs.declared.phase.Phase.TheVariants.{Speaking}
-use Rattle.zsittings.specs.declared.sitting.Sitting.{Sitting}
-use Rattle.zsittings.specs.Sittings.{SittingsView, new_sitting, restored_sitting}
-use Rattle.zsittings.specs.Sittings as sittings
-use Rattle.zworld_model.specs.PlainTree.{serve}
-use Rattle.zlogs.proofs.Lives.{trees_can_start_again}
-use Rattle.ztables.specs.Tables.{TablesView, closed, connection_of, moved, sitting, taken_up, sent}
-use Rattle.zserving.specs.Frames.{response_frame}
-use Rattle.zserving.specs.Greeting.{came_back, given, is_ahead, session_told, turned_away}
-use Rattle.zserving.specs.Replying.{replied}
+use Rattle.zconnections.specs.buffers.Streams.{held_of}
+use Rattle.zconnections.specs.declared.buffers.phase.Phase.TheVariants.{Speaking}
+use Rattle.zconnections.specs.declared.attachments.sitting.Sitting.{Sitting}
+use Rattle.zconnections.specs.attachments.Sittings.{SittingsView, new_sitting, restored_sitting}
+use Rattle.zconnections.specs.attachments.Sittings as sittings
+use Rattle.zprotocol.specs.world.PlainTree.{serve}
+use Rattle.ztree_service.proofs.log_lemmas.Lives.{trees_can_start_again}
+use Rattle.zconnections.specs.Tables.{TablesView, closed, connection_of, moved, sitting, taken_up, sent}
+use Rattle.zresponses.specs.effects.Frames.{response_frame}
+use Rattle.zresponses.specs.effects.Greeting.{came_back, given, is_ahead, session_told, turned_away}
+use Rattle.zresponses.specs.effects.Replying.{replied}
 use Rattle.zfront.specs.Front.{FrontView, with_tables, asked}
 use Rattle.zfront.specs.Greeting.{opening, opened, with_session, returned, greeted_by, greeted}
 use Rattle.zfront.specs.Requests.{touched_by, with_answer, Acts, Requests, Serves}

@@ -2,17 +2,17 @@
 use Rattle.std.proofs.Common.{◌≡◌, ℕ, List, Result, Ok, Err, inl, inr, ap, subst, refl}
 use Rattle.std.specs.Prelude.{◌⊎◌}
 use Rattle.std.specs.List.{AllByRecursion}
-use Rattle.zforms.specs.Readers.{whole}
-use Rattle.zforms.specs.declared.fault.Fault.{Fault}
+use Rattle.zcodec.specs.Readers.{whole}
+use Rattle.zcodec.specs.declared.fault.Fault.{Fault}
 use Rattle.zcalls.specs.declared.call.Call.{Call}
 use Rattle.zjute.specs.Asking.{request}
 use Rattle.zjute.specs.declared.request.Request.{Request}
-use Rattle.zasking.specs.Asking.{Meaning}
-use Rattle.zasking.specs.Laws.{CallIsFor}
-use Rattle.zasking.specs.Requests.{calls_in}
-use Rattle.zasking.specs.declared.fault.Unasked.TheVariants.{Refused, Memory}
-use Rattle.zasking.proofs.SessionCalls.{calls_are_for_their_session}
-use Rattle.ztables.specs.Tables.{closed}
+use Rattle.zrequests.specs.Asking.{Meaning}
+use Rattle.zrequests.specs.Laws.{CallIsFor}
+use Rattle.zrequests.specs.Requests.{calls_in}
+use Rattle.zrequests.specs.declared.fault.Unasked.TheVariants.{Refused, Memory}
+use Rattle.zrequests.proofs.SessionCalls.{calls_are_for_their_session}
+use Rattle.zconnections.specs.Tables.{closed}
 use Rattle.zfront.specs.Front.{FrontView, with_tables}
 use Rattle.zfront.specs.Requests.{touched_by, Makes, Acts, Requests}
 use Rattle.zfront_laws.specs.Laws.{NoRequestMakesNoCall, RequestsAreForTheirSession}

@@ -8,11 +8,11 @@ use Rattle.zcalls.specs.declared.call.Call.{Call}
 use Rattle.zcalls.specs.declared.call.Call.TheVariants as call
 use Rattle.zcalls.specs.declared.call.Update.{Update}
 use Rattle.zcalls.specs.declared.reply.Reply.{Reply}
-use Rattle.zpieces.specs.Streams.{held_of}
-use Rattle.zworld_model.specs.FromTree.{CanStart}
-use Rattle.zlogs.specs.Logs.{Log, Leads, calls_of}
-use Rattle.zlogs.proofs.Lives.{leads_more, leads_nowhere}
-use Rattle.ztables.specs.Tables.{TablesView}
+use Rattle.zconnections.specs.buffers.Streams.{held_of}
+use Rattle.zprotocol.specs.world.FromTree.{CanStart}
+use Rattle.ztree_service.specs.log.Logs.{Log, Leads, calls_of}
+use Rattle.ztree_service.proofs.log_lemmas.Lives.{leads_more, leads_nowhere}
+use Rattle.zconnections.specs.Tables.{TablesView}
 use Rattle.zfront.specs.declared.limits.TheConstants.{MAX_KEPT}
 use Rattle.zfront.specs.Front.{FrontView, with_tables, updates_among}
 use Rattle.zfront.specs.Restoring.{all_taken}

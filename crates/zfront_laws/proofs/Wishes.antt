@@ -15,21 +15,21 @@ use Rattle.zjute.specs.declared.request.Asked.{Asked}
 use Rattle.zjute.specs.declared.request.Asked.TheVariants as asked
 use Rattle.zjute.specs.declared.request.Look.{Look}
 use Rattle.zjute.specs.declared.request.Request.{Request}
-use Rattle.zanswering.specs.declared.clock.Clock.{Clock}
-use Rattle.zanswering.specs.declared.clock.Now.{Now}
+use Rattle.zresponses.specs.declared.clock.Clock.{Clock}
+use Rattle.zresponses.specs.declared.clock.Now.{Now}
 use Rattle.zjute.specs.declared.request.SetWatches.{SetWatches}
-use Rattle.zevents.specs.declared.event.Event.{Event}
-use Rattle.zevents.specs.Events.{event}
-use Rattle.zanswering.specs.Stats.{long_of}
+use Rattle.zwatches.specs.declared.changes.event.Event.{Event}
+use Rattle.zwatches.specs.changes.Events.{event}
+use Rattle.zresponses.specs.Stats.{long_of}
 use Rattle.zwatches.specs.declared.kind.Kind.{Kind}
 use Rattle.zwatches.specs.declared.kind.Kind.TheVariants.{Data, Missing, Children}
 use Rattle.zwatches.specs.Watches.{is_full, watch}
-use Rattle.ztables.specs.Tables.{TablesView, sent}
-use Rattle.ztables.specs.Telling.{event_frame}
-use Rattle.zserving.specs.Answering.{answered, answer_unless}
-use Rattle.zserving.specs.Replying.{absorbed_all, replied}
-use Rattle.zserving.specs.Watching.{waiting, granted, granted_all, some_lacked}
-use Rattle.zserving.specs.Wishes.{query_wish, first_wish, look_wish, wish_again, call_again, wishes_again, all_again, wishes}
+use Rattle.zconnections.specs.Tables.{TablesView, sent}
+use Rattle.zconnections.specs.Telling.{event_frame}
+use Rattle.zresponses.specs.effects.Answering.{answered, answer_unless}
+use Rattle.zresponses.specs.effects.Replying.{absorbed_all, replied}
+use Rattle.zresponses.specs.effects.Watching.{waiting, granted, granted_all, some_lacked}
+use Rattle.zresponses.specs.effects.Wishes.{query_wish, first_wish, look_wish, wish_again, call_again, wishes_again, all_again, wishes}
 use Rattle.zfront_laws.proofs.Changes.{Carries, absorbs_all, replies_to, sends}
 use Rattle.std.specs.FinSet.{insert}
 

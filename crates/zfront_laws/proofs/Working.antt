@@ -1,21 +1,21 @@
 -- What single changes of the tables carry is carried by all that becomes of requests and of ticks.
 use Rattle.std.proofs.Common.{◌≡◌, ℕ, Bool, true, false, List, Result, Ok, Err, sym, subst}
 use Rattle.std.specs.List.{list_any}
-use Rattle.zforms.specs.Readers.{whole}
-use Rattle.zforms.specs.declared.fault.Fault.{Fault}
+use Rattle.zcodec.specs.Readers.{whole}
+use Rattle.zcodec.specs.declared.fault.Fault.{Fault}
 use Rattle.zcalls.specs.declared.call.Call.{Call}
 use Rattle.zcalls.specs.declared.reply.Reply.{Reply}
 use Rattle.zjute.specs.Asking.{request}
 use Rattle.zjute.specs.declared.request.Request.{Request}
-use Rattle.zasking.specs.Asking.{Meaning}
-use Rattle.zasking.specs.Requests.{calls_in}
-use Rattle.zasking.specs.declared.fault.Unasked.TheVariants.{Refused, Memory}
-use Rattle.zanswering.specs.Answers.{failed}
-use Rattle.zsittings.specs.Sittings.{touched_ids}
-use Rattle.ztables.specs.Tables.{TablesView, closed}
-use Rattle.zserving.specs.Answering.{now_of}
-use Rattle.zserving.specs.Looking.{seen}
-use Rattle.zserving.specs.Replying.{replied}
+use Rattle.zrequests.specs.Asking.{Meaning}
+use Rattle.zrequests.specs.Requests.{calls_in}
+use Rattle.zrequests.specs.declared.fault.Unasked.TheVariants.{Refused, Memory}
+use Rattle.zresponses.specs.Answers.{failed}
+use Rattle.zconnections.specs.attachments.Sittings.{touched_ids}
+use Rattle.zconnections.specs.Tables.{TablesView, closed}
+use Rattle.zresponses.specs.effects.Answering.{now_of}
+use Rattle.zresponses.specs.effects.Looking.{seen}
+use Rattle.zresponses.specs.effects.Replying.{replied}
 use Rattle.zfront.specs.Front.{FrontView, with_tables, asked, replies_to, gone_from, swept, may_end, took_unnamed, looks, looked, LooksIf}
 use Rattle.zfront.specs.Front.{TidiesIf, Tidies}
 use Rattle.zfront.specs.Requests.{touched_by, with_answer, Acts, Requests, Serves}

@@ -7,18 +7,18 @@ use Rattle.std.specs.List.{AllByRecursion}
 use Rattle.std.specs.Option.{option_map}
 use Rattle.ztree.specs.Tree.{Tree}
 use Rattle.zcalls.specs.declared.reply.Reply.TheVariants as reply
-use Rattle.zforms.specs.Readers.{whole}
+use Rattle.zcodec.specs.Readers.{whole}
 use Rattle.zjute.specs.Connecting.{connect_request}
 use Rattle.zjute.specs.Frames.{Whole, next_of}
 use Rattle.zjute.specs.declared.connecting.ConnectRequest.{ConnectRequest}
-use Rattle.zanswering.specs.declared.clock.Clock.{Clock}
+use Rattle.zresponses.specs.declared.clock.Clock.{Clock}
 use Rattle.zpasswords.specs.Passwords.{password_of}
-use Rattle.zpieces.specs.Inputs.InputView.{Opened, Came, Ended, Tick}
-use Rattle.zpieces.specs.declared.phase.Phase.TheVariants.{Silent, Speaking}
-use Rattle.zpieces.specs.Streams.{phase_of}
-use Rattle.zworld_model.specs.FromTree.{CanStart}
-use Rattle.zworld_model.specs.PlainTree.{serve}
-use Rattle.zserving.specs.Greeting.{given}
+use Rattle.zconnections.specs.buffers.Inputs.InputView.{Opened, Came, Ended, Tick}
+use Rattle.zconnections.specs.declared.buffers.phase.Phase.TheVariants.{Silent, Speaking}
+use Rattle.zconnections.specs.buffers.Streams.{phase_of}
+use Rattle.zprotocol.specs.world.FromTree.{CanStart}
+use Rattle.zprotocol.specs.world.PlainTree.{serve}
+use Rattle.zresponses.specs.effects.Greeting.{given}
 use Rattle.zfront.specs.Front.{FrontView}
 use Rattle.zfront.specs.Greeting.{opening}
 use Rattle.zfront.specs.Reading.{Comes, HandlesAll, emptied}

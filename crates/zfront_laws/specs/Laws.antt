@@ -1,16 +1,16 @@
 -- Laws of every front end for ZooKeeper's clients. The functions of `src/laws.rt` promise them.
 use Rattle.std.specs.Prelude.{◌≡◌, ◌⊎◌, ℕ, Bool, List, ◌++◌, Ok, Err}
 use Rattle.std.specs.List.{AllByRecursion}
-use Rattle.zforms.specs.Readers.{whole}
-use Rattle.zforms.specs.declared.fault.Fault.{Fault}
+use Rattle.zcodec.specs.Readers.{whole}
+use Rattle.zcodec.specs.declared.fault.Fault.{Fault}
 use Rattle.ztree.specs.Tree.{Tree}
 use Rattle.zcalls.specs.declared.call.Call.{Call}
 use Rattle.zjute.specs.Asking.{request}
 use Rattle.zjute.specs.declared.request.Request.{Request}
-use Rattle.zasking.specs.Laws.{CallIsFor}
-use Rattle.zanswering.specs.declared.clock.Clock.{Clock}
-use Rattle.zlogs.specs.Logs.{Log, Leads, Leaves}
-use Rattle.ztables.specs.Tables.{closed}
+use Rattle.zrequests.specs.Laws.{CallIsFor}
+use Rattle.zresponses.specs.declared.clock.Clock.{Clock}
+use Rattle.ztree_service.specs.log.Logs.{Log, Leads, Leaves}
+use Rattle.zconnections.specs.Tables.{closed}
 use Rattle.zfront.specs.Front.{FrontView, with_tables}
 use Rattle.zfront.specs.Restoring.{beginning}
 use Rattle.zfront.specs.Requests.{Serves, Makes, touched_by}

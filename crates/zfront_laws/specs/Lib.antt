@@ -1,3 +1,5 @@
+pub mod frames
+pub mod watches
 pub mod Runs
 pub mod Logs
 pub mod Laws

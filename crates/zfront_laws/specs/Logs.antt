@@ -2,24 +2,24 @@
 -- with its reply. It is one log for all connections.
 use Rattle.std.specs.Prelude.{ℕ, pos, Bool, true, false, List, [], ◌∷◌, ◌++◌, zip, Option, None, Some, Result, Ok, Err, if◌then◌else◌}
 use Rattle.std.specs.Ordering.{int_eq}
-use Rattle.zforms.specs.Readers.{whole}
-use Rattle.zforms.specs.declared.fault.Fault.{Fault}
+use Rattle.zcodec.specs.Readers.{whole}
+use Rattle.zcodec.specs.declared.fault.Fault.{Fault}
 use Rattle.zcalls.specs.declared.call.Call.{Call}
 use Rattle.zjute.specs.Asking.{request}
 use Rattle.zjute.specs.Connecting.{connect_request}
 use Rattle.zjute.specs.declared.connecting.ConnectRequest.{ConnectRequest}
 use Rattle.zjute.specs.declared.request.Request.{Request}
-use Rattle.zasking.specs.Asking.{Meaning}
-use Rattle.zasking.specs.Requests.{calls_in}
-use Rattle.zpieces.specs.Inputs.{InputView}
-use Rattle.zpieces.specs.Inputs.InputView.{Opened, Came, Ended, Tick}
-use Rattle.zpieces.specs.Streams.{bytes_of, phase_of}
-use Rattle.zpieces.specs.declared.phase.Phase.{Phase}
-use Rattle.zpieces.specs.declared.phase.Phase.TheVariants.{Silent, Speaking, Closing}
-use Rattle.zlogs.specs.Logs.{Log}
-use Rattle.zsittings.specs.Sittings.{touched_ids}
-use Rattle.ztables.specs.Tables.{is_open}
-use Rattle.zserving.specs.Greeting.{is_ahead}
+use Rattle.zrequests.specs.Asking.{Meaning}
+use Rattle.zrequests.specs.Requests.{calls_in}
+use Rattle.zconnections.specs.buffers.Inputs.{InputView}
+use Rattle.zconnections.specs.buffers.Inputs.InputView.{Opened, Came, Ended, Tick}
+use Rattle.zconnections.specs.buffers.Streams.{bytes_of, phase_of}
+use Rattle.zconnections.specs.declared.buffers.phase.Phase.{Phase}
+use Rattle.zconnections.specs.declared.buffers.phase.Phase.TheVariants.{Silent, Speaking, Closing}
+use Rattle.ztree_service.specs.log.Logs.{Log}
+use Rattle.zconnections.specs.attachments.Sittings.{touched_ids}
+use Rattle.zconnections.specs.Tables.{is_open}
+use Rattle.zresponses.specs.effects.Greeting.{is_ahead}
 use Rattle.zfront.specs.Front.{FrontView, replies_to}
 use Rattle.zfront.specs.Greeting.{opening}
 use Rattle.zfront.specs.Inputs as inputs

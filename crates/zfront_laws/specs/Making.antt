@@ -3,9 +3,9 @@ use Rattle.std.specs.Prelude.{◌≡◌, ℕ, Bool, true, List, [], ◌∷◌, �
 use Rattle.std.specs.FinMap.{contains_key, get}
 use Rattle.ztree.specs.Tree.{Tree}
 use Rattle.zcalls.specs.declared.call.Update.{Update}
-use Rattle.zanswering.specs.declared.clock.Clock.{Clock}
-use Rattle.zsittings.specs.declared.sitting.Sitting.{Sitting}
-use Rattle.zlogs.specs.Logs.{Log, calls_of}
+use Rattle.zresponses.specs.declared.clock.Clock.{Clock}
+use Rattle.zconnections.specs.declared.attachments.sitting.Sitting.{Sitting}
+use Rattle.ztree_service.specs.log.Logs.{Log, calls_of}
 use Rattle.zfront.specs.Front.{FrontView, updates_among}
 use Rattle.zfront.specs.Restoring.{beginning}
 use Rattle.zfront_laws.specs.Runs.{Step, Took, Does, KeepsFew, Runs}

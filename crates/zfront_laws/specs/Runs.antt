@@ -1,7 +1,7 @@
 -- Steps of a front end for ZooKeeper's clients, in order.
 use Rattle.std.specs.Prelude.{◌≡◌, ◌≤◌, List, [], ◌∷◌}
-use Rattle.zpieces.specs.Inputs.{InputView}
-use Rattle.zpieces.specs.Streams.{held_of}
+use Rattle.zconnections.specs.buffers.Inputs.{InputView}
+use Rattle.zconnections.specs.buffers.Streams.{held_of}
 use Rattle.zfront.specs.declared.limits.TheConstants.{MAX_KEPT}
 use Rattle.zfront.specs.Front.{FrontView}
 use Rattle.zfront.specs.Inputs as inputs

@@ -3,14 +3,14 @@
 -- Sessions".
 use Rattle.std.specs.Prelude.{◌≡◌, ℕ, Bool, List, None, Some}
 use Rattle.ztree.specs.Tree.{Tree}
-use Rattle.zevents.specs.declared.event.Event.{Event}
-use Rattle.zanswering.specs.declared.clock.Clock.{Clock}
-use Rattle.zpieces.specs.declared.phase.Phase.TheVariants.{Speaking}
-use Rattle.zpieces.specs.Streams.{phase_of}
-use Rattle.zworld_model.specs.FromTree.{CanStart}
-use Rattle.ztables.specs.Tables.{TablesView, connection_of, closed, ended, sent, sitting, taken_up}
-use Rattle.ztables.specs.Sweeping.{swept_all}
-use Rattle.ztables.specs.Telling.{told_all}
+use Rattle.zwatches.specs.declared.changes.event.Event.{Event}
+use Rattle.zresponses.specs.declared.clock.Clock.{Clock}
+use Rattle.zconnections.specs.declared.buffers.phase.Phase.TheVariants.{Speaking}
+use Rattle.zconnections.specs.buffers.Streams.{phase_of}
+use Rattle.zprotocol.specs.world.FromTree.{CanStart}
+use Rattle.zconnections.specs.Tables.{TablesView, connection_of, closed, ended, sent, sitting, taken_up}
+use Rattle.zconnections.specs.Sweeping.{swept_all}
+use Rattle.zconnections.specs.Telling.{told_all}
 use Rattle.zfront.specs.Front.{FrontView}
 use Rattle.zfront.specs.Restoring.{beginning}
 use Rattle.zfront_laws.specs.Runs.{Step, Runs}

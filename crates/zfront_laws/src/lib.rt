@@ -5,5 +5,7 @@
 //! (`specs/Laws.antt`). Each law is the contract of a function whose body does nothing.
 #![tactic(auto)]
 
+pub mod frames;
 pub mod laws;
 mod rows;
+pub mod watches;

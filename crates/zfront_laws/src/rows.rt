@@ -2,7 +2,7 @@
 
 ghost use Rattle.std.specs.Prelude.{◌≡◌, ℕ, pos, true, false, List, [], ◌∷◌, ◌++◌, None, Some};
 ghost use Rattle.std.specs.Prelude.{Ok, Err};
-ghost use Rattle.zforms.specs.declared.fault.Fault.{Fault};
+ghost use Rattle.zcodec.specs.declared.fault.Fault.{Fault};
 ghost use Rattle.zcalls.specs.declared.call.Call.{Call};
 ghost use Rattle.zcalls.specs.declared.call.Call.TheVariants.{Query, Update};
 ghost use Rattle.zcalls.specs.declared.call.Query.{Query as Asked};
@@ -11,12 +11,12 @@ ghost use Rattle.zcalls.specs.declared.call.Update.TheVariants as act;
 ghost use Rattle.zcalls.specs.declared.reply.Reply.{Reply};
 ghost use Rattle.zjute.specs.declared.connecting.ConnectRequest.{ConnectRequest};
 ghost use Rattle.zpasswords.specs.Passwords.{password_of};
-ghost use Rattle.zpieces.specs.declared.phase.Phase.TheVariants.{Closing, Speaking};
-ghost use Rattle.zpieces.specs.Inputs.InputView.{Opened, Came, Ended, Tick};
-ghost use Rattle.zpieces.specs.Streams.{phase_of};
-ghost use Rattle.zworld_model.specs.PlainTree.{serve};
-ghost use Rattle.zserving.specs.Greeting.{given, is_ahead};
-ghost use Rattle.ztables.specs.Tables.{TablesView, connection_of};
+ghost use Rattle.zconnections.specs.declared.buffers.phase.Phase.TheVariants.{Closing, Speaking};
+ghost use Rattle.zconnections.specs.buffers.Inputs.InputView.{Opened, Came, Ended, Tick};
+ghost use Rattle.zconnections.specs.buffers.Streams.{phase_of};
+ghost use Rattle.zprotocol.specs.world.PlainTree.{serve};
+ghost use Rattle.zresponses.specs.effects.Greeting.{given, is_ahead};
+ghost use Rattle.zconnections.specs.Tables.{TablesView, connection_of};
 ghost use Rattle.zfront.specs.Front.{FrontView};
 ghost use Rattle.zfront.specs.Greeting.{opening};
 ghost use Rattle.zfront.specs.Restoring.{all_taken};

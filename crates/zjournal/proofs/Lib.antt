@@ -1,3 +1,4 @@
+pub mod file_lemmas
 mod Blocks
 mod Files
 mod Heads

@@ -1,3 +1,4 @@
+pub mod file
 pub mod Blocks
 pub mod Checksum
 pub mod Device

@@ -1,13 +1,13 @@
 -- What all bytes of a frame are read as is spelled so, and what fits is read again.
 use Rattle.std.proofs.Common.{◌≡◌, ℕ, ℤ, List, ◌++◌, Option, Some, None, Result, Ok, Err, refl, sym, ap, subst, ◌∙◌}
 use Rattle.std.specs.Prelude.{IfOk, unwrap_or}
-use Rattle.zforms.specs.declared.fault.ReadError.{ReadError}
-use Rattle.zforms.specs.Forms.{both, empty}
-use Rattle.zforms.specs.Laws.{IsBytes, IsForm}
-use Rattle.zforms.specs.Readers.{Gives, whole}
-use Rattle.zforms.proofs.Bytes.{done, ok_is}
-use Rattle.zforms.proofs.Numbers.{is_empty}
-use Rattle.zforms.proofs.Parts.{is_made}
+use Rattle.zcodec.specs.declared.fault.ReadError.{ReadError}
+use Rattle.zcodec.specs.Forms.{both, empty}
+use Rattle.zcodec.specs.Laws.{IsBytes, IsForm}
+use Rattle.zcodec.specs.Readers.{Gives, whole}
+use Rattle.zcodec.proofs.Bytes.{done, ok_is}
+use Rattle.zcodec.proofs.Numbers.{is_empty}
+use Rattle.zcodec.proofs.Parts.{is_made}
 use Rattle.zjute.specs.declared.op.Op.{Op}
 use Rattle.zjute.specs.declared.op.Op.TheVariants as op
 use Rattle.zjute.specs.declared.request.Asked.{Asked}

@@ -3,13 +3,13 @@ use Rattle.std.proofs.Common.{◌≡◌, ℕ, ◌≤◌, List, [], ◌∷◌, �
 use Rattle.std.specs.Prelude.{nat_lt}
 use Rattle.std.proofs.lemmas.Bool.{ltb-false, le-ltb}
 use Rattle.std.proofs.lemmas.List.{append-nil}
-use Rattle.zforms.specs.declared.fault.Fault.{Fault}
-use Rattle.zforms.specs.declared.fault.Fault.TheVariants.{Long}
-use Rattle.zforms.specs.Forms.{◌>>=◌, Form, both}
-use Rattle.zforms.specs.Laws.{IsBytes, IsForm}
-use Rattle.zforms.specs.Readers.{ended, whole}
-use Rattle.zforms.proofs.Bytes.{bytes_after, bind_ok, guard_ok, done, ok_is}
-use Rattle.zforms.proofs.Parts.{then_parts}
+use Rattle.zcodec.specs.declared.fault.Fault.{Fault}
+use Rattle.zcodec.specs.declared.fault.Fault.TheVariants.{Long}
+use Rattle.zcodec.specs.Forms.{◌>>=◌, Form, both}
+use Rattle.zcodec.specs.Laws.{IsBytes, IsForm}
+use Rattle.zcodec.specs.Readers.{ended, whole}
+use Rattle.zcodec.proofs.Bytes.{bytes_after, bind_ok, guard_ok, done, ok_is}
+use Rattle.zcodec.proofs.Parts.{then_parts}
 use Rattle.zjute.specs.declared.limits.TheConstants.{MAX_FRAME}
 use Rattle.zjute.specs.Jute.{left}
 use Rattle.zjute.specs.Shapes.{fields}

@@ -1,13 +1,13 @@
 -- What all bytes of the first frame are read as is spelled so, and what fits is read again.
 use Rattle.std.proofs.Common.{◌≡◌, ℕ, Bool, true, false, List, [], ◌∷◌, ◌++◌, Option, Some, None, Result, Ok, Err, refl, sym, ap, subst, ◌∙◌}
 use Rattle.std.specs.Prelude.{IfOk}
-use Rattle.zforms.specs.declared.fault.ReadError.{ReadError}
-use Rattle.zforms.specs.Forms.{number_at}
-use Rattle.zforms.specs.Choices.{flag}
-use Rattle.zforms.specs.Laws.{IsBytes}
-use Rattle.zforms.specs.Readers.{Gives, whole}
-use Rattle.zforms.proofs.Bytes.{bind_ok, done, ok_is}
-use Rattle.zforms.proofs.Choices.{is_flag}
+use Rattle.zcodec.specs.declared.fault.ReadError.{ReadError}
+use Rattle.zcodec.specs.Forms.{number_at}
+use Rattle.zcodec.specs.Choices.{flag}
+use Rattle.zcodec.specs.Laws.{IsBytes}
+use Rattle.zcodec.specs.Readers.{Gives, whole}
+use Rattle.zcodec.proofs.Bytes.{bind_ok, done, ok_is}
+use Rattle.zcodec.proofs.Choices.{is_flag}
 use Rattle.zjute.specs.declared.connecting.ConnectRequest.{ConnectRequest}
 use Rattle.zjute.specs.Jute.{int, long, buffer}
 use Rattle.zjute.specs.Connecting.{flag_if_any, flag_or_end, last_flag, connect_request}

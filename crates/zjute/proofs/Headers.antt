@@ -4,14 +4,14 @@ use Rattle.std.specs.Int.{w32}
 use Rattle.std.specs.Ordering.{int_eq}
 use Rattle.std.proofs.Math.Facts.{sfits_lit}
 use Rattle.std.proofs.lemmas.Bool.Decides.{Decides-int_eq}
-use Rattle.zforms.specs.declared.fault.Fault.{Fault}
-use Rattle.zforms.specs.declared.fault.Fault.TheVariants.{Invalid}
-use Rattle.zforms.specs.Forms.{◌>>=◌, both}
-use Rattle.zforms.specs.Choices.{flag}
-use Rattle.zforms.specs.Laws.{IsBytes, IsForm}
-use Rattle.zforms.proofs.Bytes.{bind_ok, done, ok_is}
-use Rattle.zforms.proofs.Parts.{is_both, is_made}
-use Rattle.zforms.proofs.Choices.{is_flag}
+use Rattle.zcodec.specs.declared.fault.Fault.{Fault}
+use Rattle.zcodec.specs.declared.fault.Fault.TheVariants.{Invalid}
+use Rattle.zcodec.specs.Forms.{◌>>=◌, both}
+use Rattle.zcodec.specs.Choices.{flag}
+use Rattle.zcodec.specs.Laws.{IsBytes, IsForm}
+use Rattle.zcodec.proofs.Bytes.{bind_ok, done, ok_is}
+use Rattle.zcodec.proofs.Parts.{is_both, is_made}
+use Rattle.zcodec.proofs.Choices.{is_flag}
 use Rattle.zjute.specs.declared.part.Part.{Part}
 use Rattle.zjute.specs.declared.part.Part.TheVariants as part
 use Rattle.zjute.specs.declared.part.LookPart.{LookPart}

@@ -1,13 +1,13 @@
 -- Values read up to an end, as a loop does.
 use Rattle.std.proofs.Common.{◌≡◌, ℕ, suc, ◌-◌, ◌+◌, ◌≤◌, ◌<◌, List, [], ◌∷◌, ◌++◌, Option, Some, None, Result, Ok, Err, refl, sym, ap, ◌∙◌, append_assoc, arith}
 use Rattle.std.proofs.lemmas.List.{append-nil}
-use Rattle.zforms.specs.declared.fault.Fault.{Fault}
-use Rattle.zforms.specs.declared.fault.Fault.TheVariants.{Short}
-use Rattle.zforms.specs.declared.fault.ReadError.{ReadError}
-use Rattle.zforms.specs.declared.fault.ReadError.TheVariants as errors
-use Rattle.zforms.specs.Forms.{◌>>=◌, Form}
-use Rattle.zforms.specs.Readers.{Fails}
-use Rattle.zforms.proofs.Loops.{with_front}
+use Rattle.zcodec.specs.declared.fault.Fault.{Fault}
+use Rattle.zcodec.specs.declared.fault.Fault.TheVariants.{Short}
+use Rattle.zcodec.specs.declared.fault.ReadError.{ReadError}
+use Rattle.zcodec.specs.declared.fault.ReadError.TheVariants as errors
+use Rattle.zcodec.specs.Forms.{◌>>=◌, Form}
+use Rattle.zcodec.specs.Readers.{Fails}
+use Rattle.zcodec.proofs.Loops.{with_front}
 use Rattle.zjute.specs.Shapes.{read_until}
 
 regroup : {A : Type 0} (front : List A) (x : A) (read : Result (List A × List ℕ) Fault) → with_front front (read >>= λ xs. Ok (x ∷ xs.0, xs.1)) ≡ with_front (front ++ x ∷ []) read

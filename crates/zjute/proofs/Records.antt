@@ -1,11 +1,11 @@
 -- The records of requests, and the stat, are forms.
 use Rattle.std.proofs.Common.{refl, arith}
-use Rattle.zforms.specs.Choices.{flag}
-use Rattle.zforms.specs.Forms.{both}
-use Rattle.zforms.specs.Laws.{IsForm}
-use Rattle.zforms.proofs.Parts.{is_both, is_record}
-use Rattle.zforms.proofs.Choices.{is_flag, is_sized, is_listed}
-use Rattle.zforms.proofs.Choices as forms
+use Rattle.zcodec.specs.Choices.{flag}
+use Rattle.zcodec.specs.Forms.{both}
+use Rattle.zcodec.specs.Laws.{IsForm}
+use Rattle.zcodec.proofs.Parts.{is_both, is_record}
+use Rattle.zcodec.proofs.Choices.{is_flag, is_sized, is_listed}
+use Rattle.zcodec.proofs.Choices as forms
 use Rattle.zjute.specs.declared.limits.TheConstants.{MAX_FRAME}
 use Rattle.zjute.specs.Jute.{int, long, buffer, text, texts}
 use Rattle.zjute.specs.Requests.{acl, acls, create, create_ttl, at_version, look, set_data, set_acl, watches_at, add_watch, auth, set_watches, set_watches_2}

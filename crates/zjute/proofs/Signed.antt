@@ -4,11 +4,11 @@ use Rattle.std.specs.Int.{Width, w32, w64, byte_len, cast_unsigned, cast_signed}
 use Rattle.std.specs.Int.RustNames.{FitsSigned}
 use Rattle.std.proofs.Math.Facts.{sfits_to_z, of_z-to_z, Fits-of_lt, Fits-of_z}
 use Rattle.std.proofs.lemmas.Int.{to_z-of_z}
-use Rattle.zforms.specs.Forms.{number}
-use Rattle.zforms.specs.Laws.{IsForm}
-use Rattle.zforms.proofs.Bytes.{done, ok_is}
-use Rattle.zforms.proofs.Numbers.{is_u32, is_u64}
-use Rattle.zforms.proofs.Parts.{is_made}
+use Rattle.zcodec.specs.Forms.{number}
+use Rattle.zcodec.specs.Laws.{IsForm}
+use Rattle.zcodec.proofs.Bytes.{done, ok_is}
+use Rattle.zcodec.proofs.Numbers.{is_u32, is_u64}
+use Rattle.zcodec.proofs.Parts.{is_made}
 use Rattle.zjute.specs.Jute.{signed, int, long}
 
 is_signed : (w : Width) → IsForm (number w) → ((n : ℕ) → n < 256 ^ byte_len w → Fits w n) → ((z : ℤ) → FitsSigned w z → cast_unsigned w z < 256 ^ byte_len w)

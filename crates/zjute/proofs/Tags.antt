@@ -3,11 +3,11 @@ use Rattle.std.proofs.Common.{◌≡◌, ℕ, zero, suc, ◌<◌, ◌≤◌, Lis
 use Rattle.std.specs.List.{AllByRecursion, flat_map}
 use Rattle.std.proofs.lemmas.List.{length-append}
 use Rattle.std.proofs.lemmas.List.Concat.{flat_map-cons}
-use Rattle.zforms.specs.declared.fault.Fault.{Fault}
-use Rattle.zforms.specs.Forms.{◌>>=◌, Form}
-use Rattle.zforms.specs.Laws.{IsBytes, IsForm}
-use Rattle.zforms.proofs.Bytes.{bytes_after, bind_ok, done, ok_is}
-use Rattle.zforms.proofs.Parts.{then_parts}
+use Rattle.zcodec.specs.declared.fault.Fault.{Fault}
+use Rattle.zcodec.specs.Forms.{◌>>=◌, Form}
+use Rattle.zcodec.specs.Laws.{IsBytes, IsForm}
+use Rattle.zcodec.proofs.Bytes.{bytes_after, bind_ok, done, ok_is}
+use Rattle.zcodec.proofs.Parts.{then_parts}
 use Rattle.zjute.specs.Shapes.{Spelled, read_as, by_tag, and_others, read_until, until_end}
 use Rattle.zjute.proofs.Before.{IsFormBefore}
 

@@ -1,8 +1,8 @@
 -- A request: the number by which its client matches the reply, its kind, and the record of that
 -- kind (`RequestHeader` of zookeeper.jute, and the record after it).
 use Rattle.std.specs.Prelude.{◌≡◌, ℤ, pos, ℕ, List, [], ◌∷◌, Result, Ok, unwrap_or}
-use Rattle.zforms.specs.declared.fault.Fault.{Fault}
-use Rattle.zforms.specs.Forms.{Form, both, made, empty}
+use Rattle.zcodec.specs.declared.fault.Fault.{Fault}
+use Rattle.zcodec.specs.Forms.{Form, both, made, empty}
 use Rattle.zjute.specs.declared.op.Op.{Op}
 use Rattle.zjute.specs.declared.op.Op.TheVariants as op
 use Rattle.zjute.specs.declared.request.Asked.{Asked}

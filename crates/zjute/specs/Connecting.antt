@@ -1,9 +1,9 @@
 -- The first frame of a connection, and the response. The last byte of each may be missing: clients
 -- before 3.4 don't have it.
 use Rattle.std.specs.Prelude.{ℕ, List, [], ◌∷◌, Bool, Option, Some, None, Result, Ok}
-use Rattle.zforms.specs.declared.fault.Fault.{Fault}
-use Rattle.zforms.specs.Forms.{Form, both, ◌>>=◌}
-use Rattle.zforms.specs.Choices.{flag}
+use Rattle.zcodec.specs.declared.fault.Fault.{Fault}
+use Rattle.zcodec.specs.Forms.{Form, both, ◌>>=◌}
+use Rattle.zcodec.specs.Choices.{flag}
 use Rattle.zjute.specs.declared.connecting.ConnectRequest.{ConnectRequest}
 use Rattle.zjute.specs.declared.connecting.ConnectResponse.{ConnectResponse}
 use Rattle.zjute.specs.Jute.{int, long, buffer, text}

@@ -3,10 +3,10 @@ use Rattle.std.specs.Prelude.{ℤ, pos, ℕ, ◌≤◌, List, [], length, Option
 use lib.IntN.{neg_ℤ}
 use Rattle.std.specs.Int.{Width, w32, w64, cast_unsigned, cast_signed}
 use Rattle.std.specs.Int.RustNames.{FitsSigned}
-use Rattle.zforms.specs.declared.fault.Fault.TheVariants.{Long}
-use Rattle.zforms.specs.Forms.{Form, number, made}
-use Rattle.zforms.specs.Choices.{sized, listed}
-use Rattle.zforms.specs.Choices as forms
+use Rattle.zcodec.specs.declared.fault.Fault.TheVariants.{Long}
+use Rattle.zcodec.specs.Forms.{Form, number, made}
+use Rattle.zcodec.specs.Choices.{sized, listed}
+use Rattle.zcodec.specs.Choices as forms
 use Rattle.zjute.specs.declared.limits.TheConstants.{MAX_FRAME}
 
 -- a number below 0, without its sign: `neg 101` is -101

@@ -2,10 +2,10 @@
 -- header ends them (`MultiTransactionRecord`).
 use Rattle.std.specs.Prelude.{◌≡◌, ℤ, pos, ℕ, List, [], ◌∷◌, Bool, true, false, Option, Some, None, Result, Ok, Err, if◌then◌else◌}
 use Rattle.std.specs.Ordering.{int_eq}
-use Rattle.zforms.specs.declared.fault.Fault.{Fault}
-use Rattle.zforms.specs.declared.fault.Fault.TheVariants.{Invalid}
-use Rattle.zforms.specs.Forms.{Form, both, made, ◌>>=◌}
-use Rattle.zforms.specs.Choices.{flag}
+use Rattle.zcodec.specs.declared.fault.Fault.{Fault}
+use Rattle.zcodec.specs.declared.fault.Fault.TheVariants.{Invalid}
+use Rattle.zcodec.specs.Forms.{Form, both, made, ◌>>=◌}
+use Rattle.zcodec.specs.Choices.{flag}
 use Rattle.zjute.specs.declared.part.Part.{Part}
 use Rattle.zjute.specs.declared.part.Part.TheVariants as part
 use Rattle.zjute.specs.declared.part.LookPart.{LookPart}

@@ -1,7 +1,7 @@
 -- The records of requests: each encodes the fields of its zookeeper.jute record in order.
 use Rattle.std.specs.Prelude.{List}
-use Rattle.zforms.specs.Forms.{Form, both}
-use Rattle.zforms.specs.Choices.{listed, flag}
+use Rattle.zcodec.specs.Forms.{Form, both}
+use Rattle.zcodec.specs.Choices.{listed, flag}
 use Rattle.zjute.specs.declared.limits.TheConstants.{MAX_FRAME}
 use Rattle.zjute.specs.declared.acl.Acl.{Acl}
 use Rattle.zjute.specs.declared.request.Create.{Create}

@@ -2,9 +2,9 @@
 use Rattle.std.specs.Prelude.{ℤ, ℕ, zero, suc, List, [], ◌∷◌, ◌++◌, length, Option, Some, None, Result, Ok, Err, if◌then◌else◌}
 use Rattle.std.specs.Ordering.{int_eq}
 use Rattle.std.specs.List.{flat_map, AllByRecursion}
-use Rattle.zforms.specs.declared.fault.Fault.{Fault}
-use Rattle.zforms.specs.declared.fault.Fault.TheVariants.{Short, Invalid}
-use Rattle.zforms.specs.Forms.{Form, made, ◌>>=◌}
+use Rattle.zcodec.specs.declared.fault.Fault.{Fault}
+use Rattle.zcodec.specs.declared.fault.Fault.TheVariants.{Short, Invalid}
+use Rattle.zcodec.specs.Forms.{Form, made, ◌>>=◌}
 
 -- a record, as its fields in order
 abbrev pub fields : {A B : Type 0} → Form A → (B → A) → (A → B) → Form B

@@ -1,6 +1,6 @@
 -- The stat of a node (`Stat` of zookeeper.jute).
 use Rattle.std.specs.Prelude.{ℤ}
-use Rattle.zforms.specs.Forms.{Form, both}
+use Rattle.zcodec.specs.Forms.{Form, both}
 use Rattle.zjute.specs.declared.stat.Stat.{Stat}
 use Rattle.zjute.specs.Jute.{int, long}
 use Rattle.zjute.specs.Shapes.{fields}

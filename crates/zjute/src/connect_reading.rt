@@ -1,13 +1,13 @@
 //! Reads the first frame of a connection.
 
 ghost use Rattle.std.specs.Prelude.{◌≡◌, IfOk, Ok};
-ghost use Rattle.zforms.specs.Readers.{Reads, Gives, whole};
+ghost use Rattle.zcodec.specs.Readers.{Reads, Gives, whole};
 ghost use Rattle.zjute.specs.Connecting.{last_flag, connect_request};
 
 use crate::connecting::ConnectRequest;
 use crate::field_reading::{buffer_of, int_at, long_at, whole_of};
 use std::alloc::Global;
-use zforms::{Fault, ReadError, flag_at};
+use zcodec::{Fault, ReadError, flag_at};
 
 /// Reads all bytes of a connection's first frame.
 ///

@@ -1,16 +1,16 @@
 //! Readers of fields: each takes one from the front of the bytes and returns it with the rest.
 
 ghost use Rattle.std.specs.Prelude.{◌≡◌};
-ghost use Rattle.zforms.specs.Readers.{Reads, Gives, ended};
+ghost use Rattle.zcodec.specs.Readers.{Reads, Gives, ended};
 ghost use Rattle.zjute.specs.Jute.{int, long, buffer, text, left};
 
 use crate::bytes::Bytes;
 use crate::limits::MAX_FRAME;
 use std::alloc::Global;
-use zforms::{Fault, NULL, ReadError, end, u32_at};
+use zcodec::{Fault, NULL, ReadError, end, u32_at};
 
 /// Reads an `int`.
-#[tactic(auto, unfolding(crate::specs::Jute::int, zforms::specs::Forms::number_at))]
+#[tactic(auto, unfolding(crate::specs::Jute::int, zcodec::specs::Forms::number_at))]
 pub(crate) fn int_at(bytes: &[u8]) -> Result<(i32, &[u8]), Fault>
     ensures { Reads (λ x. (x.0, x.1.now)) result (int.read bytes.now) }
 {
@@ -21,7 +21,7 @@ pub(crate) fn int_at(bytes: &[u8]) -> Result<(i32, &[u8]), Fault>
 }
 
 /// Reads a `long`.
-#[tactic(auto, unfolding(crate::specs::Jute::long, zforms::specs::Forms::number_at))]
+#[tactic(auto, unfolding(crate::specs::Jute::long, zcodec::specs::Forms::number_at))]
 pub(crate) fn long_at(bytes: &[u8]) -> Result<(i64, &[u8]), Fault>
     ensures { Reads (λ x. (x.0, x.1.now)) result (long.read bytes.now) }
 {

@@ -8,7 +8,7 @@ ghost use Rattle.zjute.specs.Stats.{sizes, sizes_of};
 use crate::bytes::Bytes;
 use crate::stat::Stat;
 use std::alloc::AllocError;
-use zforms::{NULL, put_u32};
+use zcodec::{NULL, put_u32};
 
 /// Writes an `int`.
 #[tactic(auto, unfolding(crate::specs::Jute::int))]

@@ -55,4 +55,4 @@ pub use request::{
 };
 pub use stat::Stat;
 pub use writing::{write_connect_response, write_event, write_reply};
-pub use zforms::{Fault, ReadError};
+pub use zcodec::{Fault, ReadError};

@@ -1,8 +1,8 @@
 //! Readers of vectors.
 
 ghost use Rattle.std.specs.Prelude.{◌≡◌, ◌≤◌};
-ghost use Rattle.zforms.specs.Forms.{times};
-ghost use Rattle.zforms.specs.Readers.{Gives};
+ghost use Rattle.zcodec.specs.Forms.{times};
+ghost use Rattle.zcodec.specs.Readers.{Gives};
 ghost use Rattle.zjute.specs.Jute.{text, texts};
 ghost use Rattle.zjute.specs.Requests.{acl, acls};
 
@@ -11,7 +11,7 @@ use crate::bytes::Texts;
 use crate::field_reading::{buffer_of, int_at, text_of};
 use crate::limits::MAX_FRAME;
 use std::alloc::Global;
-use zforms::{Fault, ReadError, u32_at};
+use zcodec::{Fault, ReadError, u32_at};
 
 /// Reads a `vector<ustring>`.
 #[tactic(auto, unfolding(crate::specs::Jute::texts))]

@@ -9,7 +9,7 @@ use crate::acl::{Acl, Acls};
 use crate::bytes::{Bytes, Texts};
 use crate::field_writing::{put_buffer, put_int, put_text};
 use std::alloc::AllocError;
-use zforms::put_u32;
+use zcodec::put_u32;
 
 /// Writes a `vector<ustring>`.
 #[tactic(auto, unfolding(crate::specs::Jute::texts))]

@@ -1,7 +1,7 @@
 //! Readers of the parts of a multi and of a multiRead.
 
 ghost use Rattle.std.specs.Prelude.{◌≡◌};
-ghost use Rattle.zforms.specs.Readers.{Reads, Gives};
+ghost use Rattle.zcodec.specs.Readers.{Reads, Gives};
 ghost use Rattle.zjute.specs.Parts.{part_header, part_at, part_or_end, parts};
 ghost use Rattle.zjute.specs.Parts.{look_header, look_at, look_or_end, looks};
 
@@ -10,7 +10,7 @@ use crate::part::{LookPart, Looks, Part, Parts};
 use crate::part_kind::{LookKind, PartKind};
 use crate::record_reading::{at_version_of, create_of, create_ttl_of, look_of, set_data_of};
 use std::alloc::Global;
-use zforms::{Fault, ReadError, flag_at};
+use zcodec::{Fault, ReadError, flag_at};
 
 // Reads the header before a part: the kind of the part, or `None` at the end.
 #[tactic(auto, unfolding(crate::specs::Parts::part_header))]

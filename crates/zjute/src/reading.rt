@@ -1,7 +1,7 @@
 //! Readers of requests.
 
 ghost use Rattle.std.specs.Prelude.{◌≡◌, IfOk, Ok};
-ghost use Rattle.zforms.specs.Readers.{Gives, whole};
+ghost use Rattle.zcodec.specs.Readers.{Gives, whole};
 ghost use Rattle.zjute.specs.Asking.{asked_at, asked, request};
 
 use crate::field_reading::{buffer_of, int_at, left_of, whole_of};
@@ -13,7 +13,7 @@ use crate::record_reading::{
 };
 use crate::request::{Asked, Request};
 use std::alloc::Global;
-use zforms::ReadError;
+use zcodec::ReadError;
 
 /// Reads all bytes of a frame as a request. An unknown kind isn't a fault: it is read as
 /// `Asked::Other`.

@@ -1,7 +1,7 @@
 //! Readers of the records of requests.
 
 ghost use Rattle.std.specs.Prelude.{◌≡◌};
-ghost use Rattle.zforms.specs.Readers.{Gives};
+ghost use Rattle.zcodec.specs.Readers.{Gives};
 ghost use Rattle.zjute.specs.Requests.{create, create_ttl, at_version, look, set_data, set_acl};
 ghost use Rattle.zjute.specs.Requests.{watches_at, add_watch, auth, set_watches, set_watches_2};
 
@@ -12,7 +12,7 @@ use crate::request::{
     WatchesAt,
 };
 use std::alloc::Global;
-use zforms::{ReadError, flag_at};
+use zcodec::{ReadError, flag_at};
 
 /// Reads a `CreateRequest`.
 #[tactic(auto, unfolding(crate::specs::Requests::create))]

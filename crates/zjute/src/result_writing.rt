@@ -12,7 +12,7 @@ use crate::field_writing::{put_buffer, put_int, put_stat, put_text};
 use crate::list_writing::put_texts;
 use crate::reply::{PartResult, Results};
 use std::alloc::AllocError;
-use zforms::put_flag;
+use zcodec::put_flag;
 
 /// Writes a `MultiResponse`: each result after its header, and the last header.
 pub(crate) fn put_results(out: &mut Vec<u8>, results: &Results) -> Result<(), AllocError>

@@ -2,8 +2,8 @@
 
 ghost use Rattle.std.specs.Prelude.{◌≡◌, pos, ℕ, List, [], ◌∷◌, Option, None, Some, true, false};
 ghost use Rattle.std.specs.Prelude.{Ok, Err, map};
-ghost use Rattle.zforms.specs.declared.fault.Fault.TheVariants.{Short, Long, Invalid, Trailing};
-ghost use Rattle.zforms.specs.Readers.{whole};
+ghost use Rattle.zcodec.specs.declared.fault.Fault.TheVariants.{Short, Long, Invalid, Trailing};
+ghost use Rattle.zcodec.specs.Readers.{whole};
 ghost use Rattle.zjute.specs.declared.request.Asked.TheVariants as asks;
 ghost use Rattle.zjute.specs.Jute.{neg};
 ghost use Rattle.zjute.specs.Frames.{Whole, Partial, TooLong, next_of};

@@ -17,7 +17,7 @@ use crate::list_writing::{put_acls, put_texts};
 use crate::reply::{Body, Reply};
 use crate::result_writing::put_results;
 use std::alloc::{AllocError, Global};
-use zforms::{put_flag, put_u32};
+use zcodec::{put_flag, put_u32};
 
 /// Returns a reply as a whole frame, with its length first.
 ///

@@ -3,7 +3,7 @@
 
 use std::env;
 use std::process::ExitCode;
-use zcli::{WordsFault, refuse};
+use zarguments::{WordsFault, refuse};
 use zcommand::command;
 use zscript::{ReaderSource, Sink, Source, WriterSink};
 

@@ -10,7 +10,7 @@ use std::env;
 use std::process::ExitCode;
 use std::sync::Wait;
 use std::thread::Threads;
-use zcli::{WordsFault, refuse};
+use zarguments::{WordsFault, refuse};
 use zdevices::{Sink, WriterSink};
 use zrace::race_command;
 

@@ -2,7 +2,7 @@
 //! Its host has the sockets.
 //!
 //! It takes a secret and messages from its standard input, and writes answers to its standard
-//! output, as the crate `zpipe` defines them. The host starts it, with the words that
+//! output, as the crate `zdaemon::pipe` defines them. The host starts it, with the words that
 //! `hosted_settings` reads.
 //!
 //! # Why
@@ -14,9 +14,9 @@
 
 use std::env;
 use std::process::ExitCode;
-use zcli::{WordsFault, refuse};
+use zarguments::{WordsFault, refuse};
 use zdevices::{ReaderSource, Sink, Source, WriterSink};
-use zhosted::hosted_command;
+use zdaemon::hosted_command;
 
 fn main(rt: HostRuntime) -> ExitCode {
     let mut source = ReaderSource::new(rt.reader());

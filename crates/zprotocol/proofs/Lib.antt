@@ -1,3 +1,5 @@
+pub mod world_lemmas
+pub mod traces_lemmas
 pub mod Places
 pub mod server_lemmas
 pub mod master_lemmas

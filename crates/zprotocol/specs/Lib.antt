@@ -1,3 +1,5 @@
+pub mod world
+pub mod traces
 pub mod Places
 pub mod server
 pub mod master

@@ -7,7 +7,7 @@
 //!
 //! This is the lowest crate of the wing "chain": the protocol, the code of each process, and the
 //! actor that runs any of them. Go on with `zclient`, `zmaster` and `zserver`, which implement the
-//! tables, and then with `zactor`. `zworld_model` joins the processes into one world.
+//! tables, and then with `zactor`. `zprotocol::world` joins the processes into one world.
 //!
 //! # Why
 //!
@@ -29,6 +29,8 @@ mod place;
 mod process;
 pub mod server;
 mod server_id;
+pub mod traces;
+pub mod world;
 
 pub use client::BeginFault;
 pub use epoch::Epoch;

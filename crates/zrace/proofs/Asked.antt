@@ -1,6 +1,6 @@
 -- The words ask for a race by the numbers that they give.
 use Rattle.std.proofs.Common.{◌≡◌, ℕ, List, Option, codes, subst, sym}
-use Rattle.zcli.specs.Asked.{asked_of}
+use Rattle.zarguments.specs.Asked.{asked_of}
 use Rattle.zrace.specs.declared.plan.Race.{Race}
 use Rattle.zrace.specs.Asked.{IsRaceAsked, IsRaceOf, race_options}
 

@@ -2,7 +2,7 @@
 use Rattle.std.proofs.Common.{inl, inr}
 use Rattle.std.specs.Prelude.{◌⊎◌}
 use Rattle.zdevices.specs.Device.{SinkRun}
-use Rattle.zcli.specs.Telling.{IsTold}
+use Rattle.zarguments.specs.Telling.{IsTold}
 use Rattle.zrun.specs.declared.faults.StartFault.{StartFault}
 use Rattle.zrun.specs.declared.faults.StartFault.TheVariants.{Memory, Thread}
 use Rattle.zrace.specs.Run.{start_fault_text}

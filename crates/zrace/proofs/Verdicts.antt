@@ -1,11 +1,11 @@
 -- What an audit finds of lawful traces.
 use Rattle.std.proofs.Common.{◌≡◌, Bool, true, false, true≢false, Result, Ok, Err, refl, sym, ap, ◌∙◌}
 use Rattle.std.specs.Prelude.{is_ok}
-use Rattle.zworld_model.specs.History.{History}
-use Rattle.zworld_model.specs.PlainTree.{IsExplained}
-use Rattle.ztraces.specs.declared.trace.Traces.{Traces}
-use Rattle.ztraces.specs.Audit.{is_any_cut, IsFound}
-use Rattle.ztraces.specs.Lawful.{AreLawful}
+use Rattle.zprotocol.specs.world.History.{History}
+use Rattle.zprotocol.specs.world.PlainTree.{IsExplained}
+use Rattle.zprotocol.specs.declared.traces.trace.Traces.{Traces}
+use Rattle.zprotocol.specs.traces.Audit.{is_any_cut, IsFound}
+use Rattle.zprotocol.specs.traces.Lawful.{AreLawful}
 use Rattle.zaudit.specs.declared.faults.AuditFault.{AuditFault}
 use Rattle.zaudit.specs.declared.faults.AuditFault.TheVariants.{Cut, Disorder, Mismatch, Memory}
 use Rattle.zrace.specs.Races.{IsAuditOf}

@@ -1,7 +1,7 @@
 -- What the words of a race ask for, by the four numbers that they give.
 use Rattle.std.specs.Prelude.{◌≡◌, ◌<◌, ◌≤◌, ℕ, List, [], ◌∷◌, codes, Option, Some}
 use Rattle.zprotocol.specs.declared.limits.TheConstants.{MAX_SERVERS}
-use Rattle.zcli.specs.Asked.{asked_of}
+use Rattle.zarguments.specs.Asked.{asked_of}
 use Rattle.zrace.specs.Ranges.{AreInRange, halted_server}
 use Rattle.zrace.specs.declared.plan.Race.{Race}
 

@@ -1,11 +1,11 @@
 -- What a race leaves, and its outcome.
 use Rattle.std.specs.Prelude.{◌≡◌, ◌+◌, ℕ, Bool, true, false, Result, Err, OnOk, IsOkUnless, length}
 use Rattle.zprotocol.specs.declared.limits.TheConstants.{MAX_SERVERS}
-use Rattle.zworld_model.specs.History.{History}
-use Rattle.zworld_model.specs.PlainTree.{IsExplained}
-use Rattle.ztraces.specs.declared.trace.Traces.{Traces}
-use Rattle.ztraces.specs.Audit.{is_any_cut, IsFound}
-use Rattle.ztraces.specs.Lawful.{AreLawful}
+use Rattle.zprotocol.specs.world.History.{History}
+use Rattle.zprotocol.specs.world.PlainTree.{IsExplained}
+use Rattle.zprotocol.specs.declared.traces.trace.Traces.{Traces}
+use Rattle.zprotocol.specs.traces.Audit.{is_any_cut, IsFound}
+use Rattle.zprotocol.specs.traces.Lawful.{AreLawful}
 use Rattle.zaudit.specs.declared.faults.AuditFault.{AuditFault}
 use Rattle.zaudit.specs.declared.faults.AuditFault.TheVariants.{Cut, Memory}
 use Rattle.zrun.specs.declared.clients.Clients.{Clients}

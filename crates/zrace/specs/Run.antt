@@ -1,7 +1,7 @@
 -- How a race ends as a run of the program, by its words and by what its devices did.
 use Rattle.std.specs.Prelude.{◌≡◌, ◌⊎◌, ℕ, List, [], length, All, IsSome, IsOk, IsErr, codes}
 use Rattle.zdevices.specs.Device.{SinkRun, Failed, TookBeginning}
-use Rattle.zcli.specs.Telling.{IsTold}
+use Rattle.zarguments.specs.Telling.{IsTold}
 use Rattle.zrace.specs.Text.{outcome_text}
 use Rattle.zrun.specs.declared.faults.StartFault.{StartFault}
 use Rattle.zrun.specs.declared.faults.StartFault.TheVariants.{Memory, Thread}

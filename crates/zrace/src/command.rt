@@ -2,8 +2,8 @@
 
 ghost use Rattle.std.specs.Prelude.{◌≡◌, ◌≤◌, [], codes};
 ghost use Rattle.zdevices.specs.Device.{sink_run};
-ghost use Rattle.zcli.specs.Telling.{IsTold};
-ghost use Rattle.zcli.specs.Asked.{texts_of};
+ghost use Rattle.zarguments.specs.Telling.{IsTold};
+ghost use Rattle.zarguments.specs.Asked.{texts_of};
 ghost use Rattle.zrace.specs.declared.plan.Race.{Race};
 ghost use Rattle.zrace.specs.Asked.{IsRaceAsked};
 ghost use Rattle.zrace.specs.Run.{IsGoodRace, IsNotGood};
@@ -14,7 +14,7 @@ use crate::words::race_settings;
 use std::alloc::Global;
 use std::sync::Wait;
 use std::thread::Threads;
-use zcli::refuse;
+use zarguments::refuse;
 use zdevices::Sink;
 
 /// Runs the race that the words ask for, and writes its lines to `sink`. A fault is written to

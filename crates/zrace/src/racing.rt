@@ -1,8 +1,8 @@
 //! A race from its start to its audit.
 
 ghost use Rattle.std.specs.Prelude.{◌≡◌, ◌≢◌, false, length, IfErr, IfOk};
-ghost use Rattle.ztraces.specs.Audit.{is_any_cut};
-ghost use Rattle.ztraces.specs.Lawful.{AreLawful};
+ghost use Rattle.zprotocol.specs.traces.Audit.{is_any_cut};
+ghost use Rattle.zprotocol.specs.traces.Lawful.{AreLawful};
 ghost use Rattle.zaudit.specs.declared.faults.AuditFault.TheVariants.{Disorder, Mismatch};
 ghost use Rattle.zrace.specs.Races.{IsAuditOf, IsFinishOf, IsOutcomeOf};
 
@@ -15,7 +15,7 @@ use std::sync::Wait;
 use std::thread::Threads;
 use zaudit::{AuditFault, audit};
 use zrun::{Cluster, StartFault, open_gates};
-use ztraces::Traces;
+use zprotocol::traces::Traces;
 
 /// What a race leaves.
 #[derive(Drop)]

@@ -2,12 +2,12 @@
 
 ghost use Rattle.std.specs.Prelude.{◌≡◌, ◌≤◌, [], All, IsErr, IsOk, IsSome};
 ghost use Rattle.zdevices.specs.Device.{sink_run};
-ghost use Rattle.zcli.specs.Telling.{IsTold};
+ghost use Rattle.zarguments.specs.Telling.{IsTold};
 ghost use Rattle.zrace.specs.Run.{IsGoodReport, IsNotGoodReport, start_fault_text};
 
 use crate::{Outcome, StartFault};
 use std::alloc::Global;
-use zcli::{WordsFault, refuse, tell};
+use zarguments::{WordsFault, refuse, tell};
 use zdevices::{Sink, write_all};
 
 /// Writes the lines of a race to `sink`, and returns the exit status.

@@ -2,7 +2,7 @@
 
 ghost use Rattle.std.specs.Prelude.{◌≡◌, [], All, IfOk, IsNone, length};
 ghost use Rattle.std.specs.Arc.{arc_value};
-ghost use Rattle.zshared.specs.Passes.{IsPassOf};
+ghost use Rattle.zchannels.specs.Passes.{IsPassOf};
 
 use crate::field::Racing;
 use crate::plan::Race;
@@ -10,7 +10,7 @@ use crate::runner::Seat;
 use std::alloc::Global;
 use std::sync::Arc;
 use zalloc::Memory;
-use zshared::tickets::{Pass, Tickets};
+use zchannels::tickets::{Pass, Tickets};
 
 /// Room for all racing clients, and for the nodes' versions.
 #[derive(Drop)]

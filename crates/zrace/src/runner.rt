@@ -2,7 +2,7 @@
 
 ghost use Rattle.std.specs.Prelude.{◌≡◌, [], IfOk};
 ghost use Rattle.std.specs.Arc.{arc_value};
-ghost use Rattle.zshared.specs.Passes.{IsPassOf};
+ghost use Rattle.zchannels.specs.Passes.{IsPassOf};
 ghost use Rattle.zrun.specs.Clients.{SameClient};
 
 use crate::racer::{Racer, Seen};
@@ -11,7 +11,7 @@ use std::sync::Arc;
 use zalloc::Memory;
 use zprotocol::ServerId;
 use zrun::Client;
-use zshared::tickets::{Pass, Tickets};
+use zchannels::tickets::{Pass, Tickets};
 
 // How often a pass may draw.
 const DRAWS: u64 = 1 << 32;

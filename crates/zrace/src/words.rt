@@ -1,13 +1,13 @@
 //! The words of a race.
 
 ghost use Rattle.std.specs.Prelude.{◌≡◌, ◌<◌, IfErr, IfNone, IfOk, IfSome, Some};
-ghost use Rattle.zcli.specs.Asked.{texts_of};
+ghost use Rattle.zarguments.specs.Asked.{texts_of};
 ghost use Rattle.zrace.specs.declared.plan.Race.{Race};
 ghost use Rattle.zrace.specs.Asked.{IsRaceAsked, IsRaceOf};
 
 use crate::Race;
 use std::alloc::Global;
-use zcli::{NumberOption, WordsFault, numbers_asked};
+use zarguments::{NumberOption, WordsFault, numbers_asked};
 use zprotocol::ServerId;
 
 // The options of a race.

@@ -4,7 +4,7 @@ use std::test::Fail;
 use zaudit::audit;
 use zrace::{Finish, Race, run};
 use ztesting::server;
-use ztraces::{Act, Trace};
+use zprotocol::traces::{Act, Trace};
 
 // Enough that many updates go through the chain after the halt.
 const ROUNDS: u16 = 40;

@@ -4,7 +4,7 @@ use std::test::Fail;
 use zaudit::audit;
 use zrace::{Finish, Race, run};
 use ztesting::server;
-use ztraces::{Act, Trace, Traces};
+use zprotocol::traces::{Act, Trace, Traces};
 
 const ROUNDS: u16 = 40;
 

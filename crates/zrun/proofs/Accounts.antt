@@ -6,19 +6,19 @@ use lib.ListN.{get_elem?}
 use Rattle.zprotocol.specs.server.Machine.{kept_tree}
 use Rattle.zprotocol.specs.declared.process.Process.{Process}
 use Rattle.zprotocol.specs.declared.process.Process.TheVariants.{Client}
-use Rattle.zworld_model.specs.World.{opening_world}
-use Rattle.ztraces.specs.declared.trace.Traces.{Traces}
-use Rattle.ztraces.specs.Traces.{client_count, record_of, trace_of}
-use Rattle.ztraces.specs.Deeds.{GoesBy, puts, standing_in, takes, told_by, trace_by}
-use Rattle.ztraces.specs.Lawful.{AreLawful, Begins}
+use Rattle.zprotocol.specs.world.World.{opening_world}
+use Rattle.zprotocol.specs.declared.traces.trace.Traces.{Traces}
+use Rattle.zprotocol.specs.traces.Traces.{client_count, record_of, trace_of}
+use Rattle.zprotocol.specs.traces.Deeds.{GoesBy, puts, standing_in, takes, told_by, trace_by}
+use Rattle.zprotocol.specs.traces.Lawful.{AreLawful, Begins}
 use Rattle.zprotocol.specs.Places.{process_at}
-use Rattle.zshared.specs.declared.rings.Tx.{Tx}
-use Rattle.zshared.specs.declared.rings.Rx.{Rx}
-use Rattle.zshared.specs.Rings.{put_of, taken_of}
-use Rattle.zhost.specs.declared.desk.Ending.{Ending}
-use Rattle.zhost.specs.Desks.{IsOutside, opening_of, TreeDeed, TreeStamped}
-use Rattle.zhost.specs.Endings.{AccountsAtEnd}
-use Rattle.zshared.proofs.Said.{within}
+use Rattle.zchannels.specs.declared.rings.Tx.{Tx}
+use Rattle.zchannels.specs.declared.rings.Rx.{Rx}
+use Rattle.zchannels.specs.Rings.{put_of, taken_of}
+use Rattle.zthreads.specs.declared.desk.Ending.{Ending}
+use Rattle.zthreads.specs.Desks.{IsOutside, opening_of, TreeDeed, TreeStamped}
+use Rattle.zthreads.specs.Endings.{AccountsAtEnd}
+use Rattle.zchannels.proofs.Said.{within}
 use Rattle.zrun.specs.Left.{self_at}
 use Rattle.zrun.specs.Gone.{HasGone}
 use Rattle.zrun.proofs.Elements.{Chosen, chosen_at, element}

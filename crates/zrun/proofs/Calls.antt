@@ -9,8 +9,8 @@ use Rattle.zprotocol.specs.declared.process.Process.{Process}
 use Rattle.zprotocol.specs.declared.process.Process.TheVariants.{Master, Server}
 use Rattle.zprotocol.specs.client.View.{ClientView}
 use Rattle.zprotocol.specs.client.Table.{answer_row, begin_step, client_step, ClientResult, config_row, is_waiting_for, no_effect, outstanding_posts}
-use Rattle.zhost.specs.declared.caller.Caller.{Caller}
-use Rattle.zhost.specs.Callers.{Began, caller_view, Turned}
+use Rattle.zthreads.specs.declared.caller.Caller.{Caller}
+use Rattle.zthreads.specs.Callers.{Began, caller_view, Turned}
 use Rattle.zrun.specs.Clients.{TurnedInVain, TurnedUntil}
 use Rattle.zrun.specs.Asked.{SentAgain}
 

@@ -5,20 +5,20 @@ use Rattle.std.proofs.lemmas.List.{length-map, length-reverse, map-append, nil_f
 use Rattle.zprotocol.specs.declared.limits.TheConstants.{MAX_SERVERS}
 use mathlib.Core.Option.{some-injective, some-ne-none}
 use Rattle.zprotocol.specs.declared.process.Process.TheVariants.{Server, Client}
-use Rattle.zworld_model.proofs.Processes.{same_process}
+use Rattle.zprotocol.proofs.world_lemmas.Processes.{same_process}
 use Rattle.zprotocol.specs.Places.{process_at}
 use Rattle.zrun.proofs.Elements.{element_right}
 use Rattle.zrun.proofs.Stands.{client_here, server_here}
-use Rattle.zhost.specs.Owned.{server_desk}
-use Rattle.zhost.specs.Callers.{caller_desk}
+use Rattle.zthreads.specs.Owned.{server_desk}
+use Rattle.zthreads.specs.Callers.{caller_desk}
 use Rattle.zrun.specs.declared.posts.ClientPost.{ClientPost}
 use Rattle.zrun.specs.declared.posts.ServerPost.{ServerPost}
 use Rattle.zrun.specs.Origins.{client_desks, Run}
 use Rattle.zrun.specs.Posts.{post_desks}
-use Rattle.zshared.specs.Rings.{Ring}
-use Rattle.zshared.specs.Woven.{in_rings, IsWoven, out_rings}
-use Rattle.zhost.specs.declared.desk.Desk.{Desk}
-use Rattle.zhost.specs.Desks.{IsDeskOf}
+use Rattle.zchannels.specs.Rings.{Ring}
+use Rattle.zchannels.specs.Woven.{in_rings, IsWoven, out_rings}
+use Rattle.zthreads.specs.declared.desk.Desk.{Desk}
+use Rattle.zthreads.specs.Desks.{IsDeskOf}
 use Rattle.zrun.specs.declared.opening.Ends.{Ends}
 use Rattle.zrun.specs.declared.supply.Supply.{Supply}
 use Rattle.zrun.specs.Openings.{HasEnds, in_rings_in, out_rings_in}

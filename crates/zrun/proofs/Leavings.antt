@@ -8,22 +8,22 @@ use Rattle.zprotocol.specs.declared.limits.TheConstants.{MAX_SERVERS}
 use mathlib.Core.Option.{some, some-injective, some-ne-none}
 use lib.ListN.{get_elem?}
 use Rattle.zprotocol.specs.declared.process.Process.TheVariants.{Client}
-use Rattle.ztraces.specs.declared.trace.ClientTrace.{ClientTrace}
-use Rattle.ztraces.specs.declared.trace.Traces.{Traces}
+use Rattle.zprotocol.specs.declared.traces.trace.ClientTrace.{ClientTrace}
+use Rattle.zprotocol.specs.declared.traces.trace.Traces.{Traces}
 use Rattle.zprotocol.specs.Places.{process_at}
-use Rattle.zshared.specs.Rings.{Ring, ring_of_rx, ring_of_tx}
-use Rattle.zshared.specs.Woven.{IsWoven}
-use Rattle.zshared.proofs.Said.{within}
-use Rattle.zhost.specs.declared.desk.Desk.{Desk}
-use Rattle.zhost.specs.declared.desk.Ending.{Ending}
-use Rattle.zhost.specs.Desks.{Each, IsDeskOf, SameDesk, Self, self_of}
-use Rattle.zhost.specs.Endings.{HasEnded, LeavesNothing, SameWires}
-use Rattle.zhost.proofs.Endings.{neither, same_self_of}
+use Rattle.zchannels.specs.Rings.{Ring, ring_of_rx, ring_of_tx}
+use Rattle.zchannels.specs.Woven.{IsWoven}
+use Rattle.zchannels.proofs.Said.{within}
+use Rattle.zthreads.specs.declared.desk.Desk.{Desk}
+use Rattle.zthreads.specs.declared.desk.Ending.{Ending}
+use Rattle.zthreads.specs.Desks.{Each, IsDeskOf, SameDesk, Self, self_of}
+use Rattle.zthreads.specs.Endings.{HasEnded, LeavesNothing, SameWires}
+use Rattle.zthreads.proofs.Endings.{neither, same_self_of}
 use Rattle.zrun.specs.Left.{AreWired, by_place, client_trace_of, is_left_cut, is_left_lost, self_at}
 use Rattle.zrun.proofs.Elements.{element, element_map, element_or}
 use Rattle.zrun.proofs.Stands.{client_at, same_at}
 use Rattle.zrun.specs.declared.client.Client as client
-use Rattle.zhost.specs.Callers.{caller_desk, caller_id}
+use Rattle.zthreads.specs.Callers.{caller_desk, caller_id}
 use Rattle.zrun.specs.declared.posts.ClientPost.{ClientPost}
 use Rattle.zrun.specs.Origins.{client_desks, desk_wiring, Run}
 use Rattle.zrun.specs.Clients.{AreIn, client_desk, client_wiring, IsLeftIn}

@@ -5,10 +5,10 @@ use Rattle.std.specs.List.{list_any}
 use Rattle.std.proofs.lemmas.List.{length-append, length-map}
 use mathlib.Core.Logic.{∥∥₁_map}
 use Rattle.zprotocol.specs.declared.limits.TheConstants.{MAX_SERVERS}
-use Rattle.zhost.specs.declared.desk.Ending.{Ending}
-use Rattle.zhost.specs.Endings.{HasEnded}
-use Rattle.zhost.proofs.Endings.{neither}
-use Rattle.zhost.specs.Callers.{caller_desk}
+use Rattle.zthreads.specs.declared.desk.Ending.{Ending}
+use Rattle.zthreads.specs.Endings.{HasEnded}
+use Rattle.zthreads.proofs.Endings.{neither}
+use Rattle.zthreads.specs.Callers.{caller_desk}
 use Rattle.zrun.specs.Gone.{GoesIfLeft, HasGone}
 use Rattle.zrun.specs.Left.{AreLeft, by_place, is_left_lost, self_at}
 use Rattle.zrun.specs.declared.client.Client as client

@@ -11,8 +11,8 @@ use Rattle.zprotocol.specs.server.View.{opening_server}
 use Rattle.zprotocol.specs.master.View.{opening_master}
 use Rattle.zprotocol.specs.client.View.{opening_client}
 use Rattle.zprotocol.specs.Places.{is_server}
-use Rattle.zworld_model.specs.Does.{AtMaster, AtServer, AtClient}
-use Rattle.zhost.specs.Desks.{Each, opening_of}
+use Rattle.zprotocol.specs.world.Does.{AtMaster, AtServer, AtClient}
+use Rattle.zthreads.specs.Desks.{Each, opening_of}
 
 pub master_opening : (last clients : ℕ) → opening_of last clients Master ≡ AtMaster (opening_master last clients)
 unfolding opening_of

@@ -5,10 +5,10 @@ use Rattle.std.specs.Prelude.{IfSome}
 use Rattle.std.proofs.lemmas.List.{length-map}
 use mathlib.Core.Option.{some, some-injective, some-ne-none}
 use lib.ListN.{get_elem?}
-use Rattle.zhost.specs.Callers.{caller_desk, caller_id}
-use Rattle.zhost.specs.declared.desk.Desk.{Desk}
-use Rattle.zhost.specs.Desks.{Each}
-use Rattle.zshared.proofs.Said.{within}
+use Rattle.zthreads.specs.Callers.{caller_desk, caller_id}
+use Rattle.zthreads.specs.declared.desk.Desk.{Desk}
+use Rattle.zthreads.specs.Desks.{Each}
+use Rattle.zchannels.proofs.Said.{within}
 use Rattle.atomic_table.proofs.Lists.{at_set}
 use Rattle.zrun.proofs.Elements.{element_map, element_right}
 use Rattle.zrun.specs.declared.posts.ClientPost.{ClientPost}

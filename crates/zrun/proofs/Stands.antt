@@ -5,12 +5,12 @@ use Rattle.std.proofs.lemmas.Bool.Decides.{nat_tests}
 use Rattle.zprotocol.specs.declared.limits.TheConstants.{MAX_SERVERS}
 use Rattle.zprotocol.specs.declared.process.Process.{Process}
 use Rattle.zprotocol.specs.declared.process.Process.TheVariants.{Master, Server, Client}
-use Rattle.zworld_model.specs.Links.{is_same}
-use Rattle.zworld_model.proofs.Processes.{same_itself, same_process}
+use Rattle.zprotocol.specs.world.Links.{is_same}
+use Rattle.zprotocol.proofs.world_lemmas.Processes.{same_itself, same_process}
 use Rattle.zprotocol.specs.Places.{process_at}
-use Rattle.zhost.specs.Desks.{IsOutside}
-use Rattle.zhost.proofs.Wires.{apart}
-use Rattle.zshared.proofs.Said.{at_most}
+use Rattle.zthreads.specs.Desks.{IsOutside}
+use Rattle.zthreads.proofs.Wires.{apart}
+use Rattle.zchannels.proofs.Said.{at_most}
 
 -- a process is at one of so many places, or at none
 pub data Found (p : Process) (n : ℕ) : Type 0 where

@@ -2,10 +2,10 @@
 use Rattle.std.proofs.Common.{◌≡◌, ℕ, sym, ap, subst, ◌∙◌}
 use Rattle.zprotocol.specs.declared.process.Process.{Process}
 use Rattle.zprotocol.specs.declared.process.Process.TheVariants.{Master, Server, Client}
-use Rattle.zhost.specs.declared.desk.Desk.{Desk}
-use Rattle.zhost.specs.Desks.{SameDesk}
-use Rattle.zhost.specs.declared.caller.Caller.{Caller}
-use Rattle.zhost.specs.Callers.{caller_desk, caller_id}
+use Rattle.zthreads.specs.declared.desk.Desk.{Desk}
+use Rattle.zthreads.specs.Desks.{SameDesk}
+use Rattle.zthreads.specs.declared.caller.Caller.{Caller}
+use Rattle.zthreads.specs.Callers.{caller_desk, caller_id}
 use Rattle.zrun.specs.declared.client.Client as client
 use Rattle.zrun.specs.Origins.{desk_wiring, IsOneOf, Run, Wiring}
 use Rattle.zrun.specs.Clients.{BelongsTo, SameClient}

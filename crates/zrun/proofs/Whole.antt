@@ -13,22 +13,22 @@ use Rattle.std.specs.declared.vec.Vec.{Vec}
 use Rattle.zprotocol.specs.declared.limits.TheConstants.{MAX_SERVERS}
 use Rattle.zprotocol.specs.declared.process.Process.{Process}
 use Rattle.zprotocol.specs.declared.process.Process.TheVariants.{Master, Server, Client}
-use Rattle.ztraces.specs.declared.trace.Trace.{Trace}
-use Rattle.ztraces.specs.declared.trace.ClientTrace.{ClientTrace}
-use Rattle.ztraces.specs.declared.trace.Traces.{Traces}
-use Rattle.ztraces.specs.Traces.{client_count, record_of, trace_of}
-use Rattle.ztraces.specs.Lawful.{AreLawful, Begins}
+use Rattle.zprotocol.specs.declared.traces.trace.Trace.{Trace}
+use Rattle.zprotocol.specs.declared.traces.trace.ClientTrace.{ClientTrace}
+use Rattle.zprotocol.specs.declared.traces.trace.Traces.{Traces}
+use Rattle.zprotocol.specs.traces.Traces.{client_count, record_of, trace_of}
+use Rattle.zprotocol.specs.traces.Lawful.{AreLawful, Begins}
 use Rattle.zprotocol.specs.Places.{process_at}
-use Rattle.zshared.specs.declared.rings.Tx.{Tx}
-use Rattle.zshared.specs.declared.rings.Rx.{Rx}
-use Rattle.zshared.specs.Rings.{put_of, Ring, ring_of_rx, ring_of_tx, taken_of}
-use Rattle.zshared.specs.Woven.{in_rings, IsWoven, out_rings}
-use Rattle.zshared.specs.Told.{AreTold, in_lists, out_lists}
-use Rattle.zshared.proofs.Said.{within}
-use Rattle.zhost.specs.declared.desk.Ending.{Ending}
-use Rattle.zhost.specs.Desks.{Each, IsOutside, TreeStamped}
-use Rattle.zhost.specs.Endings.{AccountsAtEnd}
-use Rattle.zhost.proofs.Endings.{neither}
+use Rattle.zchannels.specs.declared.rings.Tx.{Tx}
+use Rattle.zchannels.specs.declared.rings.Rx.{Rx}
+use Rattle.zchannels.specs.Rings.{put_of, Ring, ring_of_rx, ring_of_tx, taken_of}
+use Rattle.zchannels.specs.Woven.{in_rings, IsWoven, out_rings}
+use Rattle.zchannels.specs.Told.{AreTold, in_lists, out_lists}
+use Rattle.zchannels.proofs.Said.{within}
+use Rattle.zthreads.specs.declared.desk.Ending.{Ending}
+use Rattle.zthreads.specs.Desks.{Each, IsOutside, TreeStamped}
+use Rattle.zthreads.specs.Endings.{AccountsAtEnd}
+use Rattle.zthreads.proofs.Endings.{neither}
 use Rattle.zrun.specs.Left.{AreLeft, AreWired, by_place, client_trace_of, is_left_cut, is_left_lost, self_at}
 use Rattle.zrun.specs.Gone.{HasGone}
 use Rattle.zrun.proofs.Accounts.{accounted, Linked, Tells, went}

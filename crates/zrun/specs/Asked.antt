@@ -2,8 +2,8 @@
 use Rattle.std.specs.Prelude.{◌≡◌, ◌<◌, ◌⊎◌, ℕ, zero, suc, true}
 use Rattle.zcalls.specs.declared.call.Call.{Call}
 use Rattle.zcalls.specs.declared.reply.Reply.{Reply}
-use Rattle.zhost.specs.declared.caller.Caller.{Caller}
-use Rattle.zhost.specs.Callers.{Retried, SameCaller}
+use Rattle.zthreads.specs.declared.caller.Caller.{Caller}
+use Rattle.zthreads.specs.Callers.{Retried, SameCaller}
 use Rattle.zrun.specs.declared.asking.TheConstants.{TURNS}
 use Rattle.zrun.specs.declared.client.Client.{Client}
 use Rattle.zrun.specs.declared.faults.Unanswered.{Unanswered}

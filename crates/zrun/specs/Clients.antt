@@ -4,14 +4,14 @@ use Rattle.zcalls.specs.declared.call.Call.{Call}
 use Rattle.zcalls.specs.declared.reply.Reply.{Reply}
 use Rattle.zprotocol.specs.declared.client.begin_fault.BeginFault.{BeginFault}
 use Rattle.zprotocol.specs.client.View.{ClientView}
-use Rattle.zhost.specs.declared.desk.Desk.{Desk}
-use Rattle.zhost.specs.declared.desk.Ending.{Ending}
-use Rattle.zhost.specs.Desks.{Each}
-use Rattle.zhost.specs.Desks as desk
-use Rattle.zhost.specs.Endings.{HasEnded, LeavesNothing, SameWires}
-use Rattle.zhost.specs.declared.caller.Caller.{Caller}
-use Rattle.zhost.specs.Callers.{caller_desk, caller_id, caller_view, Began, MayRefuse, SameCaller, Turned}
-use Rattle.zshared.specs.declared.halts.HaltSeat.{HaltSeat}
+use Rattle.zthreads.specs.declared.desk.Desk.{Desk}
+use Rattle.zthreads.specs.declared.desk.Ending.{Ending}
+use Rattle.zthreads.specs.Desks.{Each}
+use Rattle.zthreads.specs.Desks as desk
+use Rattle.zthreads.specs.Endings.{HasEnded, LeavesNothing, SameWires}
+use Rattle.zthreads.specs.declared.caller.Caller.{Caller}
+use Rattle.zthreads.specs.Callers.{caller_desk, caller_id, caller_view, Began, MayRefuse, SameCaller, Turned}
+use Rattle.zchannels.specs.declared.halts.HaltSeat.{HaltSeat}
 use Rattle.zrun.specs.declared.client.Client.{Client}
 use Rattle.zrun.specs.declared.faults.Unanswered.{Unanswered}
 use Rattle.zrun.specs.declared.faults.Unanswered.TheVariants.{NoAnswer}

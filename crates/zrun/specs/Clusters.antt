@@ -1,6 +1,6 @@
 -- What a clause says of a cluster.
 use Rattle.std.specs.Prelude.{ℕ, Bool, List}
-use Rattle.zhost.specs.declared.desk.Desk.{Desk}
+use Rattle.zthreads.specs.declared.desk.Desk.{Desk}
 use Rattle.zrun.specs.declared.cluster.Cluster.{Cluster}
 use Rattle.zrun.specs.declared.opening.Opening.{Opening}
 use Rattle.zrun.specs.Handles.{given_desks}

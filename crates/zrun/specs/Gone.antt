@@ -3,11 +3,11 @@ use Rattle.std.specs.Prelude.{◌≡◌, ℕ, true, false, List, length}
 use Rattle.zprotocol.specs.declared.process.Process.{Process}
 use Rattle.zprotocol.specs.server.Machine.{kept_tree}
 use Rattle.zprotocol.specs.Places.{process_at}
-use Rattle.ztraces.specs.Deeds.{GoesBy, puts, takes}
-use Rattle.ztraces.specs.Lawful.{Begins}
-use Rattle.zhost.specs.declared.desk.Ending.{Ending}
-use Rattle.zhost.specs.Desks.{Each, opening_of, TreeDeed}
-use Rattle.zhost.specs.Endings.{AccountsAtEnd}
+use Rattle.zprotocol.specs.traces.Deeds.{GoesBy, puts, takes}
+use Rattle.zprotocol.specs.traces.Lawful.{Begins}
+use Rattle.zthreads.specs.declared.desk.Ending.{Ending}
+use Rattle.zthreads.specs.Desks.{Each, opening_of, TreeDeed}
+use Rattle.zthreads.specs.Endings.{AccountsAtEnd}
 use Rattle.zrun.specs.Left.{AreLeft, self_at}
 
 -- the steps (deeds) of all processes account for what they left

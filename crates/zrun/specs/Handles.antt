@@ -1,11 +1,11 @@
 -- What a run's threads were started with.
 use Rattle.std.specs.Prelude.{List, ◌∷◌, ◌++◌, map}
 use Rattle.std.specs.declared.thread.PromisedHandle.{PromisedHandle}
-use Rattle.zshared.specs.declared.console.Inbox.{Inbox}
-use Rattle.zhost.specs.declared.desk.Desk.{Desk}
-use Rattle.zhost.specs.declared.server_thread.ServerThread.{ServerThread}
-use Rattle.zhost.specs.declared.master_thread.MasterThread.{MasterThread}
-use Rattle.zhost.specs.Owned.{master_desk, server_desk}
+use Rattle.zchannels.specs.declared.console.Inbox.{Inbox}
+use Rattle.zthreads.specs.declared.desk.Desk.{Desk}
+use Rattle.zthreads.specs.declared.server_thread.ServerThread.{ServerThread}
+use Rattle.zthreads.specs.declared.master_thread.MasterThread.{MasterThread}
+use Rattle.zthreads.specs.Owned.{master_desk, server_desk}
 use Rattle.zrun.specs.declared.promises.SameServer.{SameServer}
 use Rattle.zrun.specs.declared.promises.SameMaster.{SameMaster}
 use Rattle.zrun.specs.Origins.{client_desks, Run}

@@ -3,17 +3,17 @@ use Rattle.std.specs.Prelude.{◌≡◌, ℕ, Bool, true, false, ◌||◌, List,
 use Rattle.std.specs.List.{list_any}
 use Rattle.std.specs.declared.alloc.Global.{Global}
 use Rattle.std.specs.declared.vec.Vec.{Vec}
-use Rattle.ztraces.specs.declared.trace.Trace.{Trace}
-use Rattle.ztraces.specs.declared.trace.ClientTrace.{ClientTrace}
-use Rattle.ztraces.specs.declared.trace.Traces.{Traces}
+use Rattle.zprotocol.specs.declared.traces.trace.Trace.{Trace}
+use Rattle.zprotocol.specs.declared.traces.trace.ClientTrace.{ClientTrace}
+use Rattle.zprotocol.specs.declared.traces.trace.Traces.{Traces}
 use Rattle.zprotocol.specs.Places.{process_at}
-use Rattle.zshared.specs.declared.rings.Tx.{Tx}
-use Rattle.zshared.specs.declared.rings.Rx.{Rx}
-use Rattle.zshared.specs.Rings.{ring_of_rx, ring_of_tx}
-use Rattle.zshared.specs.Woven.{IsWoven}
-use Rattle.zhost.specs.declared.desk.Ending.{Ending}
-use Rattle.zhost.specs.Desks.{Each, opening_of, Self, TreeStamped}
-use Rattle.zhost.specs.Endings.{HasEnded}
+use Rattle.zchannels.specs.declared.rings.Tx.{Tx}
+use Rattle.zchannels.specs.declared.rings.Rx.{Rx}
+use Rattle.zchannels.specs.Rings.{ring_of_rx, ring_of_tx}
+use Rattle.zchannels.specs.Woven.{IsWoven}
+use Rattle.zthreads.specs.declared.desk.Ending.{Ending}
+use Rattle.zthreads.specs.Desks.{Each, opening_of, Self, TreeStamped}
+use Rattle.zthreads.specs.Endings.{HasEnded}
 
 -- all of them, by index
 abbrev pub by_place : Ending → List Ending → List Ending → List Ending

@@ -1,10 +1,10 @@
 -- What a clause says of the clients of a run.
 use Rattle.std.specs.Prelude.{◌≡◌, ◌<◌, ℕ, Bool, true, false, List, Option, None, Some, IsSome, get_or, map}
 use Rattle.zprotocol.specs.declared.process.Process.TheVariants as process
-use Rattle.ztraces.specs.declared.trace.ClientTrace.{ClientTrace}
-use Rattle.ztraces.specs.declared.trace.Traces.{Traces}
-use Rattle.ztraces.specs.Traces.{record_of, trace_of}
-use Rattle.zhost.specs.Desks as desk
+use Rattle.zprotocol.specs.declared.traces.trace.ClientTrace.{ClientTrace}
+use Rattle.zprotocol.specs.declared.traces.trace.Traces.{Traces}
+use Rattle.zprotocol.specs.traces.Traces.{record_of, trace_of}
+use Rattle.zthreads.specs.Desks as desk
 use Rattle.zrun.specs.declared.client.Client.{Client}
 use Rattle.zrun.specs.declared.clients.Clients.{Clients}
 use Rattle.zrun.specs.Origins.{Run}

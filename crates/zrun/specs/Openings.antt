@@ -2,9 +2,9 @@
 use Rattle.std.specs.Prelude.{◌≡◌, ◌+◌, List, length, map}
 use Rattle.zprotocol.specs.declared.limits.TheConstants.{MAX_SERVERS}
 use Rattle.zprotocol.specs.declared.process.Process.{Process}
-use Rattle.zshared.specs.Rings.{Ring, ring_of_rx, ring_of_tx}
-use Rattle.zhost.specs.declared.desk.Desk.{Desk}
-use Rattle.zhost.specs.Desks.{AreFreshIns, AreFreshOuts, IsDeskOf}
+use Rattle.zchannels.specs.Rings.{Ring, ring_of_rx, ring_of_tx}
+use Rattle.zthreads.specs.declared.desk.Desk.{Desk}
+use Rattle.zthreads.specs.Desks.{AreFreshIns, AreFreshOuts, IsDeskOf}
 use Rattle.zrun.specs.declared.opening.Ends.{Ends}
 use Rattle.zrun.specs.declared.opening.Opening.{Opening}
 use Rattle.zrun.specs.Runs.{AreDesks, AreTraced, in_rings_of, IsRun, out_rings_of}

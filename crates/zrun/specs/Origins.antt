@@ -3,10 +3,10 @@ use Rattle.std.specs.Prelude.{◌≡◌, ℕ, Bool, List, map}
 use mathlib.Core.Option.{some}
 use lib.ListN.{get_elem?}
 use Rattle.zprotocol.specs.declared.process.Process.{Process}
-use Rattle.zshared.specs.Rings.{Ring}
-use Rattle.zhost.specs.declared.desk.Desk.{Desk}
-use Rattle.zhost.specs.Desks.{is_traced_of, link_count, process_of}
-use Rattle.zhost.specs.Callers.{caller_desk}
+use Rattle.zchannels.specs.Rings.{Ring}
+use Rattle.zthreads.specs.declared.desk.Desk.{Desk}
+use Rattle.zthreads.specs.Desks.{is_traced_of, link_count, process_of}
+use Rattle.zthreads.specs.Callers.{caller_desk}
 use Rattle.zrun.specs.declared.posts.ClientPost.{ClientPost}
 use Rattle.zrun.specs.Runs.{in_rings_of, out_rings_of}
 

@@ -1,7 +1,7 @@
 -- What a clause says of what a run's threads are started with.
 use Rattle.std.specs.Prelude.{List, ◌∷◌, ◌++◌, map, reverse}
-use Rattle.zhost.specs.declared.desk.Desk.{Desk}
-use Rattle.zhost.specs.Owned.{master_desk, server_desk}
+use Rattle.zthreads.specs.declared.desk.Desk.{Desk}
+use Rattle.zthreads.specs.Owned.{master_desk, server_desk}
 use Rattle.zrun.specs.declared.posts.Posts.{Posts}
 use Rattle.zrun.specs.declared.posts.ServerPost.{ServerPost}
 use Rattle.zrun.specs.Origins.{client_desks, Run}

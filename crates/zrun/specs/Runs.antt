@@ -1,12 +1,12 @@
 -- The endpoints of a run, by index, and what they left.
 use Rattle.std.specs.Prelude.{◌≡◌, ◌⊎◌, ℕ, ◌+◌, Bool, true, false, List, [], ◌∷◌, length, map}
 use Rattle.zprotocol.specs.Places.{process_at}
-use Rattle.zshared.specs.Rings.{Ring, ring_of_rx, ring_of_tx}
-use Rattle.zshared.specs.Woven.{IsWoven}
-use Rattle.zhost.specs.declared.desk.Desk.{Desk}
-use Rattle.zhost.specs.declared.desk.Ending.{Ending}
-use Rattle.zhost.specs.Desks.{Each, IsDeskOf, is_traced_of, self_of, wires_of}
-use Rattle.zhost.specs.Endings.{HasEnded, LeavesNothing, SameWires}
+use Rattle.zchannels.specs.Rings.{Ring, ring_of_rx, ring_of_tx}
+use Rattle.zchannels.specs.Woven.{IsWoven}
+use Rattle.zthreads.specs.declared.desk.Desk.{Desk}
+use Rattle.zthreads.specs.declared.desk.Ending.{Ending}
+use Rattle.zthreads.specs.Desks.{Each, IsDeskOf, is_traced_of, self_of, wires_of}
+use Rattle.zthreads.specs.Endings.{HasEnded, LeavesNothing, SameWires}
 
 -- the rings on which a process sends, and those from which it receives
 abbrev pub out_rings_of : Desk → List Ring

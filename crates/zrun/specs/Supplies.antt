@@ -1,8 +1,8 @@
 -- What a clause says of a supply.
 use Rattle.std.specs.Prelude.{◌≡◌, ℕ, List, [], ◌∷◌, ◌++◌, length, map}
-use Rattle.zshared.specs.Rings.{Ring}
-use Rattle.zshared.specs.Woven.{AreWoven, in_rings, out_rings}
-use Rattle.zhost.specs.declared.desk.Desk.{Desk}
+use Rattle.zchannels.specs.Rings.{Ring}
+use Rattle.zchannels.specs.Woven.{AreWoven, in_rings, out_rings}
+use Rattle.zthreads.specs.declared.desk.Desk.{Desk}
 use Rattle.zrun.specs.declared.opening.Ends.{Ends}
 use Rattle.zrun.specs.declared.supply.Supply.{Supply}
 use Rattle.zrun.specs.Openings.{in_rings_in, out_rings_in}

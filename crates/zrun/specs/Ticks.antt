@@ -1,6 +1,6 @@
 -- What a clause says of the calls that a client invoked, and of the ticks that a ticker counts.
 use Rattle.std.specs.Prelude.{ℕ, ◌+◌, ◌≤◌}
-use Rattle.zhost.specs.Callers.{caller_view}
+use Rattle.zthreads.specs.Callers.{caller_view}
 use Rattle.zrun.specs.declared.client.Client.{Client}
 use Rattle.zrun.specs.declared.ticks.Ticks.{Ticks}
 use Rattle.zrun.specs.Clients.{caller_of}

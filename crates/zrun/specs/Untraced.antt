@@ -1,8 +1,8 @@
 -- What a clause says of a cluster without traces.
 use Rattle.std.specs.Prelude.{ℕ, false, List}
-use Rattle.zhost.specs.declared.desk.Ending.{Ending}
-use Rattle.zhost.specs.Desks.{Each}
-use Rattle.zhost.specs.Endings.{LeavesNothing, SameWires}
+use Rattle.zthreads.specs.declared.desk.Ending.{Ending}
+use Rattle.zthreads.specs.Desks.{Each}
+use Rattle.zthreads.specs.Endings.{LeavesNothing, SameWires}
 use Rattle.zrun.specs.Gone.{HasGone}
 use Rattle.zrun.specs.declared.untraced.Untraced.{Untraced}
 use Rattle.zrun.specs.Clusters.{client_count, cluster_desks, cluster_run, last_server}

@@ -6,7 +6,7 @@
 //! So a test counts the resends in the trace.
 
 ghost use Rattle.std.specs.Prelude.{IfErr, IfOk};
-ghost use Rattle.zhost.specs.Callers.{SameLearnt};
+ghost use Rattle.zthreads.specs.Callers.{SameLearnt};
 ghost use Rattle.zrun.specs.Asked.{AskedWithinInVain, AskedWithinUntil};
 ghost use Rattle.zrun.specs.Asked.{InsistedWithinInVain, InsistedWithinUntil};
 ghost use Rattle.zrun.specs.Clients.{BeganNothing, caller_of, SameClient};

@@ -8,9 +8,9 @@
 
 ghost use Rattle.std.specs.Prelude.{◌≡◌, IfErr, IfOk, OnErr, OnOk, Some, max};
 ghost use Rattle.std.specs.Arc.{arc_value};
-ghost use Rattle.zshared.specs.HaltSeats.{IsSeatOf, Knows};
-ghost use Rattle.zhost.specs.Callers.{Began, caller_stamp, caller_view, IsUncut, MayRefuse};
-ghost use Rattle.zhost.specs.Callers.{Retried, SameCaller, SameLearnt, Turned};
+ghost use Rattle.zchannels.specs.HaltSeats.{IsSeatOf, Knows};
+ghost use Rattle.zthreads.specs.Callers.{Began, caller_stamp, caller_view, IsUncut, MayRefuse};
+ghost use Rattle.zthreads.specs.Callers.{Retried, SameCaller, SameLearnt, Turned};
 
 use crate::faults::Unanswered;
 use crate::patience::Patience;
@@ -18,13 +18,13 @@ use std::alloc::Global;
 use std::sync::Arc;
 use std::thread;
 use zalloc::Memory;
-use zbells::Bells;
+use zchannels::bells::Bells;
 use zcalls::{Call, CallNumber, ClientId, Reply};
 use zclient::BeginFault;
-use zhost::Caller;
+use zthreads::Caller;
 use zprotocol::{Process, ServerId};
-use zshared::halts::{Halt, HaltSeat};
-use ztraces::Stamp;
+use zchannels::halts::{Halt, HaltSeat};
+use zprotocol::traces::Stamp;
 
 /// A client of one run, through all its calls. No call blocks.
 #[derive(Drop)]

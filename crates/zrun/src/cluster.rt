@@ -8,8 +8,8 @@
 
 ghost use Rattle.std.specs.Prelude.{◌≡◌, false, IfOk, length};
 ghost use Rattle.zprotocol.specs.declared.limits.TheConstants.{MAX_SERVERS};
-ghost use Rattle.ztraces.specs.Audit.{is_any_cut};
-ghost use Rattle.ztraces.specs.Lawful.{AreLawful};
+ghost use Rattle.zprotocol.specs.traces.Audit.{is_any_cut};
+ghost use Rattle.zprotocol.specs.traces.Lawful.{AreLawful};
 ghost use Rattle.zrun.specs.Left.{by_place};
 ghost use Rattle.zrun.specs.Handles.{given_desks};
 ghost use Rattle.zrun.specs.Openings.{IsRunFrom};
@@ -25,10 +25,10 @@ use std::alloc::Global;
 use std::snapshot::Snapshot;
 use std::thread::{PromisedHandle, Threads};
 use zalloc::Memory;
-use zhost::{Ending, MasterThread, ServerThread};
+use zthreads::{Ending, MasterThread, ServerThread};
 use zprotocol::{MAX_SERVERS, ServerId};
-use zshared::console::{Console, Inbox};
-use ztraces::Traces;
+use zchannels::console::{Console, Inbox};
+use zprotocol::traces::Traces;
 
 /// The threads of a run.
 #[derive(Drop)]

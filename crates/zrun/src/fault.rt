@@ -9,7 +9,7 @@ use zalloc::Memory;
 use zcalls::{DataFault, Refusal, Reply};
 use zclient::BeginFault;
 use zpath::PathFault;
-use zshared::console::Closed;
+use zchannels::console::Closed;
 
 /// Any fault of a program that uses a cluster. Every other fault converts to it, so `?` suffices. A
 /// reply of an unexpected kind converts to it too.

@@ -5,7 +5,7 @@ ghost use Rattle.zprotocol.specs.declared.limits.TheConstants.{MAX_SERVERS};
 
 use std::alloc::Global;
 use zalloc::Memory;
-use zhost::Open;
+use zthreads::Open;
 use zprotocol::MAX_SERVERS;
 
 /// Returns a gate for each server that lets all pass. The only error is out of memory.

@@ -8,18 +8,18 @@
 ghost use Rattle.std.specs.Prelude.{◌≡◌, ◌≤◌, false, IfOk, length, map};
 ghost use Rattle.ztree.specs.declared.limits.TheConstants.{MAX_CLIENTS};
 ghost use Rattle.zprotocol.specs.declared.limits.TheConstants.{MAX_SERVERS};
-ghost use Rattle.ztraces.specs.Audit.{is_any_cut};
-ghost use Rattle.ztraces.specs.Lawful.{AreLawful};
+ghost use Rattle.zprotocol.specs.traces.Audit.{is_any_cut};
+ghost use Rattle.zprotocol.specs.traces.Lawful.{AreLawful};
 ghost use Rattle.zrun.specs.Left.{AreLeft, AreWiredUnlessCut, by_place, client_trace_of};
 ghost use Rattle.zrun.specs.Left.{CutsNoMore, traces_of};
 
 use crate::keeping::{is_any_cut, keep, keep_clients, keep_servers};
 use std::alloc::Global;
 use zalloc::Memory;
-use zhost::Ending;
+use zthreads::Ending;
 use zprotocol::ServerId;
-use zshared::{Mesh, are_told};
-use ztraces::{ClientTrace, Traces};
+use zchannels::{Mesh, are_told};
+use zprotocol::traces::{ClientTrace, Traces};
 
 /// Returns the traces of a run, from what its processes left: the master, the servers by number,
 /// and the clients by number. The chain began with the servers up to `last`. The traces are lawful,

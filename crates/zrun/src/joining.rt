@@ -15,8 +15,8 @@ use crate::promises::SameServer;
 use std::alloc::Global;
 use std::thread::{PromisedHandle, Threads};
 use zalloc::Memory;
-use zhost::{Ending, ServerThread};
-use ztraces::Trace;
+use zthreads::{Ending, ServerThread};
+use zprotocol::traces::Trace;
 
 /// Joins the servers' threads. Returns what they left, the first one first.
 pub(crate) fn join_servers<R: Threads>(

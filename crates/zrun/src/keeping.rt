@@ -2,14 +2,14 @@
 
 ghost use Rattle.std.specs.Prelude.{◌≡◌, ◌∷◌, ◌++◌, [], IfOk, OnOk, map};
 ghost use Rattle.std.specs.List.{list_any};
-ghost use Rattle.zhost.specs.declared.desk.Ending.{Ending};
+ghost use Rattle.zthreads.specs.declared.desk.Ending.{Ending};
 ghost use Rattle.zrun.specs.Left.{client_trace_of, ins_of, outs_of, traces_of};
 
 use std::alloc::Global;
 use zalloc::Memory;
-use zhost::{Ending, Stamped};
-use zshared::Mesh;
-use ztraces::{ClientTrace, Trace};
+use zthreads::{Ending, Stamped};
+use zchannels::Mesh;
+use zprotocol::traces::{ClientTrace, Trace};
 
 /// Returns whether one of the traces is cut.
 pub(crate) fn is_any_cut(endings: &Vec<Ending>) -> bool

@@ -48,9 +48,9 @@ pub use zcalls::{
     PartReply, Query, Refusal, Reply, SessionId, SetData, Stat, Ttl, Update,
 };
 pub use zclient::BeginFault;
-pub use zhost::{Gate, Open};
+pub use zthreads::{Gate, Open};
 pub use zpath::{Path, PathFault};
 pub use zprotocol::{JoinFault, Order, OrderFault, RetireFault, ServerId};
-pub use zshared::console::{Closed, Console};
-pub use zshared::outcome::OrderOutcome;
-pub use ztraces::Stamp;
+pub use zchannels::console::{Closed, Console};
+pub use zchannels::outcome::OrderOutcome;
+pub use zprotocol::traces::Stamp;

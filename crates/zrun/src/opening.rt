@@ -3,20 +3,20 @@
 ghost use Rattle.std.specs.Prelude.{◌≡◌, ◌<◌, ◌≤◌, IfOk};
 ghost use Rattle.ztree.specs.declared.limits.TheConstants.{MAX_CLIENTS};
 ghost use Rattle.zprotocol.specs.declared.process.Process.TheVariants as process;
-ghost use Rattle.zhost.specs.Desks.{is_traced_of};
-ghost use Rattle.zhost.specs.Owned.{master_desk, server_desk};
-ghost use Rattle.zhost.specs.Callers.{caller_desk};
+ghost use Rattle.zthreads.specs.Desks.{is_traced_of};
+ghost use Rattle.zthreads.specs.Owned.{master_desk, server_desk};
+ghost use Rattle.zthreads.specs.Callers.{caller_desk};
 
 use std::alloc::Global;
 use zalloc::Memory;
-use zbells::Bells;
+use zchannels::bells::Bells;
 use zcalls::ClientId;
 use zclient::ClientCore;
-use zhost::{Caller, Desk, MasterThread, ServerThread, Stamped};
+use zthreads::{Caller, Desk, MasterThread, ServerThread, Stamped};
 use zmaster::Master;
 use zprotocol::{Process, ServerId};
 use zserver::Server;
-use zshared::rings::{Rx, Tx};
+use zchannels::rings::{Rx, Tx};
 
 /// What all processes of a run know of its initial state.
 #[derive(Clone, Copy)]

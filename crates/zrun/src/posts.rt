@@ -16,11 +16,11 @@ use std::alloc::Global;
 use std::snapshot::Snapshot;
 use std::time::Duration;
 use zalloc::Memory;
-use zbells::Bells;
+use zchannels::bells::Bells;
 use zcalls::ClientId;
-use zhost::{Caller, MasterThread, ServerThread};
+use zthreads::{Caller, MasterThread, ServerThread};
 use zprotocol::{MAX_SERVERS, ServerId};
-use zshared::console::{Console, Inbox};
+use zchannels::console::{Console, Inbox};
 
 /// What a server's thread is started with.
 #[derive(Drop)]

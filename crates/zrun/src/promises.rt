@@ -1,8 +1,8 @@
 //! What threads promise of what they return.
 
 ghost use Rattle.std.specs.Prelude.{◌≡◌};
-ghost use Rattle.zhost.specs.Desks.{SameDesk};
-ghost use Rattle.zhost.specs.Owned.{master_desk, server_desk};
+ghost use Rattle.zthreads.specs.Desks.{SameDesk};
+ghost use Rattle.zthreads.specs.Owned.{master_desk, server_desk};
 ghost use Rattle.zrun.specs.Clients.{SameClient};
 ghost use Rattle.zrun.specs.Ticks.{CountsTicks};
 
@@ -10,8 +10,8 @@ use crate::client::Client;
 use crate::ticks::Ticks;
 use std::snapshot::Snapshot;
 use std::thread::Promise;
-use zhost::{MasterThread, ServerThread};
-use zshared::console::Inbox;
+use zthreads::{MasterThread, ServerThread};
+use zchannels::console::Inbox;
 
 /// The server that is returned has the endpoint of the one that was given.
 #[derive(Drop)]

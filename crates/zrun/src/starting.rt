@@ -3,11 +3,11 @@
 ghost use Rattle.std.specs.Prelude.{◌≡◌, ◌≤◌, [], All, IfErr, IfOk, length, map};
 ghost use Rattle.std.specs.Vec.{vec_capacity};
 ghost use Rattle.std.specs.Arc.{arc_value};
-ghost use Rattle.zshared.specs.HaltSeats.{IsSeatOf};
+ghost use Rattle.zchannels.specs.HaltSeats.{IsSeatOf};
 ghost use Rattle.ztree.specs.declared.limits.TheConstants.{MAX_CLIENTS};
 ghost use Rattle.zprotocol.specs.declared.limits.TheConstants.{MAX_SERVERS};
-ghost use Rattle.zhost.specs.Desks.{SameDesk};
-ghost use Rattle.zhost.specs.Owned.{master_desk, server_desk};
+ghost use Rattle.zthreads.specs.Desks.{SameDesk};
+ghost use Rattle.zthreads.specs.Owned.{master_desk, server_desk};
 ghost use Rattle.zrun.specs.Handles.{given_master, given_server};
 ghost use Rattle.zrun.specs.Members.{clients_run, HasAll};
 ghost use Rattle.zrun.specs.Openings.{IsRunFrom};
@@ -27,10 +27,10 @@ use std::sync::Wait;
 use std::thread;
 use std::thread::{PromisedHandle, Threads};
 use std::time::Duration;
-use zbells::SLEEP_MILLIS;
-use zhost::{Gate, MasterThread, ServerThread, preside, serve};
+use zchannels::bells::SLEEP_MILLIS;
+use zthreads::{Gate, MasterThread, ServerThread, preside, serve};
 use zprotocol::{MAX_SERVERS, ServerId};
-use zshared::console::{Console, Inbox};
+use zchannels::console::{Console, Inbox};
 
 impl Cluster {
     ghost use Rattle.zrun.specs.Clusters.{client_count, cluster_opening, cluster_run, last_server};

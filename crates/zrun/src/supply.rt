@@ -2,19 +2,19 @@
 
 ghost use Rattle.std.specs.Prelude.{◌≡◌, ◌<◌, ◌+◌, IfOk, OnOk, length, All};
 ghost use Rattle.std.specs.Arc.{arc_value};
-ghost use Rattle.zshared.specs.HaltSeats.{IsSeatOf};
-ghost use Rattle.zshared.specs.Woven.{AreBlankIns, AreBlankOuts, AreWide};
+ghost use Rattle.zchannels.specs.HaltSeats.{IsSeatOf};
+ghost use Rattle.zchannels.specs.Woven.{AreBlankIns, AreBlankOuts, AreWide};
 
 use crate::opening::Ends;
 use std::alloc::Global;
 use std::sync::Arc;
 use zalloc::Memory;
-use zbells::Bells;
-use zhost::Stamped;
-use zshared::console::{Console, Inbox};
-use zshared::halts::{Halt, HaltSeat};
-use zshared::rings::{Rx, Tx};
-use zshared::{Mesh, weave};
+use zchannels::bells::Bells;
+use zthreads::Stamped;
+use zchannels::console::{Console, Inbox};
+use zchannels::halts::{Halt, HaltSeat};
+use zchannels::rings::{Rx, Tx};
+use zchannels::{Mesh, weave};
 
 /// A seat at the run's halt word, and the bells of the threads that look at it.
 #[derive(Drop)]

@@ -21,10 +21,10 @@ use std::sync::Wait;
 use std::thread::Threads;
 use std::time::Duration;
 use zalloc::Memory;
-use zbells::SLEEP_MILLIS;
-use zhost::Gate;
+use zchannels::bells::SLEEP_MILLIS;
+use zthreads::Gate;
 use zprotocol::ServerId;
-use zshared::console::Console;
+use zchannels::console::Console;
 
 /// The threads of a run without traces. Its memory doesn't grow with the number of calls. It is a
 /// type of its own, so no one can ask it for traces.

@@ -9,7 +9,7 @@ use std::sync::atomic::AtomicUsize;
 use std::sync::atomic::Ordering::SeqCst;
 use std::test::Fail;
 use std::thread;
-use zhost::Gate;
+use zthreads::Gate;
 use zprotocol::{MAX_SERVERS, Message, Process};
 use zserver::Snapshot;
 

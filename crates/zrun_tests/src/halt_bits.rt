@@ -1,11 +1,11 @@
 //! A bit that one thread sets is seen by another, and no other bit is.
 
-ghost use Rattle.zshared.specs.HaltSeats.{IsSeatOf};
+ghost use Rattle.zchannels.specs.HaltSeats.{IsSeatOf};
 
 use std::test::Fail;
 use std::thread;
 use std::thread::join;
-use zshared::halts::{Halt, HaltSeat};
+use zchannels::halts::{Halt, HaltSeat};
 
 // Looks at bit 3 until it is set, a hundred million times at most; and at bit 2.
 fn wait_for(halt: &Halt, mut seat: HaltSeat) -> (bool, bool)

@@ -12,7 +12,7 @@ use std::thread;
 use zaudit::audit;
 use zrun::{Client, Clients, Unanswered};
 use ztesting::{client, server};
-use ztraces::{Act, Trace};
+use zprotocol::traces::{Act, Trace};
 
 // Far longer than an answer takes; this is how long a missing one is waited for.
 const TURNS: u64 = 1_000_000;

@@ -12,7 +12,7 @@ use std::test::Fail;
 use zaudit::audit;
 use zrun::{Client, Clients, Patience, Unanswered};
 use ztesting::{client, server};
-use ztraces::{Act, Trace};
+use zprotocol::traces::{Act, Trace};
 
 // How often a call is sent again that has no reply.
 const RETRIES: u64 = 3;

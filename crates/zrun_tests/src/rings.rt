@@ -1,13 +1,13 @@
 //! A ring that is full.
 
 ghost use Rattle.std.specs.Prelude.{◌≡◌, IfSome};
-ghost use Rattle.zshared.specs.Rings.{ring_of_rx, ring_of_tx};
+ghost use Rattle.zchannels.specs.Rings.{ring_of_rx, ring_of_tx};
 
 use std::test::Fail;
 use std::thread;
 use std::thread::join;
 use zprotocol::Message;
-use zshared::rings::{Rx, Tx, link, told};
+use zchannels::rings::{Rx, Tx, link, told};
 use ztesting::{epoch, log_number};
 
 const MESSAGES: u64 = 1_000;

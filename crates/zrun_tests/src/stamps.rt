@@ -12,7 +12,7 @@ use zaudit::audit;
 use zcalls::Call;
 use zrun::{Client, Clients};
 use ztesting::{client, server};
-use zworld_model::CallEvent;
+use zprotocol::world::CallEvent;
 
 // The index of the answer to the client's call, and that of the beginning of its next one.
 fn places(history: &[CallEvent], answered: u8, began: u8) -> (Option<usize>, Option<usize>) {

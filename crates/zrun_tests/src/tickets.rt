@@ -1,13 +1,13 @@
 //! Four threads draw tickets from one word.
 
 ghost use Rattle.std.specs.Prelude.{IfOk, IfSome};
-ghost use Rattle.zshared.specs.Passes.{IsPassOf};
+ghost use Rattle.zchannels.specs.Passes.{IsPassOf};
 ghost use Rattle.zrun_tests.specs.Handed.{AreAllOf, AreOf};
 
 use std::test::Fail;
 use std::thread::{Threads, join};
 use zalloc::Memory;
-use zshared::tickets::{Pass, Tickets};
+use zchannels::tickets::{Pass, Tickets};
 
 const DRAWS: usize = 1_000;
 

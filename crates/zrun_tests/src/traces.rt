@@ -15,8 +15,8 @@ use zcalls::Reply;
 use zprotocol::MAX_SERVERS;
 use zrun::{Client, Clients};
 use ztesting::{call_number, client, server};
-use ztraces::Traces;
-use zworld_model::CallEvent;
+use zprotocol::traces::Traces;
+use zprotocol::world::CallEvent;
 
 // What the client of a run does.
 #[derive(Clone, Copy, PartialEq, Eq)]

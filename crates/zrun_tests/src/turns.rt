@@ -13,7 +13,7 @@ use std::thread::Threads;
 use zaudit::audit;
 use zrun::{Client, Clients, Patience, Unanswered};
 use ztesting::{client, server};
-use ztraces::{Act, Trace, Traces};
+use zprotocol::traces::{Act, Trace, Traces};
 
 // This many more answers are in the client's ring, which has room for 64.
 const STALE: u32 = 20;

@@ -8,9 +8,9 @@ use zcalls::{Call, CallNumber, ClientId, Create, Kind, Lifetime, Query, Reply, U
 use zpath::Path;
 use zprotocol::{Order, Process};
 use ztesting::{call_number, client, server};
-use ztraces::{Act, ClientTrace, Stamp, Trace, TraceEvent, Traces};
+use zprotocol::traces::{Act, ClientTrace, Stamp, Trace, TraceEvent, Traces};
 use ztree::{Data, Stat, Zxid};
-use zworld_model::{CallEvent, Outcome};
+use zprotocol::world::{CallEvent, Outcome};
 
 fn process(number: u8) -> Process {
     match number {

@@ -5,19 +5,19 @@ use Rattle.std.proofs.lemmas.List.{append-nil}
 use Rattle.ztree.specs.Tree.{Tree}
 use Rattle.zcalls.specs.Kept.{KeptState}
 use Rattle.zprotocol.specs.server.Machine.{kept_tree}
-use Rattle.zworld_model.specs.declared.event.Event.{Event}
-use Rattle.zworld_model.specs.declared.event.Event.TheVariants as event
-use Rattle.zworld_model.specs.declared.outcome.Outcome.{Outcome}
-use Rattle.zworld_model.specs.declared.outcome.Outcome.TheVariants.{Acted}
-use Rattle.zworld_model.specs.Events.{is_enabled}
-use Rattle.zworld_model.specs.Reading.{read}
-use Rattle.zworld_model.specs.Settle.{Settling, next_outcome, with_event, with_try, with_tries, is_over, passes, settle}
-use Rattle.zworld_model.specs.Settle.{deliveries, retry_events, opening_settling, settling_end}
-use Rattle.zlines.specs.declared.line.Line.{Line}
-use Rattle.zlines.specs.declared.line.Line.TheVariants as asked
-use Rattle.zlines.specs.declared.request.Request.{Request}
-use Rattle.zlines.specs.Request.{Read}
-use Rattle.zlines.specs.Line.{line_of}
+use Rattle.zprotocol.specs.declared.world.event.Event.{Event}
+use Rattle.zprotocol.specs.declared.world.event.Event.TheVariants as event
+use Rattle.zprotocol.specs.declared.world.outcome.Outcome.{Outcome}
+use Rattle.zprotocol.specs.declared.world.outcome.Outcome.TheVariants.{Acted}
+use Rattle.zprotocol.specs.world.Events.{is_enabled}
+use Rattle.zprotocol.specs.world.Reading.{read}
+use Rattle.zprotocol.specs.world.Settle.{Settling, next_outcome, with_event, with_try, with_tries, is_over, passes, settle}
+use Rattle.zprotocol.specs.world.Settle.{deliveries, retry_events, opening_settling, settling_end}
+use Rattle.zscript_text.specs.declared.line.Line.{Line}
+use Rattle.zscript_text.specs.declared.line.Line.TheVariants as asked
+use Rattle.zscript_text.specs.declared.request.Request.{Request}
+use Rattle.zscript_text.specs.Request.{Read}
+use Rattle.zscript_text.specs.Line.{line_of}
 use Rattle.zworld.specs.Steps.{AreActed}
 use Rattle.zscript.specs.declared.limits.TheConstants.{MAX_EVENTS}
 use Rattle.zscript.specs.Line.{ServiceWorld, ScriptState, script_state, LineEffect, no_effect, after_try}

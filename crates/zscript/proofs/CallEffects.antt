@@ -7,16 +7,16 @@ use Rattle.zcalls.specs.Kept.{KeptState}
 use Rattle.zcalls.specs.declared.call.Call.{Call}
 use Rattle.zprotocol.specs.server.Machine.{kept_tree}
 use Rattle.zprotocol.specs.client.Table.{begin_step}
-use Rattle.zworld_model.specs.declared.event.Event.{Event}
-use Rattle.zworld_model.specs.declared.event.Event.TheVariants as event
-use Rattle.zworld_model.specs.declared.history.CallEvent.TheVariants as call_event
-use Rattle.zworld_model.specs.declared.outcome.Outcome.{Outcome}
-use Rattle.zworld_model.specs.declared.outcome.Outcome.TheVariants.{Acted}
-use Rattle.zworld_model.specs.declared.settled.Settled.{Settled}
-use Rattle.zworld_model.specs.History.{History}
-use Rattle.zworld_model.specs.Events.{is_enabled, happens, run}
-use Rattle.zworld_model.specs.Settle.{Settling, settle}
-use Rattle.zlines.specs.declared.request.Request.{Request}
+use Rattle.zprotocol.specs.declared.world.event.Event.{Event}
+use Rattle.zprotocol.specs.declared.world.event.Event.TheVariants as event
+use Rattle.zprotocol.specs.declared.world.history.CallEvent.TheVariants as call_event
+use Rattle.zprotocol.specs.declared.world.outcome.Outcome.{Outcome}
+use Rattle.zprotocol.specs.declared.world.outcome.Outcome.TheVariants.{Acted}
+use Rattle.zprotocol.specs.declared.world.settled.Settled.{Settled}
+use Rattle.zprotocol.specs.world.History.{History}
+use Rattle.zprotocol.specs.world.Events.{is_enabled, happens, run}
+use Rattle.zprotocol.specs.world.Settle.{Settling, settle}
+use Rattle.zscript_text.specs.declared.request.Request.{Request}
 use Rattle.zworld.specs.declared.did.Did.{Did}
 use Rattle.zworld.specs.declared.did.Did.TheVariants as became
 use Rattle.zworld.specs.declared.did.IdleCause.{IdleCause}
@@ -31,14 +31,14 @@ use Rattle.zscript.specs.Line.{ServiceWorld, ScriptState, script_state, LineEffe
 use Rattle.zscript.specs.Line.{after_settling, call_answered, call_effect, begin_effect, begin_fault_text}
 use Rattle.zscript.specs.Line.{not_begun_text, reply_in, taken_text}
 use Rattle.zscript.specs.support.Effects.{cause_text, begun_text, called_text, own_call, LeadsTo, IsEffectDoneBy}
-use Rattle.zlines.specs.Reply.{reply_text}
+use Rattle.zscript_text.specs.Reply.{reply_text}
 use Rattle.std.specs.List.{flat_map}
 use Rattle.std.proofs.lemmas.List.{append-nil}
-use Rattle.zworld_model.specs.Reading.{read, is_fitting}
+use Rattle.zprotocol.specs.world.Reading.{read, is_fitting}
 use mathlib.Core.Bool.{true≢false}
-use Rattle.zworld_model.proofs.Settling.{settling_is_a_run}
+use Rattle.zprotocol.proofs.world_lemmas.Settling.{settling_is_a_run}
 use Rattle.zscript.proofs.Effects.{enabled, not_enabled, idle_stays, tried_on, event_done}
-use Rattle.zworld_model.proofs.Past.{with_past, run_past}
+use Rattle.zprotocol.proofs.world_lemmas.Past.{with_past, run_past}
 use Rattle.zworld.specs.Did.{outcome_of}
 
 -- no server takes part in the begin of a call

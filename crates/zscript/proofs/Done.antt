@@ -1,7 +1,7 @@
 -- Lines that were done: none, one, and some and then others.
 use Rattle.std.proofs.Common.{◌≡◌, ℕ, List, [], ◌∷◌, ◌++◌, map, refl, sym, ap, ◌∙◌, subst, append_assoc}
 use Rattle.std.proofs.lemmas.List.{append-nil}
-use Rattle.zworld_model.specs.declared.outcome.Outcome.{Outcome}
+use Rattle.zprotocol.specs.declared.world.outcome.Outcome.{Outcome}
 use Rattle.zscript.specs.Line.{ServiceWorld, script_state, answers}
 use Rattle.zscript.specs.Done.{IsLineDone}
 use Rattle.zdevices.specs.Device.{TookBeginning}

@@ -9,14 +9,14 @@ use Rattle.zcalls.specs.Kept.{KeptState}
 use Rattle.zprotocol.specs.server.Machine.{kept_tree}
 use Rattle.zprotocol.specs.declared.master.order.Order.{Order}
 use Rattle.zprotocol.specs.master.Table.{order_fault}
-use Rattle.zworld_model.specs.declared.event.Event.{Event}
-use Rattle.zworld_model.specs.declared.event.Event.TheVariants as event
-use Rattle.zworld_model.specs.declared.outcome.Outcome.{Outcome}
-use Rattle.zworld_model.specs.declared.outcome.Outcome.TheVariants.{Acted}
-use Rattle.zworld_model.specs.declared.settled.Settled.{Settled}
-use Rattle.zworld_model.specs.Events.{is_enabled, happens}
-use Rattle.zworld_model.specs.Reading.{read}
-use Rattle.zworld_model.specs.Settle.{Settling, opening_settling, next_outcome, with_event}
+use Rattle.zprotocol.specs.declared.world.event.Event.{Event}
+use Rattle.zprotocol.specs.declared.world.event.Event.TheVariants as event
+use Rattle.zprotocol.specs.declared.world.outcome.Outcome.{Outcome}
+use Rattle.zprotocol.specs.declared.world.outcome.Outcome.TheVariants.{Acted}
+use Rattle.zprotocol.specs.declared.world.settled.Settled.{Settled}
+use Rattle.zprotocol.specs.world.Events.{is_enabled, happens}
+use Rattle.zprotocol.specs.world.Reading.{read}
+use Rattle.zprotocol.specs.world.Settle.{Settling, opening_settling, next_outcome, with_event}
 use Rattle.zworld.specs.declared.did.Did.{Did}
 use Rattle.zworld.specs.declared.did.Did.TheVariants as became
 use Rattle.zworld.specs.declared.did.IdleCause.{IdleCause}

@@ -6,7 +6,7 @@ use Rattle.std.proofs.lemmas.Bool.Decides.{nat_tests}
 use Rattle.std.proofs.Math.Seq.{take-append-add}
 use Rattle.zscript.specs.Line.{ServiceWorld, ScriptState, script_state, answer, after, answers}
 use Rattle.zscript.specs.Done.{IsLineDone}
-use Rattle.zlines.specs.declared.limits.TheConstants.{MAX_LINE}
+use Rattle.zscript_text.specs.declared.limits.TheConstants.{MAX_LINE}
 use Rattle.zscript.specs.declared.limits.TheConstants.{KEPT}
 use Rattle.zscript.specs.support.Lines.{after_all}
 use Rattle.zscript.specs.support.PlayerView.{PlayerView, world_now, kept_front}

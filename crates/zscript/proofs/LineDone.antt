@@ -2,14 +2,14 @@
 use Rattle.std.proofs.Common.{◌≡◌, ℕ, Bool, List, [], ◌∷◌, ◌++◌, None, refl, sym, ap, subst, ◌∙◌, inl, inr, append_assoc}
 use Rattle.std.specs.Prelude.{Ok, Err, String, string_bytes}
 use Rattle.std.specs.List.{flat_map}
-use Rattle.zworld_model.specs.declared.outcome.Outcome.{Outcome}
-use Rattle.zworld_model.specs.History.{History}
-use Rattle.zlines.specs.declared.line.Line.{Line}
-use Rattle.zlines.specs.declared.request.LineFault.{LineFault}
-use Rattle.zlines.specs.declared.request.LineFault.TheVariants.{Memory}
-use Rattle.zlines.specs.Request.{Read, IsUnread}
-use Rattle.zlines.specs.Line.{line_of}
-use Rattle.zlines.specs.Texts.{Writes}
+use Rattle.zprotocol.specs.declared.world.outcome.Outcome.{Outcome}
+use Rattle.zprotocol.specs.world.History.{History}
+use Rattle.zscript_text.specs.declared.line.Line.{Line}
+use Rattle.zscript_text.specs.declared.request.LineFault.{LineFault}
+use Rattle.zscript_text.specs.declared.request.LineFault.TheVariants.{Memory}
+use Rattle.zscript_text.specs.Request.{Read, IsUnread}
+use Rattle.zscript_text.specs.Line.{line_of}
+use Rattle.zscript_text.specs.Texts.{Writes}
 use Rattle.zworld.specs.Held.{Held, world_of}
 use Rattle.zworld.specs.Steps.{WorldView, world_in}
 use Rattle.zscript.specs.Line.{ServiceWorld, forgotten, script_state, LineEffect, line_fault_text, line_effect}

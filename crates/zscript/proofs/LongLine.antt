@@ -1,9 +1,9 @@
 -- A line that is too long: all such lines do the same and are answered alike.
 use Rattle.std.proofs.Common.{◌≡◌, ◌<◌, ℕ, List, length, codes, refl, ap, true, arith}
 use Rattle.std.proofs.lemmas.Bool.Decides.{nat_tests}
-use Rattle.zlines.specs.declared.limits.TheConstants.{MAX_LINE}
-use Rattle.zlines.specs.LineWords.{is_long}
-use Rattle.zlines.specs.Line.{line_of}
+use Rattle.zscript_text.specs.declared.limits.TheConstants.{MAX_LINE}
+use Rattle.zscript_text.specs.LineWords.{is_long}
+use Rattle.zscript_text.specs.Line.{line_of}
 use Rattle.zscript.specs.Line.{ScriptState, no_effect, effect_of, effect_text, forgotten, script_state, answer, after}
 
 long : (line : List ℕ) → MAX_LINE < length line → is_long line ≡ true

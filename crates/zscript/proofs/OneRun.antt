@@ -6,25 +6,25 @@ use Rattle.ztree.specs.Tree.{Tree}
 use Rattle.ztree.specs.declared.limits.TheConstants.{MAX_CLIENTS}
 use Rattle.zcalls.specs.Kept.{KeptState}
 use Rattle.zprotocol.specs.server.Machine.{kept_tree}
-use Rattle.zworld_model.specs.declared.event.Event.{Event}
-use Rattle.zworld_model.specs.declared.event.Event.TheVariants as event
-use Rattle.zworld_model.specs.declared.outcome.Outcome.{Outcome}
-use Rattle.zworld_model.specs.History.{History}
-use Rattle.zworld_model.specs.World.{opening_world}
-use Rattle.zworld_model.specs.Events.{is_enabled, happens, run}
-use Rattle.zworld_model.specs.Reading.{read}
-use Rattle.zworld_model.specs.Settle.{Settling, opening_settling, next_outcome, with_event, settle}
-use Rattle.zworld_model.proofs.Settling.{settling_is_a_run}
-use Rattle.zlines.specs.declared.line.Line.{Line}
-use Rattle.zlines.specs.declared.line.Line.TheVariants as asked
-use Rattle.zlines.specs.declared.request.Request.{Request}
-use Rattle.zlines.specs.Request.{Read}
-use Rattle.zlines.specs.Line.{line_of}
+use Rattle.zprotocol.specs.declared.world.event.Event.{Event}
+use Rattle.zprotocol.specs.declared.world.event.Event.TheVariants as event
+use Rattle.zprotocol.specs.declared.world.outcome.Outcome.{Outcome}
+use Rattle.zprotocol.specs.world.History.{History}
+use Rattle.zprotocol.specs.world.World.{opening_world}
+use Rattle.zprotocol.specs.world.Events.{is_enabled, happens, run}
+use Rattle.zprotocol.specs.world.Reading.{read}
+use Rattle.zprotocol.specs.world.Settle.{Settling, opening_settling, next_outcome, with_event, settle}
+use Rattle.zprotocol.proofs.world_lemmas.Settling.{settling_is_a_run}
+use Rattle.zscript_text.specs.declared.line.Line.{Line}
+use Rattle.zscript_text.specs.declared.line.Line.TheVariants as asked
+use Rattle.zscript_text.specs.declared.request.Request.{Request}
+use Rattle.zscript_text.specs.Request.{Read}
+use Rattle.zscript_text.specs.Line.{line_of}
 use Rattle.zscript.specs.declared.limits.TheConstants.{MAX_EVENTS}
 use Rattle.zscript.specs.Line.{ServiceWorld, ScriptState, LineEffect, opening_script, forgotten, after_try}
 use Rattle.zscript.specs.Line.{after_settling, call_effect, not_begun_text, no_effect, call_answered, line_effect}
 use Rattle.zscript.specs.Line.{read_effect, effect_of, after, histories}
-use Rattle.zworld_model.proofs.Past.{with_past, run_past}
+use Rattle.zprotocol.proofs.world_lemmas.Past.{with_past, run_past}
 
 -- the settling's world is where its events lead from a world
 abbrev LeadsFrom : ServiceWorld → Settling (KeptState Tree) → Type 0

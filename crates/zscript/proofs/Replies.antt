@@ -6,19 +6,19 @@ use Rattle.std.specs.Option.{option_map_or}
 use Rattle.std.proofs.lemmas.Bool.Decides.{nat_tests}
 use Rattle.zcalls.specs.Lists.{Among}
 use Rattle.zcalls.specs.declared.reply.Reply.{Reply}
-use Rattle.zworld_model.specs.declared.history.CallEvent.TheVariants.{Begin, Answer}
-use Rattle.zworld_model.specs.declared.event.Event.TheVariants as event
-use Rattle.zworld_model.specs.History.{History}
-use Rattle.zworld_model.specs.Events.{is_enabled}
-use Rattle.zworld_model.specs.Settle.{Settling}
+use Rattle.zprotocol.specs.declared.world.history.CallEvent.TheVariants.{Begin, Answer}
+use Rattle.zprotocol.specs.declared.world.event.Event.TheVariants as event
+use Rattle.zprotocol.specs.world.History.{History}
+use Rattle.zprotocol.specs.world.Events.{is_enabled}
+use Rattle.zprotocol.specs.world.Settle.{Settling}
 use Rattle.ztree.specs.Tree.{Tree}
 use Rattle.zcalls.specs.Kept.{KeptState}
-use Rattle.zlines.specs.declared.line.Line.{Line}
-use Rattle.zlines.specs.declared.line.Line.TheVariants as asked
-use Rattle.zlines.specs.declared.request.Request.{Request}
-use Rattle.zlines.specs.Request.{Read}
-use Rattle.zlines.specs.Line.{line_of}
-use Rattle.zlines.specs.Reply.{reply_text}
+use Rattle.zscript_text.specs.declared.line.Line.{Line}
+use Rattle.zscript_text.specs.declared.line.Line.TheVariants as asked
+use Rattle.zscript_text.specs.declared.request.Request.{Request}
+use Rattle.zscript_text.specs.Request.{Read}
+use Rattle.zscript_text.specs.Line.{line_of}
+use Rattle.zscript_text.specs.Reply.{reply_text}
 use Rattle.zscript.specs.Line.{ScriptState, LineEffect, reply_in, call_answered, call_effect, no_effect, not_begun_text}
 use Rattle.zscript.specs.Line.{after_settling, after_try, line_effect, read_effect, effect_of}
 use Rattle.zscript.specs.Histories.{IsAnsweredBy, CallsAreAnsweredByTheirReplies}

@@ -1,6 +1,6 @@
 -- What of a source that told no end can have been played: its whole lines alone.
 use Rattle.std.proofs.Common.{◌≡◌, ℕ, List, [], ◌∷◌, ◌++◌, inl, inr, refl, ◌∙◌, sym}
-use Rattle.zworld_model.specs.declared.outcome.Outcome.{Outcome}
+use Rattle.zprotocol.specs.declared.world.outcome.Outcome.{Outcome}
 use Rattle.zscript.specs.Line.{opening_script, answers}
 use Rattle.zdevices.specs.Device.{IsBeginning}
 use Rattle.zscript.specs.Script.{whole_lines_of}

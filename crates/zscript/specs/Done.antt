@@ -1,9 +1,9 @@
 -- A line that was executed, by a program that doesn't know the outcomes of its events beforehand.
 use Rattle.std.specs.Prelude.{◌≡◌, ℕ, List, [], ◌++◌, String}
-use Rattle.zworld_model.specs.declared.outcome.Outcome.{Outcome}
+use Rattle.zprotocol.specs.declared.world.outcome.Outcome.{Outcome}
 use Rattle.zworld.specs.Held.{Held, world_of}
 use Rattle.zworld.specs.Steps.{WorldView}
-use Rattle.zlines.specs.Texts.{Writes}
+use Rattle.zscript_text.specs.Texts.{Writes}
 use Rattle.zscript.specs.Line.{ServiceWorld, script_state, answer, after}
 
 -- the world between two lines, of the processes that are held

@@ -4,12 +4,12 @@ use Rattle.ztree.specs.declared.limits.TheConstants.{MAX_CLIENTS}
 use Rattle.zcalls.specs.Lists.{Among}
 use Rattle.zcalls.specs.declared.reply.Reply.{Reply}
 use Rattle.zprotocol.specs.server.Machine.{kept_tree}
-use Rattle.zworld_model.specs.declared.event.Event.{Event}
-use Rattle.zworld_model.specs.declared.outcome.Outcome.{Outcome}
-use Rattle.zworld_model.specs.declared.history.CallEvent.TheVariants.{Answer}
-use Rattle.zworld_model.specs.World.{opening_world}
-use Rattle.zworld_model.specs.Events.{run}
-use Rattle.zlines.specs.Reply.{reply_text}
+use Rattle.zprotocol.specs.declared.world.event.Event.{Event}
+use Rattle.zprotocol.specs.declared.world.outcome.Outcome.{Outcome}
+use Rattle.zprotocol.specs.declared.world.history.CallEvent.TheVariants.{Answer}
+use Rattle.zprotocol.specs.world.World.{opening_world}
+use Rattle.zprotocol.specs.world.Events.{run}
+use Rattle.zscript_text.specs.Reply.{reply_text}
 use Rattle.zscript.specs.Line.{ScriptState, LineEffect, opening_script, effect_of, histories}
 
 -- there are events such that the histories of all lines, one after the other, are the history of

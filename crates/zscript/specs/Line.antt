@@ -17,26 +17,26 @@ use Rattle.zprotocol.specs.master.Table.{order_fault}
 use Rattle.zprotocol.specs.declared.client.begin_fault.BeginFault.{BeginFault}
 use Rattle.zprotocol.specs.declared.client.begin_fault.BeginFault.TheVariants as begin
 use Rattle.zprotocol.specs.client.Table.{begin_fault}
-use Rattle.zworld_model.specs.declared.event.Event.{Event}
-use Rattle.zworld_model.specs.declared.event.Event.TheVariants as event
-use Rattle.zworld_model.specs.declared.history.CallEvent.{CallEvent}
-use Rattle.zworld_model.specs.declared.history.CallEvent.TheVariants.{Begin, Answer}
-use Rattle.zworld_model.specs.declared.outcome.Outcome.{Outcome}
-use Rattle.zworld_model.specs.declared.settled.Settled.{Settled}
-use Rattle.zworld_model.specs.declared.settled.Settled.TheVariants.{Quiet, Limit}
-use Rattle.zworld_model.specs.History.{History}
-use Rattle.zworld_model.specs.World.{World, opening_world}
-use Rattle.zworld_model.specs.Events.{is_enabled}
-use Rattle.zworld_model.specs.Settle.{Settling, opening_settling, with_try, settle, settling_end}
-use Rattle.zlines.specs.declared.line.Line.{Line}
-use Rattle.zlines.specs.declared.line.Line.TheVariants as asked
+use Rattle.zprotocol.specs.declared.world.event.Event.{Event}
+use Rattle.zprotocol.specs.declared.world.event.Event.TheVariants as event
+use Rattle.zprotocol.specs.declared.world.history.CallEvent.{CallEvent}
+use Rattle.zprotocol.specs.declared.world.history.CallEvent.TheVariants.{Begin, Answer}
+use Rattle.zprotocol.specs.declared.world.outcome.Outcome.{Outcome}
+use Rattle.zprotocol.specs.declared.world.settled.Settled.{Settled}
+use Rattle.zprotocol.specs.declared.world.settled.Settled.TheVariants.{Quiet, Limit}
+use Rattle.zprotocol.specs.world.History.{History}
+use Rattle.zprotocol.specs.world.World.{World, opening_world}
+use Rattle.zprotocol.specs.world.Events.{is_enabled}
+use Rattle.zprotocol.specs.world.Settle.{Settling, opening_settling, with_try, settle, settling_end}
+use Rattle.zscript_text.specs.declared.line.Line.{Line}
+use Rattle.zscript_text.specs.declared.line.Line.TheVariants as asked
 use Rattle.zpath.specs.Faults.{fault_name}
-use Rattle.zlines.specs.declared.request.Request.{Request}
-use Rattle.zlines.specs.declared.request.LineFault.{LineFault}
-use Rattle.zlines.specs.declared.request.LineFault.TheVariants.{BadLine, BadPath, BadData, Memory}
-use Rattle.zlines.specs.Request.{Read}
-use Rattle.zlines.specs.Line.{line_of}
-use Rattle.zlines.specs.Reply.{reply_text}
+use Rattle.zscript_text.specs.declared.request.Request.{Request}
+use Rattle.zscript_text.specs.declared.request.LineFault.{LineFault}
+use Rattle.zscript_text.specs.declared.request.LineFault.TheVariants.{BadLine, BadPath, BadData, Memory}
+use Rattle.zscript_text.specs.Request.{Read}
+use Rattle.zscript_text.specs.Line.{line_of}
+use Rattle.zscript_text.specs.Reply.{reply_text}
 use Rattle.zscript.specs.declared.limits.TheConstants.{MAX_EVENTS}
 
 -- the world of the service

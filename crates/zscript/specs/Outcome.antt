@@ -2,7 +2,7 @@
 -- outcomes of the run's events, in order, under which the text was the one that was written.
 use Rattle.std.specs.Prelude.{◌≡◌, ℕ, ◌<◌, ◌⊎◌, List, [], ◌++◌, length, codes}
 use Rattle.zdevices.specs.Device.{SourceRun, SinkRun, Failed, TookBeginning}
-use Rattle.zworld_model.specs.declared.outcome.Outcome.{Outcome}
+use Rattle.zprotocol.specs.declared.world.outcome.Outcome.{Outcome}
 use Rattle.zscript.specs.Line.{ServiceWorld, script_state, opening_script, answers}
 use Rattle.zscript.specs.Script.{opening_of, lines_of, whole_lines_of, text_of}
 use Rattle.zscript.specs.declared.fault.PlayFault.{PlayFault}

@@ -1,7 +1,7 @@
 -- The promise of a script: linearizability.
 use Rattle.std.specs.Prelude.{ℕ, List}
-use Rattle.zworld_model.specs.declared.outcome.Outcome.{Outcome}
-use Rattle.zworld_model.specs.PlainTree.{IsExplained}
+use Rattle.zprotocol.specs.declared.world.outcome.Outcome.{Outcome}
+use Rattle.zprotocol.specs.world.PlainTree.{IsExplained}
 use Rattle.zscript.specs.Line.{opening_script, histories}
 use Rattle.zscript.specs.Script.{lines_of}
 

@@ -1,6 +1,6 @@
 //! Sizes of a player's buffers in bytes, and the limit of a line's events: this project's profile.
 
-use zlines::limits::MAX_LINE;
+use zscript_text::limits::MAX_LINE;
 
 /// The size of a block: bytes are read, and replies are written, in blocks.
 pub const BLOCK: usize = 65_536;

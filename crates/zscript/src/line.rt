@@ -1,7 +1,7 @@
 //! A line of a script, played on a world.
 
 ghost use Rattle.std.specs.Prelude.{◌≡◌, ◌&&◌, [], IfOk, OnOk};
-ghost use Rattle.zlines.specs.Texts.{Writes};
+ghost use Rattle.zscript_text.specs.Texts.{Writes};
 ghost use Rattle.zscript.specs.Line.{effect_of, call_effect, begin_effect};
 ghost use Rattle.zscript.specs.Line.{settle_effect};
 ghost use Rattle.zscript.specs.Done.{AnswersLine, AnswersLineActing, world_between};
@@ -16,11 +16,11 @@ use crate::limits::MAX_EVENTS;
 use crate::texts::{write_begun, write_called, write_cause, write_did, write_fault, write_settled};
 use std::alloc::Global;
 use zalloc::Memory;
-use zlines::{Line, Request, read_line};
+use zscript_text::{Line, Request, read_line};
 use zprotocol::ServerId;
 use ztree::limits::MAX_CLIENTS;
 use zworld::{Did, World};
-use zworld_model::{Event, Settled};
+use zprotocol::world::{Event, Settled};
 
 /// Returns the world that a script begins in. Its chain is the servers up to `last`, and no client
 /// has invoked a call yet.

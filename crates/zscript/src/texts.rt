@@ -2,7 +2,7 @@
 
 ghost use Rattle.std.specs.Prelude.{◌≡◌, ◌++◌, OnOk};
 ghost use Rattle.std.specs.List.{flat_map};
-ghost use Rattle.zlines.specs.Texts.{Writes};
+ghost use Rattle.zscript_text.specs.Texts.{Writes};
 ghost use Rattle.zscript.specs.Line.{order_fault_name, settled_text};
 ghost use Rattle.zscript.specs.Line.{taken_text, is_answer_to};
 ghost use Rattle.zscript.specs.support.Effects.{cause_text, did_text, begun_text, called_text};
@@ -10,10 +10,10 @@ ghost use Rattle.zscript.specs.support.Effects.{WritesFault, taken_lines, own_ca
 
 use zalloc::Memory;
 use zcalls::{CallNumber, ClientId};
-use zlines::{LineFault, write_reply};
+use zscript_text::{LineFault, write_reply};
 use zprotocol::{BeginFault, OrderFault};
 use zworld::{Did, IdleCause};
-use zworld_model::{CallEvent, Settled};
+use zprotocol::world::{CallEvent, Settled};
 
 // A call, by its client and that client's number of it.
 type Own = Option<(ClientId, CallNumber)>;

@@ -2,7 +2,7 @@
 
 use std::alloc::Global;
 use std::process::Abort;
-use zcli::WordsFault;
+use zarguments::WordsFault;
 use zcommand::{command, settings};
 use zscript::{SliceSource, VecSink};
 

@@ -6,9 +6,9 @@ use Rattle.std.proofs.lemmas.List.{append_cancel_left}
 use Rattle.std.proofs.lemmas.List.Concat.{flat_map-append}
 use Rattle.std.specs.Prelude.{nat_lt, if◌then◌else◌}
 use Rattle.std.specs.List.{AllByRecursion, flat_map}
-use Rattle.zforms.specs.Forms.{Form}
-use Rattle.zforms.specs.Laws.{IsForm}
-use Rattle.zforms.proofs.Whole.{one_value}
+use Rattle.zcodec.specs.Forms.{Form}
+use Rattle.zcodec.specs.Laws.{IsForm}
+use Rattle.zcodec.proofs.Whole.{one_value}
 use Rattle.ztree.specs.declared.node.Node.{Node}
 use Rattle.ztree.specs.Tree.{Path}
 use Rattle.zops.specs.Machine.{MachineState}

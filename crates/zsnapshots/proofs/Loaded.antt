@@ -4,10 +4,10 @@ use Rattle.std.proofs.Common.{append-nil, append_assoc, refl, sym, ap, subst, â—
 use Rattle.std.proofs.lemmas.List.{map-append}
 use Rattle.std.specs.Prelude.{OnOk, OnErr, IfNone}
 use Rattle.std.specs.List.{AllByRecursion}
-use Rattle.zforms.specs.Forms.{Form}
-use Rattle.zforms.specs.Choices.{sized}
-use Rattle.zforms.proofs.Bytes.{ok_is}
-use Rattle.zforms.proofs.Choices.{is_sized}
+use Rattle.zcodec.specs.Forms.{Form}
+use Rattle.zcodec.specs.Choices.{sized}
+use Rattle.zcodec.proofs.Bytes.{ok_is}
+use Rattle.zcodec.proofs.Choices.{is_sized}
 use Rattle.zops.specs.Machine.{MachineState}
 use Rattle.zwire.specs.declared.limits.TheConstants.{MAX_FRAME}
 use Rattle.zwire.specs.declared.fault.FrameFault.{FrameFault}

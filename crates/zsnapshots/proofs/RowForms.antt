@@ -2,12 +2,12 @@
 use Rattle.std.proofs.Common.{◌≡◌, ℕ, List, Result, refl, arith}
 use Rattle.std.specs.Prelude.{Ok, Err, IfOk, IfErr, OnOk}
 use Rattle.std.specs.Int.{w32}
-use Rattle.zforms.specs.Forms.{Form, number, both}
-use Rattle.zforms.specs.Laws.{IsBytes, IsForm}
-use Rattle.zforms.proofs.Numbers.{is_u32, is_u64}
-use Rattle.zforms.proofs.Parts.{is_both, is_record}
-use Rattle.zrecords.specs.Fields.{path, content, long}
-use Rattle.zrecords.proofs.Fields.{is_path, is_content}
+use Rattle.zcodec.specs.Forms.{Form, number, both}
+use Rattle.zcodec.specs.Laws.{IsBytes, IsForm}
+use Rattle.zcodec.proofs.Numbers.{is_u32, is_u64}
+use Rattle.zcodec.proofs.Parts.{is_both, is_record}
+use Rattle.zwire.specs.records.Fields.{path, content, long}
+use Rattle.zwire.proofs.records_lemmas.Fields.{is_path, is_content}
 use Rattle.zwire.specs.declared.limits.TheConstants.{MAX_FRAME}
 use Rattle.zwire.specs.declared.fault.FrameFault.{FrameFault}
 use Rattle.zwire.specs.Fields.{call_number, log_number, client, three, four}

@@ -15,7 +15,7 @@ use Rattle.zcalls.specs.declared.reply.Reply.{Reply}
 use Rattle.zcalls.specs.declared.reply.Reply.TheVariants as told
 use Rattle.zcalls.specs.Kept.{Kept}
 use Rattle.zops.specs.Restored.{IsOfUpdate}
-use Rattle.zrecords.specs.Fields.{path, content}
+use Rattle.zwire.specs.records.Fields.{path, content}
 use Rattle.zwire.specs.Fields.{call_number, log_number, client, stat, refusal}
 use Rattle.zwire.specs.Replies.{part_reply, replies, reply}
 use Rattle.zsnapshots.specs.declared.header.Header.{Header}

@@ -3,10 +3,10 @@ use Rattle.std.proofs.Common.{◌≡◌, ℕ, ◌<◌, Bool, true, false, List, 
 use Rattle.std.proofs.lemmas.Bool.{ltb-true, lt-ltb}
 use Rattle.std.specs.Prelude.{IfOk, IfErr}
 use Rattle.std.specs.List.{AllByRecursion}
-use Rattle.zforms.specs.Forms.{Form}
-use Rattle.zforms.specs.Laws.{IsForm}
-use Rattle.zforms.proofs.Bytes.{ok_is}
-use Rattle.zforms.proofs.Whole.{one_value}
+use Rattle.zcodec.specs.Forms.{Form}
+use Rattle.zcodec.specs.Laws.{IsForm}
+use Rattle.zcodec.proofs.Bytes.{ok_is}
+use Rattle.zcodec.proofs.Whole.{one_value}
 use Rattle.ztree.specs.declared.node.Node.{Node}
 use Rattle.ztree.specs.declared.session.Session.{Session}
 use Rattle.ztree.specs.Tree.{Path}

@@ -1,7 +1,7 @@
 -- Laws of the definitions.
 use Rattle.std.specs.Prelude.{◌≡◌, ◌≢◌, ℕ, ◌+◌, ◌≤◌, true, List, [], ◌++◌, length, map}
-use Rattle.zforms.specs.Forms.{Form}
-use Rattle.zforms.specs.Laws.{IsForm}
+use Rattle.zcodec.specs.Forms.{Form}
+use Rattle.zcodec.specs.Laws.{IsForm}
 use Rattle.zops.specs.Machine.{MachineState}
 use Rattle.zwire.specs.declared.fault.FrameFault.{FrameFault}
 use Rattle.zwire.specs.declared.fault.FrameFault.TheVariants.{Cut}

@@ -1,3 +1,5 @@
+pub mod folder
+pub mod export
 pub mod Rows
 pub mod States
 pub mod Loading

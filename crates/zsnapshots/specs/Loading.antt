@@ -1,6 +1,6 @@
 -- A state that is read from rows, each in bytes of its own.
 use Rattle.std.specs.Prelude.{◌≡◌, ◌≢◌, ℕ, List, [], ◌∷◌, ◌++◌, map, Option, None, Some, Result, Ok, IfErr}
-use Rattle.zforms.specs.Choices.{sized}
+use Rattle.zcodec.specs.Choices.{sized}
 use Rattle.zops.specs.Machine.{MachineState}
 use Rattle.zwire.specs.declared.limits.TheConstants.{MAX_FRAME}
 use Rattle.zsnapshots.specs.declared.header.Header.{Header}

@@ -2,14 +2,14 @@
 -- row is a frame of its own, so that a state is written and read row by row.
 use Rattle.std.specs.Prelude.{◌≡◌, ℕ, List, ◌++◌, Result, IfOk, IfErr}
 use Rattle.std.specs.Int.{w32}
-use Rattle.zforms.specs.Forms.{Form, number, both}
+use Rattle.zcodec.specs.Forms.{Form, number, both}
 use Rattle.zjute.specs.Shapes.{fields}
 use Rattle.ztree.specs.declared.node.Node.{Node}
 use Rattle.ztree.specs.declared.session.Session.{Session}
 use Rattle.ztree.specs.Tree.{Path}
 use Rattle.zcalls.specs.Kept.{Kept}
 use Rattle.zcalls.specs.declared.reply.Reply.{Reply}
-use Rattle.zrecords.specs.Fields.{path, content, long}
+use Rattle.zwire.specs.records.Fields.{path, content, long}
 use Rattle.zwire.specs.declared.limits.TheConstants.{MAX_FRAME}
 use Rattle.zwire.specs.declared.fault.FrameFault.{FrameFault}
 use Rattle.zwire.specs.declared.fault.FrameFault.TheVariants.{Memory}

@@ -4,7 +4,7 @@ ghost use Rattle.std.specs.Prelude.{◌≡◌};
 ghost use Rattle.zsnapshots.specs.support.Faults.{of_frame, of_restoring};
 
 use thiserror::Error;
-use zforms::Fault;
+use zcodec::Fault;
 use zops::RestoreFault;
 use zwire::FrameFault;
 

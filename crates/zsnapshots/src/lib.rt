@@ -20,7 +20,9 @@
 //! mistake.
 #![tactic(auto)]
 
+pub mod export;
 mod fault;
+pub mod folder;
 mod head;
 mod header;
 pub mod laws;

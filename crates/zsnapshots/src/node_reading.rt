@@ -1,13 +1,13 @@
 //! Nodes, read from the front of bytes with what follows them.
 
-ghost use Rattle.zforms.specs.Readers.{Reads, Gives};
+ghost use Rattle.zcodec.specs.Readers.{Reads, Gives};
 ghost use Rattle.zwire.specs.Fields.{three, four};
 ghost use Rattle.zsnapshots.specs.Rows.{node, node_text};
 
 use std::alloc::Global;
-use zforms::{Fault, ReadError, u64_at};
+use zcodec::{Fault, ReadError, u64_at};
 use zpath::Path;
-use zrecords::{content_of, path_of};
+use zwire::records::{content_of, path_of};
 use ztree::{Node, Zxid};
 
 /// Reads a node with its path.

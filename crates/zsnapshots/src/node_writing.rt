@@ -6,9 +6,9 @@ ghost use Rattle.zsnapshots.specs.Rows.{zxids_of, counts_of, marks_of, node as n
 ghost use Rattle.zsnapshots.specs.Rows.{node_text};
 
 use std::alloc::{AllocError, Global};
-use zforms::put_u64;
+use zcodec::put_u64;
 use zpath::Path;
-use zrecords::{put_content, put_path};
+use zwire::records::{put_content, put_path};
 use ztree::Node;
 
 /// Writes a node with its path.

@@ -1,7 +1,7 @@
 //! Rows, read from the front of bytes with what follows them.
 
 ghost use Rattle.std.specs.Prelude.{◌≡◌, Ok, IfOk, IfErr};
-ghost use Rattle.zforms.specs.Readers.{Reads, Gives, whole};
+ghost use Rattle.zcodec.specs.Readers.{Reads, Gives, whole};
 ghost use Rattle.zwire.specs.Frames.{IsFaultOf};
 ghost use Rattle.zsnapshots.specs.Rows.{header_text, session_text, node_text, kept_of, reply_text};
 ghost use Rattle.zsnapshots.specs.Rows.{row, IsReadAs};
@@ -11,7 +11,7 @@ use crate::node_reading::node_text_of;
 use crate::text_reading::{header_text_at, reply_text_of, session_text_at};
 use std::alloc::Global;
 use zcalls::{CallNumber, Reply};
-use zforms::{Fault, ReadError, end};
+use zcodec::{Fault, ReadError, end};
 use zpath::Path;
 use ztree::{ClientId, Node, Session, SessionId};
 use zwire::{FrameFault, cut_frame, whole_of};

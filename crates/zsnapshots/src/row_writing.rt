@@ -10,7 +10,7 @@ use crate::node_writing::put_node_text;
 use crate::text_writing::{put_header_text, put_reply_text, put_session_text};
 use std::alloc::{AllocError, Global};
 use zcalls::{CallNumber, Reply};
-use zforms::put_sized;
+use zcodec::put_sized;
 use zpath::Path;
 use ztree::{ClientId, Node, Session, SessionId};
 

@@ -1,7 +1,7 @@
 //! Worked examples of the definitions. Each function's contract has some; its body is empty.
 
 ghost use Rattle.std.specs.Prelude.{◌≡◌, [], ◌∷◌, Some, Ok};
-ghost use Rattle.zforms.specs.declared.fault.Fault.TheVariants.{Short, Invalid, Trailing};
+ghost use Rattle.zcodec.specs.declared.fault.Fault.TheVariants.{Short, Invalid, Trailing};
 ghost use Rattle.zwire.specs.declared.fault.FrameFault.TheVariants.{Cut, TooLong, Contents};
 ghost use Rattle.zwire.specs.Frames.{IsFaultOf};
 ghost use Rattle.zsnapshots.specs.Rows.{header_text, session_text, node_text, reply_text, row};

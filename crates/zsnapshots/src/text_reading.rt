@@ -1,13 +1,13 @@
 //! Headers, sessions and cached replies, read from the front of bytes with what follows them.
 
-ghost use Rattle.zforms.specs.Readers.{Reads, Gives};
+ghost use Rattle.zcodec.specs.Readers.{Reads, Gives};
 ghost use Rattle.zsnapshots.specs.Rows.{totals, header_text, session, session_text, kept_of};
 ghost use Rattle.zsnapshots.specs.Rows.{reply_text};
 
 use crate::header::Header;
 use std::alloc::Global;
 use zcalls::{CallNumber, Reply};
-use zforms::{Fault, ReadError, u32_at, u64_at};
+use zcodec::{Fault, ReadError, u32_at, u64_at};
 use ztree::{ClientId, Session, SessionId, Zxid};
 use zwire::{call_number_at, client_at, log_number_at, reply_of};
 

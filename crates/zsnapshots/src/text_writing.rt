@@ -2,8 +2,8 @@
 //! what it writes fits.
 
 ghost use Rattle.std.specs.Prelude.{◌≡◌, ◌++◌, OnOk};
-ghost use Rattle.zforms.specs.Forms.{both};
-ghost use Rattle.zrecords.specs.Fields.{long};
+ghost use Rattle.zcodec.specs.Forms.{both};
+ghost use Rattle.zwire.specs.records.Fields.{long};
 ghost use Rattle.zsnapshots.specs.Rows.{clocks, totals, header_text};
 ghost use Rattle.zsnapshots.specs.Rows.{session as session_form, session_text, kept_of};
 ghost use Rattle.zsnapshots.specs.Rows.{reply_text};
@@ -11,7 +11,7 @@ ghost use Rattle.zsnapshots.specs.Rows.{reply_text};
 use crate::header::Header;
 use std::alloc::{AllocError, Global};
 use zcalls::{CallNumber, Reply};
-use zforms::{put_u32, put_u64};
+use zcodec::{put_u32, put_u64};
 use zprotocol::LogNumber;
 use ztree::{ClientId, Session, SessionId, Zxid};
 use zwire::{put_call_number, put_client, put_log_number, put_reply};

@@ -1,3 +1,4 @@
+pub mod changes_lemmas
 pub mod Order
 pub mod Sets
 pub mod Places

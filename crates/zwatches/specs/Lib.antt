@@ -1,3 +1,4 @@
+pub mod changes
 pub mod Watches
 pub mod Events
 pub mod Places

@@ -16,6 +16,7 @@
 //! nodes.
 #![tactic(auto)]
 
+pub mod changes;
 mod fault;
 mod groups;
 mod kind;

@@ -2,13 +2,13 @@
 use Rattle.std.proofs.Common.{◌≡◌, ℕ, ◌^◌, ◌<◌, ◌≤◌, Bool, cond, ltb, List, ◌++◌, length, Ok, Err, refl, ap, subst, arith}
 use Rattle.std.specs.Int.{Width, w8, w64, byte_len}
 use Rattle.std.proofs.lemmas.Bool.{ltb-false, le-ltb}
-use Rattle.zforms.specs.declared.fault.Fault.TheVariants.{Invalid}
-use Rattle.zforms.specs.Forms.{Form, number, both, empty, times}
-use Rattle.zforms.specs.Laws.{IsForm}
-use Rattle.zforms.proofs.Bytes.{guard_ok, ok_is}
-use Rattle.zforms.proofs.Numbers.{is_u8, is_u64, is_empty}
-use Rattle.zforms.proofs.Parts.{is_both, is_made, is_record, is_tagged}
-use Rattle.zforms.proofs.Times.{is_times}
+use Rattle.zcodec.specs.declared.fault.Fault.TheVariants.{Invalid}
+use Rattle.zcodec.specs.Forms.{Form, number, both, empty, times}
+use Rattle.zcodec.specs.Laws.{IsForm}
+use Rattle.zcodec.proofs.Bytes.{guard_ok, ok_is}
+use Rattle.zcodec.proofs.Numbers.{is_u8, is_u64, is_empty}
+use Rattle.zcodec.proofs.Parts.{is_both, is_made, is_record, is_tagged}
+use Rattle.zcodec.proofs.Times.{is_times}
 use Rattle.zjute.proofs.Before.{Anything, before, is_form}
 use Rattle.zjute.proofs.Tags.{again_as, is_by_tag}
 use Rattle.zcalls.specs.declared.limits.TheConstants.{MAX_CALL_NUMBER}
@@ -19,10 +19,10 @@ use Rattle.zcalls.specs.declared.refusal.Refusal.TheVariants.{PathLimit, RootFix
 use Rattle.zprotocol.specs.declared.limits.TheConstants.{MAX_LOG_NUMBER, MAX_EPOCH}
 use Rattle.zprotocol.specs.declared.process.Process.{Process}
 use Rattle.zprotocol.specs.declared.process.Process.TheVariants.{Master, Server, Client}
-use Rattle.zrecords.specs.Fields.{long}
-use Rattle.zrecords.specs.Records.{server}
-use Rattle.zrecords.proofs.Sums.{none_take, one_takes}
-use Rattle.zrecords.proofs.Records.{is_server}
+use Rattle.zwire.specs.records.Fields.{long}
+use Rattle.zwire.specs.records.Records.{server}
+use Rattle.zwire.proofs.records_lemmas.Sums.{none_take, one_takes}
+use Rattle.zwire.proofs.records_lemmas.Records.{is_server}
 use Rattle.zwire.specs.Fields.{within_from, within, call_number, log_number, epoch, client, process_at, process_spelled}
 use Rattle.zwire.specs.Fields.{process, three, zxids_of, four, counts_of, sizes_of, stat_of, stat, refusal_at}
 use Rattle.zwire.specs.Fields.{refusal_spelled, refusal, counted}

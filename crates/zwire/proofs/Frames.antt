@@ -2,16 +2,16 @@
 use Rattle.std.proofs.Common.{◌≡◌, ◌≢◌, ℕ, ◌^◌, ◌<◌, ◌≤◌, List, [], ◌∷◌, ◌++◌, length, Result, Ok, Err, refl, sym, ap, subst, ◌∙◌, append-nil, arith}
 use Rattle.std.specs.Prelude.{IfOk, IfErr}
 use Rattle.std.specs.Int.{w32, to_be_bytes}
-use Rattle.zforms.specs.declared.fault.Fault.{Fault}
-use Rattle.zforms.specs.declared.fault.Fault.TheVariants.{Short, Long, Invalid, Trailing}
-use Rattle.zforms.specs.Forms.{◌>>=◌, Form}
-use Rattle.zforms.specs.Choices.{sized}
-use Rattle.zforms.specs.Laws.{IsBytes, IsForm}
-use Rattle.zforms.specs.Readers.{whole}
-use Rattle.zforms.proofs.Bytes.{bytes_before, bytes_after, bind_ok, done, ok_is}
-use Rattle.zforms.proofs.Parts.{is_both, is_record}
-use Rattle.zforms.proofs.Choices.{is_sized}
-use Rattle.zforms.proofs.Whole.{whole_takes, whole_again, one_value}
+use Rattle.zcodec.specs.declared.fault.Fault.{Fault}
+use Rattle.zcodec.specs.declared.fault.Fault.TheVariants.{Short, Long, Invalid, Trailing}
+use Rattle.zcodec.specs.Forms.{◌>>=◌, Form}
+use Rattle.zcodec.specs.Choices.{sized}
+use Rattle.zcodec.specs.Laws.{IsBytes, IsForm}
+use Rattle.zcodec.specs.Readers.{whole}
+use Rattle.zcodec.proofs.Bytes.{bytes_before, bytes_after, bind_ok, done, ok_is}
+use Rattle.zcodec.proofs.Parts.{is_both, is_record}
+use Rattle.zcodec.proofs.Choices.{is_sized}
+use Rattle.zcodec.proofs.Whole.{whole_takes, whole_again, one_value}
 use Rattle.zwire.specs.declared.limits.TheConstants.{MAX_FRAME}
 use Rattle.zwire.specs.declared.fault.FrameFault.{FrameFault}
 use Rattle.zwire.specs.declared.fault.FrameFault.TheVariants.{Cut, TooLong, Contents, Memory}

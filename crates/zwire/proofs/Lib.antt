@@ -1,3 +1,4 @@
+pub mod records_lemmas
 pub mod Fields
 pub mod Names
 pub mod Replies

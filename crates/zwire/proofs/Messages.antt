@@ -1,19 +1,19 @@
 -- Messages are forms.
 use Rattle.std.proofs.Common.{◌≡◌, List, ◌++◌, ℕ, Ok, refl}
 use Rattle.std.specs.Int.{w8}
-use Rattle.zforms.specs.Forms.{number, both, empty}
-use Rattle.zforms.specs.Laws.{IsForm}
-use Rattle.zforms.proofs.Numbers.{is_u8, is_empty}
-use Rattle.zforms.proofs.Parts.{is_both, is_record}
-use Rattle.zforms.proofs.Choices.{is_option}
+use Rattle.zcodec.specs.Forms.{number, both, empty}
+use Rattle.zcodec.specs.Laws.{IsForm}
+use Rattle.zcodec.proofs.Numbers.{is_u8, is_empty}
+use Rattle.zcodec.proofs.Parts.{is_both, is_record}
+use Rattle.zcodec.proofs.Choices.{is_option}
 use Rattle.zjute.proofs.Before.{Anything, before, is_form}
 use Rattle.zjute.proofs.Tags.{again_as, is_by_tag}
 use Rattle.zprotocol.specs.declared.message.Message.TheVariants as message
-use Rattle.zrecords.specs.Calls.{update}
-use Rattle.zrecords.specs.Records.{server}
-use Rattle.zrecords.proofs.Sums.{Takes, none_take, one_takes}
-use Rattle.zrecords.proofs.Records.{is_server}
-use Rattle.zrecords.proofs.Calls.{is_update}
+use Rattle.zwire.specs.records.Calls.{update}
+use Rattle.zwire.specs.records.Records.{server}
+use Rattle.zwire.proofs.records_lemmas.Sums.{Takes, none_take, one_takes}
+use Rattle.zwire.proofs.records_lemmas.Records.{is_server}
+use Rattle.zwire.proofs.records_lemmas.Calls.{is_update}
 use Rattle.zwire.specs.Fields.{call_number, log_number, epoch, client}
 use Rattle.zwire.specs.Replies.{query, reply}
 use Rattle.zwire.specs.Messages.{entry, last, end, submitted, asked, answered, forwarded, acknowledged, predecessor}

@@ -3,17 +3,17 @@ use Rattle.std.proofs.Common.{◌≡◌, ℕ, ◌≤◌, Bool, true, false, cond
 use Rattle.std.proofs.Common.{refl, sym, ap, subst, ◌∙◌, append-nil, arith, lit<}
 use Rattle.std.specs.Prelude.{is_some}
 use Rattle.std.specs.List.{flat_map}
-use Rattle.zforms.specs.declared.fault.Fault.{Fault}
-use Rattle.zforms.specs.declared.fault.Fault.TheVariants.{Invalid}
-use Rattle.zforms.specs.declared.fault.ReadError.{ReadError}
-use Rattle.zforms.specs.declared.fault.ReadError.TheVariants as errors
-use Rattle.zforms.specs.Forms.{◌>>=◌}
-use Rattle.zforms.specs.Choices.{sized}
-use Rattle.zforms.specs.Laws.{IsForm}
-use Rattle.zforms.specs.Readers.{Fails, Gives}
-use Rattle.zforms.proofs.Bytes.{guard_ok, ok_is}
-use Rattle.zforms.proofs.Parts.{is_made}
-use Rattle.zforms.proofs.Choices.{is_sized}
+use Rattle.zcodec.specs.declared.fault.Fault.{Fault}
+use Rattle.zcodec.specs.declared.fault.Fault.TheVariants.{Invalid}
+use Rattle.zcodec.specs.declared.fault.ReadError.{ReadError}
+use Rattle.zcodec.specs.declared.fault.ReadError.TheVariants as errors
+use Rattle.zcodec.specs.Forms.{◌>>=◌}
+use Rattle.zcodec.specs.Choices.{sized}
+use Rattle.zcodec.specs.Laws.{IsForm}
+use Rattle.zcodec.specs.Readers.{Fails, Gives}
+use Rattle.zcodec.proofs.Bytes.{guard_ok, ok_is}
+use Rattle.zcodec.proofs.Parts.{is_made}
+use Rattle.zcodec.proofs.Choices.{is_sized}
 use Rattle.zpath.specs.declared.limits.TheConstants.{MAX_NAME_LEN, MAX_TEXT_LEN}
 use Rattle.zpath.specs.Grammar.{IsName, IsPath, is_empty, is_dots, has_bad_byte, is_long, segment_of, text_of}
 use Rattle.zpath.specs.Faults.{fault_of, names_of, parts_of}
@@ -21,8 +21,8 @@ use Rattle.zpath.proofs.NameTests.{both_false, names_from_tests, tests_from_name
 use Rattle.zpath.proofs.Spelling.{names_of-text_of}
 use Rattle.zpath.proofs.Splits.{spelled-parts_of}
 use Rattle.ztree.specs.Tree.{Path}
-use Rattle.zrecords.specs.Fields.{path_from}
-use Rattle.zrecords.proofs.Fields.{path_again, path_back}
+use Rattle.zwire.specs.records.Fields.{path_from}
+use Rattle.zwire.proofs.records_lemmas.Fields.{path_again, path_back}
 use Rattle.zwire.specs.Fields.{name_from, name, second_from}
 
 -- ---- what is a name

@@ -1,10 +1,10 @@
 -- Queries and replies are forms.
 use Rattle.std.proofs.Common.{◌≡◌, List, ◌++◌, ℕ, Ok, refl}
 use Rattle.std.specs.Int.{w8}
-use Rattle.zforms.specs.Forms.{number, both, empty}
-use Rattle.zforms.specs.Laws.{IsForm}
-use Rattle.zforms.proofs.Numbers.{is_u8, is_u64, is_empty}
-use Rattle.zforms.proofs.Parts.{is_both}
+use Rattle.zcodec.specs.Forms.{number, both, empty}
+use Rattle.zcodec.specs.Laws.{IsForm}
+use Rattle.zcodec.proofs.Numbers.{is_u8, is_u64, is_empty}
+use Rattle.zcodec.proofs.Parts.{is_both}
 use Rattle.zjute.proofs.Before.{Anything, before, is_form}
 use Rattle.zjute.proofs.Tags.{again_as, is_by_tag}
 use Rattle.zcalls.specs.declared.call.Query.{Query}
@@ -13,9 +13,9 @@ use Rattle.zcalls.specs.declared.reply.PartReply.{PartReply}
 use Rattle.zcalls.specs.declared.reply.PartReply.TheVariants as part
 use Rattle.zcalls.specs.declared.reply.Reply.{Reply}
 use Rattle.zcalls.specs.declared.reply.Reply.TheVariants as told
-use Rattle.zrecords.specs.Fields.{path, content, long}
-use Rattle.zrecords.proofs.Sums.{Takes, none_take, one_takes}
-use Rattle.zrecords.proofs.Fields.{is_path, is_content}
+use Rattle.zwire.specs.records.Fields.{path, content, long}
+use Rattle.zwire.proofs.records_lemmas.Sums.{Takes, none_take, one_takes}
+use Rattle.zwire.proofs.records_lemmas.Fields.{is_path, is_content}
 use Rattle.zwire.specs.Fields.{stat, refusal, name}
 use Rattle.zwire.specs.Replies.{query_at, query_spelled, query, part_reply_at, part_reply_spelled, part_reply, replies}
 use Rattle.zwire.specs.Replies.{names, opened, ticked, data_stat, refused_part, other_reply_at, reply_at, reply_spelled}

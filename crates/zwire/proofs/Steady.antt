@@ -4,10 +4,10 @@ use Rattle.std.proofs.Common.{◌≡◌, ℕ, ◌≤◌, Bool, true, false, cond
 use Rattle.std.proofs.lemmas.Bool.{ltb-false, le-ltb}
 use Rattle.std.proofs.lemmas.List.{length-append, take-append-le, drop-append-le}
 use Rattle.std.specs.Int.{Width, w32, byte_len, from_be_bytes}
-use Rattle.zforms.specs.declared.fault.Fault.{Fault}
-use Rattle.zforms.specs.declared.fault.Fault.TheVariants.{Short, Long, Invalid, Trailing}
-use Rattle.zforms.specs.Forms.{◌>>=◌, Form, exactly, bytes_at, number, number_at, made}
-use Rattle.zforms.specs.Choices.{at_most, length_from, sized}
+use Rattle.zcodec.specs.declared.fault.Fault.{Fault}
+use Rattle.zcodec.specs.declared.fault.Fault.TheVariants.{Short, Long, Invalid, Trailing}
+use Rattle.zcodec.specs.Forms.{◌>>=◌, Form, exactly, bytes_at, number, number_at, made}
+use Rattle.zcodec.specs.Choices.{at_most, length_from, sized}
 
 -- what reading gives where more bytes follow
 abbrev pub Stays : {A : Type 0} → List ℕ → Result (A × List ℕ) Fault → Result (A × List ℕ) Fault → Type 0

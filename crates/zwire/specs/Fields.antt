@@ -5,10 +5,10 @@
 -- with the number of servers.
 use Rattle.std.specs.Prelude.{ℕ, ◌-◌, ◌≤◌, ◌||◌, List, [], ◌∷◌, length, Result, Ok, Err, nat_lt, if◌then◌else◌}
 use Rattle.std.specs.Int.{Width, w8, w64}
-use Rattle.zforms.specs.declared.fault.Fault.{Fault}
-use Rattle.zforms.specs.declared.fault.Fault.TheVariants.{Invalid}
-use Rattle.zforms.specs.Forms.{Form, number, both, made, empty, tagged, times}
-use Rattle.zforms.specs.Choices.{sized}
+use Rattle.zcodec.specs.declared.fault.Fault.{Fault}
+use Rattle.zcodec.specs.declared.fault.Fault.TheVariants.{Invalid}
+use Rattle.zcodec.specs.Forms.{Form, number, both, made, empty, tagged, times}
+use Rattle.zcodec.specs.Choices.{sized}
 use Rattle.zjute.specs.Shapes.{Spelled, behind, read_as, by_tag, fields}
 use Rattle.zpath.specs.declared.limits.TheConstants.{MAX_NAME_LEN}
 use Rattle.zpath.specs.Grammar.{IsName, is_empty, is_dots, has_bad_byte, is_long}
@@ -20,9 +20,9 @@ use Rattle.zcalls.specs.declared.refusal.Refusal.TheVariants.{NoNode, NodeExists
 use Rattle.zprotocol.specs.declared.limits.TheConstants.{MAX_LOG_NUMBER, MAX_EPOCH}
 use Rattle.zprotocol.specs.declared.process.Process.{Process}
 use Rattle.zprotocol.specs.declared.process.Process.TheVariants.{Master, Server, Client}
-use Rattle.zrecords.specs.Sums.{at_tag, no_tag}
-use Rattle.zrecords.specs.Fields.{long}
-use Rattle.zrecords.specs.Records.{server}
+use Rattle.zwire.specs.records.Sums.{at_tag, no_tag}
+use Rattle.zwire.specs.records.Fields.{long}
+use Rattle.zwire.specs.records.Records.{server}
 
 -- ---- numbers
 

@@ -1,10 +1,10 @@
 -- Frames: a length in four bytes, and that many bytes. They are a message with the process that
 -- sent it and the process that is to receive it.
 use Rattle.std.specs.Prelude.{◌≡◌, ℕ, ◌≤◌, List, length, Result, Ok, Err}
-use Rattle.zforms.specs.declared.fault.Fault.TheVariants.{Short, Long}
-use Rattle.zforms.specs.Forms.{Form, both, made}
-use Rattle.zforms.specs.Choices.{sized}
-use Rattle.zforms.specs.Readers.{whole}
+use Rattle.zcodec.specs.declared.fault.Fault.TheVariants.{Short, Long}
+use Rattle.zcodec.specs.Forms.{Form, both, made}
+use Rattle.zcodec.specs.Choices.{sized}
+use Rattle.zcodec.specs.Readers.{whole}
 use Rattle.zjute.specs.Shapes.{fields}
 use Rattle.zprotocol.specs.declared.message.Message.{Message}
 use Rattle.zprotocol.specs.declared.process.Process.{Process}

@@ -1,6 +1,6 @@
 -- Laws of the definitions.
 use Rattle.std.specs.Prelude.{◌≡◌, ◌≢◌, List, ℕ, [], ◌++◌, Ok}
-use Rattle.zforms.specs.Laws.{IsBytes}
+use Rattle.zcodec.specs.Laws.{IsBytes}
 use Rattle.zwire.specs.declared.frame.Frame.{Frame}
 use Rattle.zwire.specs.declared.fault.FrameFault.{FrameFault}
 use Rattle.zwire.specs.declared.fault.FrameFault.TheVariants.{Cut}

@@ -1,3 +1,4 @@
+pub mod records
 pub mod Fields
 pub mod Replies
 pub mod Messages

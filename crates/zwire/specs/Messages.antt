@@ -1,9 +1,9 @@
 -- Forms of messages: a tag for each kind, and then its fields in order.
 use Rattle.std.specs.Prelude.{ℕ, List, Option, Result}
 use Rattle.std.specs.Int.{w8}
-use Rattle.zforms.specs.declared.fault.Fault.{Fault}
-use Rattle.zforms.specs.Forms.{Form, number, both, empty}
-use Rattle.zforms.specs.Choices.{option}
+use Rattle.zcodec.specs.declared.fault.Fault.{Fault}
+use Rattle.zcodec.specs.Forms.{Form, number, both, empty}
+use Rattle.zcodec.specs.Choices.{option}
 use Rattle.zjute.specs.Shapes.{Spelled, behind, read_as, by_tag, fields}
 use Rattle.zcalls.specs.declared.call.Entry.{Entry}
 use Rattle.zcalls.specs.declared.call.Query.{Query}
@@ -11,9 +11,9 @@ use Rattle.zcalls.specs.declared.call.Update.{Update}
 use Rattle.zcalls.specs.declared.reply.Reply.{Reply}
 use Rattle.zprotocol.specs.declared.message.Message.{Message}
 use Rattle.zprotocol.specs.declared.message.Message.TheVariants as message
-use Rattle.zrecords.specs.Sums.{at_tag, no_tag}
-use Rattle.zrecords.specs.Calls.{update}
-use Rattle.zrecords.specs.Records.{server}
+use Rattle.zwire.specs.records.Sums.{at_tag, no_tag}
+use Rattle.zwire.specs.records.Calls.{update}
+use Rattle.zwire.specs.records.Records.{server}
 use Rattle.zwire.specs.Fields.{call_number, log_number, epoch, client}
 use Rattle.zwire.specs.Replies.{query, reply}
 

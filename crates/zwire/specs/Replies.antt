@@ -1,8 +1,8 @@
 -- Forms of queries and of replies, with a tag for each kind.
 use Rattle.std.specs.Prelude.{ℕ, List, Result}
 use Rattle.std.specs.Int.{w8}
-use Rattle.zforms.specs.declared.fault.Fault.{Fault}
-use Rattle.zforms.specs.Forms.{Form, number, both, empty}
+use Rattle.zcodec.specs.declared.fault.Fault.{Fault}
+use Rattle.zcodec.specs.Forms.{Form, number, both, empty}
 use Rattle.zjute.specs.Shapes.{Spelled, behind, read_as, by_tag}
 use Rattle.ztree.specs.declared.node.Stat.{Stat}
 use Rattle.zcalls.specs.declared.call.Query.{Query}
@@ -12,8 +12,8 @@ use Rattle.zcalls.specs.declared.reply.PartReply.{PartReply}
 use Rattle.zcalls.specs.declared.reply.PartReply.TheVariants as part
 use Rattle.zcalls.specs.declared.reply.Reply.{Reply}
 use Rattle.zcalls.specs.declared.reply.Reply.TheVariants as told
-use Rattle.zrecords.specs.Sums.{at_tag, no_tag}
-use Rattle.zrecords.specs.Fields.{path, content, long}
+use Rattle.zwire.specs.records.Sums.{at_tag, no_tag}
+use Rattle.zwire.specs.records.Fields.{path, content, long}
 use Rattle.zwire.specs.Fields.{stat, refusal, name, counted}
 
 -- ---- queries

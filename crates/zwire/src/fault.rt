@@ -5,7 +5,7 @@ ghost use Rattle.zwire.specs.declared.fault.WriteError.TheVariants.{Memory};
 
 use std::alloc::AllocError;
 use thiserror::Error;
-use zforms::Fault;
+use zcodec::Fault;
 
 /// Why no frame was read.
 #[derive(Clone, Copy, Debug, PartialEq, Eq, Error)]

@@ -1,15 +1,15 @@
 //! Fields of messages, read from the front of bytes with what follows them.
 
 ghost use Rattle.std.specs.Prelude.{◌≡◌};
-ghost use Rattle.zforms.specs.Readers.{Reads};
+ghost use Rattle.zcodec.specs.Readers.{Reads};
 ghost use Rattle.zwire.specs.Fields.{call_number, log_number, epoch, client, process_at, process};
 ghost use Rattle.zwire.specs.Fields.{three, four, stat, refusal_at, refusal};
 ghost use Rattle.zwire.specs.Messages.{last, end};
 
 use zcalls::{CallNumber, ClientId, Refusal, Stat};
-use zforms::{Fault, flag_at, u8_at, u64_at};
+use zcodec::{Fault, flag_at, u8_at, u64_at};
 use zprotocol::{Epoch, LogNumber, Process, ServerId};
-use zrecords::server_at;
+use crate::records::server_at;
 use ztree::Zxid;
 
 /// Reads the number of a call.

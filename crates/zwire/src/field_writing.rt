@@ -10,9 +10,9 @@ ghost use Rattle.zwire.specs.Messages.{last as last_form, end as end_form};
 
 use std::alloc::AllocError;
 use zcalls::{CallNumber, ClientId, Refusal, Stat};
-use zforms::{put_flag, put_u8, put_u64};
+use zcodec::{put_flag, put_u8, put_u64};
 use zprotocol::{Epoch, LogNumber, Process, ServerId};
-use zrecords::put_server;
+use crate::records::put_server;
 
 /// Writes the number of a call.
 #[tactic(auto, unfolding(crate::specs::Fields::call_number))]

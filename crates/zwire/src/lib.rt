@@ -9,7 +9,7 @@
 //!
 //! The definitions: `specs/Frames.antt` (frames, and why bytes aren't one), `specs/Messages.antt`,
 //! `specs/Replies.antt` and `specs/Fields.antt` (the bytes of their parts), `specs/Laws.antt`. The
-//! bytes of calls are those of a log, `specs/Calls.antt` of `zrecords`.
+//! bytes of calls are those of a log, `specs/Calls.antt` of `zwire::records`.
 //!
 //! For other texts with the same fields there are `put_client`, `client_at` and the like, and
 //! `put_framed` and `cut_frame`: the rows of a snapshot (`zsnapshots`) are such texts.
@@ -30,6 +30,7 @@ mod list_writing;
 mod message_reading;
 mod message_writing;
 mod reading;
+pub mod records;
 mod reply_reading;
 mod reply_writing;
 mod rows;

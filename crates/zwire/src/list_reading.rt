@@ -4,17 +4,17 @@
 //! A name is read as that of a node below another, since names come from parsed paths. `zookeeper`
 //! is no name at the root, but is one below it.
 
-ghost use Rattle.zforms.specs.Forms.{times};
-ghost use Rattle.zforms.specs.Readers.{Gives};
+ghost use Rattle.zcodec.specs.Forms.{times};
+ghost use Rattle.zcodec.specs.Readers.{Gives};
 ghost use Rattle.zwire.specs.Fields.{name_from, second_from, name};
 ghost use Rattle.zwire.specs.Replies.{part_reply_at, part_reply, replies, names};
 
 use crate::field_reading::stat_at;
 use std::alloc::Global;
 use zcalls::{Names, PartReply, Replies};
-use zforms::{Fault, ReadError, sized_at, u8_at, u64_at};
+use zcodec::{Fault, ReadError, sized_at, u8_at, u64_at};
 use zpath::{MAX_NAME_LEN, Name};
-use zrecords::{path_of, path_with};
+use crate::records::{path_of, path_with};
 
 /// Reads the names of a node's children.
 #[tactic(auto, unfolding(crate::specs::Replies::names))]

@@ -9,9 +9,9 @@ ghost use Rattle.zwire.specs.Replies.{part_reply, replies as replies_form, names
 use crate::field_writing::put_stat;
 use std::alloc::{AllocError, Global};
 use zcalls::{Names, PartReply, Replies};
-use zforms::{put_sized, put_u8, put_u64};
+use zcodec::{put_sized, put_u8, put_u64};
 use zpath::Name;
-use zrecords::put_path;
+use crate::records::put_path;
 
 /// Writes the names of a node's children.
 #[tactic(auto, unfolding(crate::specs::Replies::names))]

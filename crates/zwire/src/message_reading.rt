@@ -1,6 +1,6 @@
 //! Messages, read from the front of bytes with what follows them.
 
-ghost use Rattle.zforms.specs.Readers.{Gives};
+ghost use Rattle.zcodec.specs.Readers.{Gives};
 ghost use Rattle.zprotocol.specs.declared.message.Message.TheVariants as message;
 ghost use Rattle.zjute.specs.Shapes.{read_as};
 ghost use Rattle.zwire.specs.Fields.{epoch};
@@ -13,9 +13,9 @@ use crate::field_reading::{call_number_at, client_at, end_at, epoch_at, last_at,
 use crate::reply_reading::{query_of, reply_of};
 use std::alloc::Global;
 use zcalls::{Entry, SharedEntry};
-use zforms::{Fault, ReadError, u8_at};
+use zcodec::{Fault, ReadError, u8_at};
 use zprotocol::Message;
-use zrecords::{server_at, update_of};
+use crate::records::{server_at, update_of};
 
 /// Reads a message.
 #[tactic(auto, unfolding(crate::specs::Messages::any_message))]

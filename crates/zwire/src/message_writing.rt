@@ -11,9 +11,9 @@ use crate::field_writing::{
 use crate::reply_writing::{put_query, put_reply};
 use std::alloc::{AllocError, Global};
 use zcalls::{CallNumber, Entry, Query, Reply, Update};
-use zforms::put_u8;
+use zcodec::put_u8;
 use zprotocol::{Epoch, LogNumber, Message, ServerId};
-use zrecords::{put_server, put_update};
+use crate::records::{put_server, put_update};
 
 /// Writes a message, without the state of a snapshot.
 #[tactic(auto, unfolding(crate::specs::Messages::any_message))]

@@ -1,7 +1,7 @@
 //! Frames, read from the front of a stream.
 
 ghost use Rattle.std.specs.Prelude.{◌≡◌, ◌++◌, List, ℕ, Ok, IfOk, IfErr};
-ghost use Rattle.zforms.specs.Readers.{Gives, ended, whole};
+ghost use Rattle.zcodec.specs.Readers.{Gives, ended, whole};
 ghost use Rattle.zwire.specs.declared.fault.FrameFault.TheVariants.{Memory as OfMemory};
 ghost use Rattle.zwire.specs.declared.frame.Frame.{Frame};
 ghost use Rattle.zwire.specs.Frames.{contents, frame, IsFaultOf, IsCut};
@@ -12,7 +12,7 @@ use crate::frame::Frame;
 use crate::limits::MAX_FRAME;
 use crate::message_reading::message_of;
 use std::alloc::Global;
-use zforms::{ReadError, end};
+use zcodec::{ReadError, end};
 
 /// Reads the first frame of the bytes, with what follows it.
 ///
@@ -46,7 +46,7 @@ fn frame_in(alloc: Global, bytes: &[u8]) -> Result<(Frame, &[u8]), FrameFault>
 }
 
 /// Cuts off the first frame: returns the bytes after its length, and what follows them.
-#[tactic(auto, unfolding(zforms::specs::Forms::number_at))]
+#[tactic(auto, unfolding(zcodec::specs::Forms::number_at))]
 pub fn cut_frame(bytes: &[u8]) -> Result<(&[u8], &[u8]), FrameFault>
     ensures { IsCut (λ x. (x.0.now, x.1.now)) result bytes.now }
 {

@@ -1,6 +1,6 @@
 //! Queries and replies, read from the front of bytes with what follows them.
 
-ghost use Rattle.zforms.specs.Readers.{Gives};
+ghost use Rattle.zcodec.specs.Readers.{Gives};
 ghost use Rattle.zcalls.specs.declared.reply.Reply.TheVariants as told;
 ghost use Rattle.zjute.specs.Shapes.{read_as};
 ghost use Rattle.zwire.specs.Replies.{query_at, query, opened, ticked, data_stat, refused_part};
@@ -10,8 +10,8 @@ use crate::field_reading::{refusal_in, stat_at};
 use crate::list_reading::{names_of, replies_of};
 use std::alloc::Global;
 use zcalls::{Query, Reply, SessionId};
-use zforms::{Fault, ReadError, u8_at, u64_at};
-use zrecords::{content_of, path_of};
+use zcodec::{Fault, ReadError, u8_at, u64_at};
+use crate::records::{content_of, path_of};
 
 /// Reads a query.
 #[tactic(auto, unfolding(crate::specs::Replies::query))]

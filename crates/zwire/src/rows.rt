@@ -1,7 +1,7 @@
 //! Worked examples of the definitions. Each function's contract has some; its body is empty.
 
 ghost use Rattle.std.specs.Prelude.{◌≡◌, [], ◌∷◌, Ok};
-ghost use Rattle.zforms.specs.declared.fault.Fault.TheVariants.{Short, Invalid, Trailing};
+ghost use Rattle.zcodec.specs.declared.fault.Fault.TheVariants.{Short, Invalid, Trailing};
 ghost use Rattle.zcalls.specs.declared.refusal.Refusal.TheVariants.{BadVersion, Exhausted};
 ghost use Rattle.zcalls.specs.declared.reply.PartReply.TheVariants as part;
 ghost use Rattle.zcalls.specs.declared.reply.Reply.TheVariants as told;

@@ -1,7 +1,7 @@
 //! Frames, written at the end of a stream.
 
 ghost use Rattle.std.specs.Prelude.{◌≡◌, ◌++◌, ◌<◌, ◌≤◌, length, OnOk, OnErr, IfErr};
-ghost use Rattle.zforms.specs.Choices.{sized};
+ghost use Rattle.zcodec.specs.Choices.{sized};
 ghost use Rattle.zwire.specs.declared.fault.WriteError.TheVariants.{TooLong};
 ghost use Rattle.zwire.specs.declared.limits.TheConstants.{MAX_FRAME};
 ghost use Rattle.zwire.specs.Frames.{frame_of, contents, frame};
@@ -11,7 +11,7 @@ use crate::field_writing::put_process;
 use crate::limits::MAX_FRAME;
 use crate::message_writing::put_message;
 use std::alloc::{AllocError, Global};
-use zforms::put_sized;
+use zcodec::put_sized;
 use zprotocol::{Message, Process};
 
 /// Appends the frame of a message. On an error the bytes are unchanged.

@@ -2,9 +2,9 @@
 use Rattle.std.proofs.Common.{◌≡◌, ℕ, false}
 use mathlib.Core.Path.{fun_ext}
 use Rattle.zprotocol.specs.declared.process.Process.{Process}
-use Rattle.zworld_model.specs.World.{World}
-use Rattle.zworld_model.specs.Events.{has_failed}
-use Rattle.zworld_model.specs.support.Alike.{IsAlike}
+use Rattle.zprotocol.specs.world.World.{World}
+use Rattle.zprotocol.specs.world.Events.{has_failed}
+use Rattle.zprotocol.specs.world.support.Alike.{IsAlike}
 
 -- worlds are alike that agree field by field
 pub alike_by : {M : Type 0} (v w : World M) → w.master ≡ v.master → w.history ≡ v.history

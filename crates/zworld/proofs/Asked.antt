@@ -6,7 +6,7 @@ use Rattle.zprotocol.specs.declared.process.Process.{Process}
 use Rattle.zprotocol.specs.declared.process.Process.TheVariants.{Master, Client}
 use Rattle.zprotocol.specs.Places.{place_of}
 use Rattle.zactor.specs.Acting.{TreeStanding, can_stand, client_in, master_in}
-use Rattle.zworld_model.specs.Does.{AtMaster, AtServer, AtClient, Out}
+use Rattle.zprotocol.specs.world.Does.{AtMaster, AtServer, AtClient, Out}
 use Rattle.zworld.specs.Held.{client_of, master_of, standing_at}
 use Rattle.zworld.proofs.Giving.{standing_read}
 

@@ -26,10 +26,10 @@ use Rattle.zactor.specs.declared.done.Done.{Done}
 use Rattle.zactor.specs.declared.done.Done.TheVariants as done
 use Rattle.zactor.specs.declared.input.Input.{Input}
 use Rattle.zactor.specs.declared.input.Input.TheVariants as input
-use Rattle.zworld_model.specs.declared.history.CallEvent.TheVariants as call_event
-use Rattle.zworld_model.specs.Does.{AtMaster, AtServer, AtClient, Out, answer_told}
-use Rattle.zlinks.specs.support.Counts.{share, passing}
-use Rattle.zlinks.proofs.Counts.{passing-set, passing_at, passing_le}
+use Rattle.zprotocol.specs.declared.world.history.CallEvent.TheVariants as call_event
+use Rattle.zprotocol.specs.world.Does.{AtMaster, AtServer, AtClient, Out, answer_told}
+use Rattle.zworld.specs.links.support.Counts.{share, passing}
+use Rattle.zworld.proofs.links_lemmas.Counts.{passing-set, passing_at, passing_le}
 use Rattle.zworld.specs.Held.{bystander, standing_at}
 use Rattle.zworld.specs.support.Posting.{CanCount, waiting_after}
 use Rattle.zworld.specs.support.Standing.{waits}

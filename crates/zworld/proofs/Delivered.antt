@@ -14,19 +14,19 @@ use Rattle.zprotocol.specs.declared.process.Process.TheVariants.{Master, Server,
 use Rattle.zprotocol.specs.server.Machine.{kept_tree}
 use Rattle.zprotocol.specs.server.Memory.{is_query, may_be_unheard, may_stop}
 use Rattle.zprotocol.specs.server.View.{MessageOf}
-use Rattle.zworld_model.specs.declared.event.Event.TheVariants as event
-use Rattle.zworld_model.specs.declared.outcome.Outcome.TheVariants as outcome
-use Rattle.zworld_model.specs.History.{History}
-use Rattle.zworld_model.specs.Links.{is_same, messages_to, put, without_front}
-use Rattle.zworld_model.specs.World.{World, at}
+use Rattle.zprotocol.specs.declared.world.event.Event.TheVariants as event
+use Rattle.zprotocol.specs.declared.world.outcome.Outcome.TheVariants as outcome
+use Rattle.zprotocol.specs.world.History.{History}
+use Rattle.zprotocol.specs.world.Links.{is_same, messages_to, put, without_front}
+use Rattle.zprotocol.specs.world.World.{World, at}
 use Rattle.zprotocol.specs.Places.{is_server}
-use Rattle.zworld_model.specs.declared.history.CallEvent.TheVariants as call_event
-use Rattle.zworld_model.specs.Does.{AtServer, Hear, idle_effect}
-use Rattle.zworld_model.specs.Events.{front_is, is_request, has_failed, is_enabled, happens, acts, front_step, does_in, did_in}
-use Rattle.zworld_model.specs.Reading.{is_fitting, read}
-use Rattle.zworld_model.specs.support.Alike.{IsAlike}
-use Rattle.zworld_model.proofs.Alike.{alike_itself, alike_through}
-use Rattle.zworld_model.proofs.Tests.{both}
+use Rattle.zprotocol.specs.declared.world.history.CallEvent.TheVariants as call_event
+use Rattle.zprotocol.specs.world.Does.{AtServer, Hear, idle_effect}
+use Rattle.zprotocol.specs.world.Events.{front_is, is_request, has_failed, is_enabled, happens, acts, front_step, does_in, did_in}
+use Rattle.zprotocol.specs.world.Reading.{is_fitting, read}
+use Rattle.zprotocol.specs.world.support.Alike.{IsAlike}
+use Rattle.zprotocol.proofs.world_lemmas.Alike.{alike_itself, alike_through}
+use Rattle.zprotocol.proofs.world_lemmas.Tests.{both}
 use Rattle.zworld.specs.declared.did.Did.TheVariants as became
 use Rattle.zworld.specs.declared.did.IdleCause.TheVariants as cause
 use Rattle.zactor.specs.Acting.{handed_by, has_stopped, reply_handed, reply_in, told_by, with_reply}

@@ -7,9 +7,9 @@ use Rattle.zprotocol.specs.declared.limits.TheConstants.{PROCESSES}
 use Rattle.zprotocol.specs.declared.process.Process.{Process}
 use Rattle.zprotocol.specs.Places.{place_of}
 use Rattle.zactor.specs.Acting.{TreeStanding, can_stand, has_stopped}
-use Rattle.zlinks.specs.Places.{has_notice, Notes}
-use Rattle.zworld_model.specs.Links.{is_same}
-use Rattle.zworld_model.proofs.Processes.{same_process}
+use Rattle.zworld.specs.links.Places.{has_notice, Notes}
+use Rattle.zprotocol.specs.world.Links.{is_same}
+use Rattle.zprotocol.proofs.world_lemmas.Processes.{same_process}
 use Rattle.zworld.specs.Held.{HeldChannels, standing_at}
 use Rattle.zworld.specs.support.Posting.{HasEnded}
 use Rattle.zworld.proofs.Standing.{standing_set}

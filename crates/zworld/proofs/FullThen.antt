@@ -6,7 +6,7 @@ use Rattle.zserver.specs.Server.{TreeOut}
 use Rattle.zactor.specs.Acting.{Acts, HasActed, TreePost, TreeStanding, can_stand, effect_of, has_stopped, is_end, put_by, read}
 use Rattle.zactor.specs.declared.done.Done.{Done}
 use Rattle.zactor.specs.declared.input.Input.{Input}
-use Rattle.zlinks.specs.Places.{has_notice, Notes}
+use Rattle.zworld.specs.links.Places.{has_notice, Notes}
 use Rattle.zworld.specs.Held.{HeldChannels, standing_at}
 use Rattle.zworld.specs.support.Posting.{CanCount, HasEnded, waiting_after}
 use Rattle.zworld.specs.support.Standing.{IsFull}

@@ -13,10 +13,10 @@ use Rattle.zactor.specs.declared.done.Done.{Done}
 use Rattle.zactor.specs.declared.done.Done.TheVariants as done
 use Rattle.zactor.specs.declared.input.Input.TheVariants as input
 use Rattle.zactor.specs.declared.refusal.Refusal.{Refusal}
-use Rattle.zworld_model.specs.declared.event.Event.TheVariants as event
-use Rattle.zworld_model.specs.declared.history.CallEvent.TheVariants as call_event
-use Rattle.zworld_model.specs.Does.{AtMaster, AtServer, AtClient, Out}
-use Rattle.zworld_model.specs.Events.{is_enabled}
+use Rattle.zprotocol.specs.declared.world.event.Event.TheVariants as event
+use Rattle.zprotocol.specs.declared.world.history.CallEvent.TheVariants as call_event
+use Rattle.zprotocol.specs.world.Does.{AtMaster, AtServer, AtClient, Out}
+use Rattle.zprotocol.specs.world.Events.{is_enabled}
 use Rattle.zworld.specs.declared.did.Did.TheVariants as became
 use Rattle.zworld.specs.declared.did.IdleCause.TheVariants as cause
 use Rattle.zworld.specs.Held.{Held, standing_at, kept_world}

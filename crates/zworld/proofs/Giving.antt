@@ -17,13 +17,13 @@ use Rattle.zactor.specs.declared.done.Done.{Done}
 use Rattle.zactor.specs.declared.done.Done.TheVariants as done
 use Rattle.zactor.specs.declared.input.Input.{Input}
 use Rattle.zactor.specs.declared.input.Input.TheVariants as input
-use Rattle.zworld_model.specs.Does as given
-use Rattle.zworld_model.specs.Does.{AtMaster, AtServer, AtClient, Out, accepts, last_post}
-use Rattle.zworld_model.specs.Events.{did_in, standing_of}
-use Rattle.zworld_model.specs.History.{History}
-use Rattle.zworld_model.specs.Links.{put}
-use Rattle.zworld_model.specs.support.Alike.{IsAlike}
-use Rattle.zlinks.specs.Places.{links_of}
+use Rattle.zprotocol.specs.world.Does as given
+use Rattle.zprotocol.specs.world.Does.{AtMaster, AtServer, AtClient, Out, accepts, last_post}
+use Rattle.zprotocol.specs.world.Events.{did_in, standing_of}
+use Rattle.zprotocol.specs.world.History.{History}
+use Rattle.zprotocol.specs.world.Links.{put}
+use Rattle.zprotocol.specs.world.support.Alike.{IsAlike}
+use Rattle.zworld.specs.links.Places.{links_of}
 use Rattle.zworld.specs.Held.{Held, HeldChannels, bystander, standing_at, kept_world}
 use Rattle.zworld.specs.support.Posting.{is_lost, HasEnded, IsPosted}
 use Rattle.zworld.specs.support.Giving.{IsGiven}

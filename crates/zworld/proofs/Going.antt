@@ -6,22 +6,22 @@ use Rattle.ztree.specs.Tree.{Tree, opening_tree}
 use Rattle.zalloc.specs.declared.memory.Memory.{Memory}
 use Rattle.zcalls.specs.Kept.{KeptState}
 use Rattle.zprotocol.specs.server.Machine.{Does, kept_tree, kept_tree_from}
-use Rattle.zworld_model.specs.declared.event.Event.{Event}
-use Rattle.zworld_model.specs.declared.event.Event.TheVariants.{Begin, Retry, Take, Ignore, Fail, Order}
-use Rattle.zworld_model.specs.declared.outcome.Outcome.TheVariants.{Acted}
-use Rattle.zworld_model.specs.History.{History}
-use Rattle.zworld_model.specs.World.{World, opening_world}
+use Rattle.zprotocol.specs.declared.world.event.Event.{Event}
+use Rattle.zprotocol.specs.declared.world.event.Event.TheVariants.{Begin, Retry, Take, Ignore, Fail, Order}
+use Rattle.zprotocol.specs.declared.world.outcome.Outcome.TheVariants.{Acted}
+use Rattle.zprotocol.specs.world.History.{History}
+use Rattle.zprotocol.specs.world.World.{World, opening_world}
 use Rattle.zprotocol.specs.Places.{is_server}
-use Rattle.zworld_model.specs.Events.{is_enabled, let_go, happens, run}
-use Rattle.zworld_model.specs.Reading.{read}
-use Rattle.zworld_model.specs.support.Alike.{IsAlike}
-use Rattle.zworld_model.specs.PlainTree.{IsExplained}
-use Rattle.zworld_model.specs.FromTree.{CanStart, IsExplainedFrom, opening_world_from, world_after_from}
-use Rattle.zworld_model.proofs.FirstCallsFrom.{opening_can_start}
-use Rattle.zworld_model.proofs.Starts.{runs_forget_the_start}
-use Rattle.zworld_model.proofs.Alike.{have_the_same_enabled, outcomes_alike, stay_alike, alike_back, alike_let_go, alike_through, read_alike}
-use Rattle.zworld_model.proofs.Keeping.{happened_lets_go, opening_let_go}
-use Rattle.zlinear.proofs.Headline.{every_history_from_is_explained}
+use Rattle.zprotocol.specs.world.Events.{is_enabled, let_go, happens, run}
+use Rattle.zprotocol.specs.world.Reading.{read}
+use Rattle.zprotocol.specs.world.support.Alike.{IsAlike}
+use Rattle.zprotocol.specs.world.PlainTree.{IsExplained}
+use Rattle.zprotocol.specs.world.FromTree.{CanStart, IsExplainedFrom, opening_world_from, world_after_from}
+use Rattle.zprotocol.proofs.world_lemmas.FirstCallsFrom.{opening_can_start}
+use Rattle.zprotocol.proofs.world_lemmas.Starts.{runs_forget_the_start}
+use Rattle.zprotocol.proofs.world_lemmas.Alike.{have_the_same_enabled, outcomes_alike, stay_alike, alike_back, alike_let_go, alike_through, read_alike}
+use Rattle.zprotocol.proofs.world_lemmas.Keeping.{happened_lets_go, opening_let_go}
+use Rattle.zlinearizability.proofs.Headline.{every_history_from_is_explained}
 use Rattle.zworld.specs.declared.did.Did.{Did}
 use Rattle.zworld.specs.declared.did.Did.TheVariants as deed
 use Rattle.zworld.specs.Held.{Held, kept_world, world_of}

@@ -1,3 +1,4 @@
+pub mod links_lemmas
 pub mod Alike
 pub mod Standing
 pub mod Steps

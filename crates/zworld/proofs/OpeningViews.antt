@@ -21,12 +21,12 @@ use Rattle.zprotocol.proofs.Places.{place_of-server, place_of-client}
 use Rattle.zprotocol.specs.server.Machine.{Does}
 use Rattle.zprotocol.specs.server.View.{opening_server, spare}
 use Rattle.zprotocol.specs.client.View as client
-use Rattle.zlinks.specs.Places.{links_of, Notes}
-use Rattle.zlinks.specs.support.Counts.{passing}
-use Rattle.zlinks.proofs.Places.{process_at-place_of}
+use Rattle.zworld.specs.links.Places.{links_of, Notes}
+use Rattle.zworld.specs.links.support.Counts.{passing}
+use Rattle.zworld.proofs.links_lemmas.Places.{process_at-place_of}
 use Rattle.zactor.specs.Acting.{TreeStanding, TreePost, can_stand, has_stopped}
-use Rattle.zworld_model.specs.Does.{AtServer, AtClient}
-use Rattle.zworld_model.specs.World.{opening_world}
+use Rattle.zprotocol.specs.world.Does.{AtServer, AtClient}
+use Rattle.zprotocol.specs.world.World.{opening_world}
 use Rattle.zworld.specs.Held.{HeldChannels, bystander, standing_at, master_of, view_of, client_of, nobody, kept_world}
 use Rattle.zworld.specs.support.Opening.{opening_actor}
 use Rattle.zworld.specs.support.Standing.{waits, IsFull}

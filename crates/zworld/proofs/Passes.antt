@@ -6,16 +6,16 @@ use Rattle.std.specs.List.{list_any}
 use Rattle.std.proofs.lemmas.Bool.Decides.{nat_tests}
 use mathlib.Core.Bool.{true≢false}
 use Rattle.zprotocol.specs.server.Machine.{kept_tree}
-use Rattle.zworld_model.specs.declared.event.Event.{Event}
-use Rattle.zworld_model.specs.declared.outcome.Outcome.{Outcome}
-use Rattle.zworld_model.specs.declared.settled.Settled.{Settled}
-use Rattle.zworld_model.specs.declared.settled.Settled.TheVariants.{Quiet, Limit}
-use Rattle.zworld_model.specs.History.{History}
-use Rattle.zworld_model.specs.Events.{is_enabled}
-use Rattle.zworld_model.specs.Settle.{deliveries, retry_events, with_tries, is_over, passes, opening_settling, settling_end}
-use Rattle.zworld_model.specs.support.Alike.{IsAlike}
-use Rattle.zworld_model.proofs.Alike.{alike_back}
-use Rattle.zworld_model.proofs.Settling.{pass_takes, over_does_nothing, passes_twice}
+use Rattle.zprotocol.specs.declared.world.event.Event.{Event}
+use Rattle.zprotocol.specs.declared.world.outcome.Outcome.{Outcome}
+use Rattle.zprotocol.specs.declared.world.settled.Settled.{Settled}
+use Rattle.zprotocol.specs.declared.world.settled.Settled.TheVariants.{Quiet, Limit}
+use Rattle.zprotocol.specs.world.History.{History}
+use Rattle.zprotocol.specs.world.Events.{is_enabled}
+use Rattle.zprotocol.specs.world.Settle.{deliveries, retry_events, with_tries, is_over, passes, opening_settling, settling_end}
+use Rattle.zprotocol.specs.world.support.Alike.{IsAlike}
+use Rattle.zprotocol.proofs.world_lemmas.Alike.{alike_back}
+use Rattle.zprotocol.proofs.world_lemmas.Settling.{pass_takes, over_does_nothing, passes_twice}
 use Rattle.zworld.specs.Held.{Held, kept_world, world_of}
 use Rattle.zworld.specs.support.Stepped.{Settles}
 use Rattle.zworld.specs.support.Settling.{TreeSettling, StandsAt, Point, GoesOn, Does, Tries}

@@ -10,12 +10,12 @@ use Rattle.zprotocol.specs.declared.process.Process.{Process}
 use Rattle.zprotocol.specs.declared.process.Process.TheVariants.{Master, Server, Client}
 use Rattle.zprotocol.specs.server.View.{MessageOf, Post}
 use Rattle.zactor.specs.Acting.{TreeStanding}
-use Rattle.zlinks.specs.Places.{links_of, has_notice, with_last, with_link, with_notice}
-use Rattle.zlinks.specs.Places.{without_first, without_receiver, notices_left, holds, Keeps, Notes}
-use Rattle.zworld_model.proofs.Processes.{same_process}
-use Rattle.zworld_model.proofs.Tests.{both}
-use Rattle.zworld_model.specs.History.{History}
-use Rattle.zworld_model.specs.Links.{Links, is_same, messages_to, put, without_front}
+use Rattle.zworld.specs.links.Places.{links_of, has_notice, with_last, with_link, with_notice}
+use Rattle.zworld.specs.links.Places.{without_first, without_receiver, notices_left, holds, Keeps, Notes}
+use Rattle.zprotocol.proofs.world_lemmas.Processes.{same_process}
+use Rattle.zprotocol.proofs.world_lemmas.Tests.{both}
+use Rattle.zprotocol.specs.world.History.{History}
+use Rattle.zprotocol.specs.world.Links.{Links, is_same, messages_to, put, without_front}
 use Rattle.zworld.specs.Held.{Held, HeldChannels, kept_world}
 use Rattle.zworld.specs.support.Posting.{is_lost, HasEnded}
 use Rattle.zworld.proofs.Delivered.{without}

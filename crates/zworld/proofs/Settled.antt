@@ -4,18 +4,18 @@ use Rattle.std.specs.List.{list_any}
 use Rattle.ztree.specs.Tree.{Tree}
 use Rattle.zcalls.specs.Kept.{KeptState}
 use Rattle.zprotocol.specs.server.Machine.{kept_tree}
-use Rattle.zworld_model.specs.declared.event.Event.TheVariants.{Take}
-use Rattle.zworld_model.specs.declared.settled.Settled.{Settled}
-use Rattle.zworld_model.specs.declared.settled.Settled.TheVariants.{Quiet}
-use Rattle.zworld_model.specs.History.{History}
-use Rattle.zworld_model.specs.World.{World}
-use Rattle.zworld_model.specs.declared.outcome.Outcome.{Outcome}
-use Rattle.zworld_model.specs.Events.{is_enabled, let_go}
-use Rattle.zworld_model.specs.Keeping.{run_keeping}
-use Rattle.zworld_model.specs.Settle.{deliveries, settle}
-use Rattle.zworld_model.proofs.Keeping.{keeping_runs, let_go_twice}
-use Rattle.zworld_model.proofs.Settling.{settling_is_a_run, quiet_has_nothing_to_take}
-use Rattle.zworld_model.proofs.Visited.{after_within_from, links_are_visited_from, none_passes}
+use Rattle.zprotocol.specs.declared.world.event.Event.TheVariants.{Take}
+use Rattle.zprotocol.specs.declared.world.settled.Settled.{Settled}
+use Rattle.zprotocol.specs.declared.world.settled.Settled.TheVariants.{Quiet}
+use Rattle.zprotocol.specs.world.History.{History}
+use Rattle.zprotocol.specs.world.World.{World}
+use Rattle.zprotocol.specs.declared.world.outcome.Outcome.{Outcome}
+use Rattle.zprotocol.specs.world.Events.{is_enabled, let_go}
+use Rattle.zprotocol.specs.world.Keeping.{run_keeping}
+use Rattle.zprotocol.specs.world.Settle.{deliveries, settle}
+use Rattle.zprotocol.proofs.world_lemmas.Keeping.{keeping_runs, let_go_twice}
+use Rattle.zprotocol.proofs.world_lemmas.Settling.{settling_is_a_run, quiet_has_nothing_to_take}
+use Rattle.zprotocol.proofs.world_lemmas.Visited.{after_within_from, links_are_visited_from, none_passes}
 use Rattle.zworld.specs.Held.{Held, kept_world, world_of}
 use Rattle.zworld.specs.Steps.{IsAtRest}
 use Rattle.zworld.specs.support.Settled.{HasSettledBy}

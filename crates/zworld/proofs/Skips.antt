@@ -14,18 +14,18 @@ use Rattle.zprotocol.specs.declared.process.Process.TheVariants.{Client}
 use Rattle.zprotocol.specs.Places.{place_of, process_at}
 use Rattle.zprotocol.proofs.Places.{place_of-process_at}
 use Rattle.zprotocol.specs.server.Machine.{kept_tree}
-use Rattle.zworld_model.specs.declared.event.Event.TheVariants.{Retry}
-use Rattle.zworld_model.specs.declared.outcome.Outcome.{Outcome}
-use Rattle.zworld_model.specs.Events.{is_enabled}
-use Rattle.zworld_model.specs.History.{History}
-use Rattle.zworld_model.specs.Settle.{processes, retry_events, with_tries}
-use Rattle.zworld_model.proofs.Alike.{have_the_same_enabled}
-use Rattle.zworld_model.proofs.Settling.{none_is_done}
-use Rattle.zlinks.specs.Places.{links_of}
-use Rattle.zlinks.specs.support.Counts.{passing}
-use Rattle.zlinks.proofs.Counts.{fails_at}
+use Rattle.zprotocol.specs.declared.world.event.Event.TheVariants.{Retry}
+use Rattle.zprotocol.specs.declared.world.outcome.Outcome.{Outcome}
+use Rattle.zprotocol.specs.world.Events.{is_enabled}
+use Rattle.zprotocol.specs.world.History.{History}
+use Rattle.zprotocol.specs.world.Settle.{processes, retry_events, with_tries}
+use Rattle.zprotocol.proofs.world_lemmas.Alike.{have_the_same_enabled}
+use Rattle.zprotocol.proofs.world_lemmas.Settling.{none_is_done}
+use Rattle.zworld.specs.links.Places.{links_of}
+use Rattle.zworld.specs.links.support.Counts.{passing}
+use Rattle.zworld.proofs.links_lemmas.Counts.{fails_at}
 use Rattle.zactor.specs.Acting.{TreeStanding}
-use Rattle.zworld_model.specs.Does.{AtMaster, AtServer, AtClient, Out}
+use Rattle.zprotocol.specs.world.Does.{AtMaster, AtServer, AtClient, Out}
 use Rattle.zworld.specs.support.Standing.{waits}
 use Rattle.zworld.specs.Held.{Held, SendsNothing, bystander, client_of, standing_at, kept_world}
 use Rattle.zworld.specs.support.Settling.{Point, StandsAt, TreeSettling, Tries, takes, takes_from}

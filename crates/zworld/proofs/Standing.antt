@@ -15,15 +15,15 @@ use Rattle.zprotocol.specs.declared.process.Process.TheVariants.{Master, Server,
 use Rattle.zprotocol.specs.Places.{place_of}
 use Rattle.zserver.specs.Server.{TreeView}
 use Rattle.zactor.specs.Acting.{TreeStanding, TreePost, can_stand, has_stopped}
-use Rattle.zlinks.specs.Places.{links_of, with_last}
-use Rattle.zlinks.proofs.Places.{by_place}
-use Rattle.zworld_model.specs.Does.{AtMaster, AtServer, AtClient, Out, last_post}
-use Rattle.zworld_model.specs.Events.{did_in, goes_on, has_failed, standing_of}
-use Rattle.zworld_model.specs.History.{History}
-use Rattle.zworld_model.specs.Links.{is_same, put}
-use Rattle.zworld_model.specs.World.{World}
-use Rattle.zworld_model.specs.support.Alike.{IsAlike}
-use Rattle.zworld_model.proofs.Processes.{same_process}
+use Rattle.zworld.specs.links.Places.{links_of, with_last}
+use Rattle.zworld.proofs.links_lemmas.Places.{by_place}
+use Rattle.zprotocol.specs.world.Does.{AtMaster, AtServer, AtClient, Out, last_post}
+use Rattle.zprotocol.specs.world.Events.{did_in, goes_on, has_failed, standing_of}
+use Rattle.zprotocol.specs.world.History.{History}
+use Rattle.zprotocol.specs.world.Links.{is_same, put}
+use Rattle.zprotocol.specs.world.World.{World}
+use Rattle.zprotocol.specs.world.support.Alike.{IsAlike}
+use Rattle.zprotocol.proofs.world_lemmas.Processes.{same_process}
 use Rattle.zworld.specs.Held.{Held, HeldChannels, bystander, standing_at, master_of, view_of, client_of, kept_world}
 use Rattle.zworld.specs.support.Posting.{is_lost, HasEnded}
 use Rattle.zworld.proofs.Alike.{alike_by}

@@ -9,16 +9,16 @@ use Rattle.zprotocol.specs.declared.limits.TheConstants.{PROCESSES}
 use Rattle.zprotocol.specs.Places.{is_server, place_of}
 use Rattle.zprotocol.specs.declared.process.Process.TheVariants.{Master, Server, Client}
 use Rattle.zprotocol.specs.server.Machine.{kept_tree}
-use Rattle.zworld_model.specs.declared.event.Event.{Event}
-use Rattle.zworld_model.specs.declared.event.Event.TheVariants.{Begin, Retry, Take, Ignore, Fail, Order}
-use Rattle.zworld_model.specs.declared.outcome.Outcome.{Outcome}
-use Rattle.zworld_model.specs.declared.outcome.Outcome.TheVariants.{Acted, Stopped, Unheard}
-use Rattle.zworld_model.specs.History.{History}
-use Rattle.zworld_model.specs.World.{World}
-use Rattle.zworld_model.specs.Events.{is_enabled, let_go, happens, acts}
-use Rattle.zworld_model.specs.Reading.{is_fitting, read, reading_by}
-use Rattle.zworld_model.specs.support.Alike.{IsAlike}
-use Rattle.zworld_model.proofs.Alike.{alike_itself, alike_let_go, alike_back}
+use Rattle.zprotocol.specs.declared.world.event.Event.{Event}
+use Rattle.zprotocol.specs.declared.world.event.Event.TheVariants.{Begin, Retry, Take, Ignore, Fail, Order}
+use Rattle.zprotocol.specs.declared.world.outcome.Outcome.{Outcome}
+use Rattle.zprotocol.specs.declared.world.outcome.Outcome.TheVariants.{Acted, Stopped, Unheard}
+use Rattle.zprotocol.specs.world.History.{History}
+use Rattle.zprotocol.specs.world.World.{World}
+use Rattle.zprotocol.specs.world.Events.{is_enabled, let_go, happens, acts}
+use Rattle.zprotocol.specs.world.Reading.{is_fitting, read, reading_by}
+use Rattle.zprotocol.specs.world.support.Alike.{IsAlike}
+use Rattle.zprotocol.proofs.world_lemmas.Alike.{alike_itself, alike_let_go, alike_back}
 use Rattle.zworld.specs.declared.did.Did.{Did}
 use Rattle.zworld.specs.declared.did.Did.TheVariants as did
 use Rattle.zworld.specs.declared.did.IdleCause.{IdleCause}

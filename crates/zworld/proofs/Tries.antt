@@ -11,17 +11,17 @@ use Rattle.std.proofs.lemmas.Grind.{flat_map-append}
 use mathlib.Core.Bool.{true≢false}
 use Rattle.zprotocol.specs.declared.process.Process.{Process}
 use Rattle.zprotocol.specs.server.Machine.{kept_tree}
-use Rattle.zworld_model.specs.declared.event.Event.{Event}
-use Rattle.zworld_model.specs.declared.event.Event.TheVariants.{Retry, Take}
-use Rattle.zworld_model.specs.declared.outcome.Outcome.{Outcome}
-use Rattle.zworld_model.specs.declared.outcome.Outcome.TheVariants.{Acted}
-use Rattle.zworld_model.specs.History.{History}
-use Rattle.zworld_model.specs.Events.{is_enabled, happens}
-use Rattle.zworld_model.specs.Reading.{read, is_fitting}
-use Rattle.zworld_model.specs.Settle.{retry_events, with_event, with_try, with_tries, opening_settling, next_outcome}
-use Rattle.zworld_model.specs.support.Alike.{IsAlike}
-use Rattle.zworld_model.proofs.Alike.{have_the_same_enabled, stay_alike, alike_itself, alike_through, read_alike}
-use Rattle.zworld_model.proofs.Settling.{none_is_done, none_may_be_done}
+use Rattle.zprotocol.specs.declared.world.event.Event.{Event}
+use Rattle.zprotocol.specs.declared.world.event.Event.TheVariants.{Retry, Take}
+use Rattle.zprotocol.specs.declared.world.outcome.Outcome.{Outcome}
+use Rattle.zprotocol.specs.declared.world.outcome.Outcome.TheVariants.{Acted}
+use Rattle.zprotocol.specs.world.History.{History}
+use Rattle.zprotocol.specs.world.Events.{is_enabled, happens}
+use Rattle.zprotocol.specs.world.Reading.{read, is_fitting}
+use Rattle.zprotocol.specs.world.Settle.{retry_events, with_event, with_try, with_tries, opening_settling, next_outcome}
+use Rattle.zprotocol.specs.world.support.Alike.{IsAlike}
+use Rattle.zprotocol.proofs.world_lemmas.Alike.{have_the_same_enabled, stay_alike, alike_itself, alike_through, read_alike}
+use Rattle.zprotocol.proofs.world_lemmas.Settling.{none_is_done, none_may_be_done}
 use Rattle.zworld.specs.declared.did.Did.{Did}
 use Rattle.zworld.specs.declared.did.Did.TheVariants as became
 use Rattle.zworld.specs.Held.{Held, kept_world}

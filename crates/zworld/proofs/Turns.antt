@@ -9,10 +9,10 @@ use Rattle.zprotocol.specs.declared.limits.TheConstants.{MAX_SERVERS, PROCESSES}
 use Rattle.zprotocol.specs.declared.process.Process.{Process}
 use Rattle.zprotocol.specs.Places.{place_of, process_at}
 use Rattle.zprotocol.proofs.Places.{place_of-process_at}
-use Rattle.zlinks.specs.declared.turn.Turn.{Turn}
-use Rattle.zlinks.specs.Places.{Between, Reaches}
-use Rattle.zworld_model.specs.declared.event.Event.TheVariants.{Take}
-use Rattle.zworld_model.specs.Settle.{deliveries, processes}
+use Rattle.zworld.specs.declared.links.turn.Turn.{Turn}
+use Rattle.zworld.specs.links.Places.{Between, Reaches}
+use Rattle.zprotocol.specs.declared.world.event.Event.TheVariants.{Take}
+use Rattle.zprotocol.specs.world.Settle.{deliveries, processes}
 use Rattle.zworld.specs.Held.{kept_world}
 use Rattle.zworld.specs.support.Settling.{Point, Tries, takes, takes_from}
 use Rattle.zworld.proofs.Skips.{length-processes, listed, past, receivers_to, senders_to}

@@ -2,10 +2,10 @@
 use Rattle.std.specs.Prelude.{◌≡◌, Bool, true, false, nat_lt, Some, []}
 use Rattle.zprotocol.specs.client.Table.{begin_fault}
 use Rattle.zprotocol.specs.master.Table.{order_fault}
-use Rattle.zworld_model.specs.declared.event.Event.{Event}
-use Rattle.zworld_model.specs.declared.event.Event.TheVariants as event
-use Rattle.zworld_model.specs.declared.outcome.Outcome.{Outcome}
-use Rattle.zworld_model.specs.declared.outcome.Outcome.TheVariants as outcome
+use Rattle.zprotocol.specs.declared.world.event.Event.{Event}
+use Rattle.zprotocol.specs.declared.world.event.Event.TheVariants as event
+use Rattle.zprotocol.specs.declared.world.outcome.Outcome.{Outcome}
+use Rattle.zprotocol.specs.declared.world.outcome.Outcome.TheVariants as outcome
 use Rattle.zworld.specs.declared.did.Did.{Did}
 use Rattle.zworld.specs.declared.did.Did.TheVariants as became
 use Rattle.zworld.specs.declared.did.IdleCause.{IdleCause}

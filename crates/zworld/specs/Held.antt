@@ -9,11 +9,11 @@ use Rattle.zprotocol.specs.server.View.{ServerView, Transfer, spare}
 use Rattle.zprotocol.specs.client.View.{ClientView}
 use Rattle.zprotocol.specs.master.View.{MasterView, opening_master}
 use Rattle.zactor.specs.Acting.{TreeStanding, has_stopped}
-use Rattle.zlinks.specs.Places.{Channels, links_of}
-use Rattle.zworld_model.specs.Does.{AtMaster, AtServer, AtClient}
-use Rattle.zworld_model.specs.History.{History}
-use Rattle.zworld_model.specs.World.{World}
-use Rattle.zworld_model.specs.Events.{let_go}
+use Rattle.zworld.specs.links.Places.{Channels, links_of}
+use Rattle.zprotocol.specs.world.Does.{AtMaster, AtServer, AtClient}
+use Rattle.zprotocol.specs.world.History.{History}
+use Rattle.zprotocol.specs.world.World.{World}
+use Rattle.zprotocol.specs.world.Events.{let_go}
 
 -- the channels as they are stored
 abbrev pub HeldChannels : Type 0

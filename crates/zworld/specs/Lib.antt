@@ -1,3 +1,4 @@
+pub mod links
 pub mod Held
 pub mod Did
 pub mod Steps

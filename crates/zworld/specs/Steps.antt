@@ -5,18 +5,18 @@ use Rattle.ztree.specs.Tree.{Tree}
 use Rattle.zcalls.specs.Kept.{KeptState}
 use Rattle.zprotocol.specs.server.Machine.{kept_tree}
 use Rattle.zprotocol.specs.declared.process.Process.{Process}
-use Rattle.zworld_model.specs.declared.event.Event.{Event}
-use Rattle.zworld_model.specs.declared.event.Event.TheVariants.{Retry, Take, Ignore, Fail}
-use Rattle.zworld_model.specs.declared.outcome.Outcome.{Outcome}
-use Rattle.zworld_model.specs.declared.outcome.Outcome.TheVariants.{Acted}
-use Rattle.zworld_model.specs.declared.settled.Settled.{Settled}
-use Rattle.zworld_model.specs.History.{History}
-use Rattle.zworld_model.specs.World.{World}
-use Rattle.zworld_model.specs.Events.{is_enabled, happens, run}
-use Rattle.zworld_model.specs.Reading.{read, is_fitting, IsReading}
-use Rattle.zworld_model.specs.Settle.{Settling, settle, settling_end}
-use Rattle.zworld_model.specs.PlainTree.{IsExplained}
-use Rattle.zworld_model.specs.FromTree.{CanStart, IsExplainedFrom}
+use Rattle.zprotocol.specs.declared.world.event.Event.{Event}
+use Rattle.zprotocol.specs.declared.world.event.Event.TheVariants.{Retry, Take, Ignore, Fail}
+use Rattle.zprotocol.specs.declared.world.outcome.Outcome.{Outcome}
+use Rattle.zprotocol.specs.declared.world.outcome.Outcome.TheVariants.{Acted}
+use Rattle.zprotocol.specs.declared.world.settled.Settled.{Settled}
+use Rattle.zprotocol.specs.world.History.{History}
+use Rattle.zprotocol.specs.world.World.{World}
+use Rattle.zprotocol.specs.world.Events.{is_enabled, happens, run}
+use Rattle.zprotocol.specs.world.Reading.{read, is_fitting, IsReading}
+use Rattle.zprotocol.specs.world.Settle.{Settling, settle, settling_end}
+use Rattle.zprotocol.specs.world.PlainTree.{IsExplained}
+use Rattle.zprotocol.specs.world.FromTree.{CanStart, IsExplainedFrom}
 use Rattle.zworld.specs.declared.did.Did.{Did}
 use Rattle.zworld.specs.Held.{Held, world_of}
 use Rattle.zworld.specs.Did.{is_idle, outcome_of}

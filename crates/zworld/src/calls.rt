@@ -2,7 +2,7 @@
 
 ghost use Rattle.std.specs.Prelude.{◌≡◌, [], IfNone, IfOk, IfSome, OnErr};
 ghost use Rattle.zcalls.specs.declared.call.Call.{Call};
-ghost use Rattle.zworld_model.specs.declared.event.Event.TheVariants.{Begin, Retry};
+ghost use Rattle.zprotocol.specs.declared.world.event.Event.TheVariants.{Begin, Retry};
 ghost use Rattle.zworld.specs.support.Giving.{begun_number};
 ghost use Rattle.zworld.specs.support.Stepped.{CanHappen, Goes, HasStepped, IsIdle};
 
@@ -12,7 +12,7 @@ use zactor::{ActFault, Done, Handed, Input};
 use zalloc::Memory;
 use zcalls::{Call, CallNumber, ClientId};
 use zprotocol::Process;
-use zworld_model::CallEvent;
+use zprotocol::world::CallEvent;
 
 impl Processes {
     /// A client invokes a call, if it can. The room for the history and the copy of the call are

@@ -4,9 +4,9 @@ ghost use Rattle.std.specs.Prelude.{◌≡◌, ◌++◌, [], IfOk, OnErr, OnOk};
 ghost use Rattle.zprotocol.specs.declared.process.Process.TheVariants.{Client};
 ghost use Rattle.zactor.specs.declared.done.Done.TheVariants.{Answered};
 ghost use Rattle.zactor.specs.Acting.{reply_handed};
-ghost use Rattle.zworld_model.specs.declared.event.Event.TheVariants.{Take, Ignore};
+ghost use Rattle.zprotocol.specs.declared.world.event.Event.TheVariants.{Take, Ignore};
 ghost use Rattle.zworld.specs.support.Stepped.{CanHappen, Goes, HasStepped};
-ghost use Rattle.zworld_model.specs.Events.{front_is, is_request};
+ghost use Rattle.zprotocol.specs.world.Events.{front_is, is_request};
 ghost use Rattle.zworld.specs.Held.{kept_world};
 ghost use Rattle.zworld.specs.support.Giving.{did_of, IsToldOf, told_with};
 
@@ -17,7 +17,7 @@ use zactor::{Done, Handed, Input};
 use zalloc::Memory;
 use zcalls::{CallNumber, ClientId};
 use zprotocol::{Message, Process};
-use zworld_model::CallEvent;
+use zprotocol::world::CallEvent;
 
 impl Processes {
     /// Delivers the front message of a channel.

@@ -1,7 +1,7 @@
 //! Servers that fail. This is rare, so it is out of line.
 
 ghost use Rattle.std.specs.Prelude.{[]};
-ghost use Rattle.zworld_model.specs.declared.event.Event.TheVariants.{Fail};
+ghost use Rattle.zprotocol.specs.declared.world.event.Event.TheVariants.{Fail};
 ghost use Rattle.zworld.specs.support.Stepped.{HasStepped};
 
 use crate::did::{Did, IdleCause};

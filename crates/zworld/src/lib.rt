@@ -19,6 +19,7 @@ mod calls;
 mod deliveries;
 mod did;
 mod failures;
+pub mod links;
 mod opening;
 mod orders;
 mod post;

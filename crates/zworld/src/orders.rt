@@ -1,7 +1,7 @@
 //! Orders to the master, which are rare.
 
 ghost use Rattle.std.specs.Prelude.{[], IfOk, OnErr};
-ghost use Rattle.zworld_model.specs.declared.event.Event.TheVariants as event;
+ghost use Rattle.zprotocol.specs.declared.world.event.Event.TheVariants as event;
 ghost use Rattle.zworld.specs.support.Stepped.{CanHappen, HasStepped};
 
 use crate::did::{Did, IdleCause};

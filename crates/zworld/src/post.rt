@@ -2,14 +2,14 @@
 
 ghost use Rattle.std.specs.Prelude.{◌≡◌, [], false, OnOk, length};
 ghost use Rattle.zprotocol.specs.declared.limits.TheConstants.{PROCESSES};
-ghost use Rattle.zlinks.specs.Places.{has_notice, Notes};
+ghost use Rattle.zworld.specs.links.Places.{has_notice, Notes};
 ghost use Rattle.zworld.specs.support.Posting.{is_lost, waiting_after};
 ghost use Rattle.zworld.specs.support.Posting.{CanCount, CanEnd, HasEnded, IsPosted};
 
 use std::alloc::Global;
 use zactor::{Actor, Done};
 use zalloc::Memory;
-use zlinks::Links;
+use crate::links::Links;
 use zprotocol::{Out, Process};
 use zserver::Snapshot;
 

@@ -19,10 +19,10 @@ use std::alloc::Global;
 use std::marker::Model;
 use zactor::{ActFault, Actor, Done, Handed, Input};
 use zalloc::Memory;
-use zlinks::Links;
+use crate::links::Links;
 use zprotocol::{Out, Process};
 use zserver::Snapshot;
-use zworld_model::{CallEvent, Event};
+use zprotocol::world::{CallEvent, Event};
 
 /// The processes, each at its position, and the messages in flight. The list of what an event sends
 /// is reused from one event to the next, and is empty between them. The waiting clients are

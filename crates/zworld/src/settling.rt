@@ -13,8 +13,8 @@
 ghost use Rattle.std.specs.Prelude.{◌≡◌, ◌==◌, ◌≤◌, ◌<◌, ◌-◌, ◌&&◌, IfOk, OnErr};
 ghost use Rattle.std.specs.Prelude.{if◌then◌else◌};
 ghost use Rattle.ztree.specs.declared.limits.TheConstants.{MAX_CLIENTS};
-ghost use Rattle.zworld_model.specs.declared.settled.Settled.TheVariants.{Limit, Quiet};
-ghost use Rattle.zworld_model.specs.Settle.{deliveries, retry_events};
+ghost use Rattle.zprotocol.specs.declared.world.settled.Settled.TheVariants.{Limit, Quiet};
+ghost use Rattle.zprotocol.specs.world.Settle.{deliveries, retry_events};
 ghost use Rattle.zworld.specs.Did.{is_idle, is_short};
 ghost use Rattle.zworld.specs.support.Stepped.{Settles};
 ghost use Rattle.zworld.specs.support.Settling.{CanRunOut, StillOrCould};
@@ -25,7 +25,7 @@ use crate::processes::Processes;
 use zalloc::Memory;
 use zcalls::ClientId;
 use zprotocol::{MAX_SERVERS, Process};
-use zworld_model::{CallEvent, Settled};
+use zprotocol::world::{CallEvent, Settled};
 
 impl Processes {
     /// Settles, with at most `limit` events: passes, a retry of each waiting client, and passes

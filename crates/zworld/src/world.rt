@@ -15,11 +15,11 @@
 ghost use Rattle.std.specs.Prelude.{◌≡◌, ◌≤◌, [], true, false, IfOk, IsErr, OnErr, OnOk};
 ghost use Rattle.ztree.specs.declared.limits.TheConstants.{MAX_CLIENTS};
 ghost use Rattle.zprotocol.specs.server.Machine.{kept_tree};
-ghost use Rattle.zworld_model.specs.PlainTree.{IsExplained};
+ghost use Rattle.zprotocol.specs.world.PlainTree.{IsExplained};
 ghost use Rattle.zserver.specs.Server.{IsFresh};
-ghost use Rattle.zworld_model.specs.FromTree.{CanStart, opening_world_from};
-ghost use Rattle.zworld_model.specs.World.{opening_world};
-ghost use Rattle.zworld_model.specs.declared.settled.Settled.TheVariants.{Quiet};
+ghost use Rattle.zprotocol.specs.world.FromTree.{CanStart, opening_world_from};
+ghost use Rattle.zprotocol.specs.world.World.{opening_world};
+ghost use Rattle.zprotocol.specs.declared.world.settled.Settled.TheVariants.{Quiet};
 ghost use Rattle.zworld.specs.Did.{HasCause, is_idle};
 ghost use Rattle.zworld.specs.Steps.{CanWantMemory, CanWantMemoryToSettle, HasRunOut};
 ghost use Rattle.zworld.specs.Steps.{HasBegunToRun, HasDone, HasRun, IsAtRest, IsExplainedFromStart};
@@ -33,7 +33,7 @@ use std::marker::Model;
 use zalloc::Memory;
 use zprotocol::ServerId;
 use zserver::Snapshot;
-use zworld_model::{CallEvent, Event, Settled};
+use zprotocol::world::{CallEvent, Event, Settled};
 
 /// All processes with their channels, and the history of what callers saw.
 ///

@@ -6,7 +6,7 @@ use std::alloc::Global;
 use zcalls::{Call, Create, Data, Kind, Query, Reply, Update};
 use zpath::Path;
 use zworld::World;
-use zworld_model::{CallEvent, Event, Settled};
+use zprotocol::world::{CallEvent, Event, Settled};
 
 // Far more events than any settling here takes.
 const LIMIT: usize = 1000;

@@ -6,7 +6,7 @@ use crate::trouble::Trouble;
 use std::alloc::Global;
 use zcalls::{Kind, Lifetime};
 use zworld::World;
-use zworld_model::Event;
+use zprotocol::world::Event;
 
 /// How many lists were run, and in how many of them the state lived and all was answered.
 #[derive(Clone, Copy, Default)]

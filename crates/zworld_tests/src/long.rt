@@ -7,7 +7,7 @@ use std::alloc::Global;
 use zcalls::{Kind, Lifetime};
 use zprotocol::Process;
 use zworld::World;
-use zworld_model::Event;
+use zprotocol::world::Event;
 
 /// How many calls the list has. Each is five events.
 const CALLS: usize = 2_000;

@@ -7,7 +7,7 @@ use std::process::Abort;
 use zcalls::{Call, ClientId, Reply, Update};
 use zprotocol::{Process, ServerId};
 use zworld::{Did, World};
-use zworld_model::{CallEvent, Event, Settled};
+use zprotocol::world::{CallEvent, Event, Settled};
 
 // A process: the master, a server by its number, or the one client.
 #[derive(Clone, Copy)]

@@ -9,7 +9,7 @@ use Rattle.zclient.specs.contracts.client_core.ClientCore as client
 use Rattle.zmaster.specs.contracts.master.Master as master
 use Rattle.zserver.specs.support.Codes.{coded_view}
 use Rattle.zserver.specs.Server.{TreeView}
-use Rattle.zworld_model.specs.Does.{AtMaster, AtServer, AtClient, Out}
+use Rattle.zprotocol.specs.world.Does.{AtMaster, AtServer, AtClient, Out}
 use Rattle.zactor.specs.Acting.{TreeStanding}
 
 -- the one view that it is

@@ -8,7 +8,7 @@ use Rattle.zserver.specs.declared.stopped.Stopped.{Stopped}
 use Rattle.zserver.specs.declared.stopped.Stopped.TheVariants as stopped
 use Rattle.zserver.specs.declared.taken.Taken.{Taken}
 use Rattle.zserver.specs.declared.taken.Taken.TheVariants as taken
-use Rattle.zworld_model.specs.Does.{AtMaster, AtServer, AtClient, Out}
+use Rattle.zprotocol.specs.world.Does.{AtMaster, AtServer, AtClient, Out}
 use Rattle.zactor.specs.declared.kind.Kind.{Kind}
 use Rattle.zactor.specs.declared.kind.Kind.TheVariants.{Master, Server, Client, Gone}
 use Rattle.zactor.specs.declared.done.Done.{Done}

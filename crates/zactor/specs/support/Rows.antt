@@ -6,7 +6,7 @@ use Rattle.zprotocol.specs.declared.process.Process.TheVariants.{Master, Server,
 use Rattle.zprotocol.specs.server.Machine.{kept_tree}
 use Rattle.zprotocol.specs.server.View.{member, spare}
 use Rattle.zprotocol.specs.client.support.Rows.{query, update}
-use Rattle.zworld_model.specs.Does.{AtServer}
+use Rattle.zprotocol.specs.world.Does.{AtServer}
 use Rattle.zactor.specs.declared.input.Input.{Input}
 use Rattle.zactor.specs.declared.input.Input.TheVariants.{Hear}
 use Rattle.zactor.specs.Acting.{TreePost, TreeStanding}

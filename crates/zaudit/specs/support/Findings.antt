@@ -1,11 +1,11 @@
 -- What the checks of traces look for.
 use Rattle.std.specs.Prelude.{◌≡◌, ℕ, Bool, true, nat_lt}
 use Rattle.std.specs.List.{list_any}
-use Rattle.zworld_model.specs.History.{History}
-use Rattle.ztraces.specs.declared.trace.Trace.{Trace}
-use Rattle.ztraces.specs.declared.trace.ClientTrace.{ClientTrace}
-use Rattle.ztraces.specs.declared.trace.Traces.{Traces}
-use Rattle.ztraces.specs.Traces.{told_of, record_of, client_count}
+use Rattle.zprotocol.specs.world.History.{History}
+use Rattle.zprotocol.specs.declared.traces.trace.Trace.{Trace}
+use Rattle.zprotocol.specs.declared.traces.trace.ClientTrace.{ClientTrace}
+use Rattle.zprotocol.specs.declared.traces.trace.Traces.{Traces}
+use Rattle.zprotocol.specs.traces.Traces.{told_of, record_of, client_count}
 
 -- the trace of a server is cut
 abbrev pub is_any_server_cut : Traces → Bool

@@ -7,10 +7,10 @@ use Rattle.std.specs.declared.cmp.Ordering.{Ordering}
 use Rattle.std.specs.declared.cmp.Reverse.{Reverse}
 use Rattle.std.specs.declared.collections.BinaryHeap.{BinaryHeap}
 use Rattle.std.specs.Ordering.{nat_cmp, ordering_then, is_lt}
-use Rattle.ztraces.specs.declared.trace.TraceEvent.{TraceEvent}
-use Rattle.ztraces.specs.declared.trace.Traces.{Traces}
-use Rattle.ztraces.specs.Traces.{trace_of}
-use Rattle.ztraces.specs.support.Places.{place_count, process_at, head_at, IsLeast}
+use Rattle.zprotocol.specs.declared.traces.trace.TraceEvent.{TraceEvent}
+use Rattle.zprotocol.specs.declared.traces.trace.Traces.{Traces}
+use Rattle.zprotocol.specs.traces.Traces.{trace_of}
+use Rattle.zprotocol.specs.traces.support.Places.{place_count, process_at, head_at, IsLeast}
 
 abbrev pub Head : Type 0
 Head = Reverse (ℕ × ℕ)

@@ -3,13 +3,13 @@
 use Rattle.std.specs.Prelude.{◌≡◌, ◌<◌, ℕ, true, false, List}
 use Rattle.zprotocol.specs.declared.process.Process.{Process}
 use Rattle.zprotocol.specs.server.Machine.{kept_tree}
-use Rattle.zworld_model.specs.declared.event.Event.{Event}
-use Rattle.zworld_model.specs.Events.{happens}
+use Rattle.zprotocol.specs.declared.world.event.Event.{Event}
+use Rattle.zprotocol.specs.world.Events.{happens}
 use Rattle.zworld.specs.Steps.{WorldView, world_in}
-use Rattle.ztraces.specs.declared.trace.Act.{Act}
-use Rattle.ztraces.specs.declared.trace.Traces.{Traces}
-use Rattle.ztraces.specs.Traces.{event_of, is_in_place, is_step_in_place, step_happens}
-use Rattle.ztraces.specs.support.Places.{place_count, unread, HasReplayed, IsAllRead}
+use Rattle.zprotocol.specs.declared.traces.trace.Act.{Act}
+use Rattle.zprotocol.specs.declared.traces.trace.Traces.{Traces}
+use Rattle.zprotocol.specs.traces.Traces.{event_of, is_in_place, is_step_in_place, step_happens}
+use Rattle.zprotocol.specs.traces.support.Places.{place_count, unread, HasReplayed, IsAllRead}
 
 -- an event is enabled at its position, and happens
 abbrev pub HappensInPlace : WorldView → Event → WorldView → Type 0

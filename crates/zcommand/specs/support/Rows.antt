@@ -1,7 +1,7 @@
 -- Words of the worked examples.
 use Rattle.std.specs.Prelude.{ℕ, ◌==◌, List, Result}
 use Rattle.std.specs.List.{slice_split}
-use Rattle.zcli.specs.declared.fault.WordsFault.{WordsFault}
+use Rattle.zarguments.specs.declared.fault.WordsFault.{WordsFault}
 use Rattle.zcommand.specs.Asked.{settings_asked}
 
 -- What a text's words, between spaces, ask for.

@@ -5,10 +5,10 @@ use Rattle.ztree.specs.Tree.{Tree}
 use Rattle.ztree.specs.support.Codes.{coded_tree}
 use Rattle.zcalls.specs.contracts.call.Update as update
 use Rattle.zcalls.specs.declared.call.Update.{Update}
-use Rattle.zanswering.specs.contracts.clock.Clock as clock
-use Rattle.zanswering.specs.declared.clock.Clock.{Clock}
-use Rattle.ztables.specs.Tables.{TablesView}
-use Rattle.ztables.specs.support.Codes.{coded_tables}
+use Rattle.zresponses.specs.contracts.clock.Clock as clock
+use Rattle.zresponses.specs.declared.clock.Clock.{Clock}
+use Rattle.zconnections.specs.Tables.{TablesView}
+use Rattle.zconnections.specs.support.Codes.{coded_tables}
 use Rattle.zfront.specs.Front.{FrontView}
 use Rattle.zfront.specs.Inputs.{ServerView}
 

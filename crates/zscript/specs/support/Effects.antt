@@ -1,13 +1,13 @@
 -- The part of a line's effect that happens on a world, and the text that is written for it.
 use Rattle.std.specs.Prelude.{◌≡◌, ℕ, Bool, true, false, List, [], ◌∷◌, ◌++◌, codes, Option, None, Some, String}
 use Rattle.std.specs.List.{flat_map}
-use Rattle.zworld_model.specs.declared.event.Event.{Event}
-use Rattle.zworld_model.specs.declared.history.CallEvent.TheVariants as call_event
-use Rattle.zworld_model.specs.declared.outcome.Outcome.{Outcome}
-use Rattle.zworld_model.specs.History.{History}
-use Rattle.zlines.specs.declared.request.LineFault.{LineFault}
-use Rattle.zlines.specs.declared.request.LineFault.TheVariants as line_fault
-use Rattle.zlines.specs.Texts.{Writes}
+use Rattle.zprotocol.specs.declared.world.event.Event.{Event}
+use Rattle.zprotocol.specs.declared.world.history.CallEvent.TheVariants as call_event
+use Rattle.zprotocol.specs.declared.world.outcome.Outcome.{Outcome}
+use Rattle.zprotocol.specs.world.History.{History}
+use Rattle.zscript_text.specs.declared.request.LineFault.{LineFault}
+use Rattle.zscript_text.specs.declared.request.LineFault.TheVariants as line_fault
+use Rattle.zscript_text.specs.Texts.{Writes}
 use Rattle.zworld.specs.declared.did.Did.{Did}
 use Rattle.zworld.specs.declared.did.Did.TheVariants as became
 use Rattle.zworld.specs.declared.did.IdleCause.{IdleCause}

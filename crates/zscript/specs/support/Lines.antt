@@ -1,6 +1,6 @@
 -- Lines as a player reads them: a line that has begun continues from block to block.
 use Rattle.std.specs.Prelude.{◌≡◌, ℕ, false, List, [], ◌∷◌, ◌++◌, ◌==◌, if◌then◌else◌}
-use Rattle.zworld_model.specs.declared.outcome.Outcome.{Outcome}
+use Rattle.zprotocol.specs.declared.world.outcome.Outcome.{Outcome}
 use Rattle.zscript.specs.Line.{ServiceWorld, ScriptState, script_state, after, answers}
 
 -- The lines that end within some bytes, each without its LF, where a line has begun before them.

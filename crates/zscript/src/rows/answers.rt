@@ -7,16 +7,16 @@ ghost use Rattle.zprotocol.specs.declared.master.order_fault.OrderFault.TheVaria
 ghost use Rattle.zprotocol.specs.declared.master.order_fault.OrderFault.TheVariants.{Joining, NoChain};
 ghost use Rattle.zprotocol.specs.declared.master.order_fault.OrderFault.TheVariants.{Lost, Last, Retiring};
 ghost use Rattle.zprotocol.specs.declared.client.begin_fault.BeginFault.TheVariants.{Busy, Exhausted};
-ghost use Rattle.zworld_model.specs.declared.settled.Settled.TheVariants.{Quiet, Limit};
-ghost use Rattle.zlines.specs.declared.request.LineFault.TheVariants.{BadLine, BadPath, BadData};
+ghost use Rattle.zprotocol.specs.declared.world.settled.Settled.TheVariants.{Quiet, Limit};
+ghost use Rattle.zscript_text.specs.declared.request.LineFault.TheVariants.{BadLine, BadPath, BadData};
 ghost use Rattle.zscript.specs.declared.limits.TheConstants.{MAX_EVENTS};
-ghost use Rattle.zworld_model.specs.declared.history.CallEvent.TheVariants.{Answer};
+ghost use Rattle.zprotocol.specs.declared.world.history.CallEvent.TheVariants.{Answer};
 ghost use Rattle.zscript.specs.Line.{taken_text, reply_in, order_fault_name, begin_fault_text, settled_text};
 ghost use Rattle.zscript.specs.Line.{line_fault_text};
 ghost use Rattle.zscript.specs.support.Rows.{AreAnswered, row, begins, takes, takes_none, text_line, call_2, call_3};
 
 /// Events that aren't enabled, failures and joins.
-#[tactic(auto, unfolding(crate::specs::Line::effect_of, crate::specs::Line::answer, crate::specs::Line::after, zlines::specs::Line::line_of, zprotocol::specs::master::Table::order_fault))]
+#[tactic(auto, unfolding(crate::specs::Line::effect_of, crate::specs::Line::answer, crate::specs::Line::after, zscript_text::specs::Line::line_of, zprotocol::specs::master::Table::order_fault))]
 pub fn chain_lines()
     ensures own_link { AreAnswered (row "take s1 s1" "idle" ∷ []) }
     ensures no_server { AreAnswered (row "take s17 m" "bad line" ∷ []) }

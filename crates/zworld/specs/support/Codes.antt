@@ -2,10 +2,10 @@
 -- worlds by them.
 use Rattle.std.specs.Prelude.{Bool, List, refl}
 use Rattle.std.specs.Coded.{Coded, code_by, coded×, coded_bool, coded_list}
-use Rattle.zlinks.specs.contracts.links.Links as links
+use Rattle.zworld.specs.contracts.links.links.Links as links
 use Rattle.zserver.specs.contracts.snapshot.Snapshot as snapshot
-use Rattle.zworld_model.specs.contracts.history.CallEvent as call_event
-use Rattle.zworld_model.specs.History.{History}
+use Rattle.zprotocol.specs.contracts.world.history.CallEvent as call_event
+use Rattle.zprotocol.specs.world.History.{History}
 use Rattle.zactor.specs.Acting.{TreeStanding}
 use Rattle.zactor.specs.support.Codes.{coded_standing}
 use Rattle.zworld.specs.Held.{HeldChannels, Held}

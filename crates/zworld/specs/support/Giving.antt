@@ -12,11 +12,11 @@ use Rattle.zactor.specs.declared.done.Done.{Done}
 use Rattle.zactor.specs.declared.done.Done.TheVariants as done
 use Rattle.zactor.specs.declared.input.Input.{Input}
 use Rattle.zactor.specs.declared.input.Input.TheVariants.{Stop}
-use Rattle.zworld_model.specs.declared.history.CallEvent.TheVariants as call_event
-use Rattle.zworld_model.specs.Does.{accepts}
-use Rattle.zworld_model.specs.Events.{did_in, standing_of}
-use Rattle.zworld_model.specs.History.{History}
-use Rattle.zworld_model.specs.support.Alike.{IsAlike}
+use Rattle.zprotocol.specs.declared.world.history.CallEvent.TheVariants as call_event
+use Rattle.zprotocol.specs.world.Does.{accepts}
+use Rattle.zprotocol.specs.world.Events.{did_in, standing_of}
+use Rattle.zprotocol.specs.world.History.{History}
+use Rattle.zprotocol.specs.world.support.Alike.{IsAlike}
 use Rattle.zworld.specs.declared.did.Did.{Did}
 use Rattle.zworld.specs.declared.did.Did.TheVariants as did
 use Rattle.zworld.specs.Held.{Held, kept_world, standing_at}

@@ -12,7 +12,7 @@ use Rattle.zprotocol.specs.master.View.{opening_master}
 use Rattle.zprotocol.specs.server.Machine.{Does, kept_tree, kept_tree_from}
 use Rattle.zprotocol.specs.server.View.{opening_server}
 use Rattle.zactor.specs.Acting.{TreeStanding}
-use Rattle.zworld_model.specs.Does.{AtMaster, AtServer, AtClient}
+use Rattle.zprotocol.specs.world.Does.{AtMaster, AtServer, AtClient}
 
 -- the client of the last number, where the chain goes up to the first and that many take part
 abbrev pub opening_client : ℕ → ℕ → ℕ → TreeStanding

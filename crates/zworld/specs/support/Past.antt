@@ -3,14 +3,14 @@ use Rattle.std.specs.Prelude.{◌≡◌, ℕ, Bool, true, false, List, [], ◌�
 use Rattle.ztree.specs.Tree.{Tree, opening_tree}
 use Rattle.zcalls.specs.Kept.{KeptState}
 use Rattle.zprotocol.specs.server.Machine.{kept_tree}
-use Rattle.zworld_model.specs.declared.event.Event.{Event}
-use Rattle.zworld_model.specs.declared.outcome.Outcome.{Outcome}
-use Rattle.zworld_model.specs.History.{History}
-use Rattle.zworld_model.specs.World.{World}
+use Rattle.zprotocol.specs.declared.world.event.Event.{Event}
+use Rattle.zprotocol.specs.declared.world.outcome.Outcome.{Outcome}
+use Rattle.zprotocol.specs.world.History.{History}
+use Rattle.zprotocol.specs.world.World.{World}
 use Rattle.zprotocol.specs.Places.{is_server}
-use Rattle.zworld_model.specs.Events.{happens}
-use Rattle.zworld_model.specs.Reading.{read}
-use Rattle.zworld_model.specs.FromTree.{CanStart, world_after_from}
+use Rattle.zprotocol.specs.world.Events.{happens}
+use Rattle.zprotocol.specs.world.Reading.{read}
+use Rattle.zprotocol.specs.world.FromTree.{CanStart, world_after_from}
 use Rattle.zworld.specs.Held.{Held, world_of}
 
 -- There is a run from an initial world whose history is a past and then this history. Where nothing

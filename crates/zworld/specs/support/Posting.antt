@@ -11,8 +11,8 @@ use Rattle.zprotocol.specs.server.View.{Post}
 use Rattle.zactor.specs.Acting.{TreeStanding, has_stopped}
 use Rattle.zactor.specs.declared.done.Done.{Done}
 use Rattle.zactor.specs.declared.done.Done.TheVariants.{Began, Answered}
-use Rattle.zlinks.specs.Places.{links_of, has_notice, with_last, with_notice, without_receiver, Keeps}
-use Rattle.zworld_model.specs.Links.{put}
+use Rattle.zworld.specs.links.Places.{links_of, has_notice, with_last, with_notice, without_receiver, Keeps}
+use Rattle.zprotocol.specs.world.Links.{put}
 use Rattle.zworld.specs.Held.{HeldChannels, standing_at}
 
 -- the process is a server that has stopped

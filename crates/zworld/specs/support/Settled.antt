@@ -3,10 +3,10 @@ use Rattle.std.specs.Prelude.{ℕ, Bool, List, ◌++◌}
 use Rattle.ztree.specs.Tree.{Tree}
 use Rattle.zcalls.specs.Kept.{KeptState}
 use Rattle.zprotocol.specs.server.Machine.{kept_tree}
-use Rattle.zworld_model.specs.declared.outcome.Outcome.{Outcome}
-use Rattle.zworld_model.specs.declared.settled.Settled.{Settled}
-use Rattle.zworld_model.specs.Settle.{settle}
-use Rattle.zworld_model.specs.World.{World}
+use Rattle.zprotocol.specs.declared.world.outcome.Outcome.{Outcome}
+use Rattle.zprotocol.specs.declared.world.settled.Settled.{Settled}
+use Rattle.zprotocol.specs.world.Settle.{settle}
+use Rattle.zprotocol.specs.world.World.{World}
 use Rattle.zworld.specs.Steps.{WorldView, Ends, world_in}
 use Rattle.zworld.specs.support.Settling.{MayLearn}
 

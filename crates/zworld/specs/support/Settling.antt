@@ -6,12 +6,12 @@ use Rattle.ztree.specs.Tree.{Tree}
 use Rattle.zcalls.specs.Kept.{KeptState}
 use Rattle.zprotocol.specs.server.Machine.{kept_tree}
 use Rattle.zprotocol.specs.declared.process.Process.{Process}
-use Rattle.zworld_model.specs.declared.event.Event.{Event}
-use Rattle.zworld_model.specs.declared.event.Event.TheVariants.{Take}
-use Rattle.zworld_model.specs.declared.outcome.Outcome.{Outcome}
-use Rattle.zworld_model.specs.History.{History}
-use Rattle.zworld_model.specs.Settle.{Settling, with_tries, passes, deliveries}
-use Rattle.zworld_model.specs.support.Alike.{IsAlike}
+use Rattle.zprotocol.specs.declared.world.event.Event.{Event}
+use Rattle.zprotocol.specs.declared.world.event.Event.TheVariants.{Take}
+use Rattle.zprotocol.specs.declared.world.outcome.Outcome.{Outcome}
+use Rattle.zprotocol.specs.world.History.{History}
+use Rattle.zprotocol.specs.world.Settle.{Settling, with_tries, passes, deliveries}
+use Rattle.zprotocol.specs.world.support.Alike.{IsAlike}
 use Rattle.zworld.specs.Held.{Held, kept_world}
 use Rattle.zworld.specs.Steps.{AreActed, CanWantMemoryToSettle}
 use Rattle.zworld.specs.support.Stepped.{Seen}

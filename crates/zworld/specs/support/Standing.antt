@@ -6,9 +6,9 @@ use Rattle.zprotocol.specs.declared.limits.TheConstants.{PROCESSES}
 use Rattle.zprotocol.specs.declared.process.Process.{Process}
 use Rattle.zprotocol.specs.server.View.{Post}
 use Rattle.zactor.specs.Acting.{TreeStanding, can_stand, has_stopped}
-use Rattle.zlinks.specs.Places.{has_notice}
-use Rattle.zlinks.specs.support.Counts.{passing}
-use Rattle.zworld_model.specs.Does.{AtClient}
+use Rattle.zworld.specs.links.Places.{has_notice}
+use Rattle.zworld.specs.links.support.Counts.{passing}
+use Rattle.zprotocol.specs.world.Does.{AtClient}
 use Rattle.zworld.specs.Held.{HeldChannels, standing_at}
 
 -- a client has an outstanding call

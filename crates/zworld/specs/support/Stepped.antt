@@ -4,15 +4,15 @@ use Rattle.std.specs.Prelude.{◌≡◌, ℕ, Bool, true, not, List, [], ◌++�
 use Rattle.std.specs.declared.alloc.Global.{Global}
 use Rattle.std.specs.declared.vec.Vec.{Vec}
 use Rattle.zprotocol.specs.server.Machine.{kept_tree}
-use Rattle.zworld_model.specs.declared.event.Event.{Event}
-use Rattle.zworld_model.specs.declared.history.CallEvent.{CallEvent}
-use Rattle.zworld_model.specs.declared.outcome.Outcome.{Outcome}
-use Rattle.zworld_model.specs.declared.settled.Settled.{Settled}
-use Rattle.zworld_model.specs.History.{History}
-use Rattle.zworld_model.specs.Events.{is_enabled, happens}
-use Rattle.zworld_model.specs.Reading.{read, is_fitting}
-use Rattle.zworld_model.specs.Settle.{settle, settling_end}
-use Rattle.zworld_model.specs.support.Alike.{IsAlike}
+use Rattle.zprotocol.specs.declared.world.event.Event.{Event}
+use Rattle.zprotocol.specs.declared.world.history.CallEvent.{CallEvent}
+use Rattle.zprotocol.specs.declared.world.outcome.Outcome.{Outcome}
+use Rattle.zprotocol.specs.declared.world.settled.Settled.{Settled}
+use Rattle.zprotocol.specs.world.History.{History}
+use Rattle.zprotocol.specs.world.Events.{is_enabled, happens}
+use Rattle.zprotocol.specs.world.Reading.{read, is_fitting}
+use Rattle.zprotocol.specs.world.Settle.{settle, settling_end}
+use Rattle.zprotocol.specs.world.support.Alike.{IsAlike}
 use Rattle.zworld.specs.declared.did.Did.{Did}
 use Rattle.zworld.specs.declared.did.Did.TheVariants as became
 use Rattle.zworld.specs.declared.did.IdleCause.{IdleCause}

@@ -4,8 +4,8 @@ use Rattle.std.proofs.Common.{◌≡◌, ℕ, Some, ap, is_some, refl, sym, ◌�
 use mathlib.Core.Bool.{true≢false}
 use Rattle.zprotocol.specs.declared.process.Process.TheVariants.{Master, Server, Client}
 use Rattle.zprotocol.specs.client.Table.{client_step}
-use Rattle.zworld_model.specs.declared.history.CallEvent.TheVariants as call_event
-use Rattle.zworld_model.specs.Does.{AtClient, answer_told}
+use Rattle.zprotocol.specs.declared.world.history.CallEvent.TheVariants as call_event
+use Rattle.zprotocol.specs.world.Does.{AtClient, answer_told}
 use Rattle.zactor.specs.Acting.{with_reply}
 use Rattle.zactor.proofs.Replies.{handed_out}
 use Rattle.zactor.proofs.hearing.hear_as_client.Goals as goal

@@ -1,7 +1,7 @@
 use Rattle.std.proofs.Common.{ap, ◌∙◌, subst}
 use Rattle.zworld.specs.Steps.{world_in}
-use Rattle.ztraces.specs.Traces.{told_of, AgreesWithRecords}
-use Rattle.ztraces.proofs.Found.{found_by, mismatched_by}
+use Rattle.zprotocol.specs.traces.Traces.{told_of, AgreesWithRecords}
+use Rattle.zprotocol.proofs.traces_lemmas.Found.{found_by, mismatched_by}
 use Rattle.zaudit.proofs.auditing.examined.Goals as goal
 
 pub returns-then-not-agree-clause-mismatch : goal.returns-then-not-agree-clause-mismatch

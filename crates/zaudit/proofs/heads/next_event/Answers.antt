@@ -1,5 +1,5 @@
 use Rattle.std.specs.BinaryHeap.{heap_items}
-use Rattle.ztraces.specs.support.Places.{place_count}
+use Rattle.zprotocol.specs.traces.support.Places.{place_count}
 use Rattle.zaudit.proofs.Heaps.{first_is_least, none_is_left, is_left, is_next}
 use Rattle.zaudit.proofs.heads.next_event.Goals as goal
 

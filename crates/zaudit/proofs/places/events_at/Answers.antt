@@ -1,6 +1,6 @@
 use Rattle.std.proofs.Common.{◌<◌, ◌≤◌, length, ◌∙◌, arith}
 use Rattle.std.proofs.lemmas.Bool.Decides.{nat_tests}
-use Rattle.ztraces.proofs.Places.{server_events}
+use Rattle.zprotocol.proofs.traces_lemmas.Places.{server_events}
 use Rattle.zaudit.proofs.places.events_at.Goals as goal
 
 pub returns-then-place-len : goal.returns-then-place-len

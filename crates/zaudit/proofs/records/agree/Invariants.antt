@@ -1,5 +1,5 @@
 use Rattle.std.proofs.Common.{◌≡◌, ◌<◌, ℕ}
-use Rattle.ztraces.specs.Traces.{told_of, record_of}
+use Rattle.zprotocol.specs.traces.Traces.{told_of, record_of}
 use Rattle.zaudit.proofs.records.agree.Given as goal
 
 abbrev pub invariant-loop-place : goal.invariant-loop-place

@@ -1,5 +1,5 @@
 use Rattle.std.proofs.Common.{sym, ap, ◌∙◌}
-use Rattle.ztraces.specs.Traces.{client_of}
+use Rattle.zprotocol.specs.traces.Traces.{client_of}
 use Rattle.zaudit.proofs.ClientRecords.{before_end, ends_early, is_next}
 use Rattle.zaudit.proofs.records.tells.Goals as goal
 

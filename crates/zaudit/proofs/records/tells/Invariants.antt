@@ -1,5 +1,5 @@
 use Rattle.std.proofs.Common.{◌≡◌, ◌≤◌, length, take}
-use Rattle.ztraces.specs.Traces.{told_of}
+use Rattle.zprotocol.specs.traces.Traces.{told_of}
 use Rattle.zaudit.proofs.records.tells.Given as goal
 
 abbrev pub invariant-loop-event : goal.invariant-loop-event

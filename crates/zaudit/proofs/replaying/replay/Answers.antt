@@ -1,7 +1,7 @@
 use Rattle.std.proofs.Common.{◌≡◌, replicate, sym, ◌∙◌, subst}
 use Rattle.zworld.specs.Steps.{world_in}
-use Rattle.ztraces.specs.support.Places.{HasReplayed}
-use Rattle.ztraces.proofs.Places.{replayed_nothing}
+use Rattle.zprotocol.specs.traces.support.Places.{HasReplayed}
+use Rattle.zprotocol.proofs.traces_lemmas.Places.{replayed_nothing}
 use Rattle.zaudit.proofs.replaying.replay.Goals as goal
 
 pub replay_rest-requires-clause-replayed : goal.replay_rest-requires-clause-replayed

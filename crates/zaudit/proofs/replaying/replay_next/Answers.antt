@@ -2,8 +2,8 @@ use Rattle.std.proofs.Common.{◌<◌, ℕ, length, sym, ◌∙◌, arith}
 use Rattle.std.proofs.lemmas.Result.{err_from_is_err_and}
 use Rattle.std.specs.BinaryHeap.{heap_items}
 use Rattle.zworld.specs.Steps.{world_in}
-use Rattle.ztraces.specs.support.Places.{place_count}
-use Rattle.ztraces.proofs.Places.{code_replays, code_refuses, code_reads}
+use Rattle.zprotocol.specs.traces.support.Places.{place_count}
+use Rattle.zprotocol.proofs.traces_lemmas.Places.{code_replays, code_refuses, code_reads}
 use Rattle.zaudit.proofs.Heaps.{holds_on}
 use Rattle.zaudit.proofs.replaying.replay_next.Goals as goal
 

@@ -2,7 +2,7 @@ use Rattle.std.proofs.Common.{◌≡◌, length}
 use Rattle.std.specs.BinaryHeap.{heap_items, IsHeap}
 use Rattle.zworld.specs.Steps.{world_in}
 use Rattle.zaudit.specs.support.Heads.{head_cmp, HoldsHeads}
-use Rattle.ztraces.specs.support.Places.{place_count, unread, HasReplayed}
+use Rattle.zprotocol.specs.traces.support.Places.{place_count, unread, HasReplayed}
 use Rattle.zaudit.proofs.replaying.replay_rest.Given as goal
 
 abbrev pub invariant-loop : goal.invariant-loop

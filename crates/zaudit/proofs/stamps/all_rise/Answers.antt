@@ -1,8 +1,8 @@
 use Rattle.std.proofs.Common.{◌≤◌, refl, arith}
 use Rattle.std.proofs.lemmas.Bool.Decides.{nat_tests}
-use Rattle.ztraces.specs.Traces.{stamps_rise}
-use Rattle.ztraces.specs.support.Places.{place_count}
-use Rattle.ztraces.proofs.Places.{each_trace}
+use Rattle.zprotocol.specs.traces.Traces.{stamps_rise}
+use Rattle.zprotocol.specs.traces.support.Places.{place_count}
+use Rattle.zprotocol.proofs.traces_lemmas.Places.{each_trace}
 use Rattle.zaudit.proofs.stamps.all_rise.Goals as goal
 
 pub returns-clause-yes : goal.returns-clause-yes

@@ -1,6 +1,6 @@
 use Rattle.std.proofs.Common.{◌≡◌, ◌<◌, ℕ, true}
-use Rattle.ztraces.specs.Traces.{trace_of, stamps_rise}
-use Rattle.ztraces.specs.support.Places.{process_at}
+use Rattle.zprotocol.specs.traces.Traces.{trace_of, stamps_rise}
+use Rattle.zprotocol.specs.traces.support.Places.{process_at}
 use Rattle.zaudit.proofs.stamps.all_rise.Given as goal
 
 abbrev pub invariant-loop-place : goal.invariant-loop-place

@@ -1,5 +1,5 @@
 use Rattle.std.proofs.Common.{◌≡◌, drop}
-use Rattle.ztraces.specs.Traces.{stamps_rise_from}
+use Rattle.zprotocol.specs.traces.Traces.{stamps_rise_from}
 use Rattle.zaudit.proofs.stamps.rise_above.Given as goal
 
 abbrev pub invariant-loop-event : goal.invariant-loop-event

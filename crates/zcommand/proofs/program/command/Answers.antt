@@ -1,7 +1,7 @@
 use Rattle.std.proofs.Common.{ℕ, List, inr, sym, subst, ◌∙◌}
 use Rattle.zdevices.specs.Device.{sink_run}
-use Rattle.zcli.specs.Telling.{IsTold}
-use Rattle.zcli.proofs.Faults.{text-status_2}
+use Rattle.zarguments.specs.Telling.{IsTold}
+use Rattle.zarguments.proofs.Faults.{text-status_2}
 use Rattle.zcommand.proofs.Told.{text-status_1}
 use Rattle.zcommand.proofs.program.command.Goals as goal
 

@@ -1,5 +1,5 @@
 use Rattle.std.proofs.Common.{refl}
-use Rattle.zcli.proofs.OnWords.{asked_on_literals}
+use Rattle.zarguments.proofs.OnWords.{asked_on_literals}
 use Rattle.zcommand.specs.Asked.{settings_asked}
 use Rattle.zcommand.proofs.rows.words_ask_for_servers.Goals as goal
 

@@ -1,7 +1,7 @@
 use Rattle.std.proofs.Common.{rules, ◌≡◌, ◌∙◌, ℕ, List, [], ◌∷◌, Option, Some, Result, Vec, Global, codes, inr, map, option_map, sym, ap}
-use Rattle.zcli.specs.Asked.{asked_of, spelling_of, texts_of}
+use Rattle.zarguments.specs.Asked.{asked_of, spelling_of, texts_of}
 use Rattle.zcommand.specs.Asked.{settings_asked, settings_of}
-use Rattle.zcli.specs.declared.fault.WordsFault.{WordsFault}
+use Rattle.zarguments.specs.declared.fault.WordsFault.{WordsFault}
 use Rattle.zcommand.proofs.Asked.{asked-err, asked-ok}
 use Rattle.zcommand.proofs.words.settings.Goals as goal
 

@@ -1,5 +1,5 @@
 use Rattle.std.proofs.Common.{ap, subst, ◌∙◌, arith}
-use Rattle.zforms.specs.Readers.{Gives, whole}
+use Rattle.zcodec.specs.Readers.{Gives, whole}
 use Rattle.zjute.specs.Connecting.{connect_request}
 use Rattle.zjute.proofs.FirstFrame.{connect_found, connect_again}
 use Rattle.zjute.proofs.connect_reading.read_connect.Goals as goal

@@ -1,4 +1,4 @@
-use Rattle.zforms.proofs.Whole.{one_spelling}
+use Rattle.zcodec.proofs.Whole.{one_spelling}
 use Rattle.zjute.specs.Stats.{stat}
 use Rattle.zjute.proofs.Asking.{requests_apart}
 use Rattle.zjute.proofs.FirstFrame.{greetings_apart}

@@ -1,8 +1,8 @@
 use Rattle.std.proofs.Common.{◌∷◌, [], arith, length-append}
 use Rattle.std.proofs.lemmas.Result.{err_from_is_err_and}
-use Rattle.zforms.specs.Forms.{read_times}
+use Rattle.zcodec.specs.Forms.{read_times}
 use Rattle.zjute.specs.Requests.{acl}
-use Rattle.zforms.proofs.Loops.{goes_on, fails, is_done}
+use Rattle.zcodec.proofs.Loops.{goes_on, fails, is_done}
 use Rattle.zjute.proofs.list_reading.counted_acls.Goals as goal
 
 pub returns-in_err-entry : goal.returns-in_err-entry

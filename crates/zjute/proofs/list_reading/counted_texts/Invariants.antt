@@ -1,7 +1,7 @@
 use Rattle.std.proofs.Common.{◌≡◌, ◌-◌, length}
-use Rattle.zforms.specs.Forms.{read_times}
+use Rattle.zcodec.specs.Forms.{read_times}
 use Rattle.zjute.specs.Jute.{text}
-use Rattle.zforms.proofs.Loops.{with_front}
+use Rattle.zcodec.proofs.Loops.{with_front}
 use Rattle.zjute.proofs.list_reading.counted_texts.Given as goal
 
 abbrev pub invariant-loop : goal.invariant-loop

@@ -1,6 +1,6 @@
 use Rattle.std.proofs.Common.{length, ap, refl, ◌∙◌}
 use Rattle.std.proofs.lemmas.Result.{err_from_is_err_and}
-use Rattle.zforms.proofs.Bytes.{done}
+use Rattle.zcodec.proofs.Bytes.{done}
 use Rattle.zjute.specs.Shapes.{read_until}
 use Rattle.zjute.specs.Parts.{looks, look_or_end}
 use Rattle.zjute.proofs.Loops.{until_on, until_done, until_fail, until_short}

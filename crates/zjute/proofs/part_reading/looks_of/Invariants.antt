@@ -1,7 +1,7 @@
 use Rattle.std.proofs.Common.{◌≡◌, ◌-◌, length}
 use Rattle.zjute.specs.Shapes.{read_until}
 use Rattle.zjute.specs.Parts.{look_or_end}
-use Rattle.zforms.proofs.Loops.{with_front}
+use Rattle.zcodec.proofs.Loops.{with_front}
 use Rattle.zjute.proofs.part_reading.looks_of.Given as goal
 
 abbrev pub invariant-loop : goal.invariant-loop

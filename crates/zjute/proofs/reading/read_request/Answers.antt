@@ -1,5 +1,5 @@
 use Rattle.std.proofs.Common.{ap, subst, ◌∙◌, arith}
-use Rattle.zforms.specs.Readers.{Gives, whole}
+use Rattle.zcodec.specs.Readers.{Gives, whole}
 use Rattle.zjute.specs.Asking.{request}
 use Rattle.zjute.proofs.Asking.{request_found, request_again}
 use Rattle.zjute.proofs.reading.read_request.Goals as goal

@@ -1,7 +1,7 @@
 use Rattle.std.proofs.Common.{refl}
 use Rattle.zjute.specs.Connecting.{connect_request, connect_response}
 use Rattle.zjute.specs.Jute.{int, long, buffer, text}
-use Rattle.zforms.specs.Forms.{number_at}
+use Rattle.zcodec.specs.Forms.{number_at}
 use Rattle.zjute.proofs.rows.connecting.Goals as goal
 
 pub returns : goal.returns

@@ -3,7 +3,7 @@ use Rattle.zjute.specs.Asking.{request, asked, asked_at, op_of, middle_ops, late
 use Rattle.zjute.specs.Requests.{create, create_ttl, at_version, look, set_data, set_acl, watches_at, add_watch, auth, set_watches, set_watches_2, acl, acls}
 use Rattle.zjute.specs.Parts.{parts, looks, part_or_end, look_or_end, part_header, look_header}
 use Rattle.zjute.specs.Jute.{int, long, buffer, text, texts, left}
-use Rattle.zforms.specs.Forms.{number_at}
+use Rattle.zcodec.specs.Forms.{number_at}
 use Rattle.zjute.proofs.rows.requests_are_read.Goals as goal
 
 pub returns : goal.returns

@@ -1,7 +1,7 @@
 use Rattle.std.proofs.Common.{ℕ, List, inl, inr, sym, subst, ◌∙◌}
 use Rattle.zdevices.specs.Device.{sink_run}
-use Rattle.zcli.specs.Telling.{IsTold}
-use Rattle.zcli.proofs.Faults.{bad-status_2, text-status_2}
+use Rattle.zarguments.specs.Telling.{IsTold}
+use Rattle.zarguments.proofs.Faults.{bad-status_2, text-status_2}
 use Rattle.zrace.proofs.Faults.{told_either}
 use Rattle.zrace.proofs.command.race_command.Goals as goal
 

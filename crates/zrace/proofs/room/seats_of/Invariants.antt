@@ -1,7 +1,7 @@
 use Rattle.std.proofs.Common.{◌≡◌, length}
 use Rattle.std.specs.Prelude.{All}
 use Rattle.std.specs.Arc.{arc_value}
-use Rattle.zshared.specs.Passes.{IsPassOf}
+use Rattle.zchannels.specs.Passes.{IsPassOf}
 use Rattle.zrace.proofs.room.seats_of.Given as goal
 
 abbrev pub invariant-loop-pass : goal.invariant-loop-pass

@@ -1,5 +1,5 @@
 use Rattle.std.proofs.Common.{refl}
-use Rattle.zcli.proofs.OnWords.{asked_on_literals}
+use Rattle.zarguments.proofs.OnWords.{asked_on_literals}
 use Rattle.zrace.proofs.rows.words_give_four_numbers.Goals as goal
 
 pub returns : goal.returns

@@ -1,5 +1,5 @@
 use Rattle.std.proofs.Common.{rules, ◌≡◌, ◌∙◌, ℕ, List, Option, None, Some, Vec, Global, codes, map, option_map, sym, ap}
-use Rattle.zcli.specs.Asked.{asked_of, spelling_of, texts_of}
+use Rattle.zarguments.specs.Asked.{asked_of, spelling_of, texts_of}
 use Rattle.zrace.specs.Asked.{race_options}
 use Rattle.zrace.proofs.Asked.{asked-given, given-asked}
 use Rattle.zrace.proofs.words.race_settings.Goals as goal

@@ -1,9 +1,9 @@
 use Rattle.std.proofs.Common.{◌≡◌, ◌||◌, Bool, true, false, true≢false, refl, sym, ap, subst, ◌∙◌}
 use Rattle.std.specs.List.{list_any}
-use Rattle.ztraces.specs.declared.trace.Trace.{Trace}
-use Rattle.ztraces.specs.declared.trace.ClientTrace.{ClientTrace}
-use Rattle.zhost.specs.declared.desk.Ending.{Ending}
-use Rattle.zhost.proofs.Endings.{neither}
+use Rattle.zprotocol.specs.declared.traces.trace.Trace.{Trace}
+use Rattle.zprotocol.specs.declared.traces.trace.ClientTrace.{ClientTrace}
+use Rattle.zthreads.specs.declared.desk.Ending.{Ending}
+use Rattle.zthreads.proofs.Endings.{neither}
 use Rattle.zrun.specs.Left.{by_place, client_trace_of, is_left_cut}
 use Rattle.zrun.proofs.Whole.{any_map, are_linked, kept_all, lawful, wired_lists}
 use Rattle.zrun.proofs.gathering.gather.Goals as goal

@@ -1,8 +1,8 @@
 use Rattle.std.proofs.Common.{◌++◌, ◌∷◌, [], List, length, map, sym, ap, subst, ◌∙◌, append_assoc, length-append, arith}
 use Rattle.std.proofs.lemmas.List.{map-append}
-use Rattle.zhost.specs.Owned.{server_desk}
-use Rattle.zhost.specs.declared.desk.Desk.{Desk}
-use Rattle.zhost.specs.declared.desk.Ending.{Ending}
+use Rattle.zthreads.specs.Owned.{server_desk}
+use Rattle.zthreads.specs.declared.desk.Desk.{Desk}
+use Rattle.zthreads.specs.declared.desk.Ending.{Ending}
 use Rattle.zrun.specs.Handles.{given_server}
 use Rattle.zrun.specs.Runs.{AreLeftBy, IsLeftBy}
 use Rattle.zrun.proofs.Leavings.{left_by}

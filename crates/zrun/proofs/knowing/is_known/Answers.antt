@@ -1,5 +1,5 @@
 use Rattle.std.proofs.Common.{rules, ◌≡◌, ◌||◌, Bool, false, sym, subst}
-use Rattle.zhost.specs.declared.desk.Ending.{Ending}
+use Rattle.zthreads.specs.declared.desk.Ending.{Ending}
 use Rattle.zrun.specs.Left.{by_place, is_left_lost}
 use Rattle.zrun.proofs.Whole.{are_linked, gone, kept_all, wired_lists}
 use Rattle.zrun.proofs.knowing.is_known.Goals as goal

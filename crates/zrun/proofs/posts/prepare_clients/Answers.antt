@@ -1,6 +1,6 @@
 use Rattle.std.proofs.Common.{◌≡◌, ◌+◌, ◌-◌, ◌∷◌, suc, length, reverse, refl, sym, ap, subst, ◌∙◌, length-append, arith}
 use Rattle.zprotocol.specs.declared.limits.TheConstants.{MAX_SERVERS}
-use Rattle.zhost.specs.Callers.{caller_desk}
+use Rattle.zthreads.specs.Callers.{caller_desk}
 use Rattle.zrun.specs.Origins.{client_desks}
 use Rattle.zrun.specs.Runs.{AreDesks, AreTraced}
 use Rattle.zrun.specs.Supplies.{HandsOut}

@@ -1,6 +1,6 @@
 use Rattle.std.proofs.Common.{◌≡◌, ◌<◌, ◌≤◌, ◌+◌, ◌-◌, ◌∷◌, suc, length, refl, sym, ap, subst, ◌∙◌, length-append, arith}
 use Rattle.zprotocol.specs.declared.limits.TheConstants.{MAX_SERVERS}
-use Rattle.zhost.specs.Owned.{server_desk}
+use Rattle.zthreads.specs.Owned.{server_desk}
 use Rattle.zrun.specs.Posts.{post_desks}
 use Rattle.zrun.specs.Runs.{AreDesks, AreTraced}
 use Rattle.zrun.specs.Supplies.{HandsOut}

@@ -1,5 +1,5 @@
 use Rattle.std.proofs.Common.{◌≡◌}
-use Rattle.zshared.specs.HaltSeats.{IsSeatOf}
+use Rattle.zchannels.specs.HaltSeats.{IsSeatOf}
 use Rattle.zrun_tests.proofs.halt_bits.wait_for.Given as goal
 
 abbrev pub invariant-loop : goal.invariant-loop

@@ -1,5 +1,5 @@
 use Rattle.std.proofs.Common.{◌≡◌}
-use Rattle.zshared.specs.Rings.{ring_of_tx}
+use Rattle.zchannels.specs.Rings.{ring_of_tx}
 use Rattle.zrun_tests.proofs.rings.flush_all.Given as goal
 
 abbrev pub invariant-loop : goal.invariant-loop

@@ -1,5 +1,5 @@
 use Rattle.std.proofs.Common.{◌≡◌}
-use Rattle.zshared.specs.Passes.{IsPassOf}
+use Rattle.zchannels.specs.Passes.{IsPassOf}
 use Rattle.zrun_tests.proofs.tickets.draw_all.Given as goal
 
 abbrev pub invariant-loop : goal.invariant-loop

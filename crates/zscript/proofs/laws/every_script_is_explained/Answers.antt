@@ -1,7 +1,7 @@
 use Rattle.std.proofs.Common.{subst}
 use Rattle.ztree.specs.declared.limits.TheConstants.{MAX_CLIENTS}
-use Rattle.zworld_model.specs.PlainTree.{IsExplained}
-use Rattle.zlinear.proofs.Headline.{every_history_is_explained}
+use Rattle.zprotocol.specs.world.PlainTree.{IsExplained}
+use Rattle.zlinearizability.proofs.Headline.{every_history_is_explained}
 use Rattle.zscript.proofs.OneRun.{lines_tell_one_run}
 use Rattle.zscript.specs.Script.{lines_of}
 use Rattle.zscript.proofs.laws.every_script_is_explained.Goals as goal

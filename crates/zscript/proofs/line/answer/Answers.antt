@@ -1,6 +1,6 @@
 use Rattle.std.proofs.Common.{◌∷◌, [], ap, subst}
 use lib.Utf8.{encode}
-use Rattle.zlines.specs.Texts.{Writes}
+use Rattle.zscript_text.specs.Texts.{Writes}
 use Rattle.zworld.specs.Steps.{WorldView}
 use Rattle.zscript.specs.Done.{IsLineDone, world_between}
 use Rattle.zscript.specs.support.Effects.{MayTell}

@@ -1,6 +1,6 @@
 use Rattle.std.proofs.Common.{refl}
 use Rattle.std.proofs.lemmas.Result.{on_ok_weaker}
-use Rattle.zlines.specs.Texts.{Writes}
+use Rattle.zscript_text.specs.Texts.{Writes}
 use Rattle.zscript.specs.Done.{world_between}
 use Rattle.zscript.proofs.Acted.{acted_line}
 use Rattle.zscript.proofs.line.answer_line_strictly.Goals as goal

@@ -1,7 +1,7 @@
 use Rattle.std.proofs.Common.{subst}
 use Rattle.std.proofs.lemmas.Result.{on_ok_weaker}
-use Rattle.zlines.specs.Texts.{Writes}
-use Rattle.zworld_model.specs.declared.event.Event.TheVariants.{Begin}
+use Rattle.zscript_text.specs.Texts.{Writes}
+use Rattle.zprotocol.specs.declared.world.event.Event.TheVariants.{Begin}
 use Rattle.zworld.specs.Steps.{HasHappened, world_in}
 use Rattle.zscript.specs.support.Effects.{called_text}
 use Rattle.zscript.proofs.CallEffects.{active_by, call_done, call_not_begun}

@@ -1,7 +1,7 @@
 use Rattle.std.proofs.Common.{◌++◌, None, sym, ◌∙◌, subst}
 use Rattle.std.specs.List.{flat_map}
 use Rattle.std.proofs.lemmas.Result.{on_ok_weaker}
-use Rattle.zlines.specs.Texts.{Writes}
+use Rattle.zscript_text.specs.Texts.{Writes}
 use Rattle.zscript.specs.Line.{taken_text}
 use Rattle.zscript.specs.support.Effects.{did_text}
 use Rattle.zscript.proofs.Effects.{whole_where}

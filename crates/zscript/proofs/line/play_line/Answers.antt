@@ -1,6 +1,6 @@
 use Rattle.std.proofs.Common.{Ok, ap, ◌∙◌}
 use Rattle.std.proofs.lemmas.Result.{on_ok_weaker}
-use Rattle.zworld_model.specs.declared.event.Event.TheVariants.{Take, Ignore, Fail, Retry}
+use Rattle.zprotocol.specs.declared.world.event.Event.TheVariants.{Take, Ignore, Fail, Retry}
 use Rattle.zscript.proofs.Effects.{plain_done, order_done}
 use Rattle.zscript.proofs.LineDone.{read_done, fault_done}
 use Rattle.zscript.proofs.line.play_line.Goals as goal

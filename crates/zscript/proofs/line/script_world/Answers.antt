@@ -2,7 +2,7 @@ use Rattle.std.proofs.Common.{◌≡◌, ap}
 use Rattle.std.proofs.lemmas.Result.{IfOk-weaker}
 use Rattle.ztree.specs.declared.limits.TheConstants.{MAX_CLIENTS}
 use Rattle.zprotocol.specs.server.Machine.{kept_tree}
-use Rattle.zworld_model.specs.World.{opening_world}
+use Rattle.zprotocol.specs.world.World.{opening_world}
 use Rattle.zworld.specs.Steps.{WorldView, world_in}
 use Rattle.zscript.specs.Line.{forgotten}
 use Rattle.zscript.specs.Done.{world_between}

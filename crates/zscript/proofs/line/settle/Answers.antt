@@ -1,7 +1,7 @@
 use Rattle.std.proofs.Common.{◌++◌, None, subst}
 use Rattle.std.specs.List.{flat_map}
 use Rattle.std.proofs.lemmas.Result.{on_ok_weaker}
-use Rattle.zlines.specs.Texts.{Writes}
+use Rattle.zscript_text.specs.Texts.{Writes}
 use Rattle.zscript.specs.Line.{settled_text, taken_text}
 use Rattle.zscript.proofs.Effects.{settle_done}
 use Rattle.zscript.proofs.line.settle.Goals as goal

@@ -1,5 +1,5 @@
 use Rattle.std.proofs.Common.{refl, [], ◌∷◌}
-use Rattle.zforms.specs.Forms.{number_at}
+use Rattle.zcodec.specs.Forms.{number_at}
 use Rattle.zsnapshots.proofs.Loaded.{not_followed_by}
 use Rattle.zsnapshots.proofs.rows.frames_are_followed.Goals as goal
 

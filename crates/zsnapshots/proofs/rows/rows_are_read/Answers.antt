@@ -1,5 +1,5 @@
 use Rattle.std.proofs.Common.{refl}
-use Rattle.zforms.specs.Forms.{number_at}
+use Rattle.zcodec.specs.Forms.{number_at}
 use Rattle.zwire.specs.Fields.{call_number, client}
 use Rattle.zwire.specs.Replies.{reply_at, reply}
 use Rattle.zsnapshots.specs.Rows.{kept, reply_text}

@@ -1,5 +1,5 @@
 use Rattle.std.proofs.Common.{refl}
-use Rattle.zrecords.specs.Fields.{path, content}
+use Rattle.zwire.specs.records.Fields.{path, content}
 use Rattle.zwire.specs.Fields.{call_number, log_number, client}
 use Rattle.zwire.specs.Replies.{reply}
 use Rattle.zsnapshots.specs.Rows.{header_text, node, node_text, session, session_text, kept, reply_text}

@@ -1,6 +1,6 @@
 use Rattle.std.proofs.Common.{◌≡◌, ◌-◌}
-use Rattle.zforms.specs.Forms.{read_times}
-use Rattle.zforms.proofs.Loops.{with_front}
+use Rattle.zcodec.specs.Forms.{read_times}
+use Rattle.zcodec.proofs.Loops.{with_front}
 use Rattle.zwire.specs.Fields.{name}
 use Rattle.zwire.proofs.list_reading.counted_names.Given as goal
 

@@ -1,6 +1,6 @@
 use Rattle.std.proofs.lemmas.Result.{err_from_is_err_and}
-use Rattle.zforms.specs.Forms.{read_times}
-use Rattle.zforms.proofs.Loops.{goes_on, fails, is_done}
+use Rattle.zcodec.specs.Forms.{read_times}
+use Rattle.zcodec.proofs.Loops.{goes_on, fails, is_done}
 use Rattle.zwire.specs.Replies.{part_reply}
 use Rattle.zwire.proofs.list_reading.counted_replies.Goals as goal
 

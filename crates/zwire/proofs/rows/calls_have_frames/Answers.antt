@@ -1,7 +1,7 @@
 use Rattle.std.proofs.Common.{refl}
-use Rattle.zrecords.specs.Calls.{update}
-use Rattle.zrecords.specs.Fields.{path}
-use Rattle.zrecords.specs.Records.{server}
+use Rattle.zwire.specs.records.Calls.{update}
+use Rattle.zwire.specs.records.Fields.{path}
+use Rattle.zwire.specs.records.Records.{server}
 use Rattle.zwire.specs.Fields.{call_number, client, process, refusal}
 use Rattle.zwire.specs.Replies.{query, reply}
 use Rattle.zwire.specs.Messages.{any_message}

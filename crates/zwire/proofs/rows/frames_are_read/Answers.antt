@@ -1,6 +1,6 @@
 use Rattle.std.proofs.Common.{refl}
-use Rattle.zforms.specs.Forms.{number_at}
-use Rattle.zrecords.specs.Records.{server}
+use Rattle.zcodec.specs.Forms.{number_at}
+use Rattle.zwire.specs.records.Records.{server}
 use Rattle.zwire.specs.Fields.{process_at, process}
 use Rattle.zwire.specs.Messages.{order_at, message_at, any_message}
 use Rattle.zwire.specs.Frames.{contents, frame}

@@ -1,5 +1,5 @@
 use Rattle.std.proofs.Common.{refl}
-use Rattle.zrecords.specs.Fields.{path, content}
+use Rattle.zwire.specs.records.Fields.{path, content}
 use Rattle.zwire.specs.Fields.{stat, refusal, name}
 use Rattle.zwire.specs.Replies.{part_reply, replies, names, reply}
 use Rattle.zwire.proofs.rows.replies_have_bytes.Goals as goal

@@ -1,6 +1,6 @@
 use Rattle.std.proofs.Common.{refl}
-use Rattle.zrecords.specs.Calls.{update}
-use Rattle.zrecords.specs.Records.{server}
+use Rattle.zwire.specs.records.Calls.{update}
+use Rattle.zwire.specs.records.Records.{server}
 use Rattle.zwire.specs.Fields.{call_number, log_number, epoch, client, process}
 use Rattle.zwire.specs.Messages.{entry, any_message}
 use Rattle.zwire.specs.Frames.{contents, frame}

@@ -1,5 +1,5 @@
 use Rattle.std.proofs.Common.{refl}
-use Rattle.zrecords.specs.Records.{server}
+use Rattle.zwire.specs.records.Records.{server}
 use Rattle.zwire.specs.Fields.{log_number, epoch, client, process}
 use Rattle.zwire.specs.Messages.{last, end, any_message}
 use Rattle.zwire.specs.Frames.{contents, frame}

@@ -1,7 +1,7 @@
 use Rattle.std.proofs.Common.{sym, ap, subst, ◌∙◌}
 use Rattle.zprotocol.specs.declared.process.Process.{Process}
 use Rattle.zprotocol.specs.declared.process.Process.TheVariants.{Server}
-use Rattle.zlinks.specs.Places.{links_of, has_notice, without_receiver, Keeps}
+use Rattle.zworld.specs.links.Places.{links_of, has_notice, without_receiver, Keeps}
 use Rattle.zworld.specs.support.Posting.{HasEnded}
 use Rattle.zworld.proofs.Posting.{has_ended}
 use Rattle.zworld.proofs.post.end.Goals as goal

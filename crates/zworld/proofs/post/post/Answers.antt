@@ -1,6 +1,6 @@
 use Rattle.std.proofs.Common.{ap, sym, ◌∙◌}
-use Rattle.zlinks.specs.Places.{links_of}
-use Rattle.zworld_model.specs.Links.{put}
+use Rattle.zworld.specs.links.Places.{links_of}
+use Rattle.zprotocol.specs.world.Links.{put}
 use Rattle.zworld.proofs.Posting.{rest_put}
 use Rattle.zworld.proofs.post.post.Goals as goal
 

@@ -1,7 +1,7 @@
 use Rattle.std.proofs.Common.{◌≡◌, false, length}
 use Rattle.zprotocol.specs.declared.process.Process.{Process}
-use Rattle.zlinks.specs.Places.{links_of, has_notice, Notes}
-use Rattle.zworld_model.specs.Links.{put}
+use Rattle.zworld.specs.links.Places.{links_of, has_notice, Notes}
+use Rattle.zprotocol.specs.world.Links.{put}
 use Rattle.zworld.specs.support.Posting.{is_lost}
 use Rattle.zworld.proofs.post.post.Given as goal
 

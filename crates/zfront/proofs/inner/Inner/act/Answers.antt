@@ -1,5 +1,5 @@
 use Rattle.std.proofs.Common.{sym, subst}
-use Rattle.zasking.specs.Requests.{calls_in}
+use Rattle.zrequests.specs.Requests.{calls_in}
 use Rattle.zfront.specs.Front.{FrontView}
 use Rattle.zfront.specs.Requests.{Acts, Makes}
 use Rattle.zfront.proofs.Results.{on_ok}

@@ -1,6 +1,6 @@
 use Rattle.std.proofs.Common.{◌≡◌, ◌++◌, drop}
 use Rattle.std.specs.List.{filter}
-use Rattle.ztables.specs.Sweeping.{is_gone}
+use Rattle.zconnections.specs.Sweeping.{is_gone}
 use Rattle.zfront.proofs.inner.Inner.gone_among.Given as goal
 
 -- those so far and those of the ids that are left are all

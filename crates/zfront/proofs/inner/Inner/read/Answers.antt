@@ -1,5 +1,5 @@
 use Rattle.std.proofs.Common.{sym, subst, ◌∙◌, ap}
-use Rattle.zpieces.specs.Streams.{phase_of}
+use Rattle.zconnections.specs.buffers.Streams.{phase_of}
 use Rattle.zfront.specs.Reading.{ComesBy, word_asked}
 use Rattle.zfront.proofs.Results.{on_ok}
 use Rattle.zfront.proofs.inner.Inner.read.Goals as goal

@@ -1,5 +1,5 @@
 use Rattle.std.proofs.Common.{◌≡◌, true, sym, subst, ◌∙◌, ◌++◌, ◌∷◌, []}
-use Rattle.ztables.specs.Tables.{is_open}
+use Rattle.zconnections.specs.Tables.{is_open}
 use Rattle.zfront.specs.Front.{FrontView}
 use Rattle.zfront.proofs.Frames.{cuts_more, handles_more, shorter}
 use Rattle.zfront.proofs.inner.Inner.read_frames.Goals as goal

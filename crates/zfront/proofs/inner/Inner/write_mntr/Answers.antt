@@ -1,7 +1,7 @@
 use Rattle.std.proofs.Common.{codes, ap, subst, ◌∙◌}
 use Rattle.std.specs.FinMap as finite
 use Rattle.std.specs.FinSet as sets
-use Rattle.zlines.specs.Texts.{Writes}
+use Rattle.zscript_text.specs.Texts.{Writes}
 use Rattle.zfront.specs.Front.{FrontView}
 use Rattle.zfront.specs.Words.{number_line}
 use Rattle.zfront.proofs.Results.{on_ok, writes_more}

@@ -1,6 +1,6 @@
 use Rattle.std.proofs.Common.{codes, ap, subst, ◌∙◌}
 use Rattle.std.specs.FinMap as finite
-use Rattle.zlines.specs.Texts.{Writes}
+use Rattle.zscript_text.specs.Texts.{Writes}
 use Rattle.zfront.specs.Front.{FrontView}
 use Rattle.zfront.specs.Words.{number_line}
 use Rattle.zfront.proofs.Results.{writes_more}

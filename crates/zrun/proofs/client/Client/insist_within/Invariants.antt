@@ -1,4 +1,4 @@
-use Rattle.zhost.specs.Callers.{SameLearnt}
+use Rattle.zthreads.specs.Callers.{SameLearnt}
 use Rattle.zrun.specs.declared.asking.TheConstants.{TURNS}
 use Rattle.zrun.specs.Clients.{SameClient}
 use Rattle.zrun.specs.Asked.{InsistedInVain}

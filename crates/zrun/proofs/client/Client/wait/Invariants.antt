@@ -1,4 +1,4 @@
-use Rattle.zhost.specs.Callers.{SameLearnt}
+use Rattle.zthreads.specs.Callers.{SameLearnt}
 use Rattle.zrun.specs.Clients.{SameClient, TurnedInVain}
 use Rattle.zrun.proofs.client.Client.wait.Given as goal
 

@@ -5,8 +5,8 @@ use Rattle.std.specs.declared.alloc.Global.{Global}
 use Rattle.std.specs.declared.option.Option.{Option}
 use Rattle.std.proofs.lemmas.List.{nil_from_length}
 use Rattle.std.proofs.lemmas.List.Elements.{All-push, All-same}
-use Rattle.zhost.specs.declared.caller.Caller.{Caller}
-use Rattle.zhost.specs.Callers.{caller_desk, caller_id}
+use Rattle.zthreads.specs.declared.caller.Caller.{Caller}
+use Rattle.zthreads.specs.Callers.{caller_desk, caller_id}
 use Rattle.ztree.proofs.Maps.{same_some}
 use Rattle.zrun.specs.declared.client.Client.{Client}
 use Rattle.zrun.specs.declared.posts.ClientPost.{ClientPost}

@@ -3,8 +3,8 @@ use Rattle.std.proofs.lemmas.List.{length-map}
 use Rattle.std.proofs.lemmas.Result.{IfOk-weaker}
 use Rattle.ztree.specs.declared.limits.TheConstants.{MAX_CLIENTS}
 use Rattle.zprotocol.specs.declared.limits.TheConstants.{MAX_SERVERS}
-use Rattle.ztraces.specs.declared.trace.Traces.{Traces}
-use Rattle.zhost.specs.declared.desk.Ending.{Ending}
+use Rattle.zprotocol.specs.declared.traces.trace.Traces.{Traces}
+use Rattle.zthreads.specs.declared.desk.Ending.{Ending}
 use Rattle.zrun.specs.Left.{AreLeft, by_place, client_trace_of}
 use Rattle.zrun.specs.Members.{AreTold}
 use Rattle.zrun.specs.Clusters.{client_count, cluster_desks}

@@ -1,5 +1,5 @@
 use Rattle.std.proofs.Common.{map, subst}
-use Rattle.zhost.specs.Owned.{master_desk}
+use Rattle.zthreads.specs.Owned.{master_desk}
 use Rattle.zrun.specs.Origins.{client_desks}
 use Rattle.zrun.specs.Handles.{given_master, given_server}
 use Rattle.zrun.specs.Runs.{AreLeftBy, IsLeftBy}

@@ -1,5 +1,5 @@
 use Rattle.std.proofs.Common.{List, ◌∷◌, ◌++◌, sym, subst}
-use Rattle.zhost.specs.declared.desk.Desk.{Desk}
+use Rattle.zthreads.specs.declared.desk.Desk.{Desk}
 use Rattle.zrun.specs.Openings.{IsRunFrom}
 use Rattle.zrun.specs.Origins.{client_desks}
 use Rattle.zrun.proofs.cluster.Cluster.start_over.Goals as goal

@@ -1,6 +1,6 @@
 use Rattle.std.proofs.Common.{sym, ap, ◌∙◌, subst}
-use Rattle.zworld_model.specs.Does.{AtClient}
-use Rattle.zhost.specs.Desks.{IsAt, TreeStanding}
+use Rattle.zprotocol.specs.world.Does.{AtClient}
+use Rattle.zthreads.specs.Desks.{IsAt, TreeStanding}
 use Rattle.zrun.proofs.Openings.{client_opening}
 use Rattle.zrun.proofs.opening.Opening.caller.Goals as goal
 

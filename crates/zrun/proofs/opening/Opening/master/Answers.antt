@@ -1,6 +1,6 @@
 use Rattle.std.proofs.Common.{sym, ap, ◌∙◌, subst}
-use Rattle.zworld_model.specs.Does.{AtMaster}
-use Rattle.zhost.specs.Desks.{IsAt, TreeStanding}
+use Rattle.zprotocol.specs.world.Does.{AtMaster}
+use Rattle.zthreads.specs.Desks.{IsAt, TreeStanding}
 use Rattle.zrun.proofs.Openings.{master_opening}
 use Rattle.zrun.proofs.opening.Opening.master.Goals as goal
 

@@ -1,7 +1,7 @@
 use Rattle.std.proofs.Common.{sym, ap, ◌∙◌, subst}
 use Rattle.zserver.specs.Server.{ServerState}
-use Rattle.zworld_model.specs.Does.{AtServer}
-use Rattle.zhost.specs.Desks.{IsAt, TreeStanding}
+use Rattle.zprotocol.specs.world.Does.{AtServer}
+use Rattle.zthreads.specs.Desks.{IsAt, TreeStanding}
 use Rattle.zrun.proofs.Openings.{server_is, server_opening}
 use Rattle.zrun.proofs.opening.Opening.server.Goals as goal
 

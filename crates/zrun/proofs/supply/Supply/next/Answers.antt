@@ -3,10 +3,10 @@ use Rattle.std.specs.Prelude.{All}
 use Rattle.std.specs.declared.alloc.Global.{Global}
 use Rattle.std.specs.declared.vec.Vec.{Vec}
 use Rattle.std.proofs.lemmas.List.Elements.{All-pop}
-use Rattle.zshared.specs.declared.rings.Tx.{Tx}
-use Rattle.zshared.specs.declared.rings.Rx.{Rx}
-use Rattle.zshared.specs.Rings.{put_of, taken_of}
-use Rattle.zhost.specs.Desks.{TreeStamped}
+use Rattle.zchannels.specs.declared.rings.Tx.{Tx}
+use Rattle.zchannels.specs.declared.rings.Rx.{Rx}
+use Rattle.zchannels.specs.Rings.{put_of, taken_of}
+use Rattle.zthreads.specs.Desks.{TreeStamped}
 use Rattle.zrun.proofs.Openings.{all_each}
 use Rattle.zrun.proofs.supply.Supply.next.Goals as goal
 

@@ -1,7 +1,7 @@
 use Rattle.std.proofs.Common.{refl}
 use Rattle.zpath.specs.Faults.{fault_of}
-use Rattle.zlines.specs.Line.{line_of}
-use Rattle.zworld_model.proofs.Tables.{all_tables}
+use Rattle.zscript_text.specs.Line.{line_of}
+use Rattle.zprotocol.proofs.world_lemmas.Tables.{all_tables}
 use Rattle.zscript.specs.Line.{effect_of, answer, after}
 use Rattle.zscript.proofs.rows.answers.chain_calls.Goals as goal
 

@@ -1,6 +1,6 @@
 use Rattle.std.proofs.Common.{◌∷◌, ◌++◌, [], sym, ap, ◌∙◌, append-nil}
 use Rattle.zcalls.specs.declared.call.Call.{Call}
-use Rattle.zworld_model.specs.declared.history.CallEvent.TheVariants as call_event
+use Rattle.zprotocol.specs.declared.world.history.CallEvent.TheVariants as call_event
 use Rattle.zworld.proofs.Given.{begun, only_begun}
 use Rattle.zworld.proofs.processes.Processes.begin.Goals as goal
 

@@ -1,6 +1,6 @@
 use Rattle.std.proofs.Common.{◌<◌, ◌+◌, inl, refl, sym, ◌∙◌, arith}
 use Rattle.zprotocol.specs.declared.limits.TheConstants.{MAX_SERVERS}
-use Rattle.zworld_model.specs.declared.event.Event.TheVariants.{Take}
+use Rattle.zprotocol.specs.declared.world.event.Event.TheVariants.{Take}
 use Rattle.zworld.specs.support.Settling.{Point}
 use Rattle.zworld.proofs.Needs.{can_run_out, could_at_first, short_is_enabled, still_or_could, tried_or_could}
 use Rattle.zworld.proofs.Results.{on_err}

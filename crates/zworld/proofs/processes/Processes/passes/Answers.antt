@@ -1,6 +1,6 @@
 use Rattle.std.proofs.Common.{inl, refl}
 use Rattle.zworld.proofs.Results.{on_err}
-use Rattle.zworld_model.specs.Settle.{deliveries}
+use Rattle.zprotocol.specs.world.Settle.{deliveries}
 use Rattle.zworld.proofs.Needs.{could_at_first, still_or_could}
 use Rattle.zworld.proofs.Passes.{first_pass, next_pass, last_pass, all_passes}
 use Rattle.zworld.proofs.Tries.{both_added}

@@ -1,6 +1,6 @@
 use Rattle.std.proofs.Common.{◌-◌}
 use Rattle.zprotocol.specs.server.Machine.{kept_tree}
-use Rattle.zworld_model.specs.Settle.{deliveries, passes}
+use Rattle.zprotocol.specs.world.Settle.{deliveries, passes}
 use Rattle.zworld.specs.support.Settling.{GoesOn, StillOrCould}
 use Rattle.zworld.proofs.processes.Processes.passes.Given as goal
 

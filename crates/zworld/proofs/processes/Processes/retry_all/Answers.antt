@@ -1,6 +1,6 @@
 use Rattle.std.proofs.Common.{◌≡◌, ◌<◌, ◌+◌, ◌-◌, true, [], inl, refl, sym, subst, append-nil, arith}
-use Rattle.zworld_model.specs.declared.event.Event.TheVariants.{Retry}
-use Rattle.zworld_model.specs.Settle.{retry_events}
+use Rattle.zprotocol.specs.declared.world.event.Event.TheVariants.{Retry}
+use Rattle.zprotocol.specs.world.Settle.{retry_events}
 use Rattle.zworld.specs.support.Settling.{Point, Tries}
 use Rattle.zworld.proofs.Needs.{can_run_out, could_at_first, still_or_could, tried_or_could}
 use Rattle.zworld.proofs.Results.{on_err}

@@ -1,6 +1,6 @@
 use Rattle.std.proofs.Common.{true}
-use Rattle.zworld_model.specs.History.{History}
-use Rattle.zworld_model.specs.Settle.{retry_events}
+use Rattle.zprotocol.specs.world.History.{History}
+use Rattle.zprotocol.specs.world.Settle.{retry_events}
 use Rattle.zworld.specs.support.Settling.{StillOrCould, Tries}
 use Rattle.zworld.proofs.processes.Processes.retry_all.Given as goal
 

@@ -1,6 +1,6 @@
 use Rattle.std.proofs.Common.{sym, ap, ◌∙◌}
-use Rattle.zlinks.specs.support.Counts.{passing}
-use Rattle.zworld_model.specs.Settle.{retry_events}
+use Rattle.zworld.specs.links.support.Counts.{passing}
+use Rattle.zprotocol.specs.world.Settle.{retry_events}
 use Rattle.zworld.specs.Held.{Held}
 use Rattle.zworld.specs.support.Standing.{waits}
 use Rattle.zworld.proofs.Needs.{could_at_first, still_or_could}

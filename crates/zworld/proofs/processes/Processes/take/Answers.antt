@@ -1,10 +1,10 @@
 use Rattle.std.proofs.Common.{◌≡◌, ◌∷◌, ◌++◌, [], true, false, drop, sym, ap, subst, ◌∙◌, append-nil}
-use Rattle.zworld_model.specs.declared.event.Event.TheVariants.{Take}
-use Rattle.zlinks.specs.Places.{links_of}
+use Rattle.zprotocol.specs.declared.world.event.Event.TheVariants.{Take}
+use Rattle.zworld.specs.links.Places.{links_of}
 use Rattle.zworld.specs.declared.did.Did.TheVariants.{Idle}
 use Rattle.zworld.specs.declared.did.IdleCause.TheVariants.{Nothing}
 use Rattle.zworld.specs.Held.{Held, HeldChannels, kept_world}
-use Rattle.zworld_model.specs.History.{History}
+use Rattle.zprotocol.specs.world.History.{History}
 use Rattle.zactor.specs.declared.handed.Handed.{Handed}
 use Rattle.zactor.specs.declared.input.Input.TheVariants.{Hear}
 use Rattle.zactor.specs.Acting.{reply_handed, told_by}

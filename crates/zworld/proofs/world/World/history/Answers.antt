@@ -1,5 +1,5 @@
 use Rattle.std.proofs.Common.{subst, sym, ap, ◌∙◌}
-use Rattle.zworld_model.specs.PlainTree.{IsExplained}
+use Rattle.zprotocol.specs.world.PlainTree.{IsExplained}
 use Rattle.zworld.specs.Steps.{WorldView, IsExplainedFromStart}
 use Rattle.zworld.proofs.Going.{past_is_explained, whole_is_explained}
 use Rattle.zworld.proofs.world.World.history.Goals as goal

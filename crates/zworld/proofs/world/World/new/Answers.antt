@@ -1,7 +1,7 @@
 use Rattle.std.proofs.Common.{subst, sym, ◌≡◌, true, arith}
 use Rattle.std.proofs.lemmas.Bool.Decides.{nat_tests}
 use Rattle.zprotocol.specs.server.Machine.{kept_tree}
-use Rattle.zworld_model.specs.World.{opening_world}
+use Rattle.zprotocol.specs.world.World.{opening_world}
 use Rattle.zprotocol.specs.Places.{is_server}
 use Rattle.zworld.specs.Held.{world_of}
 use Rattle.zworld.proofs.Going.{past_begins, opens_as}

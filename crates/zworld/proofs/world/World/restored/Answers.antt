@@ -1,7 +1,7 @@
 use Rattle.std.proofs.Common.{subst, sym, ◌≡◌, true, arith, true≢false}
 use Rattle.std.proofs.lemmas.Bool.Decides.{nat_tests}
 use Rattle.zprotocol.specs.Places.{is_server}
-use Rattle.zworld_model.specs.FromTree.{CanStart, opening_world_from}
+use Rattle.zprotocol.specs.world.FromTree.{CanStart, opening_world_from}
 use Rattle.zworld.specs.Held.{world_of}
 use Rattle.zprotocol.specs.server.Machine.{kept_tree_from}
 use Rattle.zworld.proofs.Going.{past_begins_with, opens_as}

@@ -1,5 +1,5 @@
 use Rattle.std.proofs.Common.{◌≡◌, ◌++◌, List, false}
-use Rattle.zworld_model.specs.declared.event.Event.{Event}
+use Rattle.zprotocol.specs.declared.world.event.Event.{Event}
 use Rattle.zworld.specs.Steps.{IsExplainedFromStart, world_in}
 use Rattle.zworld.specs.support.Past.{LeadRead}
 use Rattle.zworld.proofs.world.World.run.Given as goal

@@ -1,2 +1,0 @@
-pub mod PartsDone
-pub mod Made

@@ -1,8 +1,0 @@
-use Rattle.std.proofs.Common.{◌≡◌, ◌++◌, drop}
-use Rattle.zanswering.specs.Results.{part_results}
-use Rattle.zanswering.proofs.parts.results_of.Given as goal
-
-abbrev pub invariant-loop-place : goal.invariant-loop-place
-invariant-loop-place l =
-    l.results.items ++ part_results l.clock l.at (drop l.place l.asked) (drop l.place l.parts) (drop l.place l.replies)
-    ≡ part_results l.clock l.at l.asked l.parts l.replies

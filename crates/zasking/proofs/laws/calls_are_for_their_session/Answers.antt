@@ -1,5 +1,0 @@
-use Rattle.zasking.proofs.SessionCalls.{calls_are_for_their_session}
-use Rattle.zasking.proofs.laws.calls_are_for_their_session.Goals as goal
-
-pub returns : goal.returns
-returns c = calls_are_for_their_session

@@ -1,8 +1,0 @@
-use Rattle.std.proofs.Common.{◌≡◌, drop}
-use Rattle.zasking.specs.Asking.{each_behind}
-use Rattle.zasking.specs.Requests.{watch_in}
-use Rattle.zasking.proofs.lists.add_watches.Given as goal
-
-abbrev pub invariant-loop-path : goal.invariant-loop-path
-invariant-loop-path l =
-    each_behind l.initial.calls.items watch_in l.paths ≡ each_behind l.calls.items watch_in (drop l.path-index l.paths)

@@ -1,7 +1,0 @@
-use Rattle.std.proofs.Common.{◌≡◌, drop}
-use Rattle.zasking.specs.Asking.{each_in, each_behind}
-use Rattle.zasking.specs.Requests.{look_in}
-use Rattle.zasking.proofs.lists.looks_of.Given as goal
-
-abbrev pub invariant-loop-look : goal.invariant-loop-look
-invariant-loop-look l = each_in look_in l.looks ≡ each_behind l.calls.items look_in (drop l.look-index l.looks)

@@ -1,0 +1,11 @@
+use Rattle.std.proofs.Common.{arith}
+use Rattle.zchannels.proofs.Stays.{sees}
+use Rattle.zchannels.proofs.halts.Halt.look.Goals as goal
+
+pub load-requires : goal.load-requires
+load-requires c =
+    let p = c.args.seat.now.seat in (
+      c.requires.own,
+      (let h = c.args.self.now.one_word in omega arith),
+      sees c.args.self.now.table.shared.table_id.slots p.id p.me.0 p.me.1,
+    )

@@ -1,0 +1,11 @@
+pub mod bells
+pub mod Given
+pub mod Passes
+pub mod Raised
+pub mod HaltSeats
+pub mod Rings
+pub mod Woven
+pub mod Told
+pub mod Orders
+pub mod Console
+pub mod Outcomes

@@ -1,0 +1,16 @@
+use Rattle.std.proofs.Common.{refl, arith}
+use Rattle.zcodec.specs.Forms.{number_at}
+use Rattle.zcodec.proofs.rows.buffers.Goals as goal
+
+pub returns : goal.returns
+unfolding number_at
+returns c = record {
+  none = refl;
+  spelled = refl;
+  read_none = refl;
+  read = refl;
+  minus_two = refl;
+  long = refl;
+  short = refl;
+  too_many = λ fits. omega (arith, fits.0);
+}

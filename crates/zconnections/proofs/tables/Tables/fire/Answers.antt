@@ -1,0 +1,15 @@
+use Rattle.std.proofs.Common.{ap, ◌∙◌}
+use Rattle.std.proofs.lemmas.Result.{IfOk-weaker}
+use Rattle.zwatches.specs.Events.{told}
+use Rattle.zconnections.specs.Tables.{TablesView}
+use Rattle.zconnections.specs.Telling.{in_order}
+use Rattle.zconnections.proofs.Rising.{in_order-Lists}
+use Rattle.zconnections.proofs.tables.Tables.fire.Goals as goal
+
+pub returns-clause-connections : goal.returns-clause-connections
+returns-clause-connections c =
+    IfOk-weaker c.changed.result _ _
+    (λ connections is.
+    in_order-Lists connections.items _ is
+    ∙ ap (λ (t : TablesView). in_order (told t.watches c.args.event.now.kind c.args.event.now.path)) c.self.view_is)
+    c.changed.ensures.told

@@ -1,0 +1,49 @@
+//! Events as frames.
+
+ghost use Rattle.std.specs.Prelude.{◌≡◌, ◌≤◌, length, IfOk};
+ghost use Rattle.zpath.specs.Grammar.{text_of};
+ghost use Rattle.zpath.specs.declared.limits.TheConstants.{MAX_TEXT_LEN};
+ghost use Rattle.zconnections.specs.Telling as table;
+
+use std::alloc::Global;
+use zalloc::Memory;
+use zwatches::changes::Event;
+use zjute::{Bytes, KeeperState, WatcherEvent, WriteError, write_event};
+use zpath::Path;
+
+// Returns an event as a frame.
+pub(crate) fn event_frame(alloc: Global, event: &Event) -> Result<Vec<u8>, Memory>
+    ensures { IfOk result (λ bytes. bytes.items ≡ table.event_frame event.now) }
+{
+    let told = event_told(alloc, event)?;
+    match write_event(alloc, -1, &told) {
+        Ok(bytes) => Ok(bytes),
+        Err(WriteError::Memory) => Err(Memory),
+        // The text of a path is short.
+        Err(WriteError::TooLong) => unreachable!(),
+    }
+}
+
+// Returns an event as a client receives it.
+fn event_told(alloc: Global, event: &Event) -> Result<WatcherEvent, Memory>
+    ensures told { IfOk result (λ told. told ≡ table.event_told event.now) }
+    ensures short { IfOk result (λ told. length told.path ≤ MAX_TEXT_LEN) }
+{
+    Ok(WatcherEvent {
+        kind: event.kind,
+        state: KeeperState::SyncConnected,
+        path: path_told(alloc, &event.path)?,
+    })
+}
+
+// Returns the text of a path.
+fn path_told(alloc: Global, path: &Path) -> Result<Bytes, Memory>
+    ensures told { IfOk result (λ told. told ≡ text_of path.now) }
+    ensures short { IfOk result (λ told. length told ≤ MAX_TEXT_LEN) }
+{
+    // The text of a path is short.
+    path.keeps_its_form();
+    let text = path.to_string(alloc)?;
+    let told = Bytes::copied(alloc, text.as_bytes())?;
+    Ok(told)
+}

@@ -1,0 +1,69 @@
+//! Sessions and their connections.
+
+ghost use Rattle.std.specs.Prelude.{◌≡◌, IfOk, OnOk};
+ghost use Rattle.std.specs.FinMap as finite;
+ghost use Rattle.zconnections.specs.attachments.Sittings.{all_rested, restored_sitting, touched};
+ghost use Rattle.zconnections.specs.attachments.Sittings.{touched_ids, with_changed};
+ghost use Rattle.zconnections.specs.Tables.{seated, sitting, taken_up};
+
+use crate::tables::Tables;
+use zalloc::Memory;
+use crate::buffers::Phase;
+use ztree::SessionId;
+
+impl Tables {
+    /// Adds a session that was opened on a connection.
+    pub fn sit(&mut self, session: SessionId, connection: u32) -> Result<(), Memory>
+        ensures { OnOk result (self.new ≡ sitting session connection self.old) }
+    {
+        self.streams.set_phase(connection, Phase::Speaking(session));
+        self.sittings.open(session, connection)
+    }
+
+    /// Adds a session that was opened earlier, and has no connection now.
+    pub fn restore(&mut self, session: SessionId) -> Result<(), Memory>
+        ensures { OnOk result (self.new ≡ record self.old {
+          sittings = finite.insert self.old.sittings session restored_sitting;
+        }) }
+    {
+        self.sittings.restore(session)
+    }
+
+    /// Attaches a session to a connection. Its old connection is closed.
+    pub fn take_up(&mut self, session: SessionId, connection: u32) -> Result<(), Memory>
+        ensures { OnOk result (self.new ≡ taken_up session connection self.old) }
+    {
+        self.move_away(session)?;
+        self.seat(session, connection)
+    }
+
+    /// Notes that a session sent a request.
+    pub fn touch(&mut self, session: SessionId)
+        ensures { self.new
+            ≡ record self.old { sittings = with_changed touched self.old.sittings session } }
+    {
+        self.sittings.touch(session);
+    }
+
+    /// Returns the sessions that sent a request since the last `rest`, in rising order.
+    pub fn touched(&self) -> Result<Vec<SessionId>, Memory>
+        ensures { IfOk result (λ ids. ids.items ≡ touched_ids self.now.sittings) }
+    {
+        self.sittings.touched()
+    }
+
+    /// Clears the flag of a request for each session.
+    pub fn rest(&mut self)
+        ensures { self.new ≡ record self.old { sittings = all_rested self.old.sittings } }
+    {
+        self.sittings.rest();
+    }
+
+    // Attaches a session to a connection.
+    fn seat(&mut self, session: SessionId, connection: u32) -> Result<(), Memory>
+        ensures { OnOk result (self.new ≡ seated session connection self.old) }
+    {
+        self.streams.set_phase(connection, Phase::Speaking(session));
+        self.sittings.seat(session, connection)
+    }
+}

@@ -1,0 +1,80 @@
+//! The tables.
+
+ghost use Rattle.std.specs.Prelude.{◌≡◌, []};
+ghost use Rattle.std.specs.FinMap as finite;
+ghost use Rattle.std.specs.FinSet as sets;
+
+use std::alloc::Global;
+use std::marker::Model;
+use crate::buffers::{Outbox, Streams};
+use crate::attachments::Sittings;
+use zwatches::Watches;
+
+/// The connections, the sessions, the watches, and the chunks to be sent.
+///
+/// After a call ran out of memory, the contracts promise nothing of the tables.
+#[derive(Drop)]
+pub struct Tables {
+    pub(crate) alloc: Global,
+    pub(crate) streams: Streams,
+    pub(crate) sittings: Sittings,
+    pub(crate) watches: Watches,
+    pub(crate) outbox: Outbox,
+}
+
+impl Model for Tables {
+    ghost use Rattle.zconnections.specs.Tables.{TablesView};
+    ghost use Rattle.zconnections.specs.support.Codes.{coded_tables};
+
+    ghost Value = { TablesView };
+
+    ghost coded = { coded_tables };
+
+    ghost view = { λ t. record {
+      streams = t.streams;
+      sittings = t.sittings;
+      watches = t.watches;
+      unsent = t.outbox;
+    } };
+}
+
+impl Tables {
+    /// Returns empty tables. Allocates nothing.
+    pub fn new(alloc: Global) -> Tables
+        ensures { result ≡ record {
+          streams = finite.empty;
+          sittings = finite.empty;
+          watches = sets.empty;
+          unsent = [];
+        } }
+    {
+        Tables {
+            alloc,
+            streams: Streams::new(alloc),
+            sittings: Sittings::new(alloc),
+            watches: Watches::new(alloc),
+            outbox: Outbox::new(alloc),
+        }
+    }
+
+    /// Returns the number of connections.
+    pub fn connections(&self) -> usize
+        ensures { result ≡ finite.len self.now.streams }
+    {
+        self.streams.count()
+    }
+
+    /// Returns the number of sessions.
+    pub fn sessions(&self) -> usize
+        ensures { result ≡ finite.len self.now.sittings }
+    {
+        self.sittings.count()
+    }
+
+    /// Returns the number of watches.
+    pub fn watches(&self) -> usize
+        ensures { result ≡ sets.len self.now.watches }
+    {
+        self.watches.count()
+    }
+}

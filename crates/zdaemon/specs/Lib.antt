@@ -1,0 +1,6 @@
+pub mod pipe
+pub mod Asked
+pub mod Tasks
+pub mod Faults
+pub mod Folder
+pub mod AtRest

@@ -1,0 +1,113 @@
+//! What ends a server before its host does.
+
+ghost use Rattle.std.specs.Prelude.{◌≡◌};
+
+use std::fmt;
+use thiserror::Error;
+use zarguments::WordsFault;
+use zjournal::file::FileFault;
+use zjournal::OpenError;
+use zdurable::OpenFault;
+use crate::pipe::ServeFault;
+
+/// What ended a server before its host did.
+#[derive(Clone, Copy, Debug, PartialEq, Eq, Error)]
+pub enum HostedFault {
+    /// Its words aren't understood, or there is no memory for them.
+    Words(WordsFault),
+    /// The folder isn't opened.
+    Folder(FileFault),
+    /// The service isn't opened.
+    Service(OpenFault),
+    /// It ended while it served.
+    Serve(ServeFault),
+    /// There is no journal in the folder, and none is to be made.
+    Missing,
+    /// The folder is a script's: its file is its script.
+    Script,
+    /// A node has a TTL that no line can say.
+    Ttl,
+}
+
+impl HostedFault {
+    ghost use Rattle.zdaemon.specs.Faults.{hosted_fault_status};
+
+    /// Returns the exit status that a program ends with. 1: memory ran out, or the input or the
+    /// output failed. 2: its words. 3: a folder that isn't opened, has no journal, is a script's or
+    /// can't be exported. 4: a disk that failed, or a journal that is full.
+    pub fn status(self) -> u8
+        ensures { result ≡ hosted_fault_status self }
+    {
+        match self {
+            HostedFault::Words(fault) => fault.status(),
+            HostedFault::Folder(FileFault::Memory) => 1,
+            HostedFault::Folder(FileFault::Io) => 4,
+            HostedFault::Folder(_) => 3,
+            HostedFault::Service(OpenFault::Memory) => 1,
+            HostedFault::Service(OpenFault::Journal(OpenError::Memory)) => 1,
+            HostedFault::Service(OpenFault::Journal(OpenError::Failed)) => 4,
+            HostedFault::Service(_) => 3,
+            HostedFault::Serve(ServeFault::Disk | ServeFault::Full | ServeFault::Ended) => 4,
+            HostedFault::Serve(_) => 1,
+            HostedFault::Missing | HostedFault::Script | HostedFault::Ttl => 3,
+        }
+    }
+
+    fn is_memory(self) -> bool {
+        match self {
+            HostedFault::Folder(FileFault::Memory)
+            | HostedFault::Service(OpenFault::Memory)
+            | HostedFault::Service(OpenFault::Journal(OpenError::Memory)) => true,
+            _ => false,
+        }
+    }
+}
+
+impl fmt::Display for HostedFault {
+    fn fmt<W: fmt::Write>(&self, f: &mut fmt::Formatter<W>) -> fmt::Result {
+        if self.is_memory() {
+            return f.write_str("zk: memory");
+        }
+        match self {
+            HostedFault::Words(fault) => f.write_str(fault.text()),
+            HostedFault::Folder(fault) => write!(f, "zk: data: {fault}"),
+            HostedFault::Service(fault) => write!(f, "zk: data: {fault}"),
+            HostedFault::Serve(fault) => write!(f, "zk: {fault}"),
+            HostedFault::Missing => f.write_str("zk: data: there is no journal"),
+            HostedFault::Ttl => f.write_str("zk: data: a node has a TTL that no line says"),
+            HostedFault::Script => {
+                f.write_str("zk: data: a script's folder, and no server's: its file is its script")
+            }
+        }
+    }
+}
+
+impl From<WordsFault> for HostedFault {
+    ghost use Rattle.zdaemon.specs.declared.fault.HostedFault.TheVariants as fault;
+
+    ghost from_gives = { λ cause e. e ≡ fault.Words cause };
+
+    fn from(fault: WordsFault) -> HostedFault {
+        HostedFault::Words(fault)
+    }
+}
+
+impl From<FileFault> for HostedFault {
+    ghost use Rattle.zdaemon.specs.declared.fault.HostedFault.TheVariants as fault;
+
+    ghost from_gives = { λ cause e. e ≡ fault.Folder cause };
+
+    fn from(fault: FileFault) -> HostedFault {
+        HostedFault::Folder(fault)
+    }
+}
+
+impl From<ServeFault> for HostedFault {
+    ghost use Rattle.zdaemon.specs.declared.fault.HostedFault.TheVariants as fault;
+
+    ghost from_gives = { λ cause e. e ≡ fault.Serve cause };
+
+    fn from(fault: ServeFault) -> HostedFault {
+        HostedFault::Serve(fault)
+    }
+}

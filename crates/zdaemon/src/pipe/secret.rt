@@ -1,0 +1,28 @@
+//! The secret, the first bytes that a host sends.
+
+ghost use Rattle.std.specs.Prelude.{◌≡◌, IfErr, IfOk};
+ghost use Rattle.zdevices.specs.Device.{Between};
+
+use crate::pipe::fault::ServeFault;
+use zdevices::Source;
+use zpasswords::Secret;
+
+/// Reads the secret: the next 32 bytes of a source, and no byte more.
+pub fn read_secret<S: Source>(source: &mut S) -> Result<Secret, ServeFault>
+    ensures gave { IfOk result (Between S.gave source.old source.new) }
+    ensures ended { IfErr result (λ fault. fault ≡ ServeFault.NoInput
+        → S.has_ended source.new) }
+{
+    let mut bytes = [0; 32];
+    let mut count = 0;
+    while count < 32 {
+        let Ok(more) = source.read(&mut bytes[count..]) else {
+            return Err(ServeFault::Read);
+        };
+        if more == 0 {
+            return Err(ServeFault::NoInput);
+        }
+        count += more;
+    }
+    Ok(Secret::new(bytes))
+}

@@ -1,0 +1,186 @@
+//! A front end over a journal: it is opened, and commits its changes.
+//!
+//! # Why
+//! A block is everything changed since the last commit, so a host can commit many inputs at once.
+//! Chunks wait meanwhile, also those of queries: a query's reply may show a change that isn't
+//! durable yet.
+
+ghost use Rattle.std.specs.Prelude.{◌≡◌, ◌<◌, ◌≤◌, ◌^◌, ◌++◌, [], ◌∷◌, List, ℕ};
+ghost use Rattle.std.specs.Prelude.{IfErr, IfOk, IsErrOf, IsOk, OnOk};
+ghost use Rattle.ztree.specs.Tree.{Tree};
+ghost use Rattle.zjournal.specs.Blocks.{IsText};
+ghost use Rattle.zjournal.specs.Device.{LeavesOnly, Only};
+ghost use Rattle.zjournal.specs.Journal.{IsAtRest, IsWithOrWithout, StandsFor, device_of, size_of};
+ghost use Rattle.zjournal.specs.Journal as state;
+ghost use Rattle.zjournal.specs.Puts as puts;
+ghost use Rattle.zfront.specs.Restoring.{all_taken};
+ghost use Rattle.zdurable.specs.Faults.{disk_failed, IsFull, IsLeftBy, IsOfReading, IsSuchFile};
+ghost use Rattle.zdurable.specs.Kept.{disk_of, front_in, made_in, more_if, shortened_size};
+ghost use Rattle.zdurable.specs.Kept.{IsOpen, IsServing, IsSound};
+ghost use Rattle.zdurable.specs.Looking.{TellsOfPasswords};
+ghost use Rattle.zdurable.specs.Restored.{restored};
+ghost use Rattle.zsnapshots.specs.folder.Entries.{entries_text};
+ghost use Rattle.zsnapshots.specs.folder.States.{after};
+
+use crate::fault::{KeptFault, OpenFault};
+use crate::looking::look;
+use crate::opened::Opened;
+use crate::restored::restored;
+use crate::writing::written;
+use std::alloc::Global;
+use zfront::{Front, Secret, TickLength};
+use zjournal::{Device, Journal, PutError};
+use zprotocol::ServerId;
+use ztree_service::LocalTree;
+use zsnapshots::folder::Found;
+
+/// A server for ZooKeeper's clients whose changes are made durable.
+///
+/// It returns chunks only while all its changes are durable. After any fault it has ended, and its
+/// file is to be opened again.
+#[derive(Drop)]
+pub struct Kept<D: Device> {
+    pub(crate) alloc: Global,
+    pub(crate) front: Front<LocalTree>,
+    pub(crate) journal: Journal<D>,
+    // The bytes of the file after its last compaction, and 0 before.
+    pub(crate) shortened: usize,
+    pub(crate) is_open: bool,
+}
+
+impl<D: Device> Kept<D> {
+    /// Opens the service of a file that a crash may have left, or of a new one. Its front end
+    /// begins with the tree that the file holds. If reading fails, the file is unchanged. A crash
+    /// while opening leaves a file with the same tree. The tree's time is `now_ms` now, in
+    /// milliseconds since 1970. An `Err` returns the device.
+    pub fn open(
+        alloc: Global,
+        device: D,
+        servers: ServerId,
+        secret: Secret,
+        tick: TickLength,
+        now_ms: u64,
+    ) -> Result<Opened<D>, (OpenFault, D)>
+        // After a restart, a read returns what is durable.
+        requires durable { Only (D.seen device) (D.may_leave device) }
+        ensures serving { IfOk result (λ opened. (batches : List (List ℕ)) × (t : Tree)
+            × StandsFor servers batches (D.seen device)
+            × IsServing D.seen D.may_leave servers batches t opened.kept
+            × (opened.kept.front ≡ restored secret tick now_ms t)) }
+        ensures open { IfOk result (λ opened. IsOpen opened.kept) }
+        ensures sound { IfOk result (λ opened. IsSound D.seen D.may_leave opened.kept) }
+        ensures measured { IfOk result (λ opened. shortened_size opened.kept ≡ 0) }
+        ensures passwords { IfOk result (λ opened.
+            TellsOfPasswords servers (D.seen device) opened.had_passwords) }
+        ensures any_moment { (batches : List (List ℕ)) → StandsFor servers batches (D.seen device)
+            → IfOk result (λ opened. LeavesOnly D.moment D.left_since device (disk_of opened.kept)
+            (StandsFor servers batches)) }
+        ensures any_moment_err { (batches : List (List ℕ))
+            → StandsFor servers batches (D.seen device)
+            → IfErr result (λ e. LeavesOnly D.moment D.left_since device e.1
+            (StandsFor servers batches)) }
+        ensures untouched { IfErr result (λ e. IsOfReading e.0
+            → (D.seen e.1 ≡ D.seen device)
+            × LeavesOnly D.moment D.left_since device e.1 (λ c. c ≡ D.seen device)) }
+        ensures fault { IfErr result (λ e. IsSuchFile servers (D.seen device) e.0) }
+        ensures failed { IfErr result (λ e. e.0 ≡ disk_failed → D.faults device < D.faults e.1) }
+    {
+        let mut device = device;
+        let found = match look(alloc, &mut device, servers) {
+            Ok(found) => found,
+            Err(fault) => return Err((fault, device)),
+        };
+        let Found {
+            tree,
+            had_passwords,
+            ..
+        } = found;
+        let front = match restored(alloc, tree, secret, tick, now_ms) {
+            Ok(front) => front,
+            Err(_) => return Err((OpenFault::Memory, device)),
+        };
+        match zjournal::open(alloc, device, servers.number()) {
+            Ok((journal, _)) => Ok(Opened {
+                kept: Kept {
+                    alloc,
+                    front,
+                    journal,
+                    shortened: 0,
+                    is_open: true,
+                },
+                had_passwords,
+            }),
+            Err((e, device)) => {
+                drop(front);
+                Err((OpenFault::Journal(e), device))
+            }
+        }
+    }
+
+    /// The device that holds the file.
+    pub fn device(&self) -> &D
+        ensures { result.now ≡ disk_of self.now }
+    {
+        self.journal.device()
+    }
+
+    /// Commits the changes since the last commit, as one block. At `Ok` the block is durable, and
+    /// its chunks can be taken. Without changes nothing is written. After any fault the service has
+    /// ended; a file that is opened again then has all these changes, or none.
+    pub fn commit(&mut self) -> Result<(), KeptFault>
+        requires { IsSound D.seen D.may_leave self.old }
+        ensures kept { (servers : ℕ) (batches : List (List ℕ)) (t : Tree) → IsOpen self.old
+            → IsServing D.seen D.may_leave servers batches t self.old
+            → OnOk result (IsServing D.seen D.may_leave servers
+            (more_if (made_in self.old) batches) (after t (made_in self.old)) self.new) }
+        ensures taken { OnOk result (front_in self.new ≡ all_taken (front_in self.old)) }
+        ensures measured { shortened_size self.new ≡ shortened_size self.old }
+        ensures nothing { made_in self.old ≡ [] → IsOpen self.old
+            → IsOk result × (self.new ≡ self.old) }
+        ensures any_moment { (servers : ℕ) (batches : List (List ℕ)) (t : Tree)
+            → IsServing D.seen D.may_leave servers batches t self.old
+            → LeavesOnly D.moment D.left_since (disk_of self.old) (disk_of self.new)
+            (IsWithOrWithout servers batches (entries_text (made_in self.old))) }
+        ensures sound { IsSound D.seen D.may_leave self.new }
+        ensures open { OnOk result (IsOpen self.old × IsOpen self.new) }
+        ensures left { IfErr result (λ e. IsLeftBy e self.old self.new) }
+        ensures ended { (IsOpen self.old → ⊥)
+            → IsErrOf result KeptFault.Ended × (self.new ≡ self.old) }
+        ensures full { IsErrOf result KeptFault.Full → IsFull self.old }
+        ensures failed { IsErrOf result KeptFault.Failed
+            → D.faults (disk_of self.old) < D.faults (disk_of self.new) }
+    {
+        if !self.is_open {
+            return Err(KeptFault::Ended);
+        }
+        if self.front.made().is_empty() {
+            return Ok(());
+        }
+        self.is_open = false;
+        let text = written(self.alloc, self.front.take_made())?;
+        put(&mut self.journal, &text)?; // now they are on the disk
+        self.is_open = true;
+        Ok(())
+    }
+}
+
+// Appends a block to the journal, once.
+fn put<D: Device>(journal: &mut Journal<D>, text: &[u8]) -> Result<(), PutError>
+    requires { state.IsSound D.seen D.may_leave journal.old }
+    ensures kept { (servers : ℕ) (batches : List (List ℕ)) → state.IsOpen journal.old
+        → IsAtRest D.seen D.may_leave servers batches journal.old
+        → OnOk result (IsAtRest D.seen D.may_leave servers
+        (batches ++ text.now ∷ []) journal.new) }
+    ensures any_moment { (servers : ℕ) (batches : List (List ℕ))
+        → IsAtRest D.seen D.may_leave servers batches journal.old
+        → LeavesOnly D.moment D.left_since (device_of journal.old) (device_of journal.new)
+        (IsWithOrWithout servers batches text.now) }
+    ensures open { OnOk result (state.IsOpen journal.old × state.IsOpen journal.new) }
+    ensures failed { IsErrOf result PutError.Failed
+        → D.faults (device_of journal.old) < D.faults (device_of journal.new) }
+    ensures left { IfErr result (λ e. puts.IsLeftBy e journal.old journal.new) }
+    ensures not_text { IsErrOf result PutError.NotText → IsText text.now → ⊥ }
+    ensures full { IsErrOf result PutError.Full → 2 ^ 60 ≤ size_of journal.old }
+{
+    journal.put(text)
+}

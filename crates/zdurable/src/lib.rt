@@ -1,0 +1,45 @@
+//! A server for ZooKeeper's clients whose changes are durable. Changes of a front end are written
+//! as one block of a file, and only then acknowledged. A service that is opened again begins with
+//! the tree that its file holds. `shorten` compacts a file: it replaces one that has become long
+//! with a snapshot alone.
+//!
+//! ```text
+//! let opened = Kept::open(alloc, device, ServerId::first(), secret, tick, now_ms)?;
+//! let Opened { mut kept, .. } = opened;
+//! kept.take(Input::Came(connection, bytes))?;
+//! kept.commit()?;    // what it changed is durable
+//! while let Some(piece) = kept.next_piece() { .. }    // and is sent
+//! ```
+//!
+//! It works over any `Device` (zjournal), whose law says what a crash may leave. At each moment a
+//! crash leaves the acknowledged changes, and those in flight as a whole or not at all (`commit`).
+//! So all calls that were acknowledged across restarts are in one log, whose replies are those of
+//! one plain tree (`laws`).
+//!
+//! # Why
+//! The file holds updates alone: queries change nothing. No reply is stored, since a client with a
+//! request in flight opens a new connection after a crash anyway.
+#![tactic(auto)]
+
+mod fault;
+mod inputs;
+mod kept;
+pub mod laws;
+mod looking;
+mod opened;
+mod pieces;
+mod restored;
+mod rows;
+mod shortening;
+mod stored;
+mod writing;
+
+pub use fault::{KeptFault, OpenFault};
+pub use kept::Kept;
+pub use looking::{folder_stat, look};
+pub use opened::Opened;
+pub use stored::Stored;
+pub use zsnapshots::export::FolderStat;
+pub use zfront::{Input, Piece, Secret, TickLength};
+pub use zprotocol::ServerId;
+pub use zsnapshots::folder::Found;

@@ -1,0 +1,40 @@
+//! A front end that begins with the tree that its file holds.
+//!
+//! # Why
+//! The clock stops while the service is down: time is counted by ticks. So no session expires
+//! because of a restart, however long it took. The start of the clock is moved, so times continue
+//! from now.
+
+ghost use Rattle.std.specs.Prelude.{◌≡◌, IfOk};
+ghost use Rattle.zdurable.specs.Restored.{clock_at, restored};
+
+use std::alloc::Global;
+use zalloc::Memory;
+use zfront::{Clock, Front, Secret, TickLength};
+use ztree_service::{LocalTree, TreeService};
+
+/// Returns the clock of a tree that is at this tick now.
+fn clock_at(tick: TickLength, now_ms: u64, ticks: u64) -> Clock
+    ensures { result ≡ clock_at tick now_ms ticks }
+{
+    let gone = ticks.saturating_mul(u64::from(tick.millis()));
+    Clock {
+        tick,
+        started: now_ms.saturating_sub(gone),
+    }
+}
+
+/// Returns a front end that begins with this tree.
+pub(crate) fn restored(
+    alloc: Global,
+    tree: LocalTree,
+    secret: Secret,
+    tick: TickLength,
+    now_ms: u64,
+) -> Result<Front<LocalTree>, Memory>
+    ensures { IfOk result (λ front. front ≡ restored secret tick now_ms tree.tree) }
+{
+    let (_, ticks) = tree.clock()?;
+    let clock = clock_at(tick, now_ms, ticks);
+    Front::new(alloc, tree, secret, clock, true)
+}

@@ -1,9 +1,0 @@
-//! Laws of the definitions. Each function's contract is a law; its body does nothing.
-
-ghost use Rattle.zevents.specs.Laws.{EventsTellEveryChange};
-
-/// The events of an update report every change that it made to a node's data or children.
-/// Exceptions are a tick and the end of a session: their replies don't name the deleted nodes.
-pub fn events_tell_every_change()
-    ensures { EventsTellEveryChange }
-{}

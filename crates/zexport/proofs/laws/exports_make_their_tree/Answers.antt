@@ -1,5 +1,0 @@
-use Rattle.zexport.proofs.Playing.{exports_make_no_ephemerals, exports_make_their_tree}
-use Rattle.zexport.proofs.laws.exports_make_their_tree.Goals as goal
-
-pub returns : goal.returns
-returns c = record { same = exports_make_their_tree; none = exports_make_no_ephemerals }

@@ -1,0 +1,132 @@
+//! A service with durable changes that runs out of memory: it has ended, and its file loses
+//! nothing.
+
+ghost use Rattle.zdurable.specs.Kept.{IsSound};
+
+use crate::files::{stage_in, worked_file};
+use crate::trees::Stage;
+use std::alloc::Global;
+use zjournal::{Device, OpenError};
+use zdurable::{Input, Kept, KeptFault, OpenFault, Opened, Secret, ServerId, TickLength};
+use ztesting::Ended;
+
+// The milliseconds of a tick.
+const TICK: u32 = 1000;
+
+/// Opens a service. When out of memory, its file is returned as it was.
+pub(crate) fn service_is_opened(alloc: Global) -> Ended {
+    let Some(tick) = TickLength::new(TICK) else {
+        return Ended::Wrong;
+    };
+    let Some(file) = worked_file(alloc) else {
+        return Ended::NotBegun;
+    };
+    match Kept::open(alloc, file, ServerId::first(), secret(), tick, 0) {
+        Ok(Opened { kept, .. }) => {
+            let found = stage_in(alloc, &kept.device().current().disk);
+            drop(kept);
+            Ended::done(found == Stage::Worked)
+        }
+        Err((fault, file)) => {
+            let found = stage_in(alloc, &file.current().disk);
+            drop(file);
+            Ended::refused(is_memory(fault) && found == Stage::Worked)
+        }
+    }
+}
+
+// Passwords are derived from this.
+fn secret() -> Secret {
+    Secret::new([7; 32])
+}
+
+// Returns whether memory ran out.
+fn is_memory(fault: OpenFault) -> bool {
+    matches!(
+        fault,
+        OpenFault::Memory | OpenFault::Journal(OpenError::Memory)
+    )
+}
+
+// What a service does.
+#[derive(Clone, Copy)]
+enum Act {
+    Ticks,
+    Shortens,
+    // A tick that isn't committed yet becomes durable with the compaction.
+    ShortensATick,
+}
+
+/// Commits a tick.
+pub(crate) fn change_is_kept(alloc: Global) -> Ended {
+    is_done(alloc, Act::Ticks)
+}
+
+/// Compacts the file.
+pub(crate) fn service_is_shortened(alloc: Global) -> Ended {
+    is_done(alloc, Act::Shortens)
+}
+
+/// Compacts the file after a tick.
+pub(crate) fn change_is_shortened(alloc: Global) -> Ended {
+    is_done(alloc, Act::ShortensATick)
+}
+
+fn is_done(alloc: Global, act: Act) -> Ended {
+    let Some(tick) = TickLength::new(TICK) else {
+        return Ended::Wrong;
+    };
+    let Some(file) = worked_file(alloc) else {
+        return Ended::NotBegun;
+    };
+    let opened = Kept::open(alloc, file, ServerId::first(), secret(), tick, 0);
+    let Ok(Opened { mut kept, .. }) = opened else {
+        return Ended::NotBegun;
+    };
+    let ended = does(&mut kept, act);
+    let found = stage_in(alloc, &kept.device().current().disk);
+    drop(kept);
+    if is_left(found, act, ended) {
+        ended
+    } else {
+        Ended::Wrong
+    }
+}
+
+// Returns whether a file may hold this, after an act that ended so.
+fn is_left(found: Stage, act: Act, ended: Ended) -> bool {
+    let last = match act {
+        Act::Ticks => Stage::Ticked,
+        Act::Shortens => Stage::Short,
+        Act::ShortensATick => Stage::ShortTicked,
+    };
+    found == last || (found == Stage::Worked && !matches!(ended, Ended::Done))
+}
+
+// When out of memory, the service has ended.
+fn does<D: Device>(kept: &mut Kept<D>, act: Act) -> Ended
+    requires { IsSound D.seen D.may_leave kept.old }
+{
+    match did(kept, act) {
+        Ok(()) => Ended::Done,
+        Err(KeptFault::Memory) => Ended::refused(did(kept, act) == Err(KeptFault::Ended)),
+        Err(_) => Ended::Wrong,
+    }
+}
+
+fn did<D: Device>(kept: &mut Kept<D>, act: Act) -> Result<(), KeptFault>
+    requires { IsSound D.seen D.may_leave kept.old }
+    ensures { IsSound D.seen D.may_leave kept.new }
+{
+    match act {
+        Act::Ticks => {
+            kept.take(Input::Tick)?;
+            kept.commit()
+        }
+        Act::Shortens => kept.shorten(),
+        Act::ShortensATick => {
+            kept.take(Input::Tick)?;
+            kept.shorten()
+        }
+    }
+}

@@ -1,5 +1,0 @@
-use Rattle.zforms.proofs.Composed.{whole_spelled, spelled_whole}
-use Rattle.zforms.proofs.laws.the_whole_is_read.Goals as goal
-
-pub returns : goal.returns
-returns c = record { spelled = whole_spelled; again = spelled_whole }

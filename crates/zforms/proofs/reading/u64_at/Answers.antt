@@ -1,7 +1,0 @@
-use Rattle.std.proofs.Common.{rules}
-use Rattle.zforms.specs.Forms.{number_at}
-use Rattle.zforms.proofs.reading.u64_at.Goals as goal
-
-pub returns-in-Some : goal.returns-in-Some
-unfolding number_at
-returns-in-Some c = search rules

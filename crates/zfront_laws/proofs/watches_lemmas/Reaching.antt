@@ -1,0 +1,162 @@
+-- A server at a scene, and how it comes to the next one.
+use Rattle.std.proofs.Common.{◌≡◌, ◌∙◌, ℕ, Bool, true, false, List, [], ◌∷◌, ◌++◌, refl, sym, ap, subst, append_assoc}
+use Rattle.std.specs.Prelude.{◌⊎◌, ℤ, if◌then◌else◌}
+use Rattle.std.specs.FinSet.{contains}
+use Rattle.std.proofs.lemmas.List.{append-nil}
+use Rattle.ztree.specs.Tree.{Tree}
+use Rattle.zresponses.specs.declared.answer.Answer.{Answer}
+use Rattle.ztree_service.specs.log.Logs.{Log}
+use Rattle.zconnections.specs.Tables.{TablesView, sent, closed}
+use Rattle.zresponses.specs.effects.Frames.{answer_frame, ends_connection}
+use Rattle.zresponses.specs.effects.Replying.{replied}
+use Rattle.zfront.specs.Front.{FrontView, with_tables}
+use Rattle.zfront_laws.specs.watches.Watching.{Scene, Happening, Answered, Closed, Moved, tree_of, after, May, Happens, HasToldAll, IsClose, IsMoved}
+use Rattle.zfront_laws.proofs.watches_lemmas.Holding.{Holds, fewer_holds, owners_kept, settled}
+use Rattle.zfront_laws.proofs.watches_lemmas.Marks.{Marked, Keeps}
+use Rattle.zfront_laws.proofs.watches_lemmas.Marks as marks
+use Rattle.zfront_laws.proofs.watches_lemmas.Owners.{OwnersAre}
+use Rattle.zfront_laws.proofs.watches_lemmas.Scenes.{happens_both}
+use Rattle.zfront_laws.proofs.watches_lemmas.Standing.{Fewer, closed_fewer, sent_watches, sent_sittings}
+
+-- the server's tables and tree are those of the scene, where a look may be due
+pub record AtIf (must : Bool) (v : FrontView) (s : Scene) : Type 0 where
+  pub tables : s.tables ≡ v.tables
+  pub tree : tree_of s ≡ v.tree
+  pub holds : Holds must (tree_of s) s.set_at s.tables
+
+-- where none is due
+abbrev pub At : FrontView → Scene → Type 0
+At v s = AtIf false v s
+
+-- things happen, with these calls in the log, and then the server is there
+pub record Arrives (must : Bool) (v : FrontView) (s : Scene) (more : Log) : Type 0 where
+  pub happenings : List Happening
+  pub scene : Scene
+  pub happens : Happens happenings s scene
+  pub log : scene.log ≡ s.log ++ more
+  pub there : AtIf must v scene
+
+abbrev pub Reaches : FrontView → Scene → Log → Type 0
+Reaches v s more = Arrives false v s more
+
+-- one thing happens, and no call is made
+pub once : (must : Bool) (v : FrontView) (s : Scene) (h : Happening) (t : Scene) → Happens (h ∷ []) s t → t.log ≡ s.log → AtIf must v t
+    → Arrives must v s []
+once must v s h t has same there =
+    record { happenings = h ∷ []; scene = t; happens = has; log = same ∙ sym (append-nil s.log); there = there }
+
+pub stays : (must : Bool) (v : FrontView) (s : Scene) → AtIf must v s → Arrives must v s []
+stays must v s there = record { happenings = []; scene = s; happens = refl; log = sym (append-nil s.log); there = there }
+
+-- behind things that happened before
+precede : (n : Bool) (w : FrontView) (s t : Scene) (hs : List Happening) (first more : Log) → Happens hs s t → t.log ≡ s.log ++ first
+    → Arrives n w t more → Arrives n w s (first ++ more)
+precede n w s t hs first more has goes rest = record {
+  happenings = hs ++ rest.happenings;
+  scene = rest.scene;
+  happens = happens_both hs rest.happenings s t rest.scene has rest.happens;
+  log = rest.log ∙ ap (λ log. log ++ more) goes ∙ append_assoc s.log first more;
+  there = rest.there;
+}
+
+pub behind : (m n : Bool) (v w : FrontView) (s : Scene) (first more : Log) → Arrives m v s first
+    → ((t : Scene) → AtIf m v t → Arrives n w t more)
+    → Arrives n w s (first ++ more)
+behind m n v w s first more one next =
+    precede n w s one.scene one.happenings first more one.happens one.log (next one.scene one.there)
+
+-- behind which no call is made
+pub still : (m n : Bool) (v w : FrontView) (s : Scene) (first : Log) → Arrives m v s first → ((t : Scene) → AtIf m v t → Arrives n w t [])
+    → Arrives n w s first
+still m n v w s first one next = subst (Arrives n w s) (append-nil first) (behind m n v w s first [] one next)
+
+-- calls are made, and then none
+pub called : (w : FrontView) (s t : Scene) (hs : List Happening) (first : Log) → Happens hs s t → t.log ≡ s.log ++ first
+    → Reaches w t [] → Reaches w s first
+called w s t hs first has goes rest = subst (Reaches w s) (append-nil first) (precede false w s t hs first [] has goes rest)
+
+-- what a server became
+pub becomes : (new like : FrontView) (s : Scene) (more : Log) → new ≡ like → Reaches like s more → Reaches new s more
+becomes new like s more is has = subst (λ (v : FrontView). Reaches v s more) (sym is) has
+
+-- the tables move
+pub moves_if : (must : Bool) (v : FrontView) (s : Scene) (t : TablesView) → AtIf must v s → IsMoved v.tables t
+    → (OwnersAre (Marked v.tables.sittings) v.tree.nodes → OwnersAre (Marked t.sittings) v.tree.nodes)
+    → Arrives must (with_tables t v) s []
+moves_if must v s t there moved owners =
+    once must (with_tables t v) s (Moved t) (after (Moved t) s) (subst (λ old. IsMoved old t) (sym there.tables) moved, refl) refl (record {
+      tables = refl;
+      tree = there.tree;
+      holds = fewer_holds must (tree_of s) s.set_at s.tables t
+          (λ w is. ap (λ (u : TablesView). contains u.watches w) there.tables ∙ ap (λ table. contains table w) (sym moved.watches) ∙ is)
+          (λ all.
+          subst (λ (u : Tree). OwnersAre (Marked t.sittings) u.nodes) (sym there.tree)
+          (owners (subst (λ (u : Tree). OwnersAre (Marked v.tables.sittings) u.nodes) there.tree
+          (subst (λ (u : TablesView). OwnersAre (Marked u.sittings) (tree_of s).nodes) there.tables all))))
+          there.holds;
+    })
+
+-- and its sessions keep their marks
+pub moves : (must : Bool) (v : FrontView) (s : Scene) (t : TablesView) → AtIf must v s → IsMoved v.tables t → Keeps v.tables.sittings t.sittings
+    → Arrives must (with_tables t v) s []
+moves must v s t there moved kept = moves_if must v s t there moved (owners_kept v.tables.sittings t.sittings v.tree.nodes kept)
+
+-- a connection is closed, or ends
+pub shuts : (must : Bool) (v : FrontView) (s : Scene) (to : TablesView → TablesView) → AtIf must v s → Fewer s.tables (to s.tables)
+    → Keeps s.tables.sittings (to s.tables).sittings → AtIf must (with_tables (to v.tables) v) (record s { tables = to s.tables })
+shuts must v s to there fewer kept = record {
+  tables = ap to there.tables;
+  tree = there.tree;
+  holds = fewer_holds must (tree_of s) s.set_at s.tables (to s.tables) fewer
+      (owners_kept s.tables.sittings (to s.tables).sittings (tree_of s).nodes kept) there.holds;
+}
+
+pub closes : (must : Bool) (v : FrontView) (s : Scene) (c : ℕ) → AtIf must v s → Arrives must (with_tables (closed c v.tables) v) s []
+closes must v s c there =
+    once must (with_tables (closed c v.tables) v) s (Closed c) (after (Closed c) s) (tt, refl) refl
+    (shuts must v s (closed c) there (closed_fewer c s.tables) (marks.closed_keeps c s.tables))
+
+-- something is sent
+pub sends : (must : Bool) (v : FrontView) (s : Scene) (c : ℕ) (bytes : List ℕ) → AtIf must v s
+    → AtIf must (with_tables (sent c bytes v.tables) v) (record s { tables = sent c bytes s.tables })
+sends must v s c bytes there = record {
+  tables = ap (sent c bytes) there.tables;
+  tree = there.tree;
+  holds = fewer_holds must (tree_of s) s.set_at s.tables (sent c bytes s.tables)
+      (λ w is. ap (λ table. contains table w) (sym (sent_watches c bytes s.tables)) ∙ is)
+      (subst (λ m. OwnersAre (Marked m) (tree_of s).nodes) (sym (sent_sittings c bytes s.tables)))
+      there.holds;
+}
+
+-- by something that happens
+pub sends_as : (must : Bool) (v : FrontView) (s : Scene) (c : ℕ) (bytes : List ℕ) (h : Happening) → May h s
+    → after h s ≡ record s { tables = sent c bytes s.tables } → AtIf must v s → Arrives must (with_tables (sent c bytes v.tables) v) s []
+sends_as must v s c bytes h may is there =
+    once must (with_tables (sent c bytes v.tables) v) s h (record s { tables = sent c bytes s.tables }) (may, sym is) refl
+    (sends must v s c bytes there)
+
+-- an answer
+answers : (must : Bool) (v : FrontView) (s : Scene) (c : ℕ) (xid : ℤ) (answer : Answer) → AtIf must v s → (HasToldAll s c ⊎ IsClose s c)
+    → Arrives must (with_tables (sent c (answer_frame v.tree.zxid xid answer) v.tables) v) s []
+answers must v s c xid answer there may =
+    sends_as must v s c (answer_frame v.tree.zxid xid answer) (Answered c xid answer) may
+    (ap (λ (t : Tree). record s { tables = sent c (answer_frame t.zxid xid answer) s.tables }) there.tree) there
+
+-- and behind one that ends the connection it is closed
+pub replies : (must : Bool) (v : FrontView) (s : Scene) (c : ℕ) (xid : ℤ) (answer : Answer) → AtIf must v s → (HasToldAll s c ⊎ IsClose s c)
+    → Arrives must (with_tables (replied v.tree.zxid c xid answer v.tables) v) s []
+replies must v s c xid answer there may = elim (ends_connection answer.code) as (λ b. Arrives must (with_tables (
+    if b
+    then closed c (sent c (answer_frame v.tree.zxid xid answer) v.tables)
+    else sent c (answer_frame v.tree.zxid xid answer) v.tables
+    ) v) s []) [
+      | true ↦
+          let t = sent c (answer_frame v.tree.zxid xid answer) v.tables in
+          still must must (with_tables t v) (with_tables (closed c t) v) s [] (answers must v s c xid answer there may)
+          (λ next here. closes must (with_tables t v) next c here)
+      | false ↦ answers must v s c xid answer there may
+    ]
+
+-- where no look is due, all watches were told all
+pub all_told : (v : FrontView) (s : Scene) (c : ℕ) → At v s → HasToldAll s c
+all_told v s c there w stands mine = settled (tree_of s) (s.set_at w) w.kind w.path (there.holds.seen w stands)

@@ -1,0 +1,96 @@
+-- Scenes: how a log goes on in one, and what happens in its order.
+use Rattle.std.proofs.Common.{◌≡◌, ◌∙◌, ℕ, List, [], ◌∷◌, ◌++◌, Some, refl, sym, ap, subst, inl, inr, append_assoc, true}
+use Rattle.std.specs.Prelude.{map, zip}
+use Rattle.std.specs.FinMap.{get}
+use Rattle.std.proofs.lemmas.List.{append-nil}
+use Rattle.ztree.specs.declared.node.Node.{Node}
+use Rattle.ztree.specs.Lawful.{IsLawful}
+use Rattle.ztree.specs.Tree.{Tree, opening_tree, Path}
+use Rattle.zcalls.specs.Lists.{Among}
+use Rattle.zcalls.specs.declared.call.Call.{Call}
+use Rattle.zcalls.specs.declared.call.Call.TheVariants.{Update, Query}
+use Rattle.zcalls.specs.declared.call.Update.{Update as Act}
+use Rattle.zcalls.specs.declared.reply.Reply.{Reply}
+use Rattle.zcalls.specs.CallRuns.{IsOlder, after_calls, is_change}
+use Rattle.zcalls.specs.Step.{step}
+use Rattle.zcalls.proofs.Zxids.{zxids_rise}
+use Rattle.zwatches.specs.declared.changes.event.Event.{Event}
+use Rattle.zprotocol.specs.world.FromTree.{CanStart}
+use Rattle.zprotocol.specs.world.PlainTree.{serve}
+use Rattle.zprotocol.proofs.world_lemmas.FirstCallsFrom.{opening_can_start}
+use Rattle.ztree_service.specs.log.Logs.{Log, calls_of, served, tree_after}
+use Rattle.ztree_service.proofs.log_lemmas.Lives.{calls_zipped, lives_leave_one_tree, trees_can_start_again}
+use Rattle.ztree_service.proofs.log_lemmas.Logs.{last_tree}
+use Rattle.zconnections.specs.Tables.{TablesView}
+use Rattle.zconnections.specs.Telling.{told_all}
+use Rattle.zfront_laws.specs.watches.Watching.{Scene, Happening, Served, Fired, tree_of, after, May, Happens}
+use Rattle.zfront_laws.proofs.watches_lemmas.Standing.{Fewer, told_leaves}
+
+-- the tree of a scene can start a service: it is lawful
+pub can_start : (s : Scene) → CanStart (tree_of s)
+can_start s = trees_can_start_again opening_tree (calls_of s.log) opening_can_start
+
+pub is_lawful : (s : Scene) → IsLawful (tree_of s)
+is_lawful s = (can_start s).lawful
+
+-- its nodes are older than a change that is made now
+abbrev updates_in : List Call → List (ℕ × Act)
+updates_in [] = []
+updates_in (Update update ∷ calls) = (0, update) ∷ updates_in calls
+updates_in (Query query ∷ calls) = updates_in calls
+
+same_tree : (calls : List Call) (t : Tree) → after_calls t (updates_in calls) ≡ tree_after t calls
+same_tree [] t = refl
+same_tree (Update update ∷ calls) t = same_tree calls (serve t 0 (Update update)).0
+same_tree (Query query ∷ calls) t = same_tree calls t
+
+pub is_older : (s : Scene) (u : Act) (path : Path) (n : Node) → is_change (step (tree_of s) 0 u).1 ≡ true → get (tree_of s).nodes path ≡ Some n
+    → IsOlder (step (tree_of s) 0 u).0.zxid n
+is_older s u path n change found =
+    subst (λ t. IsOlder (step t 0 u).0.zxid n) is
+    (zxids_rise (updates_in (calls_of s.log)) 0 u path n (subst (λ t. is_change (step t 0 u).1 ≡ true) (sym is) change)
+    (subst (λ (t : Tree). get t.nodes path ≡ Some n) (sym is) found))
+  where
+    is : after_calls opening_tree (updates_in (calls_of s.log)) ≡ tree_of s
+    is = same_tree (calls_of s.log) opening_tree
+
+-- what happens behind something else
+pub happens_both : (hs more : List Happening) (a b c : Scene) → Happens hs a b → Happens more b c → Happens (hs ++ more) a c
+happens_both [] more a b c is rest = subst (λ s. Happens more s c) is rest
+happens_both (h ∷ hs) more a b c has rest = (has.0, happens_both hs more (after h a) b c has.1 rest)
+
+-- calls are made of a tree, one after the other
+abbrev pub servings : List Call → List Reply → List Happening
+servings (call ∷ calls) (reply ∷ replies) = Served call reply ∷ servings calls replies
+servings calls replies = []
+
+abbrev pub logged : Scene → Log → Scene
+logged s more = record s { log = s.log ++ more }
+
+pub served_happens : (calls : List Call) (t : Tree) (s : Scene) → tree_of s ≡ t
+    → Happens (servings calls (served t calls)) s (logged s (zip calls (served t calls)))
+served_happens [] t s is = ap (λ (log : Log). record s { log = log }) (append-nil s.log)
+served_happens (call ∷ calls) t s is =
+    let did = serve t 0 call in
+    let next = after (Served call did.1) s in (
+      ap (λ u. (serve u 0 call).1) (sym is),
+      subst (λ log. Happens (servings calls (served did.0 calls)) next (record s { log = log }))
+          (append_assoc s.log ((call, did.1) ∷ []) (zip calls (served did.0 calls)))
+          (served_happens calls did.0 next (last_tree s.log opening_tree call did.1 ∙ ap (λ u. (serve u 0 call).0) is)),
+    )
+
+-- the tree behind them
+pub tree_logged : (calls : List Call) (t : Tree) (s : Scene) → tree_of s ≡ t → tree_of (logged s (zip calls (served t calls))) ≡ tree_after t calls
+tree_logged calls t s is =
+    lives_leave_one_tree opening_tree s.log (zip calls (served t calls)) ∙ ap (tree_after (tree_of s)) (calls_zipped t calls)
+    ∙ ap (λ u. tree_after u calls) is
+
+-- events are told, one after the other
+pub fired_happens : (es : List Event) (s : Scene)
+    → ((e : Event) (t : TablesView) → Among e es → Fewer s.tables t → May (Fired e) (record s { tables = t }))
+    → Happens (map (λ e. Fired e) es) s (record s { tables = told_all es s.tables })
+fired_happens [] s cause = refl
+fired_happens (e ∷ es) s cause = (
+  cause e s.tables (inl refl) (λ w stands. stands),
+  fired_happens es (after (Fired e) s) (λ other t among fewer. cause other t (inr among) (λ w stands. (told_leaves e s.tables w (fewer w stands)).0)),
+)

@@ -1,0 +1,246 @@
+-- A server at a scene, where it makes calls.
+use Rattle.std.proofs.Common.{◌≡◌, ◌∙◌, ◌+◌, ℕ, Bool, true, false, List, [], ◌∷◌, ◌++◌, refl, sym, ap, subst, inl, inr, arith}
+use Rattle.std.proofs.Common.{None}
+use Rattle.std.proofs.Math.Bool.{or-true}
+use Rattle.std.specs.Prelude.{◌⊎◌, ◌||◌, map, nat_le, if◌then◌else◌}
+use Rattle.std.specs.List.{list_any}
+use Rattle.std.specs.FinMap as finite
+use Rattle.ztree.specs.Lawful.{IsLawful}
+use Rattle.ztree.specs.Tree.{Tree, Nodes, opening_tree, with_next_zxid}
+use Rattle.ztree.specs.Sessions.{with_session, without_session, with_renewed_session}
+use Rattle.ztree.specs.declared.limits.TheConstants.{MAX_SESSIONS}
+use Rattle.zcalls.specs.Lists.{Among}
+use Rattle.zcalls.specs.declared.call.Call.{Call}
+use Rattle.zcalls.specs.declared.call.Call.TheVariants.{Update}
+use Rattle.zcalls.specs.declared.call.Update.{Update as Act}
+use Rattle.zcalls.specs.declared.call.Update.TheVariants as act
+use Rattle.zcalls.specs.declared.refusal.Refusal.TheVariants.{SessionGone, Exhausted, TooManySessions}
+use Rattle.zcalls.specs.declared.reply.Reply.{Reply}
+use Rattle.zcalls.specs.declared.reply.Reply.TheVariants as reply
+use Rattle.zcalls.specs.Part.{is_gone}
+use Rattle.zcalls.specs.Step.{step, is_exhausted, granted_timeout}
+use Rattle.zwatches.specs.declared.changes.event.Event.{Event}
+use Rattle.zwatches.specs.changes.Events.{events_of}
+use Rattle.zwatches.specs.changes.Laws.{takes_away}
+use Rattle.ztree_service.specs.log.Logs.{served, tree_after}
+use Rattle.ztree_service.proofs.log_lemmas.Logs.{last_tree}
+use Rattle.zwatches.specs.declared.watch.Watch.{Watch}
+use Rattle.zwatches.specs.declared.kind.Kind.TheVariants.{Missing}
+use Rattle.zwatches.specs.Events.{fires}
+use Rattle.zconnections.specs.attachments.Sittings.{SittingsView}
+use Rattle.zconnections.specs.Tables.{TablesView}
+use Rattle.zconnections.specs.Sweeping.{noted, made_one}
+use Rattle.zfront.specs.Front.{FrontView, with_tables, asked, replies_to, takes_nodes}
+use Rattle.zfront.specs.Ticking.{ping, tick_calls}
+use Rattle.zfront_laws.specs.Logs.{done_by}
+use Rattle.zfront_laws.specs.watches.Watching.{Scene, Served, Fired, Moved, tree_of, after, HasChanged, IsSameAt}
+use Rattle.zfront_laws.proofs.watches_lemmas.Changing.{OfMulti, fired_at_path, has_changed, tells_of}
+use Rattle.zfront_laws.proofs.watches_lemmas.Holding.{Holds, UpdateNames, absorbing, update_holds, lost_holds, still_holds, settled}
+use Rattle.zfront_laws.proofs.watches_lemmas.Marks.{Known, Marked}
+use Rattle.zfront_laws.proofs.watches_lemmas.Moving.{sittings_move}
+use Rattle.zfront_laws.proofs.watches_lemmas.Owners.{OwnersAre}
+use Rattle.zfront_laws.proofs.watches_lemmas.Reaching.{AtIf, At, Reaches, called}
+use Rattle.zfront_laws.proofs.watches_lemmas.Scenes.{fired_happens, logged, served_happens, servings, tree_logged}
+use Rattle.zfront_laws.proofs.watches_lemmas.Standing.{In}
+use Rattle.zfront_laws.proofs.watches_lemmas.Taking.{TakesTo, Owned, Loses, tick_takes}
+use Rattle.zfront_laws.proofs.watches_lemmas.Tidying.{Gone}
+use Rattle.zfront_laws.proofs.watches_lemmas.Touching.{Tells}
+
+-- an update that takes nothing away is told whole
+module _ (v : FrontView) (s : Scene) (u : Act) (there : At v s) where
+  abbrev told : Reply
+  told = (step v.tree 0 u).1
+
+  right : told ≡ (step (tree_of s) 0 u).1
+  right = ap (λ t. (step t 0 u).1) (sym there.tree)
+
+  goes : tree_of (after (Served (Update u) told) s) ≡ (step (tree_of s) 0 u).0
+  goes = last_tree s.log opening_tree (Update u) told
+
+  abbrev middle : TablesView
+  middle = record s.tables { sittings = noted u told s.tables.sittings }
+
+  abbrev es : List Event
+  es = events_of u told
+
+  abbrev second : Scene
+  second = after (Moved middle) (after (Served (Update u) told) s)
+
+  tells : (e : Event) (w : Watch) → Among e es → fires e.kind e.path w ≡ true
+      → Tells (tells_of w.kind) w.path (events_of u (step (tree_of s) 0 u).1)
+  tells e w among fired =
+      let at = fired_at_path e.kind e.path w fired in
+      (e, subst (λ r. Among e (events_of u r)) right among, at.1, at.0)
+
+  changed : (e : Event) (t : TablesView) (w : Watch) → Among e es → In s.tables w → fires e.kind e.path w ≡ true
+      → HasChanged (record second { tables = t }) w
+  changed e t w among stands fired =
+      by (has_changed s u w.path (s.set_at w) w.kind (there.holds.right w stands)
+      (settled (tree_of s) (s.set_at w) w.kind w.path (there.holds.seen w stands)) (tells e w among fired))
+    where
+      by : (IsSameAt w.kind w.path (s.set_at w) (step (tree_of s) 0 u).0.nodes → ⊥) ⊎ ((w.kind ≡ Missing) × OfMulti u)
+          → HasChanged (record second { tables = t }) w
+      by (inl differs) = inl (λ same. differs (subst (λ (t : Tree). IsSameAt w.kind w.path (s.set_at w) t.nodes) goes same))
+      by (inr (missing, (parts, is))) = inr (missing, (s.log, parts, told, ap (λ (v : Act). s.log ++ (Update v, told) ∷ []) is))
+
+  abbrev last : Scene
+  last = record (after (Served (Update u) told) s) { tables = absorbing u told s.tables }
+
+  pub absorbs : takes_away u ≡ false → UpdateNames (Known s.tables.sittings) u
+      → Reaches (with_tables (absorbing u told v.tables) (asked (Update u ∷ []) v)) s (done_by (Update u ∷ []) v)
+  absorbs stays names = record {
+    happenings = Served (Update u) told ∷ Moved middle ∷ map (λ e. Fired e) es;
+    scene = last;
+    happens = (
+      right,
+      (
+        sittings_move s.tables (noted u told s.tables.sittings),
+        fired_happens es second
+            (λ e t among fewer. inl (inl (s.log, u, told, refl, among), λ w stands fired. changed e t w among (fewer w stands) fired)),
+      ),
+    );
+    log = refl;
+    there = record {
+      tables = ap (absorbing u told) there.tables;
+      tree = goes ∙ ap (λ t. (step t 0 u).0) there.tree;
+      holds = subst (λ t. Holds false t s.set_at last.tables) (sym goes)
+          (subst (λ r. Holds false (step (tree_of s) 0 u).0 s.set_at (absorbing u r s.tables)) (sym right)
+          (update_holds (tree_of s) s.set_at s.tables u stays names there.holds));
+    };
+  }
+
+-- ---- calls that may take something away
+
+owner_made : (m : SittingsView) (nodes : Nodes) (id : ℕ) → OwnersAre (Marked m) nodes → Owned nodes id → made_one m id ≡ true
+owner_made m nodes id all (above, path, n, found, is) = by (all path n found)
+  where
+    by : Marked m n.owner → made_one m id ≡ true
+    by (inl nobody) = absurd (omega (arith, above, nobody, is))
+    by (inr made) = ap (made_one m) (sym is) ∙ made
+
+-- a look is due behind them where they took something
+pub record Taken (v : FrontView) (s : Scene) (took : Bool) : Type 0 where
+  pub must : Bool
+  pub there : AtIf must v s
+  pub why : must ≡ true → (took ≡ true) ⊎ Gone v
+
+module _ (calls : List Call) (v : FrontView) (s : Scene) (there : At v s) where
+  -- the scene behind them
+  abbrev pub next : Scene
+  next = logged s (done_by calls v)
+
+  pub behind_calls : (w : FrontView) → Reaches w next [] → Reaches w s (done_by calls v)
+  behind_calls w = called w s next (servings calls (replies_to calls v)) (done_by calls v) (served_happens calls v.tree s there.tree) refl
+
+  goes_to : tree_of next ≡ tree_after v.tree calls
+  goes_to = tree_logged calls v.tree s there.tree
+
+  -- where the nodes are the same, nothing was taken
+  pub nothing_taken : (tree_after v.tree calls).nodes ≡ v.tree.nodes → At (asked calls v) next
+  nothing_taken same = record {
+    tables = there.tables;
+    tree = goes_to;
+    holds = still_holds (tree_of s) (tree_of next) s.set_at s.tables
+        (ap (λ (t : Tree). t.nodes) goes_to ∙ same ∙ ap (λ (t : Tree). t.nodes) (sym there.tree)) there.holds;
+  }
+
+  taken_so : (took : Bool) → TakesTo (tree_of s) (tree_of next) took → Taken (asked calls v) next took
+  taken_so took (inl nodes) = record {
+    must = false;
+    there = nothing_taken (ap (λ (t : Tree). t.nodes) (sym goes_to) ∙ nodes ∙ ap (λ (t : Tree). t.nodes) there.tree);
+    why = λ due. absurd (cc due);
+  }
+  taken_so took (inr (zxid, loses, reason)) = record {
+    must = true;
+    there = record {
+      tables = there.tables;
+      tree = goes_to;
+      holds = lost_holds (tree_of s) (tree_of next) s.set_at s.tables zxid loses there.holds;
+    };
+    why = λ due. why reason;
+  }
+    where
+      why : (took ≡ true) ⊎ ((id : ℕ) × (finite.get (tree_of next).sessions id ≡ None) × Owned (tree_of s).nodes id)
+          → (took ≡ true) ⊎ Gone (asked calls v)
+      why (inl some) = inl some
+      why (inr (id, gone, owned)) =
+          inr (
+            id,
+            ap (λ (t : Tree). finite.get t.sessions id) (sym goes_to) ∙ gone,
+            ap (λ (t : TablesView). made_one t.sittings id) (sym there.tables)
+                ∙ owner_made s.tables.sittings (tree_of s).nodes id there.holds.owners owned,
+          )
+
+  pub taken : (took : Bool) → TakesTo v.tree (tree_after v.tree calls) took → Taken (asked calls v) next took
+  taken took takes =
+      taken_so took (subst (λ t. TakesTo t (tree_of next) took) (sym there.tree) (subst (λ t. TakesTo v.tree t took) (sym goes_to) takes))
+
+-- a close leaves the tree, or is told as closed
+closes_so : (t : Tree) (exhausted gone : Bool) (why other : Reply) (did : Tree × Reply) → did.1 ≡ reply.Closed
+    → ((if exhausted then (t, why) else if gone then (t, other) else did).0 ≡ t)
+    ⊎ ((if exhausted then (t, why) else if gone then (t, other) else did).1 ≡ reply.Closed)
+closes_so t true gone why other did is = inl refl
+closes_so t false true why other did is = inl refl
+closes_so t false false why other did is = inr is
+
+pub close_does : (t : Tree) (session : ℕ) → ((step t 0 (act.Close session)).0 ≡ t) ⊎ ((step t 0 (act.Close session)).1 ≡ reply.Closed)
+unfolding step
+close_does t session =
+    closes_so t (is_exhausted t (act.Close session)) (is_gone t.sessions 0 session) (reply.Refused Exhausted) (reply.Refused SessionGone)
+    (with_next_zxid (without_session t session), reply.Closed) refl
+
+-- a ping leaves the nodes
+pings_so : (t : Tree) (id : ℕ) (gone : Bool) (other : Reply) (did : Tree × Reply) → did ≡ (with_renewed_session t id, reply.Pinged)
+    → ((if gone then (t, other) else did).0.nodes ≡ t.nodes) × ((if gone then (t, other) else did).0.zxid ≡ t.zxid)
+pings_so t id true other did is = (refl, refl)
+pings_so t id false other did is = (ap (λ (d : Tree × Reply). d.0.nodes) is, ap (λ (d : Tree × Reply). d.0.zxid) is)
+
+ping_leaves : (t : Tree) (id : ℕ) → ((step t 0 (act.Ping id)).0.nodes ≡ t.nodes) × ((step t 0 (act.Ping id)).0.zxid ≡ t.zxid)
+unfolding step
+ping_leaves t id = pings_so t id (is_gone t.sessions 0 id) (reply.Refused SessionGone) (with_renewed_session t id, reply.Pinged) refl
+
+-- an open leaves the nodes, and gives the next zxid as the session's id
+opens_so : (t : Tree) (exhausted full : Bool) (why other : Reply) (did : Tree × Reply) → did.0.nodes ≡ t.nodes
+    → (if exhausted then (t, why) else if full then (t, other) else did).0.nodes ≡ t.nodes
+opens_so t true full why other did is = refl
+opens_so t false true why other did is = refl
+opens_so t false false why other did is = is
+
+pub open_leaves : (t : Tree) (ticks : ℕ) → (step t 0 (act.Open ticks)).0.nodes ≡ t.nodes
+unfolding step
+open_leaves t ticks =
+    opens_so t (is_exhausted t (act.Open ticks)) (nat_le MAX_SESSIONS (finite.len t.sessions)) (reply.Refused Exhausted)
+    (reply.Refused TooManySessions)
+    (with_next_zxid (with_session t 0 (granted_timeout ticks)), reply.Opened (t.zxid + 1) (granted_timeout ticks)) refl
+
+-- ---- what the calls of a tick take away
+
+-- behind a call that leaves the nodes
+behind_ping : (t u v : Tree) (first : Reply) (rest : List Reply) → u.nodes ≡ t.nodes → u.zxid ≡ t.zxid → TakesTo u v (list_any takes_nodes rest)
+    → TakesTo t v (list_any takes_nodes (first ∷ rest))
+behind_ping t u v first rest nodes zxid (inl same) = inl (same ∙ nodes)
+behind_ping t u v first rest nodes zxid (inr (next, loses, reason)) =
+    inr (
+      next ∙ ap (λ z. z + 1) zxid,
+      λ path. subst (λ z. Loses (z + 1) t.nodes v.nodes path) zxid (subst (λ ns. Loses (u.zxid + 1) ns v.nodes path) nodes (loses path)),
+      why reason,
+    )
+  where
+    why : (list_any takes_nodes rest ≡ true) ⊎ ((id : ℕ) × (finite.get v.sessions id ≡ None) × Owned u.nodes id)
+        → (list_any takes_nodes (first ∷ rest) ≡ true) ⊎ ((id : ℕ) × (finite.get v.sessions id ≡ None) × Owned t.nodes id)
+    why (inl some) = inl (ap (λ b. takes_nodes first || b) some ∙ or-true (takes_nodes first))
+    why (inr (id, gone, owned)) = inr (id, gone, subst (λ ns. Owned ns id) nodes owned)
+
+took_first : (t u : Tree) (first : Reply) (rest : List Reply) → TakesTo t u (takes_nodes first) → TakesTo t u (list_any takes_nodes (first ∷ rest))
+took_first t u first rest (inl same) = inl same
+took_first t u first rest (inr (zxid, loses, inl some)) = inr (zxid, loses, inl (ap (λ b. b || list_any takes_nodes rest) some))
+took_first t u first rest (inr (zxid, loses, inr owned)) = inr (zxid, loses, inr owned)
+
+pub tick_taken : (sessions : List ℕ) (t : Tree) → ((calls : List Call) → IsLawful (tree_after t calls))
+    → TakesTo t (tree_after t (tick_calls sessions)) (list_any takes_nodes (served t (tick_calls sessions)))
+tick_taken [] t lawful = took_first t (step t 0 act.Tick).0 (step t 0 act.Tick).1 [] (tick_takes t (lawful []))
+tick_taken (id ∷ sessions) t lawful =
+    let u = (step t 0 (act.Ping id)).0 in
+    let left = ping_leaves t id in
+    behind_ping t u (tree_after u (tick_calls sessions)) (step t 0 (act.Ping id)).1 (served u (tick_calls sessions)) left.0 left.1
+    (tick_taken sessions u (λ calls. lawful (ping id ∷ calls)))

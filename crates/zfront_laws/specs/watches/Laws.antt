@@ -1,0 +1,47 @@
+-- Laws of the watches of every front end. The functions of `src/laws.rt` promise them.
+use Rattle.std.specs.Prelude.{◌≡◌, ℕ, Bool, List, [], ◌∷◌, ◌++◌, drop}
+use Rattle.std.specs.FinMap as finite
+use Rattle.ztree.specs.Tree.{Tree}
+use Rattle.zresponses.specs.declared.clock.Clock.{Clock}
+use Rattle.zconnections.specs.buffers.Inputs.InputView.{Opened, Came, Ended, Tick}
+use Rattle.zconnections.specs.buffers.Streams.{opened}
+use Rattle.zwatches.specs.declared.watch.Watch.{Watch}
+use Rattle.ztree_service.specs.log.Logs.{Log, Leaves}
+use Rattle.zconnections.specs.Tables.{TablesView, ended}
+use Rattle.zfront.specs.Front.{FrontView}
+use Rattle.zfront.specs.Restoring.{beginning}
+use Rattle.zfront_laws.specs.Logs.{run_log}
+use Rattle.zfront_laws.specs.Runs.{Step, Takes, Sent, Took, Runs}
+use Rattle.zfront_laws.specs.watches.Watching.{Scene, Happening, Happens, Stands, IsUnchanged}
+
+-- the calls of this log were answered, and no watch was set
+abbrev pub opening_scene : Log → TablesView → Scene
+opening_scene log t = record { log = log; set_at = λ w. finite.empty; tables = t }
+
+-- the effect of a step on a scene: a connection is added, or removed with its watches; the first
+-- chunk is sent; nothing, when updates are taken; or happenings
+abbrev pub Brings : Step → Scene → Scene → Type 0
+Brings (Takes (Opened c)) s t = t ≡ record s { tables = record s.tables { streams = finite.insert s.tables.streams c opened } }
+Brings (Takes (Ended c)) s t = t ≡ record s { tables = ended c s.tables }
+Brings (Takes (Came c bytes)) s t = (happenings : List Happening) × Happens happenings s t
+Brings (Takes Tick) s t = (happenings : List Happening) × Happens happenings s t
+Brings Sent s t = t ≡ record s { tables = record s.tables { unsent = drop 1 s.tables.unsent } }
+Brings Took s t = t ≡ s
+
+-- the same for steps in order
+abbrev pub BringsAll : List Step → Scene → Scene → Type 0
+BringsAll [] s t = t ≡ s
+BringsAll (step ∷ steps) s t = (middle : Scene) × Brings step s middle × BringsAll steps middle t
+
+-- Whatever the steps of a front were, its tables and its log are those of a scene that allowed
+-- happenings led to. The scene begins with any earlier log that left the first tree. Its log is
+-- that one, then the log of the steps, call by call. No watch that is still set has missed a
+-- change.
+abbrev pub EveryWatchIsTold : Type 0
+EveryWatchIsTold =
+    (t : Tree) (secret : List ℕ) (times : Clock) (is_kept : Bool) (before : Log) (steps : List Step) (v : FrontView)
+    → Leaves before t → (runs : Runs steps (beginning t secret times is_kept) v)
+    → (s : Scene) × BringsAll steps (opening_scene before (beginning t secret times is_kept).tables) s
+    × (s.tables ≡ v.tables) × (s.log ≡ before ++ run_log steps (beginning t secret times is_kept) v runs)
+    × Leaves s.log v.tree
+    × ((w : Watch) → Stands s w → IsUnchanged s w)

@@ -1,0 +1,163 @@
+-- A model of what a front does at its inputs, one happening after the other, and which happenings
+-- are allowed while watches are set. The source is the ZooKeeper Programmer's Guide, "ZooKeeper
+-- Watches" and "Semantics of Watches".
+use Rattle.std.specs.Prelude.{◌≡◌, ◌⊎◌, ℕ, ℤ, Bool, true, false, not, ◌&&◌, List, [], ◌∷◌, ◌++◌, Some, None, if◌then◌else◌}
+use Rattle.std.specs.FinMap.{get}
+use Rattle.std.specs.FinSet.{contains}
+use Rattle.std.specs.Ordering.{eq_by_cmp}
+use Rattle.ztree.specs.Tree.{Tree, Nodes, Path, opening_tree, has_node}
+use Rattle.zcalls.specs.Lists.{Among}
+use Rattle.zcalls.specs.declared.call.Call.{Call}
+use Rattle.zcalls.specs.declared.call.Call.TheVariants.{Update}
+use Rattle.zcalls.specs.declared.call.Part.{Part}
+use Rattle.zcalls.specs.declared.call.Update.{Update as Act}
+use Rattle.zcalls.specs.declared.call.Update.TheVariants.{Close, Multi}
+use Rattle.zcalls.specs.declared.reply.Reply.{Reply}
+use Rattle.zcalls.specs.declared.reply.Reply.TheVariants as reply
+use Rattle.zjute.specs.declared.connecting.ConnectRequest.{ConnectRequest}
+use Rattle.zjute.specs.declared.event.EventKind.{EventKind}
+use Rattle.zjute.specs.declared.event.EventKind.TheVariants.{NodeDeleted, NodeChildrenChanged}
+use Rattle.zwatches.specs.declared.changes.event.Event.{Event}
+use Rattle.zwatches.specs.changes.Events.{events_of}
+use Rattle.zwatches.specs.changes.Laws.{data_at, children_at}
+use Rattle.zresponses.specs.declared.answer.Answer.{Answer}
+use Rattle.zprotocol.specs.world.PlainTree.{serve}
+use Rattle.ztree_service.specs.log.Logs.{Log, calls_of, tree_after}
+use Rattle.zconnections.specs.buffers.Streams.{phase_of}
+use Rattle.zconnections.specs.declared.buffers.phase.Phase.TheVariants.{Silent, Speaking}
+use Rattle.zwatches.specs.declared.kind.Kind.{Kind}
+use Rattle.zwatches.specs.declared.kind.Kind.TheVariants.{Data, Missing, Children}
+use Rattle.zwatches.specs.declared.watch.Watch.{Watch}
+use Rattle.zwatches.specs.Watches.{watch, watch_cmp}
+use Rattle.zwatches.specs.Places.{is_of_node}
+use Rattle.zwatches.specs.Events.{fires}
+use Rattle.zconnections.specs.Tables.{TablesView, closed, is_open, sent}
+use Rattle.zconnections.specs.Telling.{event_frame, told}
+use Rattle.zresponses.specs.effects.Frames.{answer_frame, response_frame}
+use Rattle.zresponses.specs.effects.Watching.{waiting}
+
+-- the log of answered calls, the tables, and the nodes that existed when each watch was set
+pub record Scene : Type 0 where
+  pub log : Log
+  pub set_at : Watch → Nodes
+  pub tables : TablesView
+
+-- the tree after the log
+abbrev pub tree_of : Scene → Tree
+tree_of s = tree_after opening_tree (calls_of s.log)
+
+-- A call is answered. An event is sent to the watches that it fires. A watch is set. A
+-- re-registered watch gets the event that it missed. A request is answered. A connect request is
+-- answered. A word is answered and its connection closed. A connection is closed. Connections and
+-- sessions change otherwise
+pub data Happening : Type 0 where
+  Served : Call → Reply → Happening
+  Fired : Event → Happening
+  Set : ℕ → Kind → Path → Happening
+  Missed : ℕ → Event → Happening
+  Answered : ℕ → ℤ → Answer → Happening
+  Greeted : ℕ → ConnectRequest → ℤ → ℤ → List ℕ → Happening
+  Said : ℕ → List ℕ → Happening
+  Closed : ℕ → Happening
+  Moved : TablesView → Happening
+
+-- the nodes at the setting of each watch, after one is set; a watch already set is unchanged
+abbrev pub set_now : Watch → Scene → Watch → Nodes
+set_now w s other =
+    if eq_by_cmp watch_cmp other w && not (contains s.tables.watches w) then (tree_of s).nodes else s.set_at other
+
+-- the effect of a happening on a scene
+abbrev pub after : Happening → Scene → Scene
+after (Served call reply) s = record s { log = s.log ++ (call, reply) ∷ [] }
+after (Fired e) s = record s { tables = told e s.tables }
+after (Set c kind path) s = record s { set_at = set_now (watch path kind c) s; tables = waiting c kind path s.tables }
+after (Missed c e) s = record s { tables = sent c (event_frame e) s.tables }
+after (Answered c xid answer) s = record s { tables = sent c (answer_frame (tree_of s).zxid xid answer) s.tables }
+after (Greeted c greeting timeout session password) s =
+    record s { tables = sent c (response_frame greeting timeout session password) s.tables }
+after (Said c bytes) s = record s { tables = closed c (sent c bytes s.tables) }
+after (Closed c) s = record s { tables = closed c s.tables }
+after (Moved t) s = record s { tables = t }
+
+-- the watch is set
+abbrev pub Stands : Scene → Watch → Type 0
+Stands s w = contains s.tables.watches w ≡ true
+
+-- what a watch of this kind waits for is the same at the path: the node without its children, or
+-- when its children last changed
+abbrev pub IsSameAt : Kind → Path → Nodes → Nodes → Type 0
+IsSameAt Data path before now = data_at now path ≡ data_at before path
+IsSameAt Missing path before now = data_at now path ≡ data_at before path
+IsSameAt Children path before now = children_at now path ≡ children_at before path
+
+-- nothing has changed for the watch since it was set
+abbrev pub IsUnchanged : Scene → Watch → Type 0
+IsUnchanged s w = IsSameAt w.kind w.path (s.set_at w) (tree_of s).nodes
+
+-- no watch of the connection has missed a change
+abbrev pub HasToldAll : Scene → ℕ → Type 0
+HasToldAll s c = (w : Watch) → Stands s w → w.connection ≡ c → IsUnchanged s w
+
+-- the event is one of the last update
+abbrev pub IsOfTheLast : Scene → Event → Type 0
+IsOfTheLast s e =
+    (log : Log) × (update : Act) × (reply : Reply) × (s.log ≡ log ++ (Update update, reply) ∷ []) × Among e (events_of update reply)
+
+-- the last update is a multi: one part may create a node that another part deletes
+abbrev pub IsMulti : Scene → Type 0
+IsMulti s = (log : Log) × (parts : List Part) × (reply : Reply) × (s.log ≡ log ++ (Update (Multi parts), reply) ∷ [])
+
+-- something has changed for the watch since it was set; or it waits for a creation and the last
+-- update is a multi, which may have deleted the node again
+abbrev pub HasChanged : Scene → Watch → Type 0
+HasChanged s w = (IsUnchanged s w → ⊥) ⊎ ((w.kind ≡ Missing) × IsMulti s)
+
+-- something has changed for each watch that the event fires
+abbrev pub FiresChanged : Scene → Event → Type 0
+FiresChanged s e = (w : Watch) → Stands s w → fires e.kind e.path w ≡ true → HasChanged s w
+
+-- the event is a deletion, and no node is at its path
+abbrev pub IsGone : Scene → Event → Type 0
+IsGone s e = (e.kind ≡ NodeDeleted) × (get (tree_of s).nodes e.path ≡ None)
+
+-- the children of the node at the path changed in the last change of the tree
+abbrev pub LostChild : Scene → Event → Type 0
+LostChild s e = (e.kind ≡ NodeChildrenChanged) × (children_at (tree_of s).nodes e.path ≡ Some (tree_of s).zxid)
+
+-- watches and queued chunks are unchanged, and no open connection is closed
+pub record IsMoved (old new : TablesView) : Type 0 where
+  pub watches : new.watches ≡ old.watches
+  pub unsent : new.unsent ≡ old.unsent
+  pub opens : (c : ℕ) → is_open old c ≡ true → is_open new c ≡ true
+
+-- the session of the connection was closed just now; the answer shows no node, and the connection
+-- is closed after it
+abbrev pub IsClose : Scene → ℕ → Type 0
+IsClose s c =
+    (log : Log) × (session : ℕ) × (s.log ≡ log ++ (Update (Close session), reply.Closed) ∷ [])
+    × (phase_of s.tables.streams c ≡ Some (Speaking session))
+
+-- whether the node exists, for an event that a watch missed
+abbrev pub tells_node : EventKind → Bool
+tells_node NodeDeleted = false
+tells_node other = true
+
+-- when each happening is allowed. A reply is the tree's. An event has a cause, and fires watches
+-- with a change. A watch is set where its node exists, or where it doesn't. A connection gets an
+-- answer only if no watch of it has missed a change. A word is answered where nothing was read yet,
+-- so that connection has no watch
+abbrev pub May : Happening → Scene → Type 0
+May (Served call reply) s = reply ≡ (serve (tree_of s) 0 call).1
+May (Fired e) s = ((IsOfTheLast s e ⊎ IsGone s e) × FiresChanged s e) ⊎ LostChild s e
+May (Set c kind path) s = has_node (tree_of s).nodes path ≡ is_of_node kind
+May (Missed c e) s = has_node (tree_of s).nodes e.path ≡ tells_node e.kind
+May (Answered c xid answer) s = HasToldAll s c ⊎ IsClose s c
+May (Greeted c greeting timeout session password) s = Unit {0}
+May (Said c bytes) s = phase_of s.tables.streams c ≡ Some Silent
+May (Closed c) s = Unit {0}
+May (Moved t) s = IsMoved s.tables t
+
+-- happenings in order, each allowed
+abbrev pub Happens : List Happening → Scene → Scene → Type 0
+Happens [] s t = t ≡ s
+Happens (h ∷ hs) s t = May h s × Happens hs (after h s) t

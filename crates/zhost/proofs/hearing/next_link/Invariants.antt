@@ -1,6 +1,0 @@
-use Rattle.zhost.specs.Desks.{SameDesk}
-use Rattle.zhost.specs.Hosts.{DidIdle}
-use Rattle.zhost.proofs.hearing.next_link.Given as goal
-
-abbrev pub invariant-loop : goal.invariant-loop
-invariant-loop l = DidIdle l.initial.host l.host × SameDesk l.initial.host.desk l.host.desk

@@ -1,6 +1,0 @@
-use Rattle.zshared.specs.HaltSeats.{IsSeatOf}
-use Rattle.zhost.specs.Desks.{SameDesk}
-use Rattle.zhost.proofs.serving.serve.Given as goal
-
-abbrev pub invariant-loop : goal.invariant-loop
-invariant-loop g l = SameDesk l.fn.member.host.desk l.member.host.desk × IsSeatOf l.halt l.seat

@@ -1,5 +1,0 @@
-pub mod Asked
-pub mod Tasks
-pub mod Faults
-pub mod Folder
-pub mod AtRest

@@ -1,0 +1,23 @@
+-- What a device over a file holds.
+use Rattle.std.specs.Prelude.{ℕ, List, length, Option, None, Some, Vec}
+use Rattle.zjournal.specs.declared.file.device.FileDevice.{FileDevice}
+use Rattle.zjournal.specs.file.Events.{Event, replay, MayLeave}
+
+-- the calls so far, the newest first
+abbrev pub events_of : {R : Type 0} → FileDevice R → List Event
+events_of f = f.log.events
+
+-- what a read returns, and what a crash may leave
+abbrev pub seen_of : {R : Type 0} → FileDevice R → List ℕ
+seen_of f = (replay (events_of f)).seen
+
+abbrev pub MayLeaveOf : {R : Type 0} → FileDevice R → List ℕ → Type 0
+MayLeaveOf f = MayLeave (events_of f)
+
+-- the number of bytes that wait to be returned
+abbrev pub count_of : {A : Type 0} → Option (Vec ℕ A) → ℕ
+count_of None = 0
+count_of (Some bytes) = length bytes.items
+
+abbrev pub waiting_of : {R : Type 0} → FileDevice R → ℕ
+waiting_of f = count_of f.waits

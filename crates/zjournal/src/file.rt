@@ -1,0 +1,39 @@
+//! A journal's device over one real file.
+//!
+//! ```text
+//! let device = FileDevice::open(alloc, "folder", SyncMode::Batch)?;   // made at the first start
+//! let (mut journal, text) = crate::open(alloc, device, servers)?;
+//! ```
+//!
+//! What the file holds and what a crash may leave of it is computed from a record of the calls made
+//! (`specs/Events.antt`). The record is data that takes no memory. That the device obeys the law of
+//! devices is proved of the record. Three assumptions connect the record to the real file, and no
+//! proof shows them:
+//!
+//! - What `open` read is the content of the file, and is durable.
+//! - Each call does as `specs/Events.antt` says, and a crash leaves one of the contents there.
+//! - No one else touches the file. The lock keeps out every program that asks for it.
+//!
+//! So a reader has to check these lines: each method of `src/device.rt` with `begin`, the calls of
+//! `src/calls.rt`, and `src/opening.rt`. Each method makes one call and then records it with its
+//! result. A body that recorded a sync and made none would be proved as well. No other function may
+//! set a record by a proof by hand.
+//!
+//! # Why
+//! The device is Rattle over `std::fs`: a host in C would add memory, pointers and a protocol to
+//! what is trusted. After a failed disk, an opening may read what isn't durable: the kernel keeps a
+//! page whose sync failed. `std` has no call to drop such pages; GUIDE says what to do.
+
+mod calls;
+mod device;
+mod fault;
+pub mod laws;
+mod mode;
+mod numbers;
+mod opening;
+mod record;
+pub mod rows;
+
+pub use device::FileDevice;
+pub use fault::FileFault;
+pub use mode::SyncMode;

@@ -1,0 +1,45 @@
+//! The system calls that read and change a file. Each returns whether all of it was done.
+
+use crate::file::FileFault;
+use std::alloc::Global;
+use std::fs;
+use std::fs::{File, Files};
+use std::io::{Read, Write};
+use std::os::unix::fs::FileExt;
+
+/// Writes all the bytes at this offset.
+pub(crate) fn write_all(file: &File, at: usize, bytes: &[u8]) -> bool {
+    file.write_all_at(bytes, at as u64).is_ok()
+}
+
+/// Cuts the file to this length.
+pub(crate) fn cut(file: &File, len: usize) -> bool {
+    file.set_len(len as u64).is_ok()
+}
+
+/// Waits until what was written is durable.
+pub(crate) fn sync(file: &File) -> bool {
+    file.sync_data().is_ok()
+}
+
+/// Reads all bytes of a file that was just opened.
+pub(crate) fn read_all(alloc: Global, mut file: &File) -> Result<Vec<u8>, FileFault> {
+    let mut bytes = Vec::new(alloc);
+    file.read_to_end(&mut bytes)?;
+    Ok(bytes)
+}
+
+/// Writes all the bytes at the end of a file that no one else writes.
+pub(crate) fn append(mut file: &File, bytes: &[u8]) -> bool {
+    file.write_all(bytes).is_ok()
+}
+
+/// Waits until a file with its length, or a folder with its names, is durable.
+pub(crate) fn sync_all(file: &File) -> bool {
+    file.sync_all().is_ok()
+}
+
+/// Gives a file the name of another, which loses it.
+pub(crate) fn rename<R: Files<File = File>>(files: &R, from: &str, to: &str) -> bool {
+    fs::rename(files, from, to).is_ok()
+}

@@ -1,0 +1,297 @@
+//! A device over one file of the system. Each method makes one call, and then records it with its
+//! result. The new file replaces the old one in three such steps.
+//!
+//! # Why
+//! After any failed call the device makes no more calls on the file. A failed write may have put
+//! some of its bytes where a sync would make them durable. The device holds the runtime by which it
+//! was opened: `std::fs` needs it to make and rename files.
+
+ghost use Rattle.std.specs.Prelude.{◌≡◌, ◌∷◌, [], true, false, IfOk, IfErr, OnErr, OnOk, length};
+ghost use Rattle.zjournal.specs.Device.{Only};
+ghost use Rattle.zjournal.specs.declared.device.DeviceError.TheVariants.{Failed};
+ghost use Rattle.zjournal.specs.file.Events.{held, refused, replay, MayLeave};
+ghost use Rattle.zjournal.specs.file.Events.{ends_with_name, folder_synced, named, settled};
+ghost use Rattle.zjournal.specs.file.Moments.{LeftSince, left_now, left_last};
+ghost use Rattle.zjournal.specs.file.Waiting.{calls_before};
+
+use crate::file::numbers::{
+    ADDED, BEGUN, FOLDER_SYNCED, HELD, NAMED, REFUSED, SETTLED, SHORTENED, SYNCED, WRITTEN,
+};
+use crate::file::opening::Place;
+use crate::file::record::Record;
+use crate::file::{FileFault, SyncMode, calls, opening};
+use std::alloc::Global;
+use std::fs::{File, Files};
+use std::mem;
+use crate::{Device, DeviceError};
+
+/// The file `journal` of a folder. It is locked until this is dropped, also when a new one,
+/// `journal.new`, replaces it.
+#[derive(Drop)]
+pub struct FileDevice<R> {
+    files: R,
+    place: Place,
+    file: File,
+    // The new file, if one is begun, and the one that lost its name last. That one stays locked: it
+    // keeps out a program that opened it earlier and doesn't check the name again.
+    beside: Option<File>,
+    former: Option<File>,
+    mode: SyncMode,
+    // What was read at opening, until the file is changed or synced.
+    waits: Option<Vec<u8>>,
+    has_failed: bool,
+    // A new file has the name, which may not be durable.
+    is_moved: bool,
+    log: Record,
+    ghost waiting: { log.events ≡ calls_before waits log.events },
+    ghost failed: { has_failed ≡ (replay log.events).has_failed },
+    ghost moved: { is_moved ≡ (replay log.events).is_moved },
+}
+
+impl<R: Files<File = File> + Copy> FileDevice<R> {
+    ghost use Rattle.zjournal.specs.file.File.{events_of, seen_of, MayLeaveOf, waiting_of};
+
+    /// Opens the file of the folder, locks it and reads it whole. Missing folder and file are made,
+    /// for their owner alone. File, folder and the folder above are synced.
+    pub fn open(
+        alloc: Global,
+        files: &R,
+        folder: &str,
+        mode: SyncMode,
+    ) -> Result<FileDevice<R>, FileFault>
+        ensures fresh { IfOk result (λ file. events_of file ≡ held (seen_of file) ∷ []) }
+        ensures durable { IfOk result (λ file. Only (seen_of file) (MayLeaveOf file)) }
+    {
+        let (place, file, bytes) = opening::open_locked(alloc, files, folder)?;
+        Ok(FileDevice::begin(*files, place, file, bytes, mode))
+    }
+
+    /// The number of bytes that wait to be read.
+    pub fn waiting(&self) -> usize
+        ensures { result ≡ waiting_of self.now }
+    {
+        match &self.waits {
+            Some(bytes) => bytes.len(),
+            None => 0,
+        }
+    }
+
+    // The device over a file that holds these bytes, all of them durable.
+    fn begin(files: R, place: Place, file: File, bytes: Vec<u8>, mode: SyncMode) -> FileDevice<R>
+        ensures fresh { events_of result ≡ held bytes.items ∷ [] }
+    {
+        let mut log = Record::new();
+        log.note(&[HELD, 0, 1], &bytes);
+        FileDevice {
+            files,
+            place,
+            file,
+            beside: None,
+            former: None,
+            mode,
+            waits: Some(bytes),
+            has_failed: false,
+            is_moved: false,
+            log,
+        }
+    }
+
+    // Makes no call on the file.
+    fn refuse(&mut self) -> DeviceError
+        ensures told { result ≡ Failed }
+        ensures noted { events_of self.new ≡ refused ∷ events_of self.old }
+    {
+        self.waits = None;
+        self.log.note(&[REFUSED, 0, 0], &[]);
+        DeviceError::Failed
+    }
+
+    // Makes the new file durable.
+    fn settle(&mut self) -> Result<(), DeviceError>
+        ensures done { OnOk result (events_of self.new ≡ settled true ∷ events_of self.old) }
+        ensures not_done { OnErr result (events_of self.new
+            ≡ settled false ∷ events_of self.old) }
+        ensures told { IfErr result (λ e. e ≡ Failed) }
+    {
+        let done = match &self.beside {
+            Some(next) => self.mode == SyncMode::Never || calls::sync_all(next),
+            None => false,
+        };
+        self.waits = None;
+        if done {
+            self.log.note(&[SETTLED, 0, 1], &[]);
+            Ok(())
+        } else {
+            self.log.note(&[SETTLED, 0, 0], &[]);
+            self.has_failed = true;
+            Err(DeviceError::Failed)
+        }
+    }
+
+    // Gives the new file the name of the old one, which stays locked.
+    fn take_name(&mut self) -> Result<(), DeviceError>
+        ensures done { OnOk result (events_of self.new ≡ named true ∷ events_of self.old) }
+        ensures not_done { OnErr result (events_of self.new ≡ named false ∷ events_of self.old) }
+        ensures told { IfErr result (λ e. e ≡ Failed) }
+    {
+        self.waits = None;
+        self.is_moved = true;
+        if calls::rename(&self.files, &self.place.new_path, &self.place.path) {
+            self.log.note(&[NAMED, 0, 1], &[]);
+            if let Some(next) = self.beside.take() {
+                self.former = Some(mem::replace(&mut self.file, next));
+            }
+            Ok(())
+        } else {
+            self.log.note(&[NAMED, 0, 0], &[]);
+            self.has_failed = true;
+            Err(DeviceError::Failed)
+        }
+    }
+
+    // Makes the folder durable, with the name. Then the old file is cut to nothing.
+    fn sync_folder(&mut self) -> Result<(), DeviceError>
+        requires whole { ends_with_name (replay (events_of self.old)).changes ≡ true }
+        requires sound { (replay (events_of self.old)).has_failed ≡ false }
+        ensures done { OnOk result (events_of self.new
+            ≡ folder_synced true ∷ events_of self.old) }
+        ensures not_done { OnErr result (events_of self.new
+            ≡ folder_synced false ∷ events_of self.old) }
+        ensures told { IfErr result (λ e. e ≡ Failed) }
+    {
+        self.waits = None;
+        if self.mode == SyncMode::Never || calls::sync_all(&self.place.folder) {
+            self.log.note(&[FOLDER_SYNCED, 0, 1], &[]);
+            self.is_moved = false;
+            if let Some(former) = &self.former {
+                calls::cut(former, 0);
+            }
+            Ok(())
+        } else {
+            self.log.note(&[FOLDER_SYNCED, 0, 0], &[]);
+            self.has_failed = true;
+            Err(DeviceError::Failed)
+        }
+    }
+}
+
+impl<R: Files<File = File> + Copy> Device for FileDevice<R> {
+    ghost seen = { λ f. (replay f.log.events).seen };
+
+    ghost may_leave = { λ f. MayLeave f.log.events };
+
+    ghost moment = { λ f. length f.log.events };
+
+    ghost left_since = { λ f. LeftSince f.log.events };
+
+    ghost faults = { λ f. (replay f.log.events).faults };
+
+    ghost beside = { λ f. (replay f.log.events).beside };
+
+    ghost counts_now = { λ f t c le may. left_now f.log.events t c may };
+
+    ghost only_now = { λ f c left. left_last f.log.events c left };
+
+    /// Returns what was read at opening, until the file is changed or synced. Later there is
+    /// nothing to compare the file with, so it fails then, without a call on the file.
+    fn read(&mut self, alloc: Global) -> Result<Vec<u8>, DeviceError> {
+        match &self.waits {
+            Some(bytes) => Ok(bytes.to_vec(alloc)?),
+            None => Err(self.refuse()),
+        }
+    }
+
+    fn write_at(&mut self, at: usize, bytes: &[u8]) -> Result<(), DeviceError> {
+        if self.has_failed {
+            return Err(self.refuse());
+        }
+        self.waits = None;
+        if calls::write_all(&self.file, at, bytes) {
+            self.log.note(&[WRITTEN, at as u64, 1], bytes);
+            Ok(())
+        } else {
+            self.log.note(&[WRITTEN, at as u64, 0], bytes);
+            self.has_failed = true;
+            Err(DeviceError::Failed)
+        }
+    }
+
+    fn cut(&mut self, len: usize) -> Result<(), DeviceError> {
+        if self.has_failed {
+            return Err(self.refuse());
+        }
+        self.waits = None;
+        if calls::cut(&self.file, len) {
+            self.log.note(&[SHORTENED, len as u64, 1], &[]);
+            Ok(())
+        } else {
+            self.log.note(&[SHORTENED, len as u64, 0], &[]);
+            self.has_failed = true;
+            Err(DeviceError::Failed)
+        }
+    }
+
+    // No sync of the file makes its name durable.
+    fn sync(&mut self) -> Result<(), DeviceError> {
+        if self.has_failed || self.is_moved {
+            return Err(self.refuse());
+        }
+        self.waits = None;
+        if self.mode == SyncMode::Never || calls::sync(&self.file) {
+            self.log.note(&[SYNCED, 0, 1], &[]);
+            Ok(())
+        } else {
+            self.log.note(&[SYNCED, 0, 0], &[]);
+            self.has_failed = true;
+            Err(DeviceError::Failed)
+        }
+    }
+
+    fn begin_beside(&mut self) -> Result<(), DeviceError> {
+        if self.has_failed {
+            return Err(self.refuse());
+        }
+        self.waits = None;
+        match opening::new_file(&self.files, &self.place.new_path) {
+            Ok(next) => {
+                self.beside = Some(next);
+                self.log.note(&[BEGUN, 0, 1], &[]);
+                Ok(())
+            }
+            Err(_) => {
+                self.log.note(&[BEGUN, 0, 0], &[]);
+                self.has_failed = true;
+                Err(DeviceError::Failed)
+            }
+        }
+    }
+
+    fn add_beside(&mut self, bytes: &[u8]) -> Result<(), DeviceError> {
+        if self.has_failed {
+            return Err(self.refuse());
+        }
+        self.waits = None;
+        let done = match &self.beside {
+            Some(next) => calls::append(next, bytes),
+            None => false,
+        };
+        if done {
+            self.log.note(&[ADDED, 0, 1], bytes);
+            Ok(())
+        } else {
+            self.log.note(&[ADDED, 0, 0], bytes);
+            self.has_failed = true;
+            Err(DeviceError::Failed)
+        }
+    }
+
+    fn take_place(&mut self) -> Result<(), DeviceError> {
+        if self.has_failed {
+            return Err(self.refuse());
+        }
+        self.settle()?; // first the new file is on the disk
+        self.take_name()?; // then it has the name
+        self.sync_folder()?; // now its name is durable
+        Ok(())
+    }
+}

@@ -1,0 +1,103 @@
+//! Why a folder isn't opened.
+
+ghost use Rattle.std.specs.Prelude.{◌≡◌};
+
+use std::alloc::{AllocError, AllocFailed};
+use std::fs::TryLockError;
+use std::io::ErrorKind;
+use std::{fmt, io};
+use thiserror::Error;
+
+/// Why a folder isn't opened. What was there is unchanged.
+#[derive(Clone, Copy, Debug, PartialEq, Eq, Error)]
+pub enum FileFault {
+    /// Out of memory.
+    Memory,
+    /// Another process has it open.
+    InUse,
+    /// A name belongs to something that isn't a folder, or isn't a regular file.
+    NotFile,
+    /// This process lacks the rights, or the file system is read-only.
+    Denied,
+    /// The folder above doesn't exist.
+    NoParent,
+    /// A system call failed for another reason.
+    Io,
+}
+
+impl FileFault {
+    ghost use Rattle.zjournal.specs.file.Faults.{fault_text};
+
+    /// Returns the message that a program prints for it.
+    pub fn text(self) -> &'static str
+        ensures { result.now ≡ fault_text self }
+    {
+        match self {
+            FileFault::Memory => "memory",
+            FileFault::InUse => "the folder is in use",
+            FileFault::NotFile => "not a folder with a regular file",
+            FileFault::Denied => "the rights are missing",
+            FileFault::NoParent => "the folder above is missing",
+            FileFault::Io => "the disk failed",
+        }
+    }
+}
+
+// Written by hand: the `Display` that `thiserror` derives has no `output`, so no clause could cite
+// what it writes.
+impl fmt::Display for FileFault {
+    ghost use Rattle.std.specs.Prelude.{Some};
+    ghost use Rattle.zjournal.specs.file.Faults.{fault_text};
+
+    ghost output = { λ fault. Some (fault_text fault) };
+
+    fn fmt<W: fmt::Write>(&self, f: &mut fmt::Formatter<W>) -> fmt::Result {
+        f.write_str(self.text())
+    }
+}
+
+impl From<AllocError> for FileFault {
+    ghost use Rattle.zjournal.specs.declared.file.fault.FileFault.TheVariants.{Memory};
+
+    ghost from_gives = { λ _ e. e ≡ Memory };
+
+    fn from(_: AllocError) -> Self {
+        FileFault::Memory
+    }
+}
+
+impl<T: Drop> From<AllocFailed<T>> for FileFault {
+    ghost use Rattle.zjournal.specs.declared.file.fault.FileFault.TheVariants.{Memory};
+
+    ghost from_gives = { λ _ e. e ≡ Memory };
+
+    fn from(_: AllocFailed<T>) -> Self {
+        FileFault::Memory
+    }
+}
+
+// What the system returns for a socket at the name of a file.
+const ENXIO: i32 = 6;
+
+impl From<io::Error> for FileFault {
+    fn from(error: io::Error) -> Self {
+        match error.kind() {
+            ErrorKind::OutOfMemory => FileFault::Memory,
+            ErrorKind::PermissionDenied | ErrorKind::ReadOnlyFilesystem => FileFault::Denied,
+            ErrorKind::IsADirectory | ErrorKind::NotADirectory => FileFault::NotFile,
+            ErrorKind::FilesystemLoop => FileFault::NotFile,
+            ErrorKind::NotFound => FileFault::NoParent,
+            _ if error.raw_os_error() == Some(ENXIO) => FileFault::NotFile,
+            _ => FileFault::Io,
+        }
+    }
+}
+
+impl From<TryLockError> for FileFault {
+    fn from(error: TryLockError) -> Self {
+        match error {
+            TryLockError::WouldBlock => FileFault::InUse,
+            TryLockError::Error(error) => FileFault::from(error),
+        }
+    }
+}

@@ -1,0 +1,128 @@
+//! How the file of a folder is found, locked and read, and how a new one is made beside it.
+//!
+//! # Why
+//! The lock is `flock` on the file itself: it ends with the process, so no stale lock file remains.
+//! A process that opened the file just before a rename could lock a file without a name: so an
+//! opening checks the name again under its lock. Each opening syncs the file, its folder and the
+//! folder above, since an earlier process may have been killed before it did.
+
+use crate::file::FileFault;
+use crate::file::calls::read_all;
+use std::alloc::Global;
+use std::fs;
+use std::fs::{DirBuilder, File, Files, OpenOptions};
+use std::io::ErrorKind;
+use std::os::unix::fs::{DirBuilderExt, MetadataExt, OpenOptionsExt};
+
+/// Where a file is.
+#[derive(Drop)]
+pub(crate) struct Place {
+    /// The folder, open.
+    pub(crate) folder: File,
+    /// The path of the file.
+    pub(crate) path: String,
+    /// The path of a new file, before it replaces the other.
+    pub(crate) new_path: String,
+}
+
+/// The file of the folder with its content, durable. Both are made where they are missing. The lock
+/// is held as long as the file is open. An unfinished new file is ignored.
+pub(crate) fn open_locked<R: Files<File = File>>(
+    alloc: Global,
+    files: &R,
+    folder: &str,
+) -> Result<(Place, File, Vec<u8>), FileFault> {
+    let place = Place {
+        folder: open_folder(alloc, files, folder)?,
+        path: joined(alloc, folder, "/journal")?,
+        new_path: joined(alloc, folder, "/journal.new")?,
+    };
+    let file = open_file(files, &place.path)?;
+    lock(files, &file, &place.path)?;
+    file.sync_all()?;
+    place.folder.sync_all()?;
+    let above = joined(alloc, folder, "/..")?;
+    File::open(files, &above)?.sync_all()?;
+    let bytes = read_all(alloc, &file)?;
+    Ok((place, file, bytes))
+}
+
+// Locks the file. Another may have taken its name since it was opened: then the process that put it
+// there has the folder open.
+fn lock<R: Files<File = File>>(files: &R, file: &File, path: &str) -> Result<(), FileFault> {
+    file.try_lock()?;
+    let held = file.metadata()?;
+    if !held.is_file() {
+        return Err(FileFault::NotFile);
+    }
+    let found = fs::symlink_metadata(files, path)?;
+    if found.dev() == held.dev() && found.ino() == held.ino() {
+        Ok(())
+    } else {
+        Err(FileFault::InUse)
+    }
+}
+
+/// A new, empty, locked file. A file that had its name is removed. It is locked before it can take
+/// the other name, so no other process can lock it after that.
+pub(crate) fn new_file<R: Files<File = File>>(files: &R, path: &str) -> Result<File, FileFault> {
+    match fs::remove_file(files, path) {
+        Err(error) if error.kind() != ErrorKind::NotFound => return Err(FileFault::from(error)),
+        _ => {}
+    }
+    let file = open_new(files, path)?;
+    file.try_lock()?;
+    Ok(file)
+}
+
+// Makes a file that doesn't exist yet. Its descriptor is copied to one above 2.
+fn open_new<R: Files<File = File>>(files: &R, path: &str) -> Result<File, FileFault> {
+    let mut options = OpenOptions::new();
+    options.read(true).write(true).create_new(true).mode(0o600);
+    Ok(options.open(files, path)?.try_clone()?)
+}
+
+fn joined(alloc: Global, folder: &str, name: &str) -> Result<String, FileFault> {
+    let mut path = String::new(alloc);
+    path.push_str(folder)?;
+    path.push_str(name)?;
+    Ok(path)
+}
+
+// The folder; where it is made, its owner alone may enter it. Its name ends with a slash, so that
+// only a folder is opened.
+fn open_folder<R: Files<File = File>>(
+    alloc: Global,
+    files: &R,
+    folder: &str,
+) -> Result<File, FileFault> {
+    if folder.is_empty() {
+        return Err(FileFault::NotFile);
+    }
+    let path = joined(alloc, folder, "/")?;
+    match File::open(files, &path) {
+        Err(error) if error.kind() == ErrorKind::NotFound => {
+            DirBuilder::new().mode(0o700).create(files, folder)?;
+            Ok(File::open(files, &path)?)
+        }
+        found => Ok(found?),
+    }
+}
+
+// The file; where it is made, its owner alone may read it. No link is followed at its name. Its
+// descriptor is copied to one above 2, since output for a closed standard stream must not land in
+// it.
+fn open_file<R: Files<File = File>>(files: &R, path: &str) -> Result<File, FileFault> {
+    let mut options = OpenOptions::new();
+    options.read(true).write(true).create_new(true).mode(0o600);
+    let first = match options.open(files, path) {
+        Err(error) if error.kind() == ErrorKind::AlreadyExists => {
+            if fs::symlink_metadata(files, path)?.is_symlink() {
+                return Err(FileFault::NotFile);
+            }
+            options.create_new(false).open(files, path)?
+        }
+        made => made?,
+    };
+    Ok(first.try_clone()?)
+}

@@ -1,5 +1,0 @@
-use Rattle.zkept.proofs.Leading.{what_is_kept_stands_in_a_log}
-use Rattle.zkept.proofs.laws.what_is_kept_stands_in_a_log.Goals as goal
-
-pub returns : goal.returns
-returns c = what_is_kept_stands_in_a_log

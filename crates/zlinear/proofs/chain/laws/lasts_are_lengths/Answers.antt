@@ -1,6 +1,0 @@
-use Rattle.zcalls.specs.PlainTree.{plain_tree}
-use Rattle.zlinear.proofs.chain_lemmas.tables.Lasts.{lasts}
-use Rattle.zlinear.proofs.chain.laws.lasts_are_lengths.Goals as goal
-
-pub returns : goal.returns
-returns c = lasts plain_tree

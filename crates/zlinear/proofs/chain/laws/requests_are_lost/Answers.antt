@@ -1,6 +1,0 @@
-use Rattle.zcalls.specs.PlainTree.{plain_tree}
-use Rattle.zlinear.proofs.chain_lemmas.steps.Drops.{requests_are_lost}
-use Rattle.zlinear.proofs.chain.laws.requests_are_lost.Goals as goal
-
-pub returns : goal.returns
-returns c = requests_are_lost plain_tree

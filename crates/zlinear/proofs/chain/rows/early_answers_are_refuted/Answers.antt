@@ -1,5 +1,0 @@
-use Rattle.zlinear.proofs.chain_lemmas.WrongTables.{early_answers_are_refuted}
-use Rattle.zlinear.proofs.chain.rows.early_answers_are_refuted.Goals as goal
-
-pub returns : goal.returns
-returns c = early_answers_are_refuted

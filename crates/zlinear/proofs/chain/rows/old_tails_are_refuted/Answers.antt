@@ -1,5 +1,0 @@
-use Rattle.zlinear.proofs.chain_lemmas.WrongTables.{old_tails_are_refuted}
-use Rattle.zlinear.proofs.chain.rows.old_tails_are_refuted.Goals as goal
-
-pub returns : goal.returns
-returns c = old_tails_are_refuted

@@ -1,5 +1,0 @@
-use Rattle.zlinear.proofs.chain_lemmas.WrongTables.{second_acts_are_refuted}
-use Rattle.zlinear.proofs.chain.rows.second_acts_are_refuted.Goals as goal
-
-pub returns : goal.returns
-returns c = second_acts_are_refuted

@@ -1,6 +1,0 @@
-use Rattle.zcalls.specs.PlainTree.{plain_tree}
-use Rattle.zlinear.proofs.clients_lemmas.Events.{servers_fail}
-use Rattle.zlinear.proofs.clients.laws.servers_fail.Goals as goal
-
-pub returns : goal.returns
-returns c = servers_fail plain_tree

@@ -1,5 +1,0 @@
-use Rattle.zlinear.proofs.Told.{answered_queries_saw_committed}
-use Rattle.zlinear.proofs.facts.answered_queries_saw_committed.Goals as goal
-
-pub returns : goal.returns
-returns c = answered_queries_saw_committed

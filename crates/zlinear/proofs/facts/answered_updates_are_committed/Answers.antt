@@ -1,5 +1,0 @@
-use Rattle.zlinear.proofs.Told.{answered_updates_are_committed}
-use Rattle.zlinear.proofs.facts.answered_updates_are_committed.Goals as goal
-
-pub returns : goal.returns
-returns c = answered_updates_are_committed

@@ -1,5 +1,0 @@
-use Rattle.zlinear.proofs.Tails.{logs_begin_each_other}
-use Rattle.zlinear.proofs.facts.logs_begin_each_other.Goals as goal
-
-pub returns : goal.returns
-returns c = logs_begin_each_other

@@ -1,5 +1,0 @@
-use Rattle.zlinear.proofs.Tails.{tails_hold_what_tails_held}
-use Rattle.zlinear.proofs.facts.tails_hold_what_tails_held.Goals as goal
-
-pub returns : goal.returns
-returns c = tails_hold_what_tails_held

@@ -1,6 +1,0 @@
-use Rattle.zcalls.specs.PlainTree.{plain_tree}
-use Rattle.zlinear.proofs.master_lemmas.Events.{master_hears}
-use Rattle.zlinear.proofs.master.laws.master_hears.Goals as goal
-
-pub returns : goal.returns
-returns c = master_hears plain_tree

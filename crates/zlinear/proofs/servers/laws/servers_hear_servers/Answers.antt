@@ -1,6 +1,0 @@
-use Rattle.zcalls.specs.PlainTree.{plain_tree}
-use Rattle.zlinear.proofs.servers_lemmas.Events.{servers_hear_servers}
-use Rattle.zlinear.proofs.servers.laws.servers_hear_servers.Goals as goal
-
-pub returns : goal.returns
-returns c = servers_hear_servers plain_tree

@@ -1,7 +1,0 @@
-use Rattle.std.proofs.Common.{◌≡◌, ◌++◌, take, string_bytes}
-use Rattle.std.specs.List.{flat_map}
-use Rattle.zlines.specs.Reply.{spaced_name}
-use Rattle.zlines.proofs.reply.write_names.Given as goal
-
-abbrev pub invariant-loop-name : goal.invariant-loop-name
-invariant-loop-name l = string_bytes l.out ≡ string_bytes l.initial.out ++ flat_map spaced_name (take l.name-index l.names)

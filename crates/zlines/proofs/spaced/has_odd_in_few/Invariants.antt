@@ -1,5 +1,0 @@
-use Rattle.zlines.proofs.OddPairs.{NoneOddBefore}
-use Rattle.zlines.proofs.spaced.has_odd_in_few.Given as goal
-
-abbrev pub invariant-loop-at : goal.invariant-loop-at
-invariant-loop-at l = NoneOddBefore l.line l.at

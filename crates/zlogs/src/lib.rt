@@ -1,8 +1,0 @@
-//! Logs of the calls that one tree served, and of successive incarnations.
-//!
-//! This crate holds definitions and laws only: `specs/Logs.antt` and `specs/Lives.antt`. One such
-//! log explains a front for ZooKeeper's clients. Another explains a folder across all restarts.
-#![tactic(auto)]
-
-pub mod laws;
-mod rows;

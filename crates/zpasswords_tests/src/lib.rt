@@ -1,5 +1,0 @@
-//! Tests of passwords: what another program derives is derived, and nothing else is taken for it.
-#![tactic(auto)]
-
-#[cfg(test)]
-mod passwords;

@@ -1,0 +1,13 @@
+use Rattle.std.proofs.Common.{refl}
+use Rattle.zprotocol.proofs.world_lemmas.Tables.{all_tables}
+use Rattle.zprotocol.proofs.world.rows.retirements.middle_retires_before_it_forwarded.Goals as goal
+
+pub returns : goal.returns
+unfolding all_tables
+returns c = record {
+  unsent = refl;
+  lost = refl;
+  new_pred = refl;
+  sent_again = refl;
+  seen = refl;
+}

@@ -1,0 +1,12 @@
+use Rattle.std.proofs.Common.{refl}
+use Rattle.zprotocol.proofs.world_lemmas.Tables.{all_tables}
+use Rattle.zprotocol.proofs.world.rows.retirements.tail_retires_before_it_answered.Goals as goal
+
+pub returns : goal.returns
+unfolding all_tables
+returns c = record {
+  told = refl;
+  tail = refl;
+  acted_once = refl;
+  seen = refl;
+}

@@ -1,5 +1,0 @@
-use Rattle.zrecords.proofs.Faults.{read_alone}
-use Rattle.zrecords.proofs.reading.read_records.Goals as goal
-
-pub returns-clause-only : goal.returns-clause-only
-returns-clause-only c = read_alone (λ v. v.items) c.args.text.now c.records_in.result c.records_in.ensures.found c.records_in.ensures.fault

@@ -1,6 +1,0 @@
-use Rattle.std.proofs.Common.{◌≡◌, take, string_bytes}
-use Rattle.zrecords.specs.Records.{AllFit, text_of}
-use Rattle.zrecords.proofs.writing.lines.Given as goal
-
-abbrev pub invariant-loop-record : goal.invariant-loop-record
-invariant-loop-record l = record { text : string_bytes l.text ≡ text_of (take l.record-index l.records); fit : AllFit (take l.record-index l.records) }

@@ -1,5 +1,0 @@
-use Rattle.zrecords.proofs.Texts.{is_text}
-use Rattle.zrecords.proofs.writing.write_records.Goals as goal
-
-pub returns-clause-text : goal.returns-clause-text
-returns-clause-text c = is_text c.args.records.now c.in_ok-text.ensures.fits

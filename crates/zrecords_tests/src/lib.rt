@@ -1,8 +1,0 @@
-//! Tests of a log: each record is written and read again, and lines that aren't records are
-//! reported.
-#![tactic(auto)]
-
-#[cfg(test)]
-mod faults;
-#[cfg(test)]
-mod lines;

@@ -1,0 +1,38 @@
+-- Bytes that aren't UTF-8 are no path.
+use Rattle.std.proofs.Common.{◌≡◌, ℕ, ◌<◌, List, [], ◌∷◌, ◌++◌, length, Option, None, Some, refl, sym, subst, arith, lit<, inr}
+use Rattle.std.specs.List.{flat_map, AllByRecursion}
+use Rattle.std.specs.Str.{IsAscii, IsUtf8}
+use Rattle.std.proofs.lemmas.Str.{IsUtf8-from_ascii}
+use Rattle.std.proofs.lemmas.Str.Ascii.{IsAscii-nil, IsAscii-cons}
+use Rattle.zpath.specs.declared.fault.PathFault.{PathFault}
+use Rattle.zpath.specs.Grammar.{IsName, IsPath, segment_of, text_of}
+use Rattle.zpath.specs.Faults.{fault_of, names_of, parts_of}
+use Rattle.zpath.proofs.Cuts.{ascii_text}
+use Rattle.zpath.proofs.Spelling.{path_from_text, names_of-text_of}
+use Rattle.zjute.specs.declared.code.Code.TheVariants.{BadArguments}
+use Rattle.zrequests.specs.declared.fault.Unasked.TheVariants.{Refused}
+use Rattle.zrequests.specs.Asking.{IsUnasked, path_in}
+
+-- a path's text is plain
+ascii_path : (path : List (List ℕ)) → IsPath path → IsAscii (text_of path)
+ascii_path [] is = IsAscii-cons 47 [] (lit< tt) IsAscii-nil
+ascii_path ([] ∷ names) is = absurd (let none : 0 < length {A = ℕ} [] = is.names.0.filled in omega arith)
+ascii_path ((byte ∷ name) ∷ names) is =
+    let rest = name ++ flat_map segment_of names in
+    let parts : parts_of (byte ∷ rest) ≡ (byte ∷ name) ∷ names = names_of-text_of ((byte ∷ name) ∷ names) is in
+    IsAscii-cons 47 (byte ∷ rest) (lit< tt)
+    (ascii_text (byte ∷ rest) (subst (AllByRecursion IsName) (sym parts) is.names))
+
+-- so a text without a fault is UTF-8
+pub faultless_utf8 : (text : List ℕ) → fault_of text ≡ None → IsUtf8 text
+faultless_utf8 text none =
+    let path = path_from_text text none in
+    IsUtf8-from_ascii text (subst IsAscii (sym path.1) (ascii_path (names_of text) path.0))
+
+-- and bytes that aren't are refused
+pub unread_bytes : (bytes : List ℕ) → (IsUtf8 bytes → ⊥) → IsUnasked (path_in (Some bytes)) (Refused BadArguments)
+unread_bytes bytes alien = at (fault_of bytes) refl
+  where
+    at : (found : Option PathFault) → fault_of bytes ≡ found → IsUnasked (path_in (Some bytes)) (Refused BadArguments)
+    at None none = absurd (alien (faultless_utf8 bytes none))
+    at (Some fault) some = inr (rw some refl)

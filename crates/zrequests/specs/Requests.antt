@@ -1,0 +1,194 @@
+-- The calls that each request makes. A request makes these calls, or is refused at once with a
+-- code. The kinds of requests are those of zookeeper.jute and of ZooKeeper's `ZooDefs.OpCode`.
+use Rattle.std.specs.Prelude.{ℕ, nat_lt, List, [], ◌∷◌, ◌++◌, length, codes, Option, None, Some, Ok, Err, if◌then◌else◌}
+use Rattle.ztree.specs.Tree.{Path}
+use Rattle.zcalls.specs.declared.limits.TheConstants.{MAX_PARTS}
+use Rattle.zcalls.specs.declared.call.Kind.{Kind}
+use Rattle.zcalls.specs.declared.call.Create.{Create}
+use Rattle.zcalls.specs.declared.call.Delete.{Delete}
+use Rattle.zcalls.specs.declared.call.SetData.{SetData}
+use Rattle.zcalls.specs.declared.call.Check.{Check}
+use Rattle.zcalls.specs.declared.call.Part.{Part}
+use Rattle.zcalls.specs.declared.call.Part.TheVariants as part
+use Rattle.zcalls.specs.declared.call.Update.TheVariants as act
+use Rattle.zcalls.specs.declared.call.Query.{Query as Question}
+use Rattle.zcalls.specs.declared.call.Query.TheVariants.{GetData, Exists, GetChildren}
+use Rattle.zcalls.specs.declared.call.Call.{Call}
+use Rattle.zcalls.specs.declared.call.Call.TheVariants.{Update, Query}
+use Rattle.zjute.specs.declared.code.Code.TheVariants.{BadArguments, InvalidAcl, Unimplemented, AuthFailed}
+use Rattle.zjute.specs.declared.request.Asked.{Asked}
+use Rattle.zjute.specs.declared.request.Asked.TheVariants as asked
+use Rattle.zjute.specs.declared.request.Create.{Create as AskedCreate}
+use Rattle.zjute.specs.declared.request.CreateTtl.{CreateTtl}
+use Rattle.zjute.specs.declared.request.AtVersion.{AtVersion}
+use Rattle.zjute.specs.declared.request.SetData.{SetData as AskedSet}
+use Rattle.zjute.specs.declared.request.SetWatches.{SetWatches}
+use Rattle.zjute.specs.declared.request.Auth.{Auth}
+use Rattle.zjute.specs.declared.part.Part.{Part as AskedPart}
+use Rattle.zjute.specs.declared.part.Part.TheVariants as of_multi
+use Rattle.zjute.specs.declared.part.LookPart.{LookPart}
+use Rattle.zjute.specs.declared.part.LookPart.TheVariants as look
+use Rattle.zrequests.specs.declared.limits.TheConstants.{MAX_PATHS}
+use Rattle.zrequests.specs.declared.fault.Unasked.TheVariants.{Refused}
+use Rattle.zrequests.specs.Asking.{Meaning, then_means, each_in, path_in, data_in, version_in, is_text, has_open_acl, kind_in, ttl_in, timed_kind_in}
+
+-- a create of a node of this kind; the path is checked first, then the ACL, then the data
+abbrev pub node_in : Kind → AskedCreate → Meaning Create
+node_in kind create =
+    then_means (path_in create.path) (λ path.
+    if has_open_acl create.acls
+    then then_means (data_in create.bytes) (λ bytes. Ok (record { path = path; kind = kind; bytes = bytes }))
+    else Err (Refused InvalidAcl))
+
+-- a create for a session; the kind is checked first
+abbrev pub create_in : ℕ → AskedCreate → Meaning Create
+create_in session create = then_means (kind_in session create.flags) (λ kind. node_in kind create)
+
+-- a create with a TTL, from the milliseconds of a tick; the TTL and the kind are checked first
+abbrev pub timed_create_in : ℕ → CreateTtl → Meaning Create
+timed_create_in tick timed =
+    then_means (ttl_in tick timed.ttl) (λ ticks.
+    then_means (timed_kind_in ticks timed.create.flags) (λ kind. node_in kind timed.create))
+
+-- a delete
+abbrev pub delete_in : AtVersion → Meaning Delete
+delete_in at = then_means (path_in at.path) (λ path. Ok (record { path = path; version = version_in at.version }))
+
+-- a check
+abbrev pub check_in : AtVersion → Meaning Check
+check_in at = then_means (path_in at.path) (λ path. Ok (record { path = path; version = version_in at.version }))
+
+-- a set; the path is checked first
+abbrev pub set_in : AskedSet → Meaning SetData
+set_in set =
+    then_means (path_in set.path) (λ path.
+    then_means (data_in set.bytes) (λ bytes.
+    Ok (record { path = path; bytes = bytes; version = version_in set.version })))
+
+-- a part that creates a node
+abbrev pub part_of_create : Meaning Create → Meaning Part
+part_of_create means = then_means means (λ create. Ok (part.Create create))
+
+-- a part that deletes a node
+abbrev pub part_of_delete : AtVersion → Meaning Part
+part_of_delete at = then_means (delete_in at) (λ delete. Ok (part.Delete delete))
+
+-- a part that writes a node's data
+abbrev pub part_of_set : AskedSet → Meaning Part
+part_of_set set = then_means (set_in set) (λ set. Ok (part.SetData set))
+
+-- a part that checks a node's version
+abbrev pub part_of_check : AtVersion → Meaning Part
+part_of_check at = then_means (check_in at) (λ check. Ok (part.Check check))
+
+-- a part of a multi, from the milliseconds of a tick and the session
+abbrev pub part_in : ℕ → ℕ → AskedPart → Meaning Part
+part_in tick session (of_multi.Create create) = part_of_create (create_in session create)
+part_in tick session (of_multi.Create2 create) = part_of_create (create_in session create)
+part_in tick session (of_multi.CreateTtl timed) = part_of_create (timed_create_in tick timed)
+part_in tick session (of_multi.CreateContainer create) = Err (Refused Unimplemented)
+part_in tick session (of_multi.Delete at) = part_of_delete at
+part_in tick session (of_multi.SetData set) = part_of_set set
+part_in tick session (of_multi.Check at) = part_of_check at
+
+-- a single call
+abbrev pub one : Call → Meaning (List Call)
+one call = Ok (call ∷ [])
+
+-- a multi of these parts
+abbrev pub one_of_parts : List Part → Meaning (List Call)
+one_of_parts parts = one (Update (act.Multi parts))
+
+-- a multi: no call if it is empty, and at most MAX_PARTS parts
+abbrev pub multi_in : ℕ → ℕ → List AskedPart → Meaning (List Call)
+multi_in tick session [] = Ok []
+multi_in tick session (part ∷ parts) =
+    if nat_lt MAX_PARTS (length (part ∷ parts))
+    then Err (Refused BadArguments)
+    else then_means (each_in (part_in tick session) (part ∷ parts)) one_of_parts
+
+-- a query of a path
+abbrev pub query_in : (Path → Question) → Option (List ℕ) → Meaning Call
+query_in query path = then_means (path_in path) (λ path. Ok (Query (query path)))
+
+-- a part of a multiRead
+abbrev pub look_in : LookPart → Meaning Call
+look_in (look.GetData asked) = query_in GetData asked.path
+look_in (look.GetChildren asked) = query_in GetChildren asked.path
+
+-- a multiRead: at most MAX_PARTS parts
+abbrev pub looks_in : List LookPart → Meaning (List Call)
+looks_in looks = if nat_lt MAX_PARTS (length looks) then Err (Refused BadArguments) else each_in look_in looks
+
+-- the path of a re-registered watch: its stat shows whether it has changed
+abbrev pub watch_in : List ℕ → Meaning Call
+watch_in path = query_in Exists (Some path)
+
+-- the paths of re-registered watches
+abbrev pub watched_in : SetWatches → List (List ℕ)
+watched_in set = set.data_watches ++ set.exist_watches ++ set.child_watches
+
+-- re-registered watches: at most MAX_PATHS paths
+abbrev pub watches_in : SetWatches → Meaning (List Call)
+watches_in set =
+    if nat_lt MAX_PATHS (length (watched_in set)) then Err (Refused BadArguments) else each_in watch_in (watched_in set)
+
+-- the names of the children, then the stat
+abbrev pub children_in : Option (List ℕ) → Meaning (List Call)
+children_in path = then_means (path_in path) (λ path. Ok (Query (GetChildren path) ∷ Query (Exists path) ∷ []))
+
+-- who the client is: `digest` is accepted and ignored
+abbrev pub auth_in : Auth → Meaning (List Call)
+auth_in auth = if is_text (codes "digest") auth.scheme then Ok [] else Err (Refused AuthFailed)
+
+-- sync: there is nothing to wait for, since each query sees all earlier changes
+abbrev pub sync_in : Option (List ℕ) → Meaning (List Call)
+sync_in None = Err (Refused BadArguments)
+sync_in (Some path) = Ok []
+
+-- a query on its own
+abbrev pub look_alone : (Path → Question) → Option (List ℕ) → Meaning (List Call)
+look_alone query path = then_means (query_in query path) one
+
+-- a create on its own
+abbrev pub create_alone : Meaning Create → Meaning (List Call)
+create_alone means = then_means means (λ create. one (Update (act.Create create)))
+
+-- a delete on its own
+abbrev pub delete_alone : AtVersion → Meaning (List Call)
+delete_alone at = then_means (delete_in at) (λ delete. one (Update (act.Delete delete)))
+
+-- a set on its own
+abbrev pub set_alone : AskedSet → Meaning (List Call)
+set_alone set = then_means (set_in set) (λ set. one (Update (act.SetData set)))
+
+-- a check on its own: a multi of one part
+abbrev pub check_alone : AtVersion → Meaning (List Call)
+check_alone at = then_means (check_in at) (λ check. one_of_parts (part.Check check ∷ []))
+
+-- the calls of a request that changes nothing; the rest is Unimplemented: writes of ACLs, other
+-- watches, and requests unknown to ZooKeeper
+abbrev pub reads_in : Asked → Meaning (List Call)
+reads_in (asked.Exists look) = look_alone Exists look.path
+reads_in (asked.GetData look) = look_alone GetData look.path
+reads_in (asked.GetChildren look) = look_alone GetChildren look.path
+reads_in (asked.GetChildren2 look) = children_in look.path
+reads_in (asked.GetAcl path) = look_alone Exists path
+reads_in (asked.MultiRead looks) = looks_in looks
+reads_in (asked.SetWatches set) = watches_in set
+reads_in (asked.Sync path) = sync_in path
+reads_in (asked.Auth auth) = auth_in auth
+reads_in asked.Ping = Ok []
+reads_in other = Err (Refused Unimplemented)
+
+-- the calls of a request in order, from the milliseconds of a tick and the connection's session
+abbrev pub calls_in : ℕ → ℕ → Asked → Meaning (List Call)
+calls_in tick session (asked.Create create) = create_alone (create_in session create)
+calls_in tick session (asked.Create2 create) = create_alone (create_in session create)
+calls_in tick session (asked.CreateTtl timed) = create_alone (timed_create_in tick timed)
+calls_in tick session (asked.Delete at) = delete_alone at
+calls_in tick session (asked.SetData set) = set_alone set
+calls_in tick session (asked.Check at) = check_alone at
+calls_in tick session (asked.Multi parts) = multi_in tick session parts
+calls_in tick session asked.CloseSession = one (Update (act.Close session))
+calls_in tick session other = reads_in other

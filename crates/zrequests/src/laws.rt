@@ -1,0 +1,14 @@
+//! Laws of the definitions. Each function's contract is a law; its body does nothing.
+
+ghost use Rattle.zrequests.specs.Laws.{CallsAreForTheirSession, NoNodeHasNoVersion};
+
+/// The calls of a request act for the session of its connection only. They create no node for
+/// another session and close no other. They open or renew no session, and move no clock.
+pub fn calls_are_for_their_session()
+    ensures { CallsAreForTheirSession }
+{}
+
+/// No node has the version `NO_VERSION`: each version in a tree that a machine holds is below it.
+pub fn no_node_has_no_version()
+    ensures { NoNodeHasNoVersion }
+{}

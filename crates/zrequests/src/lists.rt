@@ -1,0 +1,107 @@
+//! Lists in requests: the parts of a multi, those of a multiRead, the paths of watches.
+
+ghost use Rattle.std.specs.Prelude.{◌≡◌, length, nat_lt, Ok, IfOk, IfErr, OnOk};
+ghost use Rattle.zrequests.specs.Asking.{IsUnasked, each_in, each_behind};
+ghost use Rattle.zrequests.specs.Requests.{part_in, look_in, watch_in, watched_in, watches_in};
+
+use crate::fault::Unasked;
+use crate::limits::MAX_PATHS;
+use crate::nodes::part_of;
+use crate::tick::TickLength;
+use crate::words::{path_in_bytes, path_of};
+use std::alloc::Global;
+use zcalls::{Call, Part, Query, SessionId};
+use zjute::{Bytes, Code, LookPart, SetWatches};
+
+/// Reads the parts of a multi, from the left.
+pub(crate) fn parts_of(
+    alloc: Global,
+    tick: TickLength,
+    session: SessionId,
+    parts: &[zjute::Part],
+) -> Result<Vec<Part>, Unasked>
+    ensures found { IfOk result (λ read. each_in (part_in tick session) parts.now ≡ Ok read.items) }
+    ensures fault { IfErr result (IsUnasked (each_in (part_in tick session) parts.now)) }
+{
+    let mut read = Vec::new(alloc);
+    for part in parts {
+        read.push(part_of(alloc, tick, session, part)?)?;
+    }
+    Ok(read)
+}
+
+/// Reads the parts of a multiRead, from the left.
+pub(crate) fn looks_of(alloc: Global, looks: &[LookPart]) -> Result<Vec<Call>, Unasked>
+    ensures found { IfOk result (λ calls. each_in look_in looks.now ≡ Ok calls.items) }
+    ensures fault { IfErr result (IsUnasked (each_in look_in looks.now)) }
+{
+    let mut calls = Vec::new(alloc);
+    for look in looks {
+        calls.push(look_of(alloc, look)?)?;
+    }
+    Ok(calls)
+}
+
+// Reads a part of a multiRead.
+fn look_of(alloc: Global, look: &LookPart) -> Result<Call, Unasked>
+    ensures found { IfOk result (λ call. look_in look.now ≡ Ok call) }
+    ensures fault { IfErr result (IsUnasked (look_in look.now)) }
+{
+    match look {
+        LookPart::GetData(asked) => {
+            let path = path_of(alloc, &asked.path)?;
+            Ok(Call::Query(Query::GetData(path)))
+        }
+        LookPart::GetChildren(asked) => {
+            let path = path_of(alloc, &asked.path)?;
+            Ok(Call::Query(Query::GetChildren(path)))
+        }
+    }
+}
+
+/// Reads the paths of re-registered watches, from the left.
+pub(crate) fn watches_of(alloc: Global, set: &SetWatches) -> Result<Vec<Call>, Unasked>
+    ensures found { IfOk result (λ calls. watches_in set.now ≡ Ok calls.items) }
+    ensures fault { IfErr result (IsUnasked (watches_in set.now)) }
+{
+    if has_many(set) {
+        return Err(Unasked::Refused(Code::BadArguments));
+    }
+    all_watches(alloc, set)
+}
+
+// Returns whether there are too many paths.
+fn has_many(set: &SetWatches) -> bool
+    ensures { result ≡ nat_lt MAX_PATHS (length (watched_in set.now)) }
+{
+    let watched = set.data_watches.as_slice().len();
+    let missing = set.exist_watches.as_slice().len();
+    let parents = set.child_watches.as_slice().len();
+    watched + missing + parents > MAX_PATHS
+}
+
+// Reads all paths of the watches.
+fn all_watches(alloc: Global, set: &SetWatches) -> Result<Vec<Call>, Unasked>
+    ensures found { IfOk result
+        (λ calls. each_in watch_in (watched_in set.now) ≡ Ok calls.items) }
+    ensures fault { IfErr result (IsUnasked (each_in watch_in (watched_in set.now))) }
+{
+    let mut calls = Vec::new(alloc);
+    add_watches(alloc, set.data_watches.as_slice(), &mut calls)?;
+    add_watches(alloc, set.exist_watches.as_slice(), &mut calls)?;
+    add_watches(alloc, set.child_watches.as_slice(), &mut calls)?;
+    Ok(calls)
+}
+
+// Reads the paths of some watches, and adds their calls.
+fn add_watches(alloc: Global, paths: &[Bytes], calls: &mut Vec<Call>) -> Result<(), Unasked>
+    ensures found { OnOk result
+        (each_behind calls.old.items watch_in paths.now ≡ Ok calls.new.items) }
+    ensures fault { IfErr result (IsUnasked (each_behind calls.old.items watch_in paths.now)) }
+{
+    for path in paths {
+        let path = path_in_bytes(alloc, path.as_slice())?;
+        calls.push(Call::Query(Query::Exists(path)))?;
+    }
+    Ok(())
+}

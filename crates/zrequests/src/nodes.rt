@@ -1,0 +1,154 @@
+//! Changes and checks of one node.
+
+ghost use Rattle.std.specs.Prelude.{◌≡◌, Ok, IfOk, IfErr};
+ghost use Rattle.zrequests.specs.Asking.{IsUnasked};
+ghost use Rattle.zrequests.specs.Requests.{node_in, create_in, timed_create_in, delete_in, check_in, set_in, part_in};
+ghost use Rattle.zrequests.specs.Requests.{part_of_create, part_of_delete, part_of_set, part_of_check};
+
+use crate::fault::Unasked;
+use crate::tick::TickLength;
+use crate::words::{data_of, is_open_acl, kind_of, path_of, timed_kind_of, ttl_of, version_of};
+use std::alloc::Global;
+use zcalls::{Check, Create, Delete, Kind, Part, SessionId, SetData};
+use zjute::{AtVersion, Code, CreateTtl};
+
+/// Reads a create of a node of this kind.
+pub(crate) fn node_of(alloc: Global, kind: Kind, create: &zjute::Create) -> Result<Create, Unasked>
+    ensures found { IfOk result (λ read. node_in kind create.now ≡ Ok read) }
+    ensures fault { IfErr result (IsUnasked (node_in kind create.now)) }
+{
+    let path = path_of(alloc, &create.path)?;
+    if !is_open_acl(create.acls.as_slice()) {
+        return Err(Unasked::Refused(Code::InvalidAcl));
+    }
+    let bytes = data_of(alloc, &create.bytes)?;
+    Ok(Create { path, kind, bytes })
+}
+
+/// Reads a create for a session.
+pub(crate) fn create_of(
+    alloc: Global,
+    session: SessionId,
+    create: &zjute::Create,
+) -> Result<Create, Unasked>
+    ensures found { IfOk result (λ read. create_in session create.now ≡ Ok read) }
+    ensures fault { IfErr result (IsUnasked (create_in session create.now)) }
+{
+    let kind = kind_of(session, create.flags)?;
+    node_of(alloc, kind, create)
+}
+
+/// Reads a create with a TTL.
+pub(crate) fn timed_create_of(
+    alloc: Global,
+    tick: TickLength,
+    timed: &CreateTtl,
+) -> Result<Create, Unasked>
+    ensures found { IfOk result (λ read. timed_create_in tick timed.now ≡ Ok read) }
+    ensures fault { IfErr result (IsUnasked (timed_create_in tick timed.now)) }
+{
+    let ttl = ttl_of(tick, timed.ttl)?;
+    let kind = timed_kind_of(ttl, timed.create.flags)?;
+    node_of(alloc, kind, &timed.create)
+}
+
+/// Reads a delete.
+pub(crate) fn delete_of(alloc: Global, at: &AtVersion) -> Result<Delete, Unasked>
+    ensures found { IfOk result (λ read. delete_in at.now ≡ Ok read) }
+    ensures fault { IfErr result (IsUnasked (delete_in at.now)) }
+{
+    let path = path_of(alloc, &at.path)?;
+    Ok(Delete {
+        path,
+        version: version_of(at.version),
+    })
+}
+
+/// Reads a check.
+pub(crate) fn check_of(alloc: Global, at: &AtVersion) -> Result<Check, Unasked>
+    ensures found { IfOk result (λ read. check_in at.now ≡ Ok read) }
+    ensures fault { IfErr result (IsUnasked (check_in at.now)) }
+{
+    let path = path_of(alloc, &at.path)?;
+    Ok(Check {
+        path,
+        version: version_of(at.version),
+    })
+}
+
+/// Reads a set.
+pub(crate) fn set_of(alloc: Global, set: &zjute::SetData) -> Result<SetData, Unasked>
+    ensures found { IfOk result (λ read. set_in set.now ≡ Ok read) }
+    ensures fault { IfErr result (IsUnasked (set_in set.now)) }
+{
+    let path = path_of(alloc, &set.path)?;
+    let bytes = data_of(alloc, &set.bytes)?;
+    Ok(SetData {
+        path,
+        bytes,
+        version: version_of(set.version),
+    })
+}
+
+/// Reads a part of a multi.
+pub(crate) fn part_of(
+    alloc: Global,
+    tick: TickLength,
+    session: SessionId,
+    part: &zjute::Part,
+) -> Result<Part, Unasked>
+    ensures found { IfOk result (λ read. part_in tick session part.now ≡ Ok read) }
+    ensures fault { IfErr result (IsUnasked (part_in tick session part.now)) }
+{
+    match part {
+        zjute::Part::Create(create) | zjute::Part::Create2(create) => {
+            create_part(alloc, session, create)
+        }
+        zjute::Part::CreateTtl(timed) => timed_part(alloc, tick, timed),
+        zjute::Part::CreateContainer(_) => Err(Unasked::Refused(Code::Unimplemented)),
+        zjute::Part::Delete(at) => delete_part(alloc, at),
+        zjute::Part::SetData(set) => set_part(alloc, set),
+        zjute::Part::Check(at) => check_part(alloc, at),
+    }
+}
+
+// Reads a part that creates a node for a session.
+fn create_part(alloc: Global, session: SessionId, create: &zjute::Create) -> Result<Part, Unasked>
+    ensures found { IfOk result (λ read. part_of_create (create_in session create.now) ≡ Ok read) }
+    ensures fault { IfErr result (IsUnasked (part_of_create (create_in session create.now))) }
+{
+    Ok(Part::Create(create_of(alloc, session, create)?))
+}
+
+// Reads a part that creates a node with a TTL.
+fn timed_part(alloc: Global, tick: TickLength, timed: &CreateTtl) -> Result<Part, Unasked>
+    ensures found { IfOk result
+        (λ read. part_of_create (timed_create_in tick timed.now) ≡ Ok read) }
+    ensures fault { IfErr result (IsUnasked (part_of_create (timed_create_in tick timed.now))) }
+{
+    Ok(Part::Create(timed_create_of(alloc, tick, timed)?))
+}
+
+// Reads a part that deletes a node.
+fn delete_part(alloc: Global, at: &AtVersion) -> Result<Part, Unasked>
+    ensures found { IfOk result (λ read. part_of_delete at.now ≡ Ok read) }
+    ensures fault { IfErr result (IsUnasked (part_of_delete at.now)) }
+{
+    Ok(Part::Delete(delete_of(alloc, at)?))
+}
+
+// Reads a part that writes a node's data.
+fn set_part(alloc: Global, set: &zjute::SetData) -> Result<Part, Unasked>
+    ensures found { IfOk result (λ read. part_of_set set.now ≡ Ok read) }
+    ensures fault { IfErr result (IsUnasked (part_of_set set.now)) }
+{
+    Ok(Part::SetData(set_of(alloc, set)?))
+}
+
+// Reads a part that checks a node's version.
+fn check_part(alloc: Global, at: &AtVersion) -> Result<Part, Unasked>
+    ensures found { IfOk result (λ read. part_of_check at.now ≡ Ok read) }
+    ensures fault { IfErr result (IsUnasked (part_of_check at.now)) }
+{
+    Ok(Part::Check(check_of(alloc, at)?))
+}

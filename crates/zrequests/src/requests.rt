@@ -1,0 +1,254 @@
+//! Requests.
+
+ghost use Rattle.std.specs.Prelude.{◌≡◌, ◌<◌, ◌≤◌, [], ◌∷◌, length, Ok, IfOk, IfErr};
+ghost use Rattle.zrequests.specs.Asking.{IsUnasked};
+ghost use Rattle.zrequests.specs.Requests.{calls_in, reads_in, create_in, timed_create_in, create_alone};
+ghost use Rattle.zrequests.specs.Requests.{delete_alone, set_alone, check_alone, one_of_parts};
+ghost use Rattle.zrequests.specs.Requests.{multi_in, look_alone, children_in, looks_in};
+ghost use Rattle.zrequests.specs.Requests.{watches_in, auth_in, sync_in};
+ghost use Rattle.zcalls.specs.declared.call.Call.TheVariants.{Update as UpdateOf, Query as QueryOf};
+ghost use Rattle.zcalls.specs.declared.call.Update.TheVariants.{Close};
+ghost use Rattle.zcalls.specs.declared.call.Query.TheVariants.{GetData, Exists, GetChildren};
+
+use crate::calls::Calls;
+use crate::fault::Unasked;
+use crate::lists::{looks_of, parts_of, watches_of};
+use crate::nodes::{check_of, create_of, delete_of, set_of, timed_create_of};
+use crate::tick::TickLength;
+use crate::words::{is_text_of, path_of};
+use std::alloc::Global;
+use zcalls::{Call, MAX_PARTS, Multi, Part, Query, SessionId, Update};
+use zjute::{Asked, AtVersion, Auth, Bytes, Code, CreateTtl, Looks, Parts, SetData, SetWatches};
+use zpath::Path;
+
+/// Returns the calls that a session's request makes, in order. Each is made whatever the replies to
+/// the earlier ones.
+///
+/// A request that is refused at once, or that runs out of memory, makes no call.
+pub fn calls_of(
+    alloc: Global,
+    tick: TickLength,
+    session: SessionId,
+    asked: &Asked,
+) -> Result<Calls, Unasked>
+    ensures found { IfOk result (λ calls. calls_in tick session asked.now ≡ Ok calls) }
+    ensures fault { IfErr result (IsUnasked (calls_in tick session asked.now)) }
+{
+    match asked {
+        Asked::Create(create) | Asked::Create2(create) => one_create(alloc, session, create),
+        Asked::CreateTtl(timed) => one_timed_create(alloc, tick, timed),
+        Asked::Delete(at) => delete(alloc, at),
+        Asked::SetData(set) => set_data(alloc, set),
+        Asked::Check(at) => check(alloc, at),
+        Asked::Multi(parts) => multi(alloc, tick, session, parts),
+        Asked::CloseSession => close(alloc, session),
+        _ => reads(alloc, asked),
+    }
+}
+
+// Reads a request that changes nothing.
+fn reads(alloc: Global, asked: &Asked) -> Result<Calls, Unasked>
+    ensures found { IfOk result (λ calls. reads_in asked.now ≡ Ok calls) }
+    ensures fault { IfErr result (IsUnasked (reads_in asked.now)) }
+{
+    match asked {
+        Asked::Exists(look) => exists(alloc, &look.path),
+        Asked::GetData(look) => get_data(alloc, &look.path),
+        Asked::GetChildren(look) => get_children(alloc, &look.path),
+        Asked::GetChildren2(look) => get_children2(alloc, &look.path),
+        Asked::GetAcl(path) => exists(alloc, path),
+        Asked::MultiRead(looks) => multi_read(alloc, looks),
+        Asked::SetWatches(set) => set_watches(alloc, set),
+        Asked::Sync(path) => sync(alloc, path),
+        Asked::Auth(auth) => say_who(alloc, auth),
+        Asked::Ping => Ok(Calls::none(alloc)),
+        _ => Err(Unasked::Refused(Code::Unimplemented)),
+    }
+}
+
+// Returns a single call.
+fn one(alloc: Global, call: Call) -> Result<Calls, Unasked>
+    ensures found { IfOk result (λ calls. calls ≡ call ∷ []) }
+    ensures fault { IfErr result (λ fault. fault ≡ Unasked.Memory) }
+{
+    Ok(Calls::one(alloc, call)?)
+}
+
+// Reads a create.
+fn one_create(alloc: Global, session: SessionId, create: &zjute::Create) -> Result<Calls, Unasked>
+    ensures found { IfOk result
+        (λ calls. create_alone (create_in session create.now) ≡ Ok calls) }
+    ensures fault { IfErr result (IsUnasked (create_alone (create_in session create.now))) }
+{
+    let read = create_of(alloc, session, create)?;
+    one(alloc, Call::Update(Update::Create(read)))
+}
+
+// Reads a create with a TTL.
+fn one_timed_create(alloc: Global, tick: TickLength, timed: &CreateTtl) -> Result<Calls, Unasked>
+    ensures found { IfOk result
+        (λ calls. create_alone (timed_create_in tick timed.now) ≡ Ok calls) }
+    ensures fault { IfErr result (IsUnasked (create_alone (timed_create_in tick timed.now))) }
+{
+    let read = timed_create_of(alloc, tick, timed)?;
+    one(alloc, Call::Update(Update::Create(read)))
+}
+
+// Reads a delete.
+fn delete(alloc: Global, at: &AtVersion) -> Result<Calls, Unasked>
+    ensures found { IfOk result (λ calls. delete_alone at.now ≡ Ok calls) }
+    ensures fault { IfErr result (IsUnasked (delete_alone at.now)) }
+{
+    let read = delete_of(alloc, at)?;
+    one(alloc, Call::Update(Update::Delete(read)))
+}
+
+// Reads a set.
+fn set_data(alloc: Global, set: &SetData) -> Result<Calls, Unasked>
+    ensures found { IfOk result (λ calls. set_alone set.now ≡ Ok calls) }
+    ensures fault { IfErr result (IsUnasked (set_alone set.now)) }
+{
+    let read = set_of(alloc, set)?;
+    one(alloc, Call::Update(Update::SetData(read)))
+}
+
+// Reads a check: a multi of one part.
+fn check(alloc: Global, at: &AtVersion) -> Result<Calls, Unasked>
+    ensures found { IfOk result (λ calls. check_alone at.now ≡ Ok calls) }
+    ensures fault { IfErr result (IsUnasked (check_alone at.now)) }
+{
+    let read = check_of(alloc, at)?;
+    let mut parts = Vec::new(alloc);
+    parts.push(Part::Check(read))?;
+    one_multi(alloc, parts)
+}
+
+// Returns a multi of these parts, which are 1 to 64.
+fn one_multi(alloc: Global, parts: Vec<Part>) -> Result<Calls, Unasked>
+    requires some { 0 < length parts.items }
+    requires few { length parts.items ≤ MAX_PARTS }
+    ensures found { IfOk result (λ calls. one_of_parts parts.items ≡ Ok calls) }
+    ensures fault { IfErr result (λ fault. fault ≡ Unasked.Memory) }
+{
+    let Ok(multi) = Multi::new(parts) else {
+        unreachable!();
+    };
+    one(alloc, Call::Update(Update::Multi(multi)))
+}
+
+// Reads a multi.
+fn multi(
+    alloc: Global,
+    tick: TickLength,
+    session: SessionId,
+    parts: &Parts,
+) -> Result<Calls, Unasked>
+    ensures found { IfOk result (λ calls. multi_in tick session parts.now ≡ Ok calls) }
+    ensures fault { IfErr result (IsUnasked (multi_in tick session parts.now)) }
+{
+    let parts = parts.as_slice();
+    if parts.is_empty() {
+        return Ok(Calls::none(alloc));
+    }
+    if parts.len() > MAX_PARTS {
+        return Err(Unasked::Refused(Code::BadArguments));
+    }
+    let read = parts_of(alloc, tick, session, parts)?;
+    one_multi(alloc, read)
+}
+
+// Reads an exists.
+fn exists(alloc: Global, path: &Option<Bytes>) -> Result<Calls, Unasked>
+    ensures found { IfOk result (λ calls. look_alone Exists path.now ≡ Ok calls) }
+    ensures fault { IfErr result (IsUnasked (look_alone Exists path.now)) }
+{
+    let path = path_of(alloc, path)?;
+    one(alloc, Call::Query(Query::Exists(path)))
+}
+
+// Reads a getData.
+fn get_data(alloc: Global, path: &Option<Bytes>) -> Result<Calls, Unasked>
+    ensures found { IfOk result (λ calls. look_alone GetData path.now ≡ Ok calls) }
+    ensures fault { IfErr result (IsUnasked (look_alone GetData path.now)) }
+{
+    let path = path_of(alloc, path)?;
+    one(alloc, Call::Query(Query::GetData(path)))
+}
+
+// Reads a getChildren.
+fn get_children(alloc: Global, path: &Option<Bytes>) -> Result<Calls, Unasked>
+    ensures found { IfOk result (λ calls. look_alone GetChildren path.now ≡ Ok calls) }
+    ensures fault { IfErr result (IsUnasked (look_alone GetChildren path.now)) }
+{
+    let path = path_of(alloc, path)?;
+    one(alloc, Call::Query(Query::GetChildren(path)))
+}
+
+// Reads a getChildren2.
+fn get_children2(alloc: Global, path: &Option<Bytes>) -> Result<Calls, Unasked>
+    ensures found { IfOk result (λ calls. children_in path.now ≡ Ok calls) }
+    ensures fault { IfErr result (IsUnasked (children_in path.now)) }
+{
+    let path = path_of(alloc, path)?;
+    names_and_stat(alloc, path)
+}
+
+// Returns a query of the names of a node's children, and one of its stat.
+fn names_and_stat(alloc: Global, path: Path) -> Result<Calls, Unasked>
+    ensures found { IfOk result (λ calls. calls
+        ≡ QueryOf (GetChildren path) ∷ QueryOf (Exists path) ∷ []) }
+    ensures fault { IfErr result (λ fault. fault ≡ Unasked.Memory) }
+{
+    let same = path.clone()?;
+    let names = Call::Query(Query::GetChildren(path));
+    Ok(Calls::two(alloc, names, Call::Query(Query::Exists(same)))?)
+}
+
+// Reads a multiRead.
+fn multi_read(alloc: Global, looks: &Looks) -> Result<Calls, Unasked>
+    ensures found { IfOk result (λ calls. looks_in looks.now ≡ Ok calls) }
+    ensures fault { IfErr result (IsUnasked (looks_in looks.now)) }
+{
+    let looks = looks.as_slice();
+    if looks.len() > MAX_PARTS {
+        return Err(Unasked::Refused(Code::BadArguments));
+    }
+    Ok(Calls::new(looks_of(alloc, looks)?))
+}
+
+// Reads the paths of re-registered watches.
+fn set_watches(alloc: Global, set: &SetWatches) -> Result<Calls, Unasked>
+    ensures found { IfOk result (λ calls. watches_in set.now ≡ Ok calls) }
+    ensures fault { IfErr result (IsUnasked (watches_in set.now)) }
+{
+    Ok(Calls::new(watches_of(alloc, set)?))
+}
+
+// Returns the close of the session.
+fn close(alloc: Global, session: SessionId) -> Result<Calls, Unasked>
+    ensures found { IfOk result (λ calls. calls ≡ UpdateOf (Close session) ∷ []) }
+    ensures fault { IfErr result (λ fault. fault ≡ Unasked.Memory) }
+{
+    one(alloc, Call::Update(Update::Close(session)))
+}
+
+// Reads a sync.
+fn sync(alloc: Global, path: &Option<Bytes>) -> Result<Calls, Unasked>
+    ensures { result ≡ sync_in path.now }
+{
+    match path {
+        Some(_) => Ok(Calls::none(alloc)),
+        None => Err(Unasked::Refused(Code::BadArguments)),
+    }
+}
+
+// Reads an auth.
+fn say_who(alloc: Global, auth: &Auth) -> Result<Calls, Unasked>
+    ensures { result ≡ auth_in auth.now }
+{
+    if is_text_of(b"digest", &auth.scheme) {
+        Ok(Calls::none(alloc))
+    } else {
+        Err(Unasked::Refused(Code::AuthFailed))
+    }
+}

@@ -1,0 +1,106 @@
+//! The calls of requests of session 9, with a tick of 2,000 milliseconds.
+
+ghost use Rattle.std.specs.Prelude.{◌≡◌, [], ◌∷◌, pos, codes, None, Some, Ok, replicate};
+ghost use Rattle.ztree.specs.support.Samples.{at_a};
+ghost use Rattle.zcalls.specs.Part.{named};
+ghost use Rattle.zcalls.specs.declared.call.Lifetime.TheVariants.{Ephemeral, WithTtl};
+ghost use Rattle.zcalls.specs.declared.call.Expected.TheVariants.{Any, Exactly};
+ghost use Rattle.zcalls.specs.declared.call.Part.TheVariants as part;
+ghost use Rattle.zcalls.specs.declared.call.Update.TheVariants as act;
+ghost use Rattle.zcalls.specs.declared.call.Query.TheVariants.{GetData, Exists, GetChildren};
+ghost use Rattle.zcalls.specs.declared.call.Call.TheVariants.{Update, Query};
+ghost use Rattle.zjute.specs.declared.part.Part.TheVariants as of_multi;
+ghost use Rattle.zjute.specs.declared.part.LookPart.TheVariants as of_look;
+ghost use Rattle.zjute.specs.declared.request.Asked.TheVariants as asked;
+ghost use Rattle.zrequests.specs.declared.limits.TheConstants.{NO_VERSION};
+ghost use Rattle.zrequests.specs.Requests.{calls_in};
+ghost use Rattle.zrequests.specs.support.Samples.{bad, unimplemented, invalid_acl, auth_failed, open_entry, text_a};
+ghost use Rattle.zrequests.specs.support.Samples.{create_a, timed_a, at_version, set_a, look_a};
+
+/// Creates: an ephemeral of the session, and a node with a TTL.
+#[tactic(auto, unfolding(zpath::specs::Faults::fault_of))]
+pub fn calls_of_creates()
+    ensures create { calls_in 2000 9 (asked.Create create_a) ≡ Ok (Update (act.Create
+        (record { path = at_a; kind = named (Ephemeral 9); bytes = [] })) ∷ []) }
+    ensures create2 { calls_in 2000 9 (asked.Create2 create_a) ≡ Ok (Update (act.Create
+        (record { path = at_a; kind = named (Ephemeral 9); bytes = [] })) ∷ []) }
+    ensures timed { calls_in 2000 9 (asked.CreateTtl timed_a) ≡ Ok (Update (act.Create
+        (record { path = at_a; kind = named (WithTtl 2); bytes = [] })) ∷ []) }
+    ensures closed { calls_in 2000 9 (asked.Create (record create_a { acls = [] })) ≡ invalid_acl }
+    ensures no_path { calls_in 2000 9 (asked.Create (record create_a { path = None })) ≡ bad }
+    ensures container { calls_in 2000 9 (asked.Create (record create_a { flags = pos 4 }))
+        ≡ unimplemented }
+    ensures no_time { calls_in 2000 9 (asked.CreateTtl (record timed_a { ttl = pos 0 })) ≡ bad }
+{}
+
+/// Changes and a check of a node: version -1 matches any, and no node has version -2.
+#[tactic(auto, unfolding(zpath::specs::Faults::fault_of))]
+pub fn calls_of_changes()
+    ensures delete { calls_in 2000 9 (asked.Delete at_version) ≡ Ok (Update (act.Delete
+        (record { path = at_a; version = Exactly NO_VERSION })) ∷ []) }
+    ensures set { calls_in 2000 9 (asked.SetData set_a) ≡ Ok (Update (act.SetData
+        (record { path = at_a; bytes = 7 ∷ []; version = Any })) ∷ []) }
+    ensures check { calls_in 2000 9 (asked.Check at_version) ≡ Ok (Update (act.Multi (part.Check
+        (record { path = at_a; version = Exactly NO_VERSION }) ∷ [])) ∷ []) }
+{}
+
+/// Requests that read.
+#[tactic(auto, unfolding(zpath::specs::Faults::fault_of))]
+pub fn calls_of_reads()
+    ensures exists { calls_in 2000 9 (asked.Exists look_a) ≡ Ok (Query (Exists at_a) ∷ []) }
+    ensures get { calls_in 2000 9 (asked.GetData look_a) ≡ Ok (Query (GetData at_a) ∷ []) }
+    ensures names { calls_in 2000 9 (asked.GetChildren look_a)
+        ≡ Ok (Query (GetChildren at_a) ∷ []) }
+    ensures names_and_stat { calls_in 2000 9 (asked.GetChildren2 look_a)
+        ≡ Ok (Query (GetChildren at_a) ∷ Query (Exists at_a) ∷ []) }
+    ensures acl { calls_in 2000 9 (asked.GetAcl text_a) ≡ Ok (Query (Exists at_a) ∷ []) }
+    ensures several { calls_in 2000 9
+        (asked.MultiRead (of_look.GetData look_a ∷ of_look.GetChildren look_a ∷ []))
+        ≡ Ok (Query (GetData at_a) ∷ Query (GetChildren at_a) ∷ []) }
+    ensures watches { calls_in 2000 9 (asked.SetWatches (record {
+      relative_zxid = pos 4;
+      data_watches = codes "/a" ∷ [];
+      exist_watches = [];
+      child_watches = codes "/" ∷ [];
+    })) ≡ Ok (Query (Exists at_a) ∷ Query (Exists []) ∷ []) }
+    ensures null { calls_in 2000 9 (asked.GetAcl None) ≡ bad }
+{}
+
+/// Multis: an empty one makes no call, and more than 64 parts are refused.
+#[tactic(auto, unfolding(zpath::specs::Faults::fault_of))]
+pub fn calls_of_multis()
+    ensures none { calls_in 2000 9 (asked.Multi []) ≡ Ok [] }
+    ensures parts { calls_in 2000 9
+        (asked.Multi (of_multi.Check at_version ∷ of_multi.SetData set_a ∷ []))
+        ≡ Ok (Update (act.Multi
+        (part.Check (record { path = at_a; version = Exactly NO_VERSION })
+        ∷ part.SetData (record { path = at_a; bytes = 7 ∷ []; version = Any }) ∷ [])) ∷ []) }
+    ensures container { calls_in 2000 9
+        (asked.Multi (of_multi.SetData set_a ∷ of_multi.CreateContainer create_a ∷ []))
+        ≡ unimplemented }
+    ensures too_many { calls_in 2000 9 (asked.Multi (replicate 65 (of_multi.SetData set_a)))
+        ≡ bad }
+{}
+
+/// Requests of the session, and unsupported ones.
+pub fn calls_of_sessions()
+    ensures close { calls_in 2000 9 asked.CloseSession ≡ Ok (Update (act.Close 9) ∷ []) }
+    ensures ping { calls_in 2000 9 asked.Ping ≡ Ok [] }
+    ensures sync { calls_in 2000 9 (asked.Sync text_a) ≡ Ok [] }
+    ensures digest { calls_in 2000 9 (asked.Auth (record {
+      kind = pos 0;
+      scheme = Some (codes "digest");
+      auth = None;
+    })) ≡ Ok [] }
+    ensures kerberos { calls_in 2000 9 (asked.Auth (record {
+      kind = pos 0;
+      scheme = Some (codes "sasl");
+      auth = None;
+    })) ≡ auth_failed }
+    ensures acl { calls_in 2000 9 (asked.SetAcl (record {
+      path = text_a;
+      acls = open_entry ∷ [];
+      version = pos 0;
+    })) ≡ unimplemented }
+    ensures other { calls_in 2000 9 (asked.Other (pos 16) []) ≡ unimplemented }
+{}

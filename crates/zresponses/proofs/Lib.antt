@@ -1,0 +1,3 @@
+pub mod effects_lemmas
+pub mod PartsDone
+pub mod Made

@@ -1,0 +1,75 @@
+-- The answer for one reply of the service: a code, and the body after the header. The source is
+-- zookeeper.jute (`ReplyHeader`, and the responses), and ZooKeeper's `KeeperException.Code`.
+use Rattle.std.specs.Prelude.{◌∷◌, [], List, length, nat_lt, codes, Some, if◌then◌else◌}
+use Rattle.zpath.specs.Grammar.{text_of}
+use Rattle.ztree.specs.Tree.{Name}
+use Rattle.ztree.specs.declared.node.Stat.{Stat}
+use Rattle.zcalls.specs.declared.call.Create.{Create}
+use Rattle.zcalls.specs.declared.reply.Reply.{Reply}
+use Rattle.zcalls.specs.declared.reply.Reply.TheVariants as reply
+use Rattle.zjute.specs.declared.limits.TheConstants.{MAX_FRAME}
+use Rattle.zjute.specs.declared.acl.Acl.{Acl}
+use Rattle.zjute.specs.declared.code.Code.{Code}
+use Rattle.zjute.specs.declared.code.Code.TheVariants as code
+use Rattle.zjute.specs.declared.reply.Body.{Body}
+use Rattle.zjute.specs.declared.reply.Body.TheVariants as body
+use Rattle.zrequests.specs.declared.limits.TheConstants.{ALL_PERMISSIONS}
+use Rattle.zrequests.specs.Codes.{code_of}
+use Rattle.zresponses.specs.declared.clock.Clock.{Clock}
+use Rattle.zresponses.specs.declared.clock.Now.{Now}
+use Rattle.zresponses.specs.declared.answer.Answer.{Answer}
+use Rattle.zresponses.specs.Stats.{stat_told, made_stat}
+
+-- the request was done
+abbrev pub done : Body → Answer
+done told = record { code = code.Ok; body = told }
+
+-- it wasn't done, for this reason
+abbrev pub failed : Code → Answer
+failed why = record { code = why; body = body.Nothing }
+
+-- names; more than a frame can hold give an error
+abbrev pub names_answer : List Name → Answer
+names_answer names = if nat_lt MAX_FRAME (length names) then failed code.MarshallingError else done (body.Names names)
+
+-- the answer to a request of one call, from the reply to it
+abbrev pub answer_of : Clock → Reply → Answer
+answer_of clock (reply.Created path) = done (body.Path (text_of path))
+answer_of clock reply.Deleted = done body.Nothing
+answer_of clock (reply.Set stat) = done (body.Stat (stat_told clock stat))
+answer_of clock (reply.Exists stat) = done (body.Stat (stat_told clock stat))
+answer_of clock (reply.Data bytes stat) = done (body.DataStat (Some bytes) (stat_told clock stat))
+answer_of clock (reply.Children names) = names_answer names
+answer_of clock (reply.Refused refusal) = failed (code_of refusal)
+answer_of clock (reply.MultiRefused number refusal) = failed (code_of refusal)
+answer_of clock (reply.Multi replies) = done body.Nothing
+answer_of clock (reply.Opened session ticks) = done body.Nothing
+answer_of clock reply.Pinged = done body.Nothing
+answer_of clock reply.Closed = done body.Nothing
+answer_of clock (reply.Ticked time ended removed) = done body.Nothing
+
+-- the answer to a create that asks for the new node's stat too
+abbrev pub made_answer : Clock → Now → Create → Reply → Answer
+made_answer clock now create (reply.Created path) = done (body.PathStat (text_of path) (stat_told clock (made_stat now create)))
+made_answer clock now create told = answer_of clock told
+
+-- the ACL of every node: the open one (`ZooDefs.Ids.OPEN_ACL_UNSAFE`)
+abbrev pub open_acls : List Acl
+open_acls = record { perms = ALL_PERMISSIONS; scheme = Some (codes "world"); id = Some (codes "anyone") } ∷ []
+
+-- the answer to a request for a node's ACL, from its stat
+abbrev pub acl_answer : Clock → Reply → Answer
+acl_answer clock (reply.Exists stat) = done (body.AclsStat open_acls (stat_told clock stat))
+acl_answer clock told = answer_of clock told
+
+-- names and a stat
+abbrev pub names_stat_answer : Clock → List Name → Stat → Answer
+names_stat_answer clock names stat =
+    if nat_lt MAX_FRAME (length names)
+    then failed code.MarshallingError
+    else done (body.NamesStat names (stat_told clock stat))
+
+-- the answer to a request for the names of a node's children and its stat
+abbrev pub children_answer : Clock → Reply → Reply → Answer
+children_answer clock (reply.Children names) (reply.Exists stat) = names_stat_answer clock names stat
+children_answer clock first second = answer_of clock first

@@ -1,0 +1,44 @@
+-- The stat in an answer. The source is `Stat` of zookeeper.jute and the ZooKeeper Programmer's
+-- Guide, "ZooKeeper Stat Structure". Times are counted in ticks from the service's start and
+-- returned in milliseconds: that is this project's profile.
+use Rattle.std.specs.Prelude.{ℕ, ◌+◌, ◌*◌, ◌%◌, ◌^◌, ℤ, pos}
+use Rattle.std.specs.Int.{w32, w64, cast_signed}
+use Rattle.ztree.specs.Tree.{new_node, stat_with}
+use Rattle.ztree.specs.declared.node.Stat.{Stat}
+use Rattle.zcalls.specs.declared.call.Create.{Create}
+use Rattle.zcalls.specs.Part.{owner_of, ttl_of}
+use Rattle.zjute.specs.declared.stat.Stat.{Stat as ToldStat}
+use Rattle.zresponses.specs.declared.clock.Clock.{Clock}
+use Rattle.zresponses.specs.declared.clock.Now.{Now}
+
+-- a number as an `int` of zookeeper.jute: its low 32 bits, the highest of which is the sign
+abbrev pub int_of : ℕ → ℤ
+int_of n = cast_signed w32 (n % 2 ^ 32)
+
+-- a number as a `long`: its low 64 bits
+abbrev pub long_of : ℕ → ℤ
+long_of n = cast_signed w64 (n % 2 ^ 64)
+
+-- the time of a tick, in milliseconds since 1970
+abbrev pub millis_at : Clock → ℕ → ℕ
+millis_at clock ticks = clock.started + ticks * clock.tick
+
+-- the stat for a client; no node has an ACL of its own, so `aversion` is 0
+abbrev pub stat_told : Clock → Stat → ToldStat
+stat_told clock s = record {
+  czxid = long_of s.czxid;
+  mzxid = long_of s.mzxid;
+  ctime = long_of (millis_at clock s.ctime);
+  mtime = long_of (millis_at clock s.mtime);
+  version = int_of s.version;
+  cversion = int_of s.cversion;
+  aversion = pos 0;
+  ephemeral_owner = long_of s.owner;
+  data_length = int_of s.length;
+  num_children = int_of s.children;
+  pzxid = long_of s.pzxid;
+}
+
+-- the stat of a node that a create has just made
+abbrev pub made_stat : Now → Create → Stat
+made_stat now create = stat_with (new_node create.bytes (owner_of create.kind.lifetime) (ttl_of create.kind.lifetime) now.zxid now.time) 0

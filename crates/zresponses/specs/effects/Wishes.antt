@@ -1,0 +1,82 @@
+-- The watches that a request asks for, from the replies to its calls. The source is the ZooKeeper
+-- Programmer's Guide, "ZooKeeper Watches", and zookeeper.jute (`SetWatches`).
+use Rattle.std.specs.Prelude.{ℤ, List, [], ◌∷◌, ◌++◌, length, take, drop, int_lt, if◌then◌else◌}
+use Rattle.ztree.specs.Tree.{Path}
+use Rattle.zcalls.specs.declared.call.Call.{Call}
+use Rattle.zcalls.specs.declared.call.Call.TheVariants.{Query}
+use Rattle.zcalls.specs.declared.call.Query.{Query as Question}
+use Rattle.zcalls.specs.declared.call.Query.TheVariants as query
+use Rattle.zcalls.specs.declared.reply.Reply.{Reply}
+use Rattle.zcalls.specs.declared.reply.Reply.TheVariants as reply
+use Rattle.zcalls.specs.declared.refusal.Refusal.TheVariants.{NoNode}
+use Rattle.zjute.specs.declared.event.EventKind.TheVariants.{NodeCreated, NodeDeleted, NodeDataChanged, NodeChildrenChanged}
+use Rattle.zjute.specs.declared.request.Asked.{Asked}
+use Rattle.zjute.specs.declared.request.Asked.TheVariants as asked
+use Rattle.zjute.specs.declared.request.Look.{Look}
+use Rattle.zjute.specs.declared.request.SetWatches.{SetWatches}
+use Rattle.zwatches.specs.changes.Events.{event}
+use Rattle.zresponses.specs.Stats.{long_of}
+use Rattle.zwatches.specs.declared.kind.Kind.{Kind}
+use Rattle.zwatches.specs.declared.kind.Kind.TheVariants.{Data, Missing, Children}
+use Rattle.zresponses.specs.declared.effects.wish.Wish.{Wish}
+use Rattle.zresponses.specs.declared.effects.wish.Wish.TheVariants.{Waits, Tells}
+
+-- the watch of a query, from its reply; `exists` watches a node or waits for its creation, and
+-- `getData` and `getChildren` watch an existing node
+abbrev pub query_wish : Question → Reply → List Wish
+query_wish (query.Exists path) (reply.Exists stat) = Waits Data path ∷ []
+query_wish (query.Exists path) (reply.Refused NoNode) = Waits Missing path ∷ []
+query_wish (query.GetData path) (reply.Data bytes stat) = Waits Data path ∷ []
+query_wish (query.GetChildren path) (reply.Children names) = Waits Children path ∷ []
+query_wish query told = []
+
+-- the watch of a request for one node: that of its first call
+abbrev pub first_wish : List Call → List Reply → List Wish
+first_wish (Query query ∷ calls) (told ∷ replies) = query_wish query told
+first_wish calls replies = []
+
+-- the watch of a request, if it asks for one
+abbrev pub look_wish : Look → List Call → List Reply → List Wish
+look_wish look calls replies = if look.watch then first_wish calls replies else []
+
+-- a re-registered watch, from the zxid that its client has seen and the node's stat; if its event
+-- happened meanwhile, the event is sent at once
+abbrev pub wish_again : Kind → ℤ → Path → Reply → List Wish
+wish_again Data seen path (reply.Exists stat) =
+    (if int_lt seen (long_of stat.mzxid) then Tells (event NodeDataChanged path) else Waits Data path) ∷ []
+wish_again Data seen path (reply.Refused NoNode) = Tells (event NodeDeleted path) ∷ []
+wish_again Missing seen path (reply.Exists stat) = Tells (event NodeCreated path) ∷ []
+wish_again Missing seen path (reply.Refused NoNode) = Waits Missing path ∷ []
+wish_again Children seen path (reply.Exists stat) =
+    (if int_lt seen (long_of stat.pzxid) then Tells (event NodeChildrenChanged path) else Waits Children path) ∷ []
+wish_again Children seen path (reply.Refused NoNode) = Tells (event NodeDeleted path) ∷ []
+wish_again kind seen path told = []
+
+-- the same from its call, which asks whether the node exists
+abbrev pub call_again : Kind → ℤ → Call → Reply → List Wish
+call_again kind seen (Query (query.Exists path)) told = wish_again kind seen path told
+call_again kind seen call told = []
+
+-- the watches of one kind
+abbrev pub wishes_again : Kind → ℤ → List Call → List Reply → List Wish
+wishes_again kind seen (call ∷ calls) (told ∷ replies) = call_again kind seen call told ++ wishes_again kind seen calls replies
+wishes_again kind seen calls replies = []
+
+-- all of them: data watches first, then those for a creation, then child watches
+abbrev pub all_again : SetWatches → List Call → List Reply → List Wish
+all_again set calls replies =
+    let data_count = length set.data_watches in
+    let missing_count = length set.exist_watches in
+    let seen = set.relative_zxid in
+    wishes_again Data seen (take data_count calls) (take data_count replies)
+    ++ (wishes_again Missing seen (take missing_count (drop data_count calls)) (take missing_count (drop data_count replies))
+    ++ wishes_again Children seen (drop missing_count (drop data_count calls)) (drop missing_count (drop data_count replies)))
+
+-- the watches that a request asks for, from its calls and their replies
+abbrev pub wishes : Asked → List Call → List Reply → List Wish
+wishes (asked.Exists look) calls replies = look_wish look calls replies
+wishes (asked.GetData look) calls replies = look_wish look calls replies
+wishes (asked.GetChildren look) calls replies = look_wish look calls replies
+wishes (asked.GetChildren2 look) calls replies = look_wish look calls replies
+wishes (asked.SetWatches set) calls replies = all_again set calls replies
+wishes other calls replies = []

@@ -1,0 +1,71 @@
+-- Samples for the worked examples.
+use Rattle.std.specs.Prelude.{List, ℕ, [], ◌∷◌, pos, codes, Some, false}
+use Rattle.ztree.specs.support.Samples.{at_a_b}
+use Rattle.zcalls.specs.declared.call.Create.{Create}
+use Rattle.zcalls.specs.declared.call.Lifetime.TheVariants.{Ephemeral, WithTtl}
+use Rattle.zcalls.specs.Part.{named, sequential}
+use Rattle.zjute.specs.declared.stat.Stat.{Stat as ToldStat}
+use Rattle.zjute.specs.declared.request.Create.{Create as AskedCreate}
+use Rattle.zjute.specs.declared.request.Look.{Look}
+use Rattle.zresponses.specs.declared.clock.Clock.{Clock}
+use Rattle.zresponses.specs.declared.clock.Now.{Now}
+
+-- a service that began at 1,000,000 milliseconds, with ticks of 2,000
+abbrev pub clock : Clock
+clock = record { tick = 2000; started = 1000000 }
+
+-- after change 20, at tick 21
+abbrev pub now : Now
+now = record { zxid = 20; time = 21 }
+
+-- the stat for a client whose numbers all differ
+abbrev pub told_stat : ToldStat
+told_stat = record {
+  czxid = pos 1;
+  mzxid = pos 2;
+  ctime = pos 1008000;
+  mtime = pos 1010000;
+  version = pos 6;
+  cversion = pos 8;
+  aversion = pos 0;
+  ephemeral_owner = pos 9;
+  data_length = pos 2;
+  num_children = pos 11;
+  pzxid = pos 3;
+}
+
+-- creates beneath /a: an ephemeral of session 9, and a node with a TTL
+abbrev pub create_b : Create
+create_b = record { path = at_a_b; kind = sequential (Ephemeral 9); bytes = 7 ∷ 8 ∷ 9 ∷ [] }
+
+abbrev pub timed_b : Create
+timed_b = record { path = at_a_b; kind = named (WithTtl 5); bytes = [] }
+
+-- the stats for a client of the nodes that they made
+abbrev pub told_of_b : ToldStat
+told_of_b = record {
+  czxid = pos 20;
+  mzxid = pos 20;
+  ctime = pos 1042000;
+  mtime = pos 1042000;
+  version = pos 0;
+  cversion = pos 0;
+  aversion = pos 0;
+  ephemeral_owner = pos 9;
+  data_length = pos 3;
+  num_children = pos 0;
+  pzxid = pos 20;
+}
+
+abbrev pub told_of_timed : ToldStat
+told_of_timed = record told_of_b { ephemeral_owner = pos 0; data_length = pos 0 }
+
+-- the text of /a/b, and requests for it
+abbrev pub text_a_b : List ℕ
+text_a_b = codes "/a/b"
+
+abbrev pub asked_b : AskedCreate
+asked_b = record { path = Some text_a_b; bytes = Some []; acls = []; flags = pos 3 }
+
+abbrev pub look_b : Look
+look_b = record { path = Some text_a_b; watch = false }

@@ -1,0 +1,14 @@
+//! A wish: a watch that a request asks for.
+
+use zwatches::changes::Event;
+use zpath::Path;
+use zwatches::Kind;
+
+/// A watch that a request asks for.
+#[derive(Drop)]
+pub(crate) enum Wish {
+    /// It is set.
+    Waits(Kind, Path),
+    /// Its event has happened already, and is sent.
+    Tells(Event),
+}

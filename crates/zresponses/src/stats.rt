@@ -1,0 +1,68 @@
+//! The stat in an answer.
+
+ghost use Rattle.std.specs.Prelude.{◌≡◌};
+ghost use Rattle.zresponses.specs.Stats as told;
+
+use crate::clock::{Clock, Now};
+use zcalls::Create;
+use ztree::Stat;
+
+/// Returns the stat of a node that a create has just made, at the zxid of that create.
+pub fn made_stat(at: &Now, create: &Create) -> Stat
+    ensures { result ≡ told.made_stat at.now create.now }
+{
+    Stat {
+        czxid: at.zxid,
+        mzxid: at.zxid,
+        pzxid: at.zxid,
+        ctime: at.time,
+        mtime: at.time,
+        version: 0,
+        cversion: 0,
+        owner: create.kind.lifetime.owner(),
+        length: create.bytes.as_slice().len() as u64,
+        children: 0,
+    }
+}
+
+/// Returns a stat for a client: times in milliseconds since 1970, and each number in 32 or 64 bits,
+/// as in zookeeper.jute.
+pub fn stat_told(clock: &Clock, stat: &Stat) -> zjute::Stat
+    ensures { result ≡ told.stat_told clock.now stat.now }
+{
+    zjute::Stat {
+        czxid: long_of(stat.czxid.number()),
+        mzxid: long_of(stat.mzxid.number()),
+        ctime: time_of(clock, stat.ctime),
+        mtime: time_of(clock, stat.mtime),
+        version: int_of(stat.version),
+        cversion: int_of(stat.cversion),
+        aversion: 0,
+        ephemeral_owner: long_of(stat.owner),
+        data_length: int_of(stat.length),
+        num_children: int_of(stat.children),
+        pzxid: long_of(stat.pzxid.number()),
+    }
+}
+
+// Returns the time of a tick.
+fn time_of(clock: &Clock, ticks: u64) -> i64
+    ensures { result ≡ told.long_of (told.millis_at clock.now ticks) }
+{
+    let since = ticks.wrapping_mul(u64::from(clock.tick.millis()));
+    clock.started.wrapping_add(since).cast_signed()
+}
+
+// Returns the low 64 bits of a number.
+fn long_of(number: u64) -> i64
+    ensures { result ≡ told.long_of number }
+{
+    number.cast_signed()
+}
+
+// Returns the low 32 bits of a number.
+fn int_of(number: u64) -> i32
+    ensures { result ≡ told.int_of number }
+{
+    ((number % 4_294_967_296) as u32).cast_signed()
+}

@@ -1,9 +1,0 @@
-use Rattle.std.proofs.Common.{subst}
-use Rattle.zworld_model.specs.FromTree.{CanStart}
-use Rattle.zservice.specs.Local.{LocalTreeView}
-use Rattle.zservice.proofs.local_tree.LocalTree.keeps_held.Goals as goal
-
-pub returns : goal.returns
-returns c =
-    subst (λ (v : LocalTreeView). CanStart v.tree) c.self.view_is
-    (record { lawful = c.keeps_lawful.ensures.lawful; granted = c.keeps_lawful.ensures.bounded.sessions })

@@ -1,6 +1,0 @@
-use Rattle.zservice.specs.Machines.{tree_in}
-use Rattle.zservice.proofs.Stepping.{anew_ready}
-use Rattle.zservice.proofs.step.make_room.Goals as goal
-
-pub returns-clause-ready : goal.returns-clause-ready
-returns-clause-ready c = anew_ready c.in_ok-machine.field-0 (tree_in c.args.machine.now) c.in_ok-machine.ensures

@@ -1,3 +1,0 @@
-pub mod Machines
-pub mod Local
-pub mod support

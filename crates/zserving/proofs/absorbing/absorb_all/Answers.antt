@@ -1,7 +1,0 @@
-use Rattle.std.proofs.Common.{sym, ◌∙◌, arith}
-use Rattle.zserving.proofs.Ends.{none_absorbed}
-use Rattle.zserving.proofs.absorbing.absorb_all.Goals as goal
-
-pub returns : goal.returns
-returns c =
-    sym (none_absorbed c.args.calls.now c.args.replies.now c.loop-place.tables c.loop-place.place (omega arith)) ∙ c.loop-place.invariant

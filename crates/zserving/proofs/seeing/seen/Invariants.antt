@@ -1,7 +1,0 @@
-use Rattle.std.proofs.Common.{◌≡◌, ◌++◌, drop}
-use Rattle.zserving.specs.Looking as table
-use Rattle.zserving.proofs.seeing.seen.Given as goal
-
-abbrev pub invariant-loop-index : goal.invariant-loop-index
-invariant-loop-index l =
-    l.events.items ++ table.seen l.zxid (drop l.index l.places) (drop l.index l.replies) ≡ table.seen l.zxid l.places l.replies

@@ -1,7 +1,0 @@
-use Rattle.std.proofs.Common.{◌≡◌, ◌++◌}
-use Rattle.zsittings.specs.support.Entries.{touched_among}
-use Rattle.zsittings.proofs.listing.touched_among.Given as goal
-
--- the ids so far and those of what is left are all
-abbrev pub invariant-loop-id : goal.invariant-loop-id
-invariant-loop-id l = l.ids.items ++ touched_among l.id-iterator ≡ touched_among l.table.entries

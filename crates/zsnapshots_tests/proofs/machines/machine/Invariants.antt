@@ -1,5 +1,0 @@
-use Rattle.std.proofs.Common.{◌≡◌, false}
-use Rattle.zsnapshots_tests.proofs.machines.machine.Given as goal
-
-abbrev pub invariant-loop-line : goal.invariant-loop-line
-invariant-loop-line g l = l.machine.is_broken ≡ false

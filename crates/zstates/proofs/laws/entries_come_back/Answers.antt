@@ -1,5 +1,0 @@
-use Rattle.zstates.proofs.Records.{entries_are_theirs, entries_come_back, entries_tell_apart, records_come_back}
-use Rattle.zstates.proofs.laws.entries_come_back.Goals as goal
-
-pub returns : goal.returns
-returns c = record { entries = entries_come_back; records = records_come_back; theirs = entries_are_theirs; texts = entries_tell_apart }

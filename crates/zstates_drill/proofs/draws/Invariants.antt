@@ -1,5 +1,0 @@
-use Rattle.zstates_drill.specs.Pair.{IsWhole}
-use Rattle.zstates_drill.proofs.draws.Given as goal
-
-abbrev pub invariant-loop : goal.invariant-loop
-invariant-loop l = IsWhole l.drill.pair

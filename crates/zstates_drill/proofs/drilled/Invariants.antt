@@ -1,8 +1,0 @@
-use Rattle.zstates_drill.specs.Pair.{IsWhole}
-use Rattle.zstates_drill.proofs.drilled.Given as goal
-
-abbrev pub invariant-loop-line : goal.invariant-loop-line
-invariant-loop-line l =
-    (goal.iterator-loop-line).can_next l.line-iterator
-    × (goal.iterator-loop-line).is_finite l.line-iterator
-    × IsWhole l.drill.pair

@@ -1,4 +1,0 @@
-pub mod Closed
-pub mod Frames
-pub mod Rising
-pub mod Worked

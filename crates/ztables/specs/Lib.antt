@@ -1,5 +1,0 @@
-pub mod Laws
-pub mod Sweeping
-pub mod Tables
-pub mod Telling
-pub mod support

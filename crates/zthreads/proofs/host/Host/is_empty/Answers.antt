@@ -1,0 +1,17 @@
+use Rattle.std.proofs.Common.{sym, subst}
+use Rattle.zthreads.specs.Desks.{Stands, pending}
+use Rattle.zthreads.proofs.Hosted.{hosted_still}
+use Rattle.zthreads.proofs.Pending.{pending_same}
+use Rattle.zthreads.proofs.host.Host.is_empty.Goals as goal
+
+pub invariant_of-self : goal.invariant_of-self
+invariant_of-self c =
+    let t = c.args.self.now in
+    let d = c.is_empty.new.self in
+    let same = c.is_empty.ensures.same in
+    record {
+      hosted =
+          hosted_still t.desk d t.actor t.learnt t.front t.front same.desk t.hosted
+          (subst (λ w. Stands d t.actor t.front w) (sym (pending_same t.desk d same.held same.out))
+          (c.is_empty.ensures.keeps t.actor t.front (pending t.desk) t.hosted.at));
+    }

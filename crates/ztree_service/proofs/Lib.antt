@@ -1,0 +1,3 @@
+pub mod log_lemmas
+pub mod Stepping
+pub mod Anew

@@ -1,0 +1,4 @@
+pub mod log
+pub mod Machines
+pub mod Local
+pub mod support

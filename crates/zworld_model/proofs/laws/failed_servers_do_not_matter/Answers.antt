@@ -1,6 +1,0 @@
-use Rattle.zprotocol.specs.server.Machine.{kept_tree}
-use Rattle.zworld_model.proofs.Keeping.{keeping_runs, keeping_enabled}
-use Rattle.zworld_model.proofs.laws.failed_servers_do_not_matter.Goals as goal
-
-pub returns : goal.returns
-returns c = record { run = keeping_runs kept_tree; enabled = keeping_enabled kept_tree }

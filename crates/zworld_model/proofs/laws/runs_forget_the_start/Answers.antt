@@ -1,5 +1,0 @@
-use Rattle.zworld_model.proofs.Starts.{events_forget_the_start, runs_forget_the_start}
-use Rattle.zworld_model.proofs.laws.runs_forget_the_start.Goals as goal
-
-pub returns : goal.returns
-returns c = record { event = events_forget_the_start; run = runs_forget_the_start }
