@@ -27,8 +27,8 @@ const PATIENCE: Patience = Patience {
 fn main(rt: HostRuntime) -> ExitCode {
     match run(rt, rt.alloc()) {
         Some(true) => {
-            let told = rt.stdout().write_all(b"written, found, and nothing lost\n");
-            if told.is_ok() {
+            let reported = rt.stdout().write_all(b"written, found, and nothing lost\n");
+            if reported.is_ok() {
                 ExitCode::SUCCESS
             } else {
                 ExitCode::FAILURE

@@ -4,7 +4,7 @@ use Rattle.std.specs.Prelude.{nat_lt}
 use mathlib.Core.Bool.{true≢false}
 use Rattle.ztree.specs.Tree.{Tree}
 use Rattle.zcalls.specs.declared.reply.Reply.{Reply}
-use Rattle.zcalls.specs.Kept.{KeptState}
+use Rattle.zcalls.specs.Cached.{CachedState}
 use Rattle.zprotocol.specs.declared.message.Message.TheVariants as message
 use Rattle.zprotocol.specs.declared.process.Process.{Process}
 use Rattle.zprotocol.specs.declared.process.Process.TheVariants.{Master, Server, Client}
@@ -29,14 +29,14 @@ given_reply n reply r e =
     (n, refl, ap (λ x. Some (n, x)) (sym same), sym e)
 
 of_answer : (v : ClientView) (n : ℕ) (reply r : Reply) (b : Bool) → is_waiting_for v n ≡ b
-    → Some r ≡ reply_of (answer_row {T = Transfer (KeptState Tree)} v n reply).2
-    → HandedOut (answer_row {T = Transfer (KeptState Tree)} v n reply).2 (Some n) (Some reply) r
+    → Some r ≡ reply_of (answer_row {T = Transfer (CachedState Tree)} v n reply).2
+    → HandedOut (answer_row {T = Transfer (CachedState Tree)} v n reply).2 (Some n) (Some reply) r
 unfolding answer_row
 of_answer v n reply r true e = rw e (given_reply n reply r)
 of_answer v n reply r false e = rw e (λ given. absurd (no_some given))
 
 of_config : (v : ClientView) (epoch : ℕ) (head tail : Option ℕ) (r : Reply) (b : Bool) → nat_lt v.epoch epoch ≡ b
-    → Some r ≡ reply_of (config_row {T = Transfer (KeptState Tree)} v epoch head tail).2 → ⊥
+    → Some r ≡ reply_of (config_row {T = Transfer (CachedState Tree)} v epoch head tail).2 → ⊥
 unfolding config_row
 of_config v epoch head tail r true e = rw e no_some
 of_config v epoch head tail r false e = rw e no_some

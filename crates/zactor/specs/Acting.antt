@@ -6,12 +6,12 @@ use Rattle.std.specs.Prelude.{option_to_list}
 use Rattle.std.specs.Option.{option_map}
 use Rattle.ztree.specs.Tree.{Tree}
 use Rattle.zcalls.specs.declared.reply.Reply.{Reply}
-use Rattle.zcalls.specs.Kept.{KeptState}
+use Rattle.zcalls.specs.Cached.{CachedState}
 use Rattle.zprotocol.specs.declared.message.Message.TheVariants as message
 use Rattle.zprotocol.specs.declared.process.Process.{Process}
 use Rattle.zprotocol.specs.declared.process.Process.TheVariants.{Master, Server, Client}
 use Rattle.zprotocol.specs.Posts.{Puts}
-use Rattle.zprotocol.specs.server.Machine.{kept_tree}
+use Rattle.zprotocol.specs.server.Machine.{cached_tree}
 use Rattle.zprotocol.specs.server.Memory.{may_be_unheard, may_stop}
 use Rattle.zprotocol.specs.server.Table.{is_retirement}
 use Rattle.zprotocol.specs.server.View.{Post}
@@ -39,16 +39,16 @@ use Rattle.zactor.specs.declared.act_fault.ActFault.TheVariants.{Refused, Memory
 
 -- standings, inputs, effects and posts over the tree with its cached replies
 abbrev pub TreeStanding : Type 0
-TreeStanding = Standing (KeptState Tree)
+TreeStanding = Standing (CachedState Tree)
 
 abbrev pub TreeInput : Type 0
-TreeInput = given.Input (KeptState Tree)
+TreeInput = given.Input (CachedState Tree)
 
 abbrev pub TreeEffect : Type 0
-TreeEffect = Effect (KeptState Tree)
+TreeEffect = Effect (CachedState Tree)
 
 abbrev pub TreePost : Type 0
-TreePost = Post (KeptState Tree)
+TreePost = Post (CachedState Tree)
 
 -- the process can have that standing: it is of that kind; only a server stops for good
 abbrev pub can_stand : Process → TreeStanding → Bool
@@ -80,7 +80,7 @@ read input done = input_of input
 -- has no effect
 abbrev pub effect_of : Process → TreeStanding → Input → Done → TreeEffect
 effect_of process standing input Unheard = idle_effect standing
-effect_of process standing input done = does kept_tree process (read input done) standing
+effect_of process standing input done = does cached_tree process (read input done) standing
 
 -- the reply that a message brings, if it brings one
 abbrev pub reply_in : TreeMessage → Option Reply
@@ -94,8 +94,8 @@ can_come (AtMaster v) (Hear from message) Acted = true
 can_come (AtMaster v) (Obey order) Acted = true
 can_come (AtServer v) (Hear from message) Acted = not (is_retirement from message)
 can_come (AtServer v) (Hear from message) Left = is_retirement from message
-can_come (AtServer v) (Hear from message) Unheard = may_be_unheard kept_tree v from message
-can_come (AtServer v) (Hear from message) Stopped = may_stop kept_tree v from message
+can_come (AtServer v) (Hear from message) Unheard = may_be_unheard cached_tree v from message
+can_come (AtServer v) (Hear from message) Stopped = may_stop cached_tree v from message
 can_come (AtServer v) Stop Stopped = true
 can_come (AtClient v) (Hear from message) Acted = true
 can_come (AtClient v) (Hear from message) (Answered number) = is_some (reply_in message)
@@ -117,11 +117,11 @@ put_by Left posts = []
 put_by done posts = posts
 
 -- what callers see, by the result
-abbrev pub told_by : Process → Input → Done → History
-told_by (Client c) (Begin call) (Began number) = call_event.Begin c number call ∷ []
-told_by (Client c) (Hear from message) (Answered number) =
+abbrev pub reported_by : Process → Input → Done → History
+reported_by (Client c) (Begin call) (Began number) = call_event.Begin c number call ∷ []
+reported_by (Client c) (Hear from message) (Answered number) =
     option_to_list (option_map (λ reply. call_event.Answer c number reply) (reply_in message))
-told_by process input done = []
+reported_by process input done = []
 
 -- the process followed its definition from the old standing to the new one; the outgoing messages
 -- were these and are those, and this became of the input
@@ -132,7 +132,7 @@ pub record HasActed (process : Process) (old new : TreeStanding) (input : Input)
   pub stands : can_stand process new ≡ true
   pub puts : Puts before after (put_by done (effect_of process old input done).posts)
   pub owed : is_end done ≡ true → (effect_of process old input done).posts ≡ last_post
-  pub told : (effect_of process old input done).told ≡ told_by process input done
+  pub reported : (effect_of process old input done).reported ≡ reported_by process input done
 
 -- the same, whatever number it has
 abbrev pub Acts : TreeStanding → TreeStanding → Input → TreeOut → TreeOut → Done → Type 0

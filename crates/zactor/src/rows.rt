@@ -22,7 +22,7 @@ ghost use Rattle.zactor.specs.declared.handed.Handed.TheVariants as handed;
 ghost use Rattle.zactor.specs.declared.input.Input.TheVariants as input;
 ghost use Rattle.zactor.specs.declared.done.Done.TheVariants as done;
 ghost use Rattle.zactor.specs.declared.refusal.Refusal.TheVariants as refusal;
-ghost use Rattle.zactor.specs.Acting.{can_come, can_stand, effect_of, put_by, refusal_of, told_by};
+ghost use Rattle.zactor.specs.Acting.{can_come, can_stand, effect_of, put_by, refusal_of, reported_by};
 ghost use Rattle.zactor.specs.Acting.{MayWantMemory, handed_by};
 ghost use Rattle.zactor.specs.support.Rows.{alone, answer, ask, config, gone, have, new_pred};
 ghost use Rattle.zactor.specs.support.Rows.{outside, retire, strange_retire, submit};
@@ -70,18 +70,18 @@ pub fn servers_stop()
 {}
 
 /// What callers see: a call that was begun, and the reply to the outstanding call.
-pub fn callers_are_told()
-    ensures begun { told_by (Client 4) (input.Begin update_call) (done.Began 8)
+pub fn callers_are_reported()
+    ensures begun { reported_by (Client 4) (input.Begin update_call) (done.Began 8)
         ≡ call_event.Begin 4 8 update_call ∷ [] }
     ensures begun_by_definition { (effect_of (Client 4) (AtClient idle) (input.Begin update_call)
-        (done.Began 8)).told ≡ call_event.Begin 4 8 update_call ∷ [] }
-    ensures answered { told_by (Client 4) (answer 7) (done.Answered 7)
+        (done.Began 8)).reported ≡ call_event.Begin 4 8 update_call ∷ [] }
+    ensures answered { reported_by (Client 4) (answer 7) (done.Answered 7)
         ≡ call_event.Answer 4 7 Deleted ∷ [] }
     ensures answered_by_definition { (effect_of (Client 4) (AtClient updating) (answer 7)
-        (done.Answered 7)).told ≡ call_event.Answer 4 7 Deleted ∷ [] }
-    ensures stale { (effect_of (Client 4) (AtClient updating) (answer 6) done.Acted).told ≡ [] }
-    ensures retried { told_by (Client 4) input.Retry done.Acted ≡ [] }
-    ensures of_the_master { told_by Master (input.Obey (Join 5)) done.Acted ≡ [] }
+        (done.Answered 7)).reported ≡ call_event.Answer 4 7 Deleted ∷ [] }
+    ensures stale { (effect_of (Client 4) (AtClient updating) (answer 6) done.Acted).reported ≡ [] }
+    ensures retried { reported_by (Client 4) input.Retry done.Acted ≡ [] }
+    ensures of_the_master { reported_by Master (input.Obey (Join 5)) done.Acted ≡ [] }
 {}
 
 /// Why an input is refused.

@@ -1,4 +1,4 @@
--- The command line is one of which clap tells exactly what a parse gives.
+-- The command line is one of which clap reports exactly what a parse gives.
 use Rattle.std.proofs.Common.{◌≡◌, ◌∙◌, ◌<◌, ◌+◌, ◌&&◌, ◌++◌, ℕ, Bool, true, false, not, refl, ap, List, [], ◌∷◌, map, length, take, get_or}
 use Rattle.std.specs.List.{list_all, list_any}
 use Rattle.std.proofs.lemmas.List.{take_more, map-append}
@@ -47,7 +47,7 @@ built-free : (i : ℕ) (options : List (Text × Text)) → list_all (λ (a : Rul
 built-free i [] = refl
 built-free i (option ∷ options) = built-free i options
 
--- no option is told by its position
+-- no option is reported by its position
 built-named : (n i : ℕ) (options : List (Text × Text)) → list_any (is_early_multiple n) (built_from i options) ≡ false
 built-named n i [] = refl
 built-named n i (option ∷ options) = built-named n i options

@@ -1,4 +1,4 @@
--- What is given by what a parse tells.
+-- What is given by what a parse reports.
 use Rattle.std.proofs.Common.{◌≡◌, ◌∙◌, ◌≢◌, Bool, cond, true, false, refl, sym, ap, ap₂, subst, inl, inr, List, [], ◌∷◌, Option, Some, None, Box, option_map, option_and_then}
 use Rattle.std.specs.Str.{bytes_eq}
 use Rattle.std.specs.Box.{box_value}

@@ -1,4 +1,4 @@
 pub mod Asked
 pub mod Words
-pub mod Telling
+pub mod Reporting
 pub mod support

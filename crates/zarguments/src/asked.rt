@@ -28,7 +28,7 @@ pub fn numbers_asked<'a>(
     let matches = match command.try_get_matches_from(words) {
         Ok(matches) => matches,
         Err(error) => {
-            told_apart(error.kind())?;
+            distinct(error.kind())?;
             return Ok(None);
         }
     };
@@ -39,7 +39,7 @@ pub fn numbers_asked<'a>(
 }
 
 // Distinguishes out of memory from all other faults of a parse, which are the words' own.
-fn told_apart(kind: ErrorKind) -> Result<(), AllocError>
+fn distinct(kind: ErrorKind) -> Result<(), AllocError>
     ensures memory { IsErr result → kind ≡ ErrorKind.OutOfMemory }
     ensures words { IsOk result → kind ≢ ErrorKind.OutOfMemory }
 {

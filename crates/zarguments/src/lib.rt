@@ -15,9 +15,9 @@ mod fault;
 mod line;
 mod options;
 pub mod rows;
-mod telling;
+mod reporting;
 
 pub use asked::numbers_asked;
 pub use fault::WordsFault;
 pub use options::NumberOption;
-pub use telling::{refuse, tell};
+pub use reporting::{refuse, tell};

@@ -4,7 +4,7 @@ use Rattle.std.specs.Prelude.{Result, Ok, Err, IfOk}
 use mathlib.Core.Logic.{∥∥₁_elim}
 use mathlib.Core.HLevel.{⊥_prop}
 use Rattle.zalloc.specs.declared.memory.Memory as zpath_memory
-use Rattle.zprotocol.specs.server.Machine.{kept_tree}
+use Rattle.zprotocol.specs.server.Machine.{cached_tree}
 use Rattle.zworld.specs.Steps.{WorldView, world_in}
 use Rattle.zprotocol.specs.traces.Traces.{client_count}
 use Rattle.zprotocol.specs.world.World.{opening_world}
@@ -26,7 +26,7 @@ only_memory t Mismatch cut disorder mismatch lawful whole = absurd (∥∥₁_el
 only_memory t Memory cut disorder mismatch lawful whole = refl
 
 pub opened_so : (t : Traces) (n : ℕ) → n ≡ client_count t → (r : Result WorldView zpath_memory.Memory)
-    → IfOk r (λ w. world_in w ≡ opening_world kept_tree t.last n)
+    → IfOk r (λ w. world_in w ≡ opening_world cached_tree t.last n)
     → IfOk r (λ w. opening_of t ≡ world_in w)
-opened_so t n count (Ok w) same = sym (same ∙ ap (opening_world kept_tree t.last) count)
+opened_so t n count (Ok w) same = sym (same ∙ ap (opening_world cached_tree t.last) count)
 opened_so t n count (Err memory) same = tt

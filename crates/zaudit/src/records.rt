@@ -1,7 +1,7 @@
 //! Clients' records compared with a history.
 
 ghost use Rattle.std.specs.Prelude.{◌≡◌, true, false};
-ghost use Rattle.zprotocol.specs.traces.Traces.{told_of, AgreesWithRecords};
+ghost use Rattle.zprotocol.specs.traces.Traces.{reported_of, AgreesWithRecords};
 ghost use Rattle.zprotocol.specs.traces.Traces as traces_of;
 ghost use Rattle.zaudit.specs.support.Findings.{DiffersFromRecord};
 
@@ -20,9 +20,9 @@ fn client_of(event: &CallEvent) -> u8
 }
 
 // Returns whether the history has exactly the record's events of the client.
-fn tells(history: &[CallEvent], client: u8, seen: &[CallEvent]) -> bool
-    ensures yes { result ≡ true → told_of client history.now ≡ seen.now }
-    ensures no { result ≡ false → told_of client history.now ≡ seen.now → ⊥ }
+fn reports(history: &[CallEvent], client: u8, seen: &[CallEvent]) -> bool
+    ensures yes { result ≡ true → reported_of client history.now ≡ seen.now }
+    ensures no { result ≡ false → reported_of client history.now ≡ seen.now → ⊥ }
 {
     let mut at = 0;
     for event in history {
@@ -45,7 +45,7 @@ pub(crate) fn agree(traces: &Traces, history: &[CallEvent]) -> bool
     ensures no { result ≡ false → DiffersFromRecord traces.now history.now }
 {
     for place in 0..traces.clients.len() {
-        if !tells(history, place as u8, &traces.clients[place].record) {
+        if !reports(history, place as u8, &traces.clients[place].record) {
             return false;
         }
     }

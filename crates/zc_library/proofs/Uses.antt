@@ -1,4 +1,4 @@
--- What C is told, call by call: each call plays at most one line, and tells what was to be told or nothing.
+-- What C is reported, call by call: each call plays at most one line, and reports what was to be reported or nothing.
 use Rattle.std.proofs.Common.{◌≡◌, ℕ, ◌⊎◌, inl, inr, Bool, true, false, List, [], ◌∷◌, ◌++◌, length, take, drop, refl}
 use Rattle.std.proofs.Common.{sym, ap, ◌∙◌, subst, append_assoc, if◌then◌else◌}
 use Rattle.std.proofs.Math.Dec.{ltb}
@@ -16,8 +16,8 @@ use Rattle.zc_library.specs.declared.service.Service.{Service}
 use Rattle.zc_library.specs.declared.service.Service.TheVariants.{Open, OutOfMemory, Refused}
 use Rattle.zc_library.specs.declared.status.Status.{Status}
 use Rattle.zc_library.specs.declared.status.Status.TheVariants.{Done, Pending, Memory, NoServers}
-use Rattle.zc_library.specs.Service.{IsOpened, Plays, Hears, HasTold, Tells, to_tell}
-use Rattle.zc_library.specs.Uses.{Call, Hear, Tell, IsCalled, IsUsed, played_by, told_by, played_lines, told_bytes, ScriptsTextIsTold}
+use Rattle.zc_library.specs.Service.{IsOpened, Plays, Hears, HasReported, Reports, to_report}
+use Rattle.zc_library.specs.Uses.{Call, Hear, Report, IsCalled, IsUsed, played_by, reported_by, played_lines, reported_bytes, ScriptsTextIsReported}
 
 -- the world of a service, where it is open
 abbrev IsIn : Service → ServiceWorld → Type 0
@@ -25,14 +25,14 @@ IsIn (Open script answer) world = world_between script.held ≡ world
 IsIn OutOfMemory world = Unit {0}
 IsIn Refused world = Unit {0}
 
--- lines were played between two services, and this told
+-- lines were played between two services, and this reported
 abbrev Writes : Service → List ℕ → Service → List ℕ → Type 0
-Writes old told new text = to_tell old ++ text ≡ told ++ to_tell new
+Writes old reported new text = to_report old ++ text ≡ reported ++ to_report new
 
-record Went (old : Service) (world : ServiceWorld) (lines : List (List ℕ)) (told : List ℕ) (new : Service) : Type 0 where
+record Went (old : Service) (world : ServiceWorld) (lines : List (List ℕ)) (reported : List ℕ) (new : Service) : Type 0 where
   pub after : ServiceWorld
   pub at : IsIn new after
-  pub done : AreLinesDone world lines after (Writes old told new)
+  pub done : AreLinesDone world lines after (Writes old reported new)
 
 -- a list is empty, or it isn't
 abbrev IsNil : List ℕ → Type 0
@@ -48,18 +48,18 @@ unplayed : (line : List ℕ) (status other : Status) → played_by (Hear line ot
 unplayed line status other none is = ap (λ s. played_by (Hear line s)) is ∙ none
 
 -- nothing was done
-idle : (old new : Service) (world : ServiceWorld) (lines : List (List ℕ)) (told : List ℕ) → IsIn old world → lines ≡ [] → told ≡ [] → new ≡ old
-    → Went old world lines told new
-idle old new world lines told at none silent same = record {
+idle : (old new : Service) (world : ServiceWorld) (lines : List (List ℕ)) (reported : List ℕ) → IsIn old world → lines ≡ [] → reported ≡ [] → new ≡ old
+    → Went old world lines reported new
+idle old new world lines reported at none silent same = record {
   after = world;
   at = subst (λ s. IsIn s world) (sym same) at;
-  done = subst (λ ls. AreLinesDone world ls world (Writes old told new)) (sym none)
-      (done-none world (Writes old told new) (append-nil (to_tell old) ∙ (λ i. sym silent i ++ to_tell (sym same i))));
+  done = subst (λ ls. AreLinesDone world ls world (Writes old reported new)) (sym none)
+      (done-none world (Writes old reported new) (append-nil (to_report old) ∙ (λ i. sym silent i ++ to_report (sym same i))));
 }
 
 -- a line was played, or there was no memory for it
 plays : (script : WorldView) (old new : Service) (world : ServiceWorld) (line : List ℕ) (status : Status)
-    → world_between script.held ≡ world → to_tell old ≡ [] → Plays script new line status → Went old world (played_by (Hear line status)) [] new
+    → world_between script.held ≡ world → to_report old ≡ [] → Plays script new line status → Went old world (played_by (Hear line status)) [] new
 plays script old (Open left answer) world line Done at none h = record {
   after = world_between left.held;
   at = refl;
@@ -75,7 +75,7 @@ plays script old new world line Pending at none h = absurd h
 plays script old new world line Memory at none h = record {
   after = world;
   at = subst (λ s. IsIn s world) (sym h) tt;
-  done = done-none world (Writes old [] new) (append-nil (to_tell old) ∙ none ∙ ap to_tell (sym h));
+  done = done-none world (Writes old [] new) (append-nil (to_report old) ∙ none ∙ ap to_report (sym h));
 }
 plays script old new world line NoServers at none h = absurd h
 
@@ -92,45 +92,45 @@ hears OutOfMemory new world line status at h = idle OutOfMemory new world (playe
 hears Refused new world line status at h = idle Refused new world (played_by (Hear line status)) [] at
     (unplayed line status NoServers refl h.0) refl h.1
 
--- what a service is that has told its answer
-has_told : (old new : Service) (world : ServiceWorld) → IsIn old world → HasTold old new → IsIn new world × (to_tell new ≡ [])
-has_told (Open script answer) (Open left nothing) world at h = (ap (λ (w : WorldView). world_between w.held) h.0 ∙ at, h.1)
-has_told (Open script answer) OutOfMemory world at h = absurd h
-has_told (Open script answer) Refused world at h = absurd h
-has_told OutOfMemory new world at h = (subst (λ s. IsIn s world) (sym h) tt, ap to_tell h)
-has_told Refused new world at h = (subst (λ s. IsIn s world) (sym h) tt, ap to_tell h)
+-- what a service is that has reported its answer
+has_reported : (old new : Service) (world : ServiceWorld) → IsIn old world → HasReported old new → IsIn new world × (to_report new ≡ [])
+has_reported (Open script answer) (Open left nothing) world at h = (ap (λ (w : WorldView). world_between w.held) h.0 ∙ at, h.1)
+has_reported (Open script answer) OutOfMemory world at h = absurd h
+has_reported (Open script answer) Refused world at h = absurd h
+has_reported OutOfMemory new world at h = (subst (λ s. IsIn s world) (sym h) tt, ap to_report h)
+has_reported Refused new world at h = (subst (λ s. IsIn s world) (sym h) tt, ap to_report h)
 
--- an answer was told, or there was no room for it
+-- an answer was reported, or there was no room for it
 module _ (old new : Service) (world : ServiceWorld) (before after : List ℕ) (count : ℕ) (at : IsIn old world)
-    (h : Tells old new before after count) where
+    (h : Reports old new before after count) where
   abbrev by_room : (b : Bool) → ltb (length before) count ≡ b → Went old world [] (if b then [] else take count after) new
   by_room true small = idle old new world [] [] at refl refl (h.2 (ltb-true (length before) count small)).0
   by_room false fits =
       let it = h.1 (ltb-false (length before) count fits) in
-      let left = has_told old new world at it.1 in
-      let whole : take count after ≡ to_tell old =
-      (λ i. take (h.0 i) (it.0 i)) ∙ take-append_seam (to_tell old) (drop count before) in
+      let left = has_reported old new world at it.1 in
+      let whole : take count after ≡ to_report old =
+      (λ i. take (h.0 i) (it.0 i)) ∙ take-append_seam (to_report old) (drop count before) in
       record {
         after = world;
         at = left.0;
         done = done-none world (Writes old (take count after) new) (λ i. sym whole i ++ sym left.1 i);
       }
 
-  tells : Went old world [] (told_by (Tell before after count)) new
-  tells = by_room (ltb (length before) count) refl
+  reports : Went old world [] (reported_by (Report before after count)) new
+  reports = by_room (ltb (length before) count) refl
 
 called : (old new : Service) (world : ServiceWorld) (call : Call) → IsIn old world → IsCalled old call new
-    → Went old world (played_by call) (told_by call) new
+    → Went old world (played_by call) (reported_by call) new
 called old new world (Hear line status) at h = hears old new world line status at h
-called old new world (Tell before after count) at h = tells old new world before after count at h
+called old new world (Report before after count) at h = reports old new world before after count at h
 
 -- what two texts tell, one behind the other
-both_told : (old mid new told more a b : List ℕ) → old ++ a ≡ told ++ mid → mid ++ b ≡ more ++ new → old ++ (a ++ b) ≡ (told ++ more) ++ new
-both_told old mid new told more a b first next =
-    sym (append_assoc old a b) ∙ ap (λ t. t ++ b) first ∙ append_assoc told mid b ∙ ap (λ t. told ++ t) next ∙ sym (append_assoc told more new)
+both_reported : (old mid new reported more a b : List ℕ) → old ++ a ≡ reported ++ mid → mid ++ b ≡ more ++ new → old ++ (a ++ b) ≡ (reported ++ more) ++ new
+both_reported old mid new reported more a b first next =
+    sym (append_assoc old a b) ∙ ap (λ t. t ++ b) first ∙ append_assoc reported mid b ∙ ap (λ t. reported ++ t) next ∙ sym (append_assoc reported more new)
 
 used : (calls : List Call) (old new : Service) (world : ServiceWorld) → IsIn old world → IsUsed old calls new
-    → Went old world (played_lines calls) (told_bytes calls) new
+    → Went old world (played_lines calls) (reported_bytes calls) new
 used [] old new world at h = idle old new world [] [] at refl refl h
 used (call ∷ calls) old new world at h =
     let mid = h.0 in
@@ -139,20 +139,20 @@ used (call ∷ calls) old new world at h =
     record {
       after = rest.after;
       at = rest.at;
-      done = done-append (Writes old (told_by call) mid) (Writes mid (told_bytes calls) new) (Writes old (told_bytes (call ∷ calls)) new)
+      done = done-append (Writes old (reported_by call) mid) (Writes mid (reported_bytes calls) new) (Writes old (reported_bytes (call ∷ calls)) new)
           world first.after rest.after (played_by call) (played_lines calls)
-          (both_told (to_tell old) (to_tell mid) (to_tell new) (told_by call) (told_bytes calls)) first.done rest.done;
+          (both_reported (to_report old) (to_report mid) (to_report new) (reported_by call) (reported_bytes calls)) first.done rest.done;
     }
 
 -- a service that was opened
-opened_in : (servers : ℕ) (opened : Service) → IsOpened servers opened → IsIn opened (opening_of servers) × (to_tell opened ≡ [])
+opened_in : (servers : ℕ) (opened : Service) → IsOpened servers opened → IsIn opened (opening_of servers) × (to_report opened ≡ [])
 opened_in servers (Open script answer) h = (h.1, h.2)
 opened_in servers OutOfMemory h = (tt, refl)
 opened_in servers Refused h = (tt, refl)
 
-pub scripts_text_is_told : ScriptsTextIsTold
-scripts_text_is_told servers opened new calls h use_ =
+pub scripts_text_is_reported : ScriptsTextIsReported
+scripts_text_is_reported servers opened new calls h use_ =
     let start = opened_in servers opened h in
     let went = used calls opened new (opening_of servers) start.0 use_ in
-    let text = done-text (Writes opened (told_bytes calls) new) (opening_of servers) went.after (played_lines calls) went.done in
-    (went.done.told ++ [], sym text ∙ ap (λ t. t ++ answers (script_state (opening_of servers) (went.done.told ++ [])) (played_lines calls)) start.1)
+    let text = done-text (Writes opened (reported_bytes calls) new) (opening_of servers) went.after (played_lines calls) went.done in
+    (went.done.reported ++ [], sym text ∙ ap (λ t. t ++ answers (script_state (opening_of servers) (went.done.reported ++ [])) (played_lines calls)) start.1)

@@ -19,10 +19,10 @@ code_of Memory = 2
 code_of NoServers = 3
 
 -- the pending answer
-abbrev pub to_tell : Service → List ℕ
-to_tell (Open script answer) = string_bytes answer
-to_tell OutOfMemory = []
-to_tell Refused = []
+abbrev pub to_report : Service → List ℕ
+to_report (Open script answer) = string_bytes answer
+to_report OutOfMemory = []
+to_report Refused = []
 
 -- A service was opened with that number of servers. Its world is in its initial state, and no
 -- answer is pending; or memory ran out; or there is no such number of servers.
@@ -56,7 +56,7 @@ IsAt Refused holds = ⊥
 -- out, and the world was dropped.
 abbrev pub Plays : WorldView → Service → List ℕ → Status → Type 0
 Plays script new line Done =
-    IsAt new (λ world told. IsLineDone (world_between script.held) line world (λ text. told ≡ text))
+    IsAt new (λ world reported. IsLineDone (world_between script.held) line world (λ text. reported ≡ text))
 Plays script new line Pending = ⊥
 Plays script new line Memory = new ≡ OutOfMemory
 Plays script new line NoServers = ⊥
@@ -75,17 +75,17 @@ abbrev pub HearsAs : Service → Service → List ℕ → ℕ → Type 0
 HearsAs old new line code = (status : Status) × (code ≡ code_of status) × Hears old new line status
 
 -- no answer is pending any more, and all else is as it was
-abbrev pub HasTold : Service → Service → Type 0
-HasTold (Open script answer) (Open left nothing) = (left ≡ script) × (string_bytes nothing ≡ [])
-HasTold (Open script answer) OutOfMemory = ⊥
-HasTold (Open script answer) Refused = ⊥
-HasTold OutOfMemory new = new ≡ OutOfMemory
-HasTold Refused new = new ≡ Refused
+abbrev pub HasReported : Service → Service → Type 0
+HasReported (Open script answer) (Open left nothing) = (left ≡ script) × (string_bytes nothing ≡ [])
+HasReported (Open script answer) OutOfMemory = ⊥
+HasReported (Open script answer) Refused = ⊥
+HasReported OutOfMemory new = new ≡ OutOfMemory
+HasReported Refused new = new ≡ Refused
 
 -- The pending answer is copied whole if the buffer has room for it, and the bytes after it stay.
 -- Otherwise nothing is done. The count is the answer's length either way.
-abbrev pub Tells : Service → Service → List ℕ → List ℕ → ℕ → Type 0
-Tells old new before after count =
-    (count ≡ length (to_tell old))
-    × (count ≤ length before → (after ≡ to_tell old ++ drop count before) × HasTold old new)
+abbrev pub Reports : Service → Service → List ℕ → List ℕ → ℕ → Type 0
+Reports old new before after count =
+    (count ≡ length (to_report old))
+    × (count ≤ length before → (after ≡ to_report old ++ drop count before) × HasReported old new)
     × (length before < count → (new ≡ old) × (after ≡ before))

@@ -5,17 +5,17 @@ use Rattle.zscript.specs.Line.{opening_script, answers}
 use Rattle.zc_library.specs.declared.service.Service.{Service}
 use Rattle.zc_library.specs.declared.status.Status.{Status}
 use Rattle.zc_library.specs.declared.status.Status.TheVariants.{Done, Pending, Memory, NoServers}
-use Rattle.zc_library.specs.Service.{IsOpened, Hears, Tells, to_tell}
+use Rattle.zc_library.specs.Service.{IsOpened, Hears, Reports, to_report}
 
 -- A call and its result: a line, and the status; or a buffer before and after, and the count.
 pub data Call : Type 0 where
   Hear : List ℕ → Status → Call
-  Tell : List ℕ → List ℕ → ℕ → Call
+  Report : List ℕ → List ℕ → ℕ → Call
 
 -- one call
 abbrev pub IsCalled : Service → Call → Service → Type 0
 IsCalled old (Hear line status) new = Hears old new line status
-IsCalled old (Tell before after count) new = Tells old new before after count
+IsCalled old (Report before after count) new = Reports old new before after count
 
 -- a sequence of calls
 abbrev pub IsUsed : Service → List Call → Service → Type 0
@@ -28,12 +28,12 @@ played_by (Hear line Done) = line ∷ []
 played_by (Hear line Pending) = []
 played_by (Hear line Memory) = []
 played_by (Hear line NoServers) = []
-played_by (Tell before after count) = []
+played_by (Report before after count) = []
 
 -- the answer that a call delivered: the beginning of its buffer, if there was room
-abbrev pub told_by : Call → List ℕ
-told_by (Hear line status) = []
-told_by (Tell before after count) = if nat_lt (length before) count then [] else take count after
+abbrev pub reported_by : Call → List ℕ
+reported_by (Hear line status) = []
+reported_by (Report before after count) = if nat_lt (length before) count then [] else take count after
 
 -- the lines that were executed
 abbrev pub played_lines : List Call → List (List ℕ)
@@ -41,14 +41,14 @@ played_lines [] = []
 played_lines (call ∷ calls) = played_by call ++ played_lines calls
 
 -- all answers that were delivered
-abbrev pub told_bytes : List Call → List ℕ
-told_bytes [] = []
-told_bytes (call ∷ calls) = told_by call ++ told_bytes calls
+abbrev pub reported_bytes : List Call → List ℕ
+reported_bytes [] = []
+reported_bytes (call ∷ calls) = reported_by call ++ reported_bytes calls
 
 -- Whatever the calls are: the answers delivered, and then the pending one, are a script's answers
 -- to the executed lines, for some outcomes of its events.
-abbrev pub ScriptsTextIsTold : Type 0
-ScriptsTextIsTold =
+abbrev pub ScriptsTextIsReported : Type 0
+ScriptsTextIsReported =
     (servers : ℕ) (opened used : Service) (calls : List Call) → IsOpened servers opened → IsUsed opened calls used
     → (outcomes : List Outcome)
-    × (told_bytes calls ++ to_tell used ≡ answers (opening_script servers outcomes) (played_lines calls))
+    × (reported_bytes calls ++ to_report used ≡ answers (opening_script servers outcomes) (played_lines calls))

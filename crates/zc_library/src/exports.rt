@@ -17,7 +17,7 @@ ghost use denote.Builtin.{u8};
 ghost use denote.RawPtr.{lies_at, room_at};
 ghost use Rattle.zc_library.specs.declared.service.Service.{Service};
 ghost use Rattle.zc_library.specs.contracts.service.Service as service;
-ghost use Rattle.zc_library.specs.Service.{OpensAs, HearsAs, Tells};
+ghost use Rattle.zc_library.specs.Service.{OpensAs, HearsAs, Reports};
 
 use crate::service::{Service, finish, hear, make, status, tell};
 use std::alloc::Global;
@@ -74,7 +74,7 @@ pub unsafe extern "C" fn jellqupas_tell(at: *mut u8, to: *mut u8, len: usize) ->
     ensures* { ∃ₛ (λ (new : Service). ∃ₛ (λ (after : List ℕ).
         sem 𝓛 (lies_at service.the_row full_share at new)
         ∗ (sem 𝓛 (lies_at (Array u8 len) full_share to after)
-        ∗ ⌜ Tells g.0 new g.1 after result ⌝))) }
+        ∗ ⌜ Reports g.0 new g.1 after result ⌝))) }
 {
     tell(
         &mut *(at as *mut Service),

@@ -7,7 +7,7 @@
 //! while an answer is pending, so a program that forgets to read one loses none.
 
 ghost use Rattle.std.specs.Prelude.{◌≡◌};
-ghost use Rattle.zc_library.specs.Service.{IsOpened, IsStatusOf, Hears, HearsAs, Tells};
+ghost use Rattle.zc_library.specs.Service.{IsOpened, IsStatusOf, Hears, HearsAs, Reports};
 
 use crate::status::Status;
 use std::alloc::Global;
@@ -82,7 +82,7 @@ pub(crate) fn hear(service: &mut Service, line: &[u8]) -> u32
 
 /// Moves the pending answer to the buffer if all of it fits. Returns its length in bytes.
 pub(crate) fn tell(service: &mut Service, to: &mut [u8]) -> usize
-    ensures { Tells service.old service.new to.old to.new result }
+    ensures { Reports service.old service.new to.old to.new result }
 {
     let Service::Open(_, answer) = service else {
         return 0;

@@ -1,4 +1,4 @@
--- What is told on going through the parts of calls, and kept with the tree.
+-- What is reported on going through the parts of calls, and kept with the tree.
 use Rattle.std.proofs.Common.{◌≡◌, ℕ, ◌+◌, Bool, true, false, if◌then◌else◌, List, [], ◌∷◌, ◌++◌, Option, Some, None, Result, Ok, Err, refl, sym, subst}
 use Rattle.std.specs.Prelude.{nat_le}
 use Rattle.std.specs.FinMap as finite
@@ -25,7 +25,7 @@ use Rattle.zcalls.specs.declared.reply.PartReply.TheVariants.{Created, Deleted, 
 use Rattle.zcalls.specs.declared.reply.Reply.{Reply}
 use Rattle.zcalls.specs.declared.reply.Reply.TheVariants as reply
 use Rattle.zcalls.specs.Change.{part_reply_of}
-use Rattle.zcalls.specs.Part.{create_step, delete_step, set_step, check_step, part_step, told_as_part, create_refusals, delete_refusals, made_path, owner_of, ttl_of, unless_refused, on_version, has_other_version, with_node_set, is_gone}
+use Rattle.zcalls.specs.Part.{create_step, delete_step, set_step, check_step, part_step, reported_as_part, create_refusals, delete_refusals, made_path, owner_of, ttl_of, unless_refused, on_version, has_other_version, with_node_set, is_gone}
 use Rattle.zcalls.specs.Multi.{Run, behind, and_then, run}
 use Rattle.zcalls.specs.Step.{step, update_result, change_result, multi_result, granted_timeout, tick_result, after_tick, is_busy, is_exhausted, stale_next}
 use Rattle.zcalls.proofs.Ticks.{counted-nodes}
@@ -39,10 +39,10 @@ module _ {S : Type 0} (next : S → Part → PartReply → S) (Inv : S → Nodes
   LeavesDone s part (Err refusal) = Unit {0}
   LeavesDone s part (Ok (u, answer)) = Inv (next s part answer) u.nodes
 
-  told_unless : (s : S) (part : Part) (o : Option Refusal) (did : Tree × ChangeReply)
-      → (o ≡ None → Inv (next s part (part_reply_of did.1)) did.0.nodes) → LeavesDone s part (told_as_part (unless_refused o did))
-  told_unless s part (Some refusal) did left = tt
-  told_unless s part None did left = left refl
+  reported_unless : (s : S) (part : Part) (o : Option Refusal) (did : Tree × ChangeReply)
+      → (o ≡ None → Inv (next s part (part_reply_of did.1)) did.0.nodes) → LeavesDone s part (reported_as_part (unless_refused o did))
+  reported_unless s part (Some refusal) did left = tt
+  reported_unless s part None did left = left refl
 
   -- what a create, a delete, a set and a check leave
   pub create-leaves : (s : S) (t : Tree) (client : ℕ) (create : ToCreate) → let made = made_path t.nodes create.kind create.path in
@@ -51,23 +51,23 @@ module _ {S : Type 0} (next : S → Part → PartReply → S) (Inv : S → Nodes
   unfolding create_step
   create-leaves s t client create left =
       let made = made_path t.nodes create.kind create.path in
-      told_unless s (part_of.Create create) (first_that_holds (create_refusals t client create)) (with_node t made create.bytes (owner_of create.kind.lifetime) (ttl_of create.kind.lifetime) create.kind.is_sequential, change_reply.Created made) left
+      reported_unless s (part_of.Create create) (first_that_holds (create_refusals t client create)) (with_node t made create.bytes (owner_of create.kind.lifetime) (ttl_of create.kind.lifetime) create.kind.is_sequential, change_reply.Created made) left
 
   pub delete-leaves : (s : S) (t : Tree) (client : ℕ) (delete : ToDelete)
       → Inv (next s (part_of.Delete delete) Deleted) (without_node t delete.path).nodes → LeavesDone s (part_of.Delete delete) (part_step t client (part_of.Delete delete))
   unfolding delete_step
-  delete-leaves s t client delete left = told_unless s (part_of.Delete delete) (first_that_holds (delete_refusals t.nodes delete)) (without_node t delete.path, change_reply.Deleted) (λ e. left)
+  delete-leaves s t client delete left = reported_unless s (part_of.Delete delete) (first_that_holds (delete_refusals t.nodes delete)) (without_node t delete.path, change_reply.Deleted) (λ e. left)
 
   pub set-leaves : (s : S) (t : Tree) (client : ℕ) (set : ToSet)
       → ((stat : Stat) → Inv (next s (part_of.SetData set) (Set stat)) (with_data_at t set.path set.bytes).nodes) → LeavesDone s (part_of.SetData set) (part_step t client (part_of.SetData set))
   unfolding set_step
   set-leaves s t client set left = by (finite.get t.nodes set.path) refl
     where
-      by : (o : Option Node) → finite.get t.nodes set.path ≡ o → LeavesDone s (part_of.SetData set) (told_as_part (on_version set.version o (λ n. with_node_set t set.path (with_data set.bytes (t.zxid + 1) t.time n))))
+      by : (o : Option Node) → finite.get t.nodes set.path ≡ o → LeavesDone s (part_of.SetData set) (reported_as_part (on_version set.version o (λ n. with_node_set t set.path (with_data set.bytes (t.zxid + 1) t.time n))))
       by None e = tt
       by (Some n) e = on (has_other_version set.version n)
         where
-          on : (b : Bool) → LeavesDone s (part_of.SetData set) (told_as_part (if b then Err BadVersion else Ok (with_node_set t set.path (with_data set.bytes (t.zxid + 1) t.time n))))
+          on : (b : Bool) → LeavesDone s (part_of.SetData set) (reported_as_part (if b then Err BadVersion else Ok (with_node_set t set.path (with_data set.bytes (t.zxid + 1) t.time n))))
           on true = tt
           on false =
               let new = with_data set.bytes (t.zxid + 1) t.time n in
@@ -97,8 +97,8 @@ module _ {S : Type 0} (next : S → Part → PartReply → S) (Inv : S → Nodes
   through-append s (done ∷ first) second = through-append (next s done.0 done.1) first second
 
   module _ (keeps : (s : S) (t : Tree) (client : ℕ) (part : Part) → Inv s t.nodes → LeavesDone s part (part_step t client part)) (drops : (s : S) (t : Tree) (path : Path) → Inv s t.nodes → Inv s (without_node t path).nodes) where
-    single : (s : S) (t : Tree) (part : Part) (did : Result (Tree × ChangeReply) Refusal) → LeavesDone s part (told_as_part did) → Inv s t.nodes
-        → Inv (through next s (and_done part (told_as_part did) (λ u. []))) (change_result t did).0.nodes
+    single : (s : S) (t : Tree) (part : Part) (did : Result (Tree × ChangeReply) Refusal) → LeavesDone s part (reported_as_part did) → Inv s t.nodes
+        → Inv (through next s (and_done part (reported_as_part did) (λ u. []))) (change_result t did).0.nodes
     single s t part (Err refusal) left inv = inv
     single s t part (Ok (u, answer)) left inv = left
 

@@ -29,7 +29,7 @@ use Rattle.zcalls.specs.Part.{create_step, delete_step, set_step, part_step, is_
 use Rattle.zcalls.specs.Multi.{Run, run}
 use Rattle.zcalls.specs.Step.{step, update_result, change_result, multi_result, granted_timeout, is_exhausted}
 use Rattle.zcalls.specs.TtlLaws.{part_deletes, may_remove, LastsUntilRemoved}
-use Rattle.zcalls.proofs.Leaving.{Leaves, create_step-leaves, delete_step-leaves, set_step-leaves, check_step-leaves, told_as_part-leaves, and_then-leaves}
+use Rattle.zcalls.proofs.Leaving.{Leaves, create_step-leaves, delete_step-leaves, set_step-leaves, check_step-leaves, reported_as_part-leaves, and_then-leaves}
 use Rattle.zcalls.proofs.Owners.{is_own}
 use Rattle.zcalls.proofs.Sessions.{or_refused}
 
@@ -55,11 +55,11 @@ module _ (path : Path) where
 
   part-has : (t : Tree) (client : ℕ) (wanted : Part) → part_deletes path wanted ≡ false → Has t → Leaves Has (part_step t client wanted)
   part-has t client (part.Create create) other here =
-      told_as_part-leaves Has (create_step t client create) (create_step-leaves Has t client create (λ e. added-has t _ _ _ _ _ here))
+      reported_as_part-leaves Has (create_step t client create) (create_step-leaves Has t client create (λ e. added-has t _ _ _ _ _ here))
   part-has t client (part.Delete delete) other here =
-      told_as_part-leaves Has (delete_step t delete) (delete_step-leaves Has t delete (λ e. dropped-has t delete.path other here))
+      reported_as_part-leaves Has (delete_step t delete) (delete_step-leaves Has t delete (λ e. dropped-has t delete.path other here))
   part-has t client (part.SetData set) other here =
-      told_as_part-leaves Has (set_step t set) (set_step-leaves Has t set (has_node-changed t.nodes set.path (with_data set.bytes (t.zxid + 1) t.time) path ∙ here))
+      reported_as_part-leaves Has (set_step t set) (set_step-leaves Has t set (has_node-changed t.nodes set.path (with_data set.bytes (t.zxid + 1) t.time) path ∙ here))
   part-has t client (part.Check check) other here = check_step-leaves Has t check here
 
   neither : (a b : Bool) → (a || b) ≡ false → (a ≡ false) × (b ≡ false)
@@ -82,9 +82,9 @@ module _ (path : Path) where
   multi-has t (Ok (u, replies)) left here = left
 
   -- what changes no nodes, or is refused
-  same-has : (t u : Tree) (why : Refusal) (told : Reply) (b : Bool) → u.nodes ≡ t.nodes → Has t → Has (or_refused t why (u, told) b).0
-  same-has t u why told true same here = here
-  same-has t u why told false same here = ap (λ (nodes : Nodes). has_node nodes path) same ∙ here
+  same-has : (t u : Tree) (why : Refusal) (reported : Reply) (b : Bool) → u.nodes ≡ t.nodes → Has t → Has (or_refused t why (u, reported) b).0
+  same-has t u why reported true same here = here
+  same-has t u why reported false same here = ap (λ (nodes : Nodes). has_node nodes path) same ∙ here
 
   renewed-nodes : (t : Tree) (id : ℕ) → (with_renewed_session t id).nodes ≡ t.nodes
   renewed-nodes t id = refl

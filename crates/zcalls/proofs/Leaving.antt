@@ -18,7 +18,7 @@ use Rattle.zcalls.specs.declared.refusal.Refusal.{Refusal}
 use Rattle.zcalls.specs.declared.refusal.Refusal.TheVariants.{BadVersion}
 use Rattle.zcalls.specs.declared.reply.PartReply.{PartReply}
 use Rattle.zcalls.specs.declared.reply.PartReply.TheVariants.{Checked}
-use Rattle.zcalls.specs.Part.{create_step, delete_step, set_step, check_step, told_as_part, part_step, create_refusals, delete_refusals, made_path, owner_of, ttl_of, unless_refused, on_version, has_other_version, with_node_set}
+use Rattle.zcalls.specs.Part.{create_step, delete_step, set_step, check_step, reported_as_part, part_step, create_refusals, delete_refusals, made_path, owner_of, ttl_of, unless_refused, on_version, has_other_version, with_node_set}
 use Rattle.zcalls.specs.Multi.{Run, behind, and_then, run}
 
 -- the tree that was left has this, where the step was done
@@ -39,9 +39,9 @@ module _ (P : Tree → Type 0) where
       by true = tt
       by false = left n refl
 
-  pub told_as_part-leaves : (did : Result (Tree × ChangeReply) Refusal) → Leaves P did → Leaves P (told_as_part did)
-  told_as_part-leaves (Err refusal) left = tt
-  told_as_part-leaves (Ok (t, reply)) left = left
+  pub reported_as_part-leaves : (did : Result (Tree × ChangeReply) Refusal) → Leaves P did → Leaves P (reported_as_part did)
+  reported_as_part-leaves (Err refusal) left = tt
+  reported_as_part-leaves (Ok (t, reply)) left = left
 
   pub create_step-leaves : (t : Tree) (client : ℕ) (create : ToCreate)
       → (first_that_holds (create_refusals t client create) ≡ None → P (with_node t (made_path t.nodes create.kind create.path) create.bytes (owner_of create.kind.lifetime) (ttl_of create.kind.lifetime) create.kind.is_sequential))
@@ -71,9 +71,9 @@ module _ (P : Tree → Type 0) where
       → ((create : ToCreate) → Leaves P (create_step t client create)) → ((delete : ToDelete) → Leaves P (delete_step t delete))
       → ((set : ToSet) → Leaves P (set_step t set)) → P t
       → Leaves P (part_step t client part)
-  part_step-leaves t client (Create create) creates deletes sets stays = told_as_part-leaves (create_step t client create) (creates create)
-  part_step-leaves t client (Delete delete) creates deletes sets stays = told_as_part-leaves (delete_step t delete) (deletes delete)
-  part_step-leaves t client (SetData set) creates deletes sets stays = told_as_part-leaves (set_step t set) (sets set)
+  part_step-leaves t client (Create create) creates deletes sets stays = reported_as_part-leaves (create_step t client create) (creates create)
+  part_step-leaves t client (Delete delete) creates deletes sets stays = reported_as_part-leaves (delete_step t delete) (deletes delete)
+  part_step-leaves t client (SetData set) creates deletes sets stays = reported_as_part-leaves (set_step t set) (sets set)
   part_step-leaves t client (Check check) creates deletes sets stays = check_step-leaves t check stays
 
   behind-leaves : (reply : PartReply) (did : Run) → Leaves P did → Leaves P (behind reply did)

@@ -1,6 +1,6 @@
 pub mod Paths
 pub mod Tables
-pub mod Told
+pub mod Reported
 pub mod Owners
 pub mod Leaving
 pub mod Runs
@@ -12,7 +12,7 @@ pub mod Timed
 pub mod Refused
 pub mod InOrder
 pub mod Taking
-pub mod KeptReplies
+pub mod CachedReplies
 pub mod Retries
 pub mod Among
 pub mod Acting

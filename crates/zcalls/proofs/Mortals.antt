@@ -94,4 +94,4 @@ ticked t client left = ap (λ b. (if b then (t, reply.Refused Exhausted) else up
 
 pub tick_takes_one_zxid : TickTakesOneZxid
 tick_takes_one_zxid t client left =
-    changes_take_one_zxid t client Tick ∙ ap (λ told. t.zxid + (if is_change told then 1 else 0)) (ticked t client left)
+    changes_take_one_zxid t client Tick ∙ ap (λ reported. t.zxid + (if is_change reported then 1 else 0)) (ticked t client left)

@@ -6,7 +6,7 @@ use Rattle.std.specs.List.{AllByRecursion, IsDistinct}
 use Rattle.std.specs.Option.{option_map_or}
 use Rattle.zpath.specs.Numbered.{numbered_path}
 use Rattle.zpath.proofs.First.{no_test_holds}
-use Rattle.zpath.proofs.Sequence.{tells_numbers_apart}
+use Rattle.zpath.proofs.Sequence.{numbers_are_distinct}
 use Rattle.ztree.specs.declared.node.Node.{Node}
 use Rattle.ztree.specs.Tree.{Tree, Nodes, Path, opening_tree, new_node, parent_of, has_node, with_child, without_child, with_data, with_node, without_node, with_data_at}
 use Rattle.ztree.proofs.Sorted.{paths_total}
@@ -47,7 +47,7 @@ another asked number (path ∷ made) below short all = (by (is_same (numbered_pa
     by false e = refl
     by true e =
         let here = all.0 in
-        let same = tells_numbers_apart asked here.asked number here.number below here.below short here.short (one_path (numbered_path asked number) path e ∙ here.is) in
+        let same = numbers_are_distinct asked here.asked number here.number below here.below short here.short (one_path (numbered_path asked number) path e ∙ here.is) in
         absurd (omega (arith, same, here.small))
 
 both : (a b : Bool) → (a && b) ≡ true → (a ≡ true) × (b ≡ true)

@@ -111,8 +111,8 @@ unfolding query_reply
 counts_the_names t path stat names = by (finite.get t.nodes path)
   where
     by : (o : Option Node) → on_node o (λ n. reply.Exists (stat_of t.nodes path n)) ≡ reply.Exists stat → on_node o (λ n. reply.Children (children t.nodes path)) ≡ reply.Children names → stat.children ≡ length names
-    by None told listed = cc
-    by (Some n) told listed =
-        let is_stat : stat_of t.nodes path n ≡ stat = cc told in
+    by None reported listed = cc
+    by (Some n) reported listed =
+        let is_stat : stat_of t.nodes path n ≡ stat = cc reported in
         let is_names : children t.nodes path ≡ names = cc listed in
         sym (ap (λ (s : Stat). s.children) is_stat) ∙ ap length is_names

@@ -95,11 +95,11 @@ module _ (t : Tree) (client id : ℕ) (s : Session) (there : finite.get t.sessio
 
   ticked-ends : is_exhausted t Tick ≡ false → finite.get (tick_result t (due_sessions t.sessions (t.time + 1)) (stale_next t)).0.sessions id ≡ None → Ends Tick
   ticked-ends left gone =
-      let told = sym (ap (option_and_then (if_not_due (t.time + 1))) there)
+      let reported = sym (ap (option_and_then (if_not_due (t.time + 1))) there)
       ∙ sym (sessions-due_ended t (t.time + 1) id)
       ∙ ap (λ (sessions : Sessions). finite.get sessions id) (sym (ticked-sessions t (due_sessions t.sessions (t.time + 1)) (stale_next t)))
       ∙ gone in
-      inr (refl, left, is_due (t.time + 1) (nat_le s.deadline (t.time + 1)) refl told)
+      inr (refl, left, is_due (t.time + 1) (nat_le s.deadline (t.time + 1)) refl reported)
 
   changed-ends : (update : Update) → is_exhausted t update ≡ false → finite.get (update_result t client update).0.sessions id ≡ None → Ends update
   changed-ends (Create create) left gone = absurd (not_ended _ (alone-sessions t (create_step t client create) (change-alone t client (change.Create create))) gone)
@@ -120,9 +120,9 @@ unfolding step
 ends_only_so t client update id s there gone = step-ends t client id s there update (is_exhausted t update) refl gone
 
 -- a session that was opened is fresh
-opened-fresh : (t : Tree) (client timeout id told : ℕ) (b : Bool) → (or_refused t TooManySessions (with_next_zxid (with_session t client timeout), reply.Opened (t.zxid + 1) timeout) b).1 ≡ reply.Opened id told → IsFresh (or_refused t TooManySessions (with_next_zxid (with_session t client timeout), reply.Opened (t.zxid + 1) timeout) b).0 id
-opened-fresh t client timeout id told true e = cc
-opened-fresh t client timeout id told false e =
+opened-fresh : (t : Tree) (client timeout id reported : ℕ) (b : Bool) → (or_refused t TooManySessions (with_next_zxid (with_session t client timeout), reply.Opened (t.zxid + 1) timeout) b).1 ≡ reply.Opened id reported → IsFresh (or_refused t TooManySessions (with_next_zxid (with_session t client timeout), reply.Opened (t.zxid + 1) timeout) b).0 id
+opened-fresh t client timeout id reported true e = cc
+opened-fresh t client timeout id reported false e =
     let new = new_session client timeout t.time in
     let is : t.zxid + 1 ≡ id = cc e in
     (new, ap (finite.get (finite.insert t.sessions (t.zxid + 1) new)) (sym is) ∙ get-insert-here nat_cmp_total nat_cmp-IsAntisymmetric t.sessions (t.zxid + 1) new, refl)
@@ -137,9 +137,9 @@ pinged-fresh : (t : Tree) (client id : ℕ) (b : Bool) → is_gone t.sessions cl
 pinged-fresh t client id true is e = cc
 pinged-fresh t client id false is e = let own = is_own t.sessions client id is in touched-fresh t id own.session own.there
 
-or_exhausted : (t : Tree) (did : Tree × Reply) (id : ℕ) (told : Reply) (b : Bool) → (reply.Refused Exhausted ≡ told → ⊥) → (did.1 ≡ told → IsFresh did.0 id) → (or_refused t Exhausted did b).1 ≡ told → IsFresh (or_refused t Exhausted did b).0 id
-or_exhausted t did id told true isnt fresh e = absurd (isnt e)
-or_exhausted t did id told false isnt fresh e = fresh e
+or_exhausted : (t : Tree) (did : Tree × Reply) (id : ℕ) (reported : Reply) (b : Bool) → (reply.Refused Exhausted ≡ reported → ⊥) → (did.1 ≡ reported → IsFresh did.0 id) → (or_refused t Exhausted did b).1 ≡ reported → IsFresh (or_refused t Exhausted did b).0 id
+or_exhausted t did id reported true isnt fresh e = absurd (isnt e)
+or_exhausted t did id reported false isnt fresh e = fresh e
 
 pub open_and_ping_renew : OpenAndPingRenew
 unfolding step

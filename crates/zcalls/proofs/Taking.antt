@@ -32,12 +32,12 @@ none : (n : ℕ) → n ≡ n + 0
 none n = omega arith
 
 -- an outcome that makes no change
-unchanged : (t u : Tree) (told : Reply) → is_change told ≡ false → u.zxid ≡ t.zxid → Takes t (u, told)
-unchanged t u told isnt same = rw (isnt, same) (none t.zxid)
+unchanged : (t u : Tree) (reported : Reply) → is_change reported ≡ false → u.zxid ≡ t.zxid → Takes t (u, reported)
+unchanged t u reported isnt same = rw (isnt, same) (none t.zxid)
 
 -- one that makes a change
-changes : (t u : Tree) (told : Reply) → is_change told ≡ true → u.zxid ≡ t.zxid → Takes t (with_next_zxid u, told)
-changes t u told does same = rw does (ap (λ z. z + 1) same)
+changes : (t u : Tree) (reported : Reply) → is_change reported ≡ true → u.zxid ≡ t.zxid → Takes t (with_next_zxid u, reported)
+changes t u reported does same = rw does (ap (λ z. z + 1) same)
 
 -- a choice of two outcomes
 either : (t : Tree) (why : Reply) (did : Tree × Reply) (b : Bool) → is_change why ≡ false → Takes t did → Takes t (if b then (t, why) else did)

@@ -2,12 +2,12 @@ pub mod Change
 pub mod Part
 pub mod Multi
 pub mod Step
-pub mod Kept
+pub mod Cached
 pub mod PlainTree
 pub mod Lists
 pub mod Operation
 pub mod Acts
-pub mod KeptLaws
+pub mod CachedLaws
 pub mod Bounds
 pub mod Laws
 pub mod CallRuns

@@ -159,13 +159,13 @@ change_step t client (change.Delete delete) = delete_step t delete
 change_step t client (change.SetData set) = set_step t set
 
 -- the result of a change as the result of a part
-abbrev pub told_as_part : Result (Tree × ChangeReply) Refusal → Result (Tree × PartReply) Refusal
-told_as_part (Err refusal) = Err refusal
-told_as_part (Ok (t, did)) = Ok (t, part_reply_of did)
+abbrev pub reported_as_part : Result (Tree × ChangeReply) Refusal → Result (Tree × PartReply) Refusal
+reported_as_part (Err refusal) = Err refusal
+reported_as_part (Ok (t, did)) = Ok (t, part_reply_of did)
 
 -- the part step, for a client: one part of a multi
 abbrev pub part_step : Tree → ℕ → Part → Result (Tree × PartReply) Refusal
-part_step t client (part.Create create) = told_as_part (create_step t client create)
-part_step t client (part.Delete delete) = told_as_part (delete_step t delete)
-part_step t client (part.SetData set) = told_as_part (set_step t set)
+part_step t client (part.Create create) = reported_as_part (create_step t client create)
+part_step t client (part.Delete delete) = reported_as_part (delete_step t delete)
+part_step t client (part.SetData set) = reported_as_part (set_step t set)
 part_step t client (part.Check check) = check_step t check

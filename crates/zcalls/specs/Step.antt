@@ -116,8 +116,8 @@ step t client update = if is_exhausted t update then (t, reply.Refused Exhausted
 
 -- the reply for a node if it exists, else `NoNode`
 abbrev pub on_node : Option Node → (Node → Reply) → Reply
-on_node None told = reply.Refused NoNode
-on_node (Some n) told = told n
+on_node None reported = reply.Refused NoNode
+on_node (Some n) reported = reported n
 
 -- the reply to a query; the tree stays unchanged
 unfoldable pub query_reply : Tree → Query → Reply

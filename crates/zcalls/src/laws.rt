@@ -1,9 +1,9 @@
 //! Laws of the definitions. Each function's contract is a law; its body does nothing.
 
 ghost use Rattle.zcalls.specs.CallRuns.{ZxidsRise, ChangesTakeOneZxid, VersionCountsSets, NumbersDiffer};
-ghost use Rattle.zcalls.specs.Kept.{Plain, PlainStep};
-ghost use Rattle.zcalls.specs.KeptLaws.{FirstEntriesAct, RetryChangesNothing, KeptNumbersRise, LowNumbersChangeNothing};
-ghost use Rattle.zcalls.specs.KeptLaws.{NoCallActsTwice, RepliesAreOfActs, RepliesStayUntilTheNext, OnlyActsCount, SameReplyEachTime};
+ghost use Rattle.zcalls.specs.Cached.{Plain, PlainStep};
+ghost use Rattle.zcalls.specs.CachedLaws.{FirstEntriesAct, RetryChangesNothing, KeptNumbersRise, LowNumbersChangeNothing};
+ghost use Rattle.zcalls.specs.CachedLaws.{NoCallActsTwice, RepliesAreOfActs, RepliesStayUntilTheNext, OnlyActsCount, SameReplyEachTime};
 ghost use Rattle.zcalls.specs.Laws.{RefusedChangesNothing, RefusedMultiChangesNothing, CountsTheNames, ListsInOrder};
 ghost use Rattle.zcalls.specs.SessionLaws.{TreesAreLawful, EndsOnlySo, TickEndsTheDue, EndTakesItsOwn, OpenAndPingRenew, LivesItsTimeout};
 ghost use Rattle.zcalls.specs.TtlLaws.{TickRemovesTheStale, SetPutsOff, NobodyOwnsTheTimed, LastsUntilRemoved, TickTakesOneZxid};

@@ -1,7 +1,7 @@
 //! The calls of the service: the types, and the definitions of what each call does and returns.
 //!
 //! The sequential step (`specs/Step.antt`) is the sequential specification: the service as one
-//! machine that does one call after the other. The entry step (`specs/Kept.antt`) lets an update
+//! machine that does one call after the other. The entry step (`specs/Cached.antt`) lets an update
 //! act once, however often it is sent. Their laws are contracts of functions with empty bodies.
 //!
 //! Consumes the values of `ztree`; produces `Call`, `Entry` and `Reply`.

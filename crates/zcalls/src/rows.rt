@@ -22,7 +22,7 @@ ghost use Rattle.zcalls.specs.Part.{has_other_version, is_spent};
 ghost use Rattle.zcalls.specs.Part.{named, sequential, owner_of, ttl_of};
 ghost use Rattle.zcalls.specs.Multi.{run};
 ghost use Rattle.zcalls.specs.Step.{step, query_reply, is_exhausted, multi_result, tick_result};
-ghost use Rattle.zcalls.specs.support.Counting.{after, creates, deletes, told, told_no, seven, third_kept};
+ghost use Rattle.zcalls.specs.support.Counting.{after, creates, deletes, reported, reported_no, seven, third_kept};
 ghost use Rattle.zcalls.specs.support.Counting.{with_eighth, one, created, refused};
 ghost use Rattle.zcalls.specs.support.Rows.{CreatesAreTested, order_of_creates, DeletesAreTested};
 ghost use Rattle.zcalls.specs.support.Rows.{IsRefusedWhere, FirstIsRefused, FirstIsChecked};
@@ -34,20 +34,20 @@ ghost use Rattle.zcalls.specs.support.Rows.{without_7, only_7, only_a, ticked, l
 /// seventh create.
 pub fn updates_act_once()
     ensures number_0 { after seven (creates 1 0) ≡ (seven, None) }
-    ensures first { after seven (creates 1 1) ≡ (with_eighth seven 1 1, told 8) }
-    ensures retry { after third_kept (creates 1 3) ≡ (third_kept, told 7) }
+    ensures first { after seven (creates 1 1) ≡ (with_eighth seven 1 1, reported 8) }
+    ensures retry { after third_kept (creates 1 3) ≡ (third_kept, reported 7) }
     ensures late { after third_kept (creates 1 2) ≡ (third_kept, None) }
-    ensures other_client { after third_kept (creates 2 3) ≡ (with_eighth third_kept 2 3, told 8) }
+    ensures other_client { after third_kept (creates 2 3) ≡ (with_eighth third_kept 2 3, reported 8) }
 {}
 
 /// The replies to six entries of one client in sequence: call 1 acts, and call 2 is refused.
 pub fn refusals_are_kept()
     ensures number_0 { after one (creates 1 0) ≡ (one, None) }
-    ensures acts { after one (creates 1 1) ≡ (created, told 2) }
-    ensures again { after created (creates 1 1) ≡ (created, told 2) }
-    ensures refused { after created (deletes 1 2) ≡ (refused, told_no) }
+    ensures acts { after one (creates 1 1) ≡ (created, reported 2) }
+    ensures again { after created (creates 1 1) ≡ (created, reported 2) }
+    ensures refused { after created (deletes 1 2) ≡ (refused, reported_no) }
     ensures late { after refused (creates 1 1) ≡ (refused, None) }
-    ensures refused_again { after refused (deletes 1 2) ≡ (refused, told_no) }
+    ensures refused_again { after refused (deletes 1 2) ≡ (refused, reported_no) }
 {}
 
 /// The plain tree as a service: its initial state, what an update does, and the reply to a query.
@@ -88,7 +88,7 @@ pub fn versions_are_tested()
 
 /// Results: the data and the stat of a node, and the part of a multi that was refused. Also,
 /// whether a node's counter has given its last number.
-pub fn what_is_told()
+pub fn what_is_reported()
     ensures data { (t : Tree) → HasNode t → IsChildless t
         → get_a t ≡ reply.Data sevens childless_stat }
     ensures no_data { (t : Tree) → get t.nodes at_a ≡ None → get_a t ≡ Refused NoNode }

@@ -32,7 +32,7 @@ fn next(out: &mut Out<Snapshot>) -> Shown {
 
 fn show(to: &Process, message: &Message<Snapshot>) -> Shown {
     let (what, number) = receiver(to);
-    let (word, first, last) = told(message);
+    let (word, first, last) = reported(message);
     (what, number, word, first, last)
 }
 
@@ -44,7 +44,7 @@ fn receiver(to: &Process) -> (&'static str, u8) {
     }
 }
 
-fn told(message: &Message<Snapshot>) -> (&'static str, u64, Option<u64>) {
+fn reported(message: &Message<Snapshot>) -> (&'static str, u64, Option<u64>) {
     match message {
         Message::Answer(number, _) => ("answer", number.number(), None),
         Message::Update(epoch, n, _) => ("update", epoch.number(), Some(n.number())),

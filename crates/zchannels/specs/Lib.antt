@@ -5,7 +5,7 @@ pub mod Raised
 pub mod HaltSeats
 pub mod Rings
 pub mod Woven
-pub mod Told
+pub mod Reported
 pub mod Orders
 pub mod Console
 pub mod Outcomes

@@ -11,7 +11,7 @@ ghost use Rattle.crossbeam_channel.specs.Claims.{view, IsSeatAt};
 ghost use Rattle.crossbeam_channel.specs.Ends.{receives_on, sends_on};
 
 use crate::outcome::OrderOutcome;
-use crate::rings::{Rx, Tx, link, told};
+use crate::rings::{Rx, Tx, link, reported};
 use crate::rule::{Fifo, Law, Log, Puts, Roles, Takes};
 use crossbeam_channel::{Pass, RuledReceiver, RuledSender, bounded_with};
 use std::alloc::Global;
@@ -144,7 +144,7 @@ impl Console {
     /// With both ends in one thread again: the orders received are a prefix of the orders sent. If
     /// it returns true, the outcomes received are a prefix of the outcomes sent. So if each order's
     /// outcome was sent in order, the outcomes received are those of the first orders, in order.
-    pub fn told(self, inbox: Inbox) -> bool
+    pub fn reported(self, inbox: Inbox) -> bool
         requires { AreEnds self inbox }
         ensures orders { (left : List Order) × (ordered self ≡ taken_of inbox ++ left) }
         ensures outcomes { IsTrue result
@@ -165,7 +165,7 @@ impl Console {
         } = inbox;
         to.absorb::<Roles>(&mut pass, other);
         to.learn_as::<Law>(&mut pass);
-        let Some(_) = told(&mut sayer, &mut outcomes) else {
+        let Some(_) = reported(&mut sayer, &mut outcomes) else {
             return false;
         };
         true

@@ -28,8 +28,8 @@ pub mod outcome;
 pub mod rings;
 pub mod rows;
 pub mod rule;
-mod telling;
+mod reporting;
 pub mod tickets;
 
 pub use mesh::{Mesh, weave};
-pub use telling::are_told;
+pub use reporting::are_reported;

@@ -175,7 +175,7 @@ impl<M: Drop> Rx<M> {
 
 /// Returns how many messages are in the ring. With both ends in one thread, what was sent is what
 /// was received, then what is in the ring, then what waits before it.
-pub fn told<M: Drop>(tx: &mut Tx<M>, rx: &mut Rx<M>) -> Option<u64>
+pub fn reported<M: Drop>(tx: &mut Tx<M>, rx: &mut Rx<M>) -> Option<u64>
     requires { AreEnds tx.old rx.old }
     ensures same { (put_of tx.new ≡ put_of tx.old) × (taken_of rx.new ≡ taken_of rx.old) }
     ensures tx { ring_of_tx tx.new ≡ ring_of_tx tx.old }

@@ -32,15 +32,15 @@ is_flag = is_made (number w8) (λ b. cond b 1 0) flag_from (λ _. Unit {0}) is_u
 pub is_some_form : {A : Type 0} (c : Form A) → IsForm c → IsForm (some c)
 is_some_form c is = is_kind c Some (λ o. o) is (λ x. refl) (λ y x e. sym e)
 
-option_tells : {A : Type 0} (c : Form A) (has : Bool) (o : Option A) → (either has (some c) (only None)).Fits o → is_some o ≡ has
-option_tells c true (Some x) fits = refl
-option_tells c true None fits = absurd fits
-option_tells c false o fits = ap is_some fits
+option_reports : {A : Type 0} (c : Form A) (has : Bool) (o : Option A) → (either has (some c) (only None)).Fits o → is_some o ≡ has
+option_reports c true (Some x) fits = refl
+option_reports c true None fits = absurd fits
+option_reports c false o fits = ap is_some fits
 
 pub is_option : {A : Type 0} (c : Form A) → IsForm c → IsForm (option c)
 is_option c is = is_tagged flag is_some (λ has. either has (some c) (only None)) is_flag
     (λ has fits. is_either has (some c) (only None) (is_some_form c is) (is_only None))
-    (λ has o fits fits_o. option_tells c has o fits_o)
+    (λ has o fits fits_o. option_reports c has o fits_o)
 
 -- ---- lengths and counts
 
@@ -78,11 +78,11 @@ pub is_null_or : (most : ℕ) → most < NULL → IsForm (null_or most)
 is_null_or most few = is_made (number w32) (λ o. unwrap_or o NULL) (null_from most) (FitsNull most) is_u32
     (λ n o fits e. null_ok most n (eqb n NULL) o refl e) (null_forth most few)
 
-unless_tells : {A : Type 0} (body : ℕ → Form A) (size : A → ℕ) → ((n : ℕ) (x : A) → (body n).Fits x → size x ≡ n)
+unless_reports : {A : Type 0} (body : ℕ → Form A) (size : A → ℕ) → ((n : ℕ) (x : A) → (body n).Fits x → size x ≡ n)
     → (t : Option ℕ) (o : Option A) → (unless_null body t).Fits o → option_map size o ≡ t
-unless_tells body size tells None o fits = ap (option_map size) fits
-unless_tells body size tells (Some n) None fits = absurd fits
-unless_tells body size tells (Some n) (Some x) fits = ap Some (tells n x fits)
+unless_reports body size reports None o fits = ap (option_map size) fits
+unless_reports body size reports (Some n) None fits = absurd fits
+unless_reports body size reports (Some n) (Some x) fits = ap Some (reports n x fits)
 
 is_unless : {A : Type 0} (body : ℕ → Form A) → ((n : ℕ) → IsForm (body n)) → (t : Option ℕ) → IsForm (unless_null body t)
 is_unless body are None = is_only None
@@ -90,8 +90,8 @@ is_unless body are (Some n) = is_some_form (body n) (are n)
 
 pub is_buffer : (most : ℕ) → most < NULL → IsForm (buffer most)
 is_buffer most few = is_tagged (null_or most) (option_map length) (unless_null exactly) (is_null_or most few)
-    (λ t fits. is_unless exactly is_exactly t) (λ t o fits fit. unless_tells exactly length (λ n bytes len. len) t o fit)
+    (λ t fits. is_unless exactly is_exactly t) (λ t o fits fit. unless_reports exactly length (λ n bytes len. len) t o fit)
 
 pub is_listed_or_null : {A : Type 0} (most : ℕ) (c : Form A) → most < NULL → IsForm c → IsForm (listed_or_null most c)
 is_listed_or_null most c few is = is_tagged (null_or most) (option_map length) (unless_null (times c)) (is_null_or most few)
-    (λ t fits. is_unless (times c) (is_times c is) t) (λ t o fits fit. unless_tells (times c) length (λ n xs fit. fit.0) t o fit)
+    (λ t fits. is_unless (times c) (is_times c is) t) (λ t o fits fit. unless_reports (times c) length (λ n xs fit. fit.0) t o fit)

@@ -60,12 +60,12 @@ is_either false c d is also = also
 pub is_tagged : {T A : Type 0} (tag : Form T) (tag_of : A → T) (body : T → Form A) → IsForm tag
     → ((t : T) → tag.Fits t → IsForm (body t)) → ((t : T) (x : A) → tag.Fits t → (body t).Fits x → tag_of x ≡ t)
     → IsForm (tagged tag tag_of body)
-is_tagged {T} {A} tag tag_of body is bodies tells = record {
+is_tagged {T} {A} tag tag_of body is bodies reports = record {
   takes = λ bytes x are e.
       let a = bind_ok (tag.read bytes) (λ t. (body t.0).read t.1) x e in
       let t = is.takes bytes a.0 are a.1 in
       let u = (bodies a.0.0 t.1).takes a.0.1 x (bytes_after bytes (tag.spell a.0.0) a.0.1 are t.0) a.2 in
-      let same : a.0.0 ≡ tag_of x.0 = sym (tells a.0.0 x.0 t.1 u.1) in
+      let same : a.0.0 ≡ tag_of x.0 = sym (reports a.0.0 x.0 t.1 u.1) in
       subst (λ k. (bytes ≡ (tag.spell k ++ (body k).spell x.0) ++ x.1) × (tag.Fits k × (body k).Fits x.0)) same
       (then_parts bytes (tag.spell a.0.0) a.0.1 ((body a.0.0).spell x.0) x.1 t.0 u.0, (t.1, u.1));
   again = λ x rest fits.

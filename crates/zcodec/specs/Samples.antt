@@ -9,26 +9,26 @@ abbrev pub null : List ℕ
 null = 255 ∷ 255 ∷ 255 ∷ 255 ∷ []
 
 -- a word or a text
-pub data Told : Type 0 where
-  Word : ℕ → Told
-  Text : List ℕ → Told
+pub data Reported : Type 0 where
+  Word : ℕ → Reported
+  Text : List ℕ → Reported
 
-abbrev pub word_parts : Told → Option ℕ
+abbrev pub word_parts : Reported → Option ℕ
 word_parts (Word n) = Some n
 word_parts (Text bytes) = None
 
-abbrev pub text_parts : Told → Option (List ℕ)
+abbrev pub text_parts : Reported → Option (List ℕ)
 text_parts (Word n) = None
 text_parts (Text bytes) = Some bytes
 
-abbrev pub told_tag : Told → ℕ
-told_tag (Word n) = 1
-told_tag (Text bytes) = 5
+abbrev pub reported_tag : Reported → ℕ
+reported_tag (Word n) = 1
+reported_tag (Text bytes) = 5
 
 -- the first byte says which of the two it is
-abbrev pub told : Form Told
-told =
-    tagged (number w8) told_tag
+abbrev pub reported : Form Reported
+reported =
+    tagged (number w8) reported_tag
     (at 1 (kind (number w32) Word word_parts)
     (at 5 (kind (sized 3) Text text_parts) (λ _. invalid)))
 

@@ -10,7 +10,7 @@ pub fn composed_forms_are_lawful()
 {}
 
 /// Two values that fit have different encodings.
-pub fn texts_tell_apart()
+pub fn texts_are_distinct()
     ensures { SpellsApart }
 {}
 

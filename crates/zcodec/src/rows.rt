@@ -12,8 +12,8 @@ ghost use Rattle.zcodec.specs.Shapes.{form_of, HasRoom};
 ghost use Rattle.zcodec.specs.Shapes.Shape.{U8, Flag, Sized, Buffer, Both, OneOf};
 ghost use Rattle.zcodec.specs.Shapes.Side.{Left, Right};
 ghost use Rattle.zcodec.specs.Laws.{IsBytes, IsForm};
-ghost use Rattle.zcodec.specs.Samples.{null, told, skips, forgets};
-ghost use Rattle.zcodec.specs.Samples.Told.{Word, Text};
+ghost use Rattle.zcodec.specs.Samples.{null, reported, skips, forgets};
+ghost use Rattle.zcodec.specs.Samples.Reported.{Word, Text};
 
 /// Numbers: the highest byte first.
 #[tactic(auto, unfolding(crate::specs::Forms::number_at))]
@@ -116,12 +116,12 @@ pub fn lists()
 /// A tag says which kind of value follows.
 #[tactic(auto, unfolding(crate::specs::Forms::number_at))]
 pub fn kinds()
-    ensures word { told.spell (Word 258) ≡ 1 ∷ 0 ∷ 0 ∷ 1 ∷ 2 ∷ [] }
-    ensures text { told.spell (Text (7 ∷ [])) ≡ 5 ∷ 0 ∷ 0 ∷ 0 ∷ 1 ∷ 7 ∷ [] }
-    ensures read_word { told.read (1 ∷ 0 ∷ 0 ∷ 1 ∷ 2 ∷ 9 ∷ []) ≡ Ok (Word 258, 9 ∷ []) }
-    ensures read_text { told.read (5 ∷ 0 ∷ 0 ∷ 0 ∷ 1 ∷ 7 ∷ []) ≡ Ok (Text (7 ∷ []), []) }
-    ensures unknown { told.read (2 ∷ 0 ∷ 0 ∷ 1 ∷ 2 ∷ []) ≡ Err Invalid }
-    ensures too_many { told.Fits (Text (7 ∷ 8 ∷ 9 ∷ 9 ∷ [])) → ⊥ }
+    ensures word { reported.spell (Word 258) ≡ 1 ∷ 0 ∷ 0 ∷ 1 ∷ 2 ∷ [] }
+    ensures text { reported.spell (Text (7 ∷ [])) ≡ 5 ∷ 0 ∷ 0 ∷ 0 ∷ 1 ∷ 7 ∷ [] }
+    ensures read_word { reported.read (1 ∷ 0 ∷ 0 ∷ 1 ∷ 2 ∷ 9 ∷ []) ≡ Ok (Word 258, 9 ∷ []) }
+    ensures read_text { reported.read (5 ∷ 0 ∷ 0 ∷ 0 ∷ 1 ∷ 7 ∷ []) ≡ Ok (Text (7 ∷ []), []) }
+    ensures unknown { reported.read (2 ∷ 0 ∷ 0 ∷ 1 ∷ 2 ∷ []) ≡ Err Invalid }
+    ensures too_many { reported.Fits (Text (7 ∷ 8 ∷ 9 ∷ 9 ∷ [])) → ⊥ }
 {}
 
 /// Forms as data.

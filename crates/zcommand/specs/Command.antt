@@ -1,7 +1,7 @@
 -- How a run of the program ends, by its words and by what its devices did.
 use Rattle.std.specs.Prelude.{ℕ, ◌≡◌, ◌⊎◌, List, Ok}
 use Rattle.zdevices.specs.Device.{SourceRun, SinkRun}
-use Rattle.zarguments.specs.Telling.{IsTold}
+use Rattle.zarguments.specs.Reporting.{IsReported}
 use Rattle.zscript.specs.Outcome.{IsPlayed, IsCutBy, IsIdle, play_fault_text}
 use Rattle.zscript.specs.Servers.{IsServers}
 use Rattle.zscript.specs.declared.fault.PlayFault.{PlayFault}
@@ -19,8 +19,8 @@ IsPlayedAsAsked words source sink = (servers : ℕ) × AskForServers words serve
 -- A fault ended the run, with exactly the number of servers that the words ask for, and was
 -- reported. Or memory ran out while the words were read: nothing was read or written, and this was
 -- reported.
-abbrev pub IsCutAndTold : List (List ℕ) → SourceRun → SinkRun → SinkRun → Type 0
-IsCutAndTold words source sink faults =
+abbrev pub IsCutAndReported : List (List ℕ) → SourceRun → SinkRun → SinkRun → Type 0
+IsCutAndReported words source sink faults =
     ((servers : ℕ) × AskForServers words servers × (fault : PlayFault) × IsCutBy servers source sink fault
-    × IsTold faults (play_fault_text fault))
-    ⊎ (IsIdle source sink × source.failed 0 × sink.failed 0 × IsTold faults (play_fault_text Memory))
+    × IsReported faults (play_fault_text fault))
+    ⊎ (IsIdle source sink × source.failed 0 × sink.failed 0 × IsReported faults (play_fault_text Memory))

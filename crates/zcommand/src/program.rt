@@ -4,8 +4,8 @@ ghost use Rattle.std.specs.Prelude.{◌≡◌, ◌≤◌, [], codes, Err};
 ghost use Rattle.zarguments.specs.Asked.{texts_of};
 ghost use Rattle.zdevices.specs.Device.{source_run, sink_run};
 ghost use Rattle.zcommand.specs.Asked.{settings_asked};
-ghost use Rattle.zarguments.specs.Telling.{IsTold};
-ghost use Rattle.zcommand.specs.Command.{IsPlayedAsAsked, IsCutAndTold};
+ghost use Rattle.zarguments.specs.Reporting.{IsReported};
+ghost use Rattle.zcommand.specs.Command.{IsPlayedAsAsked, IsCutAndReported};
 
 use crate::words::settings;
 use std::alloc::Global;
@@ -32,7 +32,7 @@ pub fn command<S: Source, K: Sink, F: Sink>(
     ensures silent { result ≡ 0 → F.took faults.old [] faults.new }
 
     // A fault ended the run, and was reported.
-    ensures cut { result ≡ 1 → IsCutAndTold (texts_of words.now)
+    ensures cut { result ≡ 1 → IsCutAndReported (texts_of words.now)
         (source_run S.gave S.failed S.has_ended source.old source.new)
         (sink_run K.took K.failed sink.old sink.new)
         (sink_run F.took F.failed faults.old faults.new) }
@@ -40,7 +40,7 @@ pub fn command<S: Source, K: Sink, F: Sink>(
     // The words are bad, and nothing was read or written.
     ensures bad { result ≡ 2 → settings_asked (texts_of words.now) ≡ Err WordsFault.BadWords }
     ensures idle { result ≡ 2 → (source.new ≡ source.old) × (sink.new ≡ sink.old) }
-    ensures refused { result ≡ 2 → IsTold
+    ensures refused { result ≡ 2 → IsReported
         (sink_run F.took F.failed faults.old faults.new) (codes "zk: bad words") }
 {
     let last = match settings(alloc, words) {

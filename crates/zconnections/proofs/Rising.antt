@@ -8,7 +8,7 @@ use Rattle.std.specs.FinMap.{FinMap, entries, from_entries, find, get, get-from_
 use Rattle.std.specs.FinSet.{FinSet, contains, contains-items, contains-from_list, items}
 use Rattle.ztree.proofs.Entries.{entries-rising}
 use Rattle.zwatches.specs.Events.{Lists}
-use Rattle.zconnections.specs.Telling.{in_order}
+use Rattle.zconnections.specs.Reporting.{in_order}
 
 -- numbers, as keys of a map
 abbrev marked : List ℕ → List (ℕ × Unit {0})

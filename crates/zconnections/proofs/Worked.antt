@@ -6,15 +6,15 @@ use Rattle.std.specs.List.Sorted.{IsStrictlySortedBy}
 use Rattle.std.specs.FinMap.{empty, entries-insert, keys}
 use Rattle.std.specs.FinMap.Entries.{put}
 use Rattle.std.specs.FinSet.{from_list, contains-from_list}
-use Rattle.zconnections.specs.attachments.support.Samples.{some_sitting, some_sittings}
+use Rattle.zconnections.specs.attachments.support.Samples.{some_attachment, some_attachments}
 use Rattle.ztree.proofs.Entries.{no_entries}
-use Rattle.zconnections.specs.Telling.{in_order}
+use Rattle.zconnections.specs.Reporting.{in_order}
 use Rattle.zconnections.proofs.Rising.{in_order-members}
 
 -- session 7 alone is here
-pub keys-here : keys some_sittings ≡ 7 ∷ []
+pub keys-here : keys some_attachments ≡ 7 ∷ []
 keys-here =
-    ap (map (λ e. e.0)) (entries-insert nat_cmp_total empty 7 some_sitting ∙ ap (put nat_cmp 7 some_sitting) no_entries)
+    ap (map (λ e. e.0)) (entries-insert nat_cmp_total empty 7 some_attachment ∙ ap (put nat_cmp 7 some_attachment) no_entries)
 
 other_order : (a b : Bool) → (a || (b || false)) ≡ (b || (a || (b || false)))
 other_order true true = refl

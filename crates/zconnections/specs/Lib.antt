@@ -3,5 +3,5 @@ pub mod buffers
 pub mod Laws
 pub mod Sweeping
 pub mod Tables
-pub mod Telling
+pub mod Reporting
 pub mod support

@@ -13,7 +13,7 @@ use Rattle.zcalls.specs.declared.call.Update.{Update}
 use Rattle.zcalls.specs.declared.call.Update.TheVariants as act
 use Rattle.zcalls.specs.declared.reply.Reply.{Reply}
 use Rattle.zcalls.specs.declared.reply.Reply.TheVariants as reply
-use Rattle.zconnections.specs.attachments.Sittings.{SittingsView, with_changed, with_ephemeral}
+use Rattle.zconnections.specs.attachments.Attachments.{AttachmentsView, with_changed, with_ephemeral}
 use Rattle.zconnections.specs.Tables.{TablesView, moved}
 
 -- the session that owns a node of this lifetime
@@ -22,24 +22,24 @@ owner_in (Ephemeral session) = Some session
 owner_in other = None
 
 -- a node of this lifetime was created
-abbrev pub made_by : Lifetime → SittingsView → SittingsView
-made_by lifetime sittings = option_map_or (λ session. with_changed with_ephemeral sittings session) (owner_in lifetime) sittings
+abbrev pub made_by : Lifetime → AttachmentsView → AttachmentsView
+made_by lifetime attachments = option_map_or (λ session. with_changed with_ephemeral attachments session) (owner_in lifetime) attachments
 
 -- the nodes of the parts of a multi were created
-abbrev pub made_by_parts : List Part → SittingsView → SittingsView
-made_by_parts [] sittings = sittings
-made_by_parts (part.Create create ∷ parts) sittings = made_by_parts parts (made_by create.kind.lifetime sittings)
-made_by_parts (other ∷ parts) sittings = made_by_parts parts sittings
+abbrev pub made_by_parts : List Part → AttachmentsView → AttachmentsView
+made_by_parts [] attachments = attachments
+made_by_parts (part.Create create ∷ parts) attachments = made_by_parts parts (made_by create.kind.lifetime attachments)
+made_by_parts (other ∷ parts) attachments = made_by_parts parts attachments
 
 -- the sessions that made an ephemeral node, after an update and its reply
-abbrev pub noted : Update → Reply → SittingsView → SittingsView
-noted (act.Create create) (reply.Created path) sittings = made_by create.kind.lifetime sittings
-noted (act.Multi parts) (reply.Multi replies) sittings = made_by_parts parts sittings
-noted update told sittings = sittings
+abbrev pub noted : Update → Reply → AttachmentsView → AttachmentsView
+noted (act.Create create) (reply.Created path) attachments = made_by create.kind.lifetime attachments
+noted (act.Multi parts) (reply.Multi replies) attachments = made_by_parts parts attachments
+noted update reported attachments = attachments
 
 -- a session is removed
 abbrev pub forgotten : ℕ → TablesView → TablesView
-forgotten session t = record t { sittings = finite.remove t.sittings session }
+forgotten session t = record t { attachments = finite.remove t.attachments session }
 
 -- a session is gone: it is removed, and its connection is closed
 abbrev pub swept : ℕ → TablesView → TablesView
@@ -54,13 +54,13 @@ abbrev pub is_gone : Sessions → ℕ → Bool
 is_gone sessions id = not (finite.contains_key sessions id)
 
 -- the sessions in the tables that the tree no longer has
-abbrev pub gone : Sessions → SittingsView → List ℕ
-gone sessions sittings = filter (is_gone sessions) (finite.keys sittings)
+abbrev pub gone : Sessions → AttachmentsView → List ℕ
+gone sessions attachments = filter (is_gone sessions) (finite.keys attachments)
 
 -- a session made an ephemeral node
-abbrev pub made_one : SittingsView → ℕ → Bool
-made_one sittings id = option_map_or (λ s. s.made_ephemeral) (finite.get sittings id) false
+abbrev pub made_one : AttachmentsView → ℕ → Bool
+made_one attachments id = option_map_or (λ s. s.made_ephemeral) (finite.get attachments id) false
 
 -- one of these sessions made one
-abbrev pub some_made_one : SittingsView → List ℕ → Bool
-some_made_one sittings ids = list_any (made_one sittings) ids
+abbrev pub some_made_one : AttachmentsView → List ℕ → Bool
+some_made_one attachments ids = list_any (made_one attachments) ids

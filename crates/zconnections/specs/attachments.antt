@@ -1,3 +1,3 @@
 pub mod Laws
-pub mod Sittings
+pub mod Attachments
 pub mod support

@@ -2,15 +2,15 @@
 //!
 //! A connection opens a session, takes one, or leaves it, and this crate stores what each session
 //! then has beside the tree. It lists the sessions that sent requests since the last `rest`: `rest`
-//! clears the flag of each session. `specs/Sittings.antt` defines it.
+//! clears the flag of each session. `specs/Attachments.antt` defines it.
 
 pub mod laws;
 mod listing;
 mod restored;
 mod rows;
-mod sitting;
-mod sittings;
+mod attachment;
+mod attachments;
 mod table;
 
-pub use sitting::Sitting;
-pub use sittings::Sittings;
+pub use attachment::Attachment;
+pub use attachments::Attachments;

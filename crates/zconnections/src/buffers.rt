@@ -7,7 +7,7 @@
 mod input;
 mod outbox;
 mod phase;
-mod piece;
+mod chunk;
 mod rows;
 mod stream;
 mod streams;
@@ -16,6 +16,6 @@ mod table;
 pub use input::Input;
 pub use outbox::Outbox;
 pub use phase::Phase;
-pub use piece::Piece;
+pub use chunk::Chunk;
 pub use stream::Stream;
 pub use streams::Streams;

@@ -6,7 +6,7 @@ ghost use Rattle.zconnections.specs.Tables.{without_seat};
 
 use crate::tables::Tables;
 use zalloc::Memory;
-use crate::buffers::Piece;
+use crate::buffers::Chunk;
 use ztree::SessionId;
 
 impl Tables {
@@ -41,10 +41,10 @@ impl Tables {
 
     // Returns the connection that a session has.
     fn connection_of(&self, session: SessionId) -> Option<u32>
-        ensures { result ≡ connection_of self.now.sittings session }
+        ensures { result ≡ connection_of self.now.attachments session }
     {
-        let sitting = self.sittings.sitting(session)?;
-        sitting.connection
+        let attachment = self.attachments.attachment(session)?;
+        attachment.connection
     }
 
     // Closes a connection, if it is open.
@@ -53,7 +53,7 @@ impl Tables {
     {
         self.part(connection);
         self.streams.close(connection);
-        self.outbox.push(Piece {
+        self.outbox.push(Chunk {
             connection,
             bytes: Vec::new(self.alloc),
             is_last: true,
@@ -70,10 +70,10 @@ impl Tables {
 
     // Detaches a session, if there is one.
     fn unseat(&mut self, session: Option<SessionId>)
-        ensures { self.new ≡ record self.old { sittings = without_seat session self.old } }
+        ensures { self.new ≡ record self.old { attachments = without_seat session self.old } }
     {
         if let Some(session) = session {
-            self.sittings.leave(session);
+            self.attachments.leave(session);
         }
     }
 }

@@ -3,7 +3,7 @@
 ghost use Rattle.std.specs.Prelude.{◌≡◌, ◌≤◌, length, IfOk};
 ghost use Rattle.zpath.specs.Grammar.{text_of};
 ghost use Rattle.zpath.specs.declared.limits.TheConstants.{MAX_TEXT_LEN};
-ghost use Rattle.zconnections.specs.Telling as table;
+ghost use Rattle.zconnections.specs.Reporting as table;
 
 use std::alloc::Global;
 use zalloc::Memory;
@@ -15,8 +15,8 @@ use zpath::Path;
 pub(crate) fn event_frame(alloc: Global, event: &Event) -> Result<Vec<u8>, Memory>
     ensures { IfOk result (λ bytes. bytes.items ≡ table.event_frame event.now) }
 {
-    let told = event_told(alloc, event)?;
-    match write_event(alloc, -1, &told) {
+    let reported = event_reported(alloc, event)?;
+    match write_event(alloc, -1, &reported) {
         Ok(bytes) => Ok(bytes),
         Err(WriteError::Memory) => Err(Memory),
         // The text of a path is short.
@@ -25,25 +25,25 @@ pub(crate) fn event_frame(alloc: Global, event: &Event) -> Result<Vec<u8>, Memor
 }
 
 // Returns an event as a client receives it.
-fn event_told(alloc: Global, event: &Event) -> Result<WatcherEvent, Memory>
-    ensures told { IfOk result (λ told. told ≡ table.event_told event.now) }
-    ensures short { IfOk result (λ told. length told.path ≤ MAX_TEXT_LEN) }
+fn event_reported(alloc: Global, event: &Event) -> Result<WatcherEvent, Memory>
+    ensures reported { IfOk result (λ reported. reported ≡ table.event_reported event.now) }
+    ensures short { IfOk result (λ reported. length reported.path ≤ MAX_TEXT_LEN) }
 {
     Ok(WatcherEvent {
         kind: event.kind,
         state: KeeperState::SyncConnected,
-        path: path_told(alloc, &event.path)?,
+        path: path_reported(alloc, &event.path)?,
     })
 }
 
 // Returns the text of a path.
-fn path_told(alloc: Global, path: &Path) -> Result<Bytes, Memory>
-    ensures told { IfOk result (λ told. told ≡ text_of path.now) }
-    ensures short { IfOk result (λ told. length told ≤ MAX_TEXT_LEN) }
+fn path_reported(alloc: Global, path: &Path) -> Result<Bytes, Memory>
+    ensures reported { IfOk result (λ reported. reported ≡ text_of path.now) }
+    ensures short { IfOk result (λ reported. length reported ≤ MAX_TEXT_LEN) }
 {
     // The text of a path is short.
     path.keeps_its_form();
     let text = path.to_string(alloc)?;
-    let told = Bytes::copied(alloc, text.as_bytes())?;
-    Ok(told)
+    let reported = Bytes::copied(alloc, text.as_bytes())?;
+    Ok(reported)
 }

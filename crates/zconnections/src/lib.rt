@@ -17,7 +17,7 @@ mod seating;
 mod sending;
 mod sweeping;
 mod tables;
-mod telling;
+mod reporting;
 mod watching;
 
 pub use tables::Tables;

@@ -10,7 +10,7 @@ impl Tables {
     /// Notes the sessions that made an ephemeral node, from an update and its reply.
     pub fn note(&mut self, update: &Update, reply: &Reply)
         ensures { self.new
-            ≡ record self.old { sittings = noted update.now reply.now self.old.sittings } }
+            ≡ record self.old { attachments = noted update.now reply.now self.old.attachments } }
     {
         match (update, reply) {
             (Update::Create(create), Reply::Created(_)) => self.note_lifetime(create.kind.lifetime),
@@ -22,7 +22,7 @@ impl Tables {
     // Notes the owners of the nodes that the parts of a multi created.
     fn note_parts(&mut self, parts: &[Part])
         ensures { self.new
-            ≡ record self.old { sittings = made_by_parts parts.now self.old.sittings } }
+            ≡ record self.old { attachments = made_by_parts parts.now self.old.attachments } }
     {
         for part in parts {
             if let Part::Create(create) = part {
@@ -34,10 +34,10 @@ impl Tables {
     // Notes the owner of a created node of this lifetime.
     fn note_lifetime(&mut self, lifetime: Lifetime)
         ensures { self.new
-            ≡ record self.old { sittings = made_by lifetime self.old.sittings } }
+            ≡ record self.old { attachments = made_by lifetime self.old.attachments } }
     {
         match lifetime {
-            Lifetime::Ephemeral(session) => self.sittings.note_ephemeral(session),
+            Lifetime::Ephemeral(session) => self.attachments.note_ephemeral(session),
             Lifetime::Persistent | Lifetime::WithTtl(_) => {}
         }
     }

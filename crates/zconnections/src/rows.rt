@@ -17,11 +17,11 @@ ghost use Rattle.zcalls.specs.declared.reply.Reply.TheVariants as reply;
 ghost use Rattle.zjute.specs.declared.event.EventKind.TheVariants.{NodeDataChanged};
 ghost use Rattle.zconnections.specs.declared.buffers.phase.Phase.TheVariants.{Closing, Silent, Speaking};
 ghost use Rattle.zconnections.specs.buffers.Streams.{phase_of};
-ghost use Rattle.zconnections.specs.attachments.Sittings.{SittingsView, with_changed, with_ephemeral};
-ghost use Rattle.zconnections.specs.attachments.support.Samples.{some_sittings};
+ghost use Rattle.zconnections.specs.attachments.Attachments.{AttachmentsView, with_changed, with_ephemeral};
+ghost use Rattle.zconnections.specs.attachments.support.Samples.{some_attachments};
 ghost use Rattle.zconnections.specs.Tables.{TablesView, closed, connection_of, may_send};
 ghost use Rattle.zconnections.specs.Tables.{seated, sent, session_in, taken_up};
-ghost use Rattle.zconnections.specs.Telling.{event_frame, in_order, sent_on};
+ghost use Rattle.zconnections.specs.Reporting.{event_frame, in_order, sent_on};
 ghost use Rattle.zconnections.specs.Sweeping.{gone, made_by, noted, swept};
 
 /// Whether bytes may be sent in each phase of a connection, and its session.
@@ -35,7 +35,7 @@ pub fn phases()
 {}
 
 /// A chunk is queued at the end. After the last chunk of a connection, no other is queued for it.
-pub fn pieces()
+pub fn chunks()
     ensures sent { (t : TablesView) → phase_of t.streams 3 ≡ Some (Speaking 7)
         → sent 3 (9 ∷ []) t ≡ record t {
           unsent =
@@ -52,37 +52,37 @@ pub fn pieces()
 
 /// Connection 5 takes session 7, or the tree no longer has it.
 pub fn sessions_move()
-    ensures taken_up { (t : TablesView) → connection_of t.sittings 7 ≡ Some 3
+    ensures taken_up { (t : TablesView) → connection_of t.attachments 7 ≡ Some 3
         → taken_up 7 5 t ≡ seated 7 5 (closed 3 t) }
-    ensures from_none { (t : TablesView) → connection_of t.sittings 7 ≡ None
+    ensures from_none { (t : TablesView) → connection_of t.attachments 7 ≡ None
         → taken_up 7 5 t ≡ seated 7 5 t }
-    ensures swept { (t : TablesView) → connection_of t.sittings 7 ≡ Some 3
-        → swept 7 t ≡ record (closed 3 t) { sittings = remove (closed 3 t).sittings 7 } }
-    ensures swept_alone { (t : TablesView) → connection_of t.sittings 7 ≡ None
-        → swept 7 t ≡ record t { sittings = remove t.sittings 7 } }
+    ensures swept { (t : TablesView) → connection_of t.attachments 7 ≡ Some 3
+        → swept 7 t ≡ record (closed 3 t) { attachments = remove (closed 3 t).attachments 7 } }
+    ensures swept_alone { (t : TablesView) → connection_of t.attachments 7 ≡ None
+        → swept 7 t ≡ record t { attachments = remove t.attachments 7 } }
 {}
 
 /// The updates by which session 7 made an ephemeral node.
 pub fn ephemerals()
-    ensures ephemeral { (m : SittingsView)
+    ensures ephemeral { (m : AttachmentsView)
         → made_by (lifetime.Ephemeral 7) m ≡ with_changed with_ephemeral m 7 }
-    ensures with_ttl { (m : SittingsView) → made_by (lifetime.WithTtl 7) m ≡ m }
-    ensures persistent { (m : SittingsView) → made_by lifetime.Persistent m ≡ m }
-    ensures created { (c : Create) (path : Path) (m : SittingsView)
+    ensures with_ttl { (m : AttachmentsView) → made_by (lifetime.WithTtl 7) m ≡ m }
+    ensures persistent { (m : AttachmentsView) → made_by lifetime.Persistent m ≡ m }
+    ensures created { (c : Create) (path : Path) (m : AttachmentsView)
         → noted (act.Create c) (reply.Created path) m ≡ made_by c.kind.lifetime m }
-    ensures refused { (c : Create) (why : Refusal) (m : SittingsView)
+    ensures refused { (c : Create) (why : Refusal) (m : AttachmentsView)
         → noted (act.Create c) (reply.Refused why) m ≡ m }
-    ensures parts { (c : Create) (d : Delete) (rs : List PartReply) (m : SittingsView)
+    ensures parts { (c : Create) (d : Delete) (rs : List PartReply) (m : AttachmentsView)
         → noted (act.Multi (part.Create c ∷ part.Delete d ∷ [])) (reply.Multi rs) m
         ≡ made_by c.kind.lifetime m }
-    ensures parts_refused { (c : Create) (why : Refusal) (m : SittingsView)
+    ensures parts_refused { (c : Create) (why : Refusal) (m : AttachmentsView)
         → noted (act.Multi (part.Create c ∷ [])) (reply.MultiRefused 1 why) m ≡ m }
 {}
 
 /// The tables have session 7. It is gone if the tree doesn't have it.
 pub fn who_is_gone()
-    ensures none_there { gone empty some_sittings ≡ 7 ∷ [] }
-    ensures there { (s : Session) → gone (insert empty 7 s) some_sittings ≡ [] }
+    ensures none_there { gone empty some_attachments ≡ 7 ∷ [] }
+    ensures there { (s : Session) → gone (insert empty 7 s) some_attachments ≡ [] }
 {}
 
 /// The notification of a watch of the data of `/a`: the length, the header with xid -1 and zxid -1,

@@ -2,9 +2,9 @@
 
 ghost use Rattle.std.specs.Prelude.{◌≡◌, IfOk, OnOk};
 ghost use Rattle.std.specs.FinMap as finite;
-ghost use Rattle.zconnections.specs.attachments.Sittings.{all_rested, restored_sitting, touched};
-ghost use Rattle.zconnections.specs.attachments.Sittings.{touched_ids, with_changed};
-ghost use Rattle.zconnections.specs.Tables.{seated, sitting, taken_up};
+ghost use Rattle.zconnections.specs.attachments.Attachments.{all_rested, restored_attachment, touched};
+ghost use Rattle.zconnections.specs.attachments.Attachments.{touched_ids, with_changed};
+ghost use Rattle.zconnections.specs.Tables.{seated, attachment, taken_up};
 
 use crate::tables::Tables;
 use zalloc::Memory;
@@ -14,19 +14,19 @@ use ztree::SessionId;
 impl Tables {
     /// Adds a session that was opened on a connection.
     pub fn sit(&mut self, session: SessionId, connection: u32) -> Result<(), Memory>
-        ensures { OnOk result (self.new ≡ sitting session connection self.old) }
+        ensures { OnOk result (self.new ≡ attachment session connection self.old) }
     {
         self.streams.set_phase(connection, Phase::Speaking(session));
-        self.sittings.open(session, connection)
+        self.attachments.open(session, connection)
     }
 
     /// Adds a session that was opened earlier, and has no connection now.
     pub fn restore(&mut self, session: SessionId) -> Result<(), Memory>
         ensures { OnOk result (self.new ≡ record self.old {
-          sittings = finite.insert self.old.sittings session restored_sitting;
+          attachments = finite.insert self.old.attachments session restored_attachment;
         }) }
     {
-        self.sittings.restore(session)
+        self.attachments.restore(session)
     }
 
     /// Attaches a session to a connection. Its old connection is closed.
@@ -40,23 +40,23 @@ impl Tables {
     /// Notes that a session sent a request.
     pub fn touch(&mut self, session: SessionId)
         ensures { self.new
-            ≡ record self.old { sittings = with_changed touched self.old.sittings session } }
+            ≡ record self.old { attachments = with_changed touched self.old.attachments session } }
     {
-        self.sittings.touch(session);
+        self.attachments.touch(session);
     }
 
     /// Returns the sessions that sent a request since the last `rest`, in rising order.
     pub fn touched(&self) -> Result<Vec<SessionId>, Memory>
-        ensures { IfOk result (λ ids. ids.items ≡ touched_ids self.now.sittings) }
+        ensures { IfOk result (λ ids. ids.items ≡ touched_ids self.now.attachments) }
     {
-        self.sittings.touched()
+        self.attachments.touched()
     }
 
     /// Clears the flag of a request for each session.
     pub fn rest(&mut self)
-        ensures { self.new ≡ record self.old { sittings = all_rested self.old.sittings } }
+        ensures { self.new ≡ record self.old { attachments = all_rested self.old.attachments } }
     {
-        self.sittings.rest();
+        self.attachments.rest();
     }
 
     // Attaches a session to a connection.
@@ -64,6 +64,6 @@ impl Tables {
         ensures { OnOk result (self.new ≡ seated session connection self.old) }
     {
         self.streams.set_phase(connection, Phase::Speaking(session));
-        self.sittings.seat(session, connection)
+        self.attachments.seat(session, connection)
     }
 }

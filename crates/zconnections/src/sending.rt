@@ -7,7 +7,7 @@ ghost use Rattle.zconnections.specs.Tables.{sent};
 
 use crate::tables::Tables;
 use zalloc::Memory;
-use crate::buffers::Piece;
+use crate::buffers::Chunk;
 
 impl Tables {
     /// Queues bytes for a connection. Nothing is queued if it is closing.
@@ -17,7 +17,7 @@ impl Tables {
         if !self.is_open(connection) {
             return Ok(());
         }
-        self.outbox.push(Piece {
+        self.outbox.push(Chunk {
             connection,
             bytes,
             is_last: false,
@@ -25,14 +25,14 @@ impl Tables {
     }
 
     /// Returns the chunk to be sent first, if there is one.
-    pub fn first_piece(&self) -> Option<&Piece>
+    pub fn first_chunk(&self) -> Option<&Chunk>
         ensures { option_copied result ≡ first_of self.now.unsent }
     {
         self.outbox.first()
     }
 
     /// Removes and returns the chunk to be sent first, if there is one.
-    pub fn next_piece(&mut self) -> Option<Piece>
+    pub fn next_chunk(&mut self) -> Option<Chunk>
         ensures first { result ≡ first_of self.old.unsent }
         ensures rest { self.new ≡ record self.old { unsent = drop 1 self.old.unsent } }
     {

@@ -11,16 +11,16 @@ use ztree::SessionId;
 impl Tables {
     /// Returns the sessions in the tables, in rising order.
     pub fn session_ids(&self) -> Result<Vec<SessionId>, Memory>
-        ensures { IfOk result (λ ids. ids.items ≡ finite.keys self.now.sittings) }
+        ensures { IfOk result (λ ids. ids.items ≡ finite.keys self.now.attachments) }
     {
-        self.sittings.ids()
+        self.attachments.ids()
     }
 
     /// Closes the connections of these sessions, and removes the sessions. Returns whether one of
     /// them had made an ephemeral node.
     pub fn sweep(&mut self, ids: &[SessionId]) -> Result<bool, Memory>
         ensures swept { OnOk result (self.new ≡ swept_all ids.now self.old) }
-        ensures made { IfOk result (λ made. made ≡ some_made_one self.old.sittings ids.now) }
+        ensures made { IfOk result (λ made. made ≡ some_made_one self.old.attachments ids.now) }
     {
         let made = self.some_made_one(ids);
         self.sweep_all(ids)?;
@@ -29,7 +29,7 @@ impl Tables {
 
     // Returns whether one of these sessions made an ephemeral node.
     fn some_made_one(&self, ids: &[SessionId]) -> bool
-        ensures { result ≡ some_made_one self.now.sittings ids.now }
+        ensures { result ≡ some_made_one self.now.attachments ids.now }
     {
         for id in ids {
             if self.made_one(*id) {
@@ -41,10 +41,10 @@ impl Tables {
 
     // Returns whether a session made an ephemeral node.
     fn made_one(&self, id: SessionId) -> bool
-        ensures { result ≡ made_one self.now.sittings id }
+        ensures { result ≡ made_one self.now.attachments id }
     {
-        match self.sittings.sitting(id) {
-            Some(sitting) => sitting.made_ephemeral,
+        match self.attachments.attachment(id) {
+            Some(attachment) => attachment.made_ephemeral,
             None => false,
         }
     }
@@ -64,7 +64,7 @@ impl Tables {
         ensures { OnOk result (self.new ≡ swept id self.old) }
     {
         self.move_away(id)?;
-        self.sittings.remove(id);
+        self.attachments.remove(id);
         Ok(())
     }
 }

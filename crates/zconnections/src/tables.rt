@@ -7,7 +7,7 @@ ghost use Rattle.std.specs.FinSet as sets;
 use std::alloc::Global;
 use std::marker::Model;
 use crate::buffers::{Outbox, Streams};
-use crate::attachments::Sittings;
+use crate::attachments::Attachments;
 use zwatches::Watches;
 
 /// The connections, the sessions, the watches, and the chunks to be sent.
@@ -17,7 +17,7 @@ use zwatches::Watches;
 pub struct Tables {
     pub(crate) alloc: Global,
     pub(crate) streams: Streams,
-    pub(crate) sittings: Sittings,
+    pub(crate) attachments: Attachments,
     pub(crate) watches: Watches,
     pub(crate) outbox: Outbox,
 }
@@ -32,7 +32,7 @@ impl Model for Tables {
 
     ghost view = { λ t. record {
       streams = t.streams;
-      sittings = t.sittings;
+      attachments = t.attachments;
       watches = t.watches;
       unsent = t.outbox;
     } };
@@ -43,7 +43,7 @@ impl Tables {
     pub fn new(alloc: Global) -> Tables
         ensures { result ≡ record {
           streams = finite.empty;
-          sittings = finite.empty;
+          attachments = finite.empty;
           watches = sets.empty;
           unsent = [];
         } }
@@ -51,7 +51,7 @@ impl Tables {
         Tables {
             alloc,
             streams: Streams::new(alloc),
-            sittings: Sittings::new(alloc),
+            attachments: Attachments::new(alloc),
             watches: Watches::new(alloc),
             outbox: Outbox::new(alloc),
         }
@@ -66,9 +66,9 @@ impl Tables {
 
     /// Returns the number of sessions.
     pub fn sessions(&self) -> usize
-        ensures { result ≡ finite.len self.now.sittings }
+        ensures { result ≡ finite.len self.now.attachments }
     {
-        self.sittings.count()
+        self.attachments.count()
     }
 
     /// Returns the number of watches.

@@ -1,2 +1,2 @@
 pub mod pipe_lemmas
-pub mod Pieces
+pub mod Chunks

@@ -5,7 +5,7 @@ use Rattle.zsnapshots.specs.export.Export.{export_text}
 use Rattle.zsnapshots.specs.export.Laws.{HasLines}
 use Rattle.zsnapshots.specs.export.Texts.{stat_text}
 use Rattle.zsnapshots.specs.declared.export.stat.FolderStat.{FolderStat}
-use Rattle.zdurable.specs.Lives.{FileKeeps}
+use Rattle.zdurable.specs.Incarnations.{FileKeeps}
 use Rattle.zdurable.specs.Looking.{IsStatOf}
 
 module _ {K : Type 0} (servers : ℕ) (file : List ℕ) (took : K → List ℕ → K → Type 0) where
@@ -14,5 +14,5 @@ module _ {K : Type 0} (servers : ℕ) (file : List ℕ) (took : K → List ℕ �
   IsExported old new = (t : Tree) × FileKeeps servers t file × HasLines t × took old (export_text t) new
 
   -- the numbers of the file
-  abbrev pub IsStatTold : K → K → Type 0
-  IsStatTold old new = (stat : FolderStat) × IsStatOf servers file stat × took old (stat_text stat) new
+  abbrev pub IsStatReported : K → K → Type 0
+  IsStatReported old new = (stat : FolderStat) × IsStatOf servers file stat × took old (stat_text stat) new

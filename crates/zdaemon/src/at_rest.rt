@@ -3,7 +3,7 @@
 
 ghost use Rattle.std.specs.Prelude.{◌≡◌, false, OnOk};
 ghost use Rattle.zjournal.specs.Device.{Only};
-ghost use Rattle.zdaemon.specs.AtRest.{IsExported, IsStatTold};
+ghost use Rattle.zdaemon.specs.AtRest.{IsExported, IsStatReported};
 
 use crate::fault::HostedFault;
 use crate::folder::unkept;
@@ -29,7 +29,7 @@ pub(crate) fn compact<D: Device + Drop, K: Sink>(
         Err((fault, _)) => return Err(unread(fault)),
     };
     let before = stored.size();
-    if let Err(fault) = stored.shorten() {
+    if let Err(fault) = stored.compact() {
         return Err(HostedFault::Serve(unkept(fault)));
     }
     let after = stored.size();
@@ -64,7 +64,7 @@ pub(crate) fn export<D: Device, K: Sink, F: Sink>(
     let Ok(machine) = found.tree.machine() else {
         return Err(HostedFault::Serve(ServeFault::Memory));
     };
-    tell_left_out(alloc, machine, faults)?;
+    report_left_out(alloc, machine, faults)?;
     match write_export(alloc, machine, sink) {
         Ok(()) => Ok(()),
         Err(ExportFault::Memory) => Err(HostedFault::Serve(ServeFault::Memory)),
@@ -74,7 +74,7 @@ pub(crate) fn export<D: Device, K: Sink, F: Sink>(
 }
 
 // Reports what an export leaves out. If that fails, the export continues.
-fn tell_left_out<F: Sink>(
+fn report_left_out<F: Sink>(
     alloc: Global,
     machine: &Machine,
     faults: &mut F,
@@ -101,7 +101,7 @@ pub(crate) fn stat<D: Device, K: Sink>(
     sink: &mut K,
 ) -> Result<(), HostedFault>
     requires durable { Only (D.seen device.old) (D.may_leave device.old) }
-    ensures told { OnOk result (IsStatTold servers (D.seen device.old) K.took sink.old sink.new) }
+    ensures reported { OnOk result (IsStatReported servers (D.seen device.old) K.took sink.old sink.new) }
     ensures seen { D.seen device.new ≡ D.seen device.old }
 {
     let stat = match folder_stat(alloc, device, servers) {

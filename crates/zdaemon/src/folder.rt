@@ -1,16 +1,16 @@
 //! A server with a folder, as a service of its host.
 
 ghost use Rattle.std.specs.Prelude.{◌≡◌, Err, Ok, OnOk};
-ghost use Rattle.zdaemon.specs.Folder.{HasTold, IsGood, IsTold, Keeps, Takes, pieces_left};
+ghost use Rattle.zdaemon.specs.Folder.{HasReported, IsGood, IsReported, Keeps, Takes, chunks_left};
 
 use zjournal::Device;
-use zdurable::{Kept, KeptFault};
-use crate::pipe::{Input, Piece, ServeFault, Service};
+use zdurable::{DurableFront, DurableFault};
+use crate::pipe::{Input, Chunk, ServeFault, Service};
 
 /// A server with a folder, as a service of its host.
 #[derive(Drop)]
 pub struct InFolder<D: Device> {
-    kept: Kept<D>,
+    kept: DurableFront<D>,
     // From this many bytes on its journal is compacted.
     long: usize,
 }
@@ -18,7 +18,7 @@ pub struct InFolder<D: Device> {
 impl<D: Device> InFolder<D> {
     /// Wraps a front end. The journal is compacted once it has `long` bytes and is four times its
     /// size after the last compaction.
-    pub fn new(kept: Kept<D>, long: usize) -> InFolder<D>
+    pub fn new(kept: DurableFront<D>, long: usize) -> InFolder<D>
         ensures { result.kept ≡ kept }
     {
         InFolder { kept, long }
@@ -30,11 +30,11 @@ impl<D: Device> Service for InFolder<D> {
 
     ghost kept = { λ s t. Keeps D.seen D.may_leave s.kept t.kept };
 
-    ghost told = { λ s piece t. IsTold piece s.kept t.kept };
+    ghost reported = { λ s chunk t. IsReported chunk s.kept t.kept };
 
-    ghost has_told = { λ s. HasTold s.kept };
+    ghost has_reported = { λ s. HasReported s.kept };
 
-    ghost pieces_left = { λ s. pieces_left s.kept };
+    ghost chunks_left = { λ s. chunks_left s.kept };
 
     ghost is_sound = { λ s. IsGood D.seen D.may_leave s.kept };
 
@@ -52,19 +52,19 @@ impl<D: Device> Service for InFolder<D> {
         }
     }
 
-    fn next_piece(&mut self) -> Option<Piece> {
-        self.kept.next_piece()
+    fn next_chunk(&mut self) -> Option<Chunk> {
+        self.kept.next_chunk()
     }
 }
 
 // Commits the changes: by one more block, or in a new file if the journal is long.
-fn keep<D: Device>(kept: &mut Kept<D>, long: usize) -> Result<(), KeptFault>
+fn keep<D: Device>(kept: &mut DurableFront<D>, long: usize) -> Result<(), DurableFault>
     requires { IsGood D.seen D.may_leave kept.old }
     ensures keeps { OnOk result (Keeps D.seen D.may_leave kept.old kept.new) }
     ensures good { OnOk result (IsGood D.seen D.may_leave kept.new) }
 {
     if kept.is_long(long) {
-        kept.shorten()?;
+        kept.compact()?;
         return Ok(());
     }
     kept.commit()?;
@@ -72,11 +72,11 @@ fn keep<D: Device>(kept: &mut Kept<D>, long: usize) -> Result<(), KeptFault>
 }
 
 /// Why a service has ended, in the words of a host.
-pub(crate) fn unkept(fault: KeptFault) -> ServeFault {
+pub(crate) fn unkept(fault: DurableFault) -> ServeFault {
     match fault {
-        KeptFault::Memory => ServeFault::Memory,
-        KeptFault::Failed => ServeFault::Disk,
-        KeptFault::Full => ServeFault::Full,
-        KeptFault::Ended => ServeFault::Ended,
+        DurableFault::Memory => ServeFault::Memory,
+        DurableFault::Failed => ServeFault::Disk,
+        DurableFault::Full => ServeFault::Full,
+        DurableFault::Ended => ServeFault::Ended,
     }
 }

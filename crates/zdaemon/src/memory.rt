@@ -5,7 +5,7 @@ ghost use Rattle.zfront.specs.Inputs.{Does, without_first};
 ghost use Rattle.zconnections.specs.buffers.Outbox.{first_of};
 
 use zfront::Front;
-use crate::pipe::{Input, Piece, ServeFault, Service};
+use crate::pipe::{Input, Chunk, ServeFault, Service};
 use ztree_service::TreeService;
 
 /// A server in memory, as a service of its host. Nothing of it is durable.
@@ -28,12 +28,12 @@ impl<T: TreeService + Drop> Service for InMemory<T> {
 
     ghost kept = { λ s t. t ≡ s };
 
-    ghost told = { λ s piece t. (first_of s.front.front.tables.unsent ≡ Some piece)
+    ghost reported = { λ s chunk t. (first_of s.front.front.tables.unsent ≡ Some chunk)
         × (t.front.front ≡ without_first s.front.front) };
 
-    ghost has_told = { λ s. first_of s.front.front.tables.unsent ≡ None };
+    ghost has_reported = { λ s. first_of s.front.front.tables.unsent ≡ None };
 
-    ghost pieces_left = { λ s. length s.front.front.tables.unsent };
+    ghost chunks_left = { λ s. length s.front.front.tables.unsent };
 
     ghost is_sound = { λ s. s.front.is_broken ≡ false };
 
@@ -46,7 +46,7 @@ impl<T: TreeService + Drop> Service for InMemory<T> {
         Ok(())
     }
 
-    fn next_piece(&mut self) -> Option<Piece> {
-        self.front.next_piece()
+    fn next_chunk(&mut self) -> Option<Chunk> {
+        self.front.next_chunk()
     }
 }

@@ -4,7 +4,7 @@
 //! it is committed. The reply is chunks to be sent, and an end after them. Messages and answers are
 //! records of bytes. `specs/Messages.antt` and `specs/Outputs.antt` define them.
 //!
-//! `read_secret` reads the secret, and `next_message` the first message of some bytes. `put_piece`
+//! `read_secret` reads the secret, and `next_message` the first message of some bytes. `put_chunk`
 //! and `put_end` write an answer. `serve_all` is the loop over both for a `Service`: it commits
 //! before it sends a chunk.
 //!
@@ -30,7 +30,7 @@ pub use reading::next_message;
 pub use secret::read_secret;
 pub use service::Service;
 pub use serving::serve_all;
-pub use writing::{put_end, put_piece};
+pub use writing::{put_end, put_chunk};
 pub use zcodec::Fault;
 pub use zpasswords::Secret;
-pub use zconnections::buffers::{Input, Piece};
+pub use zconnections::buffers::{Input, Chunk};

@@ -19,7 +19,7 @@ use zarguments::{WordsFault, tell};
 use zdevices::{Sink, Source};
 use zjournal::file::{FileDevice, FileFault, SyncMode};
 use zfront::{Clock, Front, TickLength};
-use zdurable::{Kept, ServerId};
+use zdurable::{DurableFront, ServerId};
 use crate::pipe::{Secret, ServeFault, Service, read_secret, serve_all};
 use ztree_service::LocalTree;
 
@@ -78,7 +78,7 @@ fn run<R: Files<File = File> + Copy, S: Source, K: Sink, F: Sink>(
         None => serve(alloc, in_memory(alloc, time, secret)?, source, sink),
         Some(kept) => {
             let device = FileDevice::open(alloc, files, folder, kept.mode)?;
-            tell_opening(alloc, kept.mode, device.waiting(), faults);
+            report_opening(alloc, kept.mode, device.waiting(), faults);
             let (service, had_passwords) = in_folder(alloc, device, time, kept, secret)?;
             if had_passwords {
                 tell(faults, "zk: data: clients of before open new sessions");
@@ -172,14 +172,14 @@ fn in_folder<R: Files<File = File> + Copy>(
     requires durable { Only (seen_of device) (MayLeaveOf device) }
     ensures good { IfOk result (λ opened. IsGood seen_of MayLeaveOf opened.0.kept) }
 {
-    match Kept::open(alloc, device, kept.last, secret, time.tick, time.now) {
+    match DurableFront::open(alloc, device, kept.last, secret, time.tick, time.now) {
         Ok(opened) => Ok((InFolder::new(opened.kept, kept.long), opened.had_passwords)),
         Err((fault, _)) => Err(HostedFault::Service(fault)),
     }
 }
 
 // Reports that nothing waits for the disk, and that a long file is opened.
-fn tell_opening<F: Sink>(alloc: Global, mode: SyncMode, size: usize, faults: &mut F) {
+fn report_opening<F: Sink>(alloc: Global, mode: SyncMode, size: usize, faults: &mut F) {
     if mode == SyncMode::Never {
         tell(
             faults,

@@ -9,7 +9,7 @@ pub record SliceSourceView : Type 0 where
   pub at_most : ℕ
   pub fails_after : Option ℕ
   pub has_failed : Bool
-  pub told_end : Bool
+  pub reported_end : Bool
 
 -- A sink over memory: the bytes that it holds, and the most that a write takes. Then after how many
 -- writes one fails, if any does, and whether one has failed.
@@ -25,7 +25,7 @@ pub record ReaderSourceView (R : Type 0) : Type 0 where
   pub reader : R
   pub budget : ℕ
   pub has_failed : Bool
-  pub told_end : Bool
+  pub reported_end : Bool
 
 -- A sink over a writer, and whether a write has failed.
 pub record WriterSinkView (W : Type 0) : Type 0 where

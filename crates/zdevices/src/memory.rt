@@ -46,7 +46,7 @@ pub struct SliceSource<'a> {
     at_most: usize,
     failure: Failure,
     has_failed: bool,
-    told_end: bool,
+    reported_end: bool,
 }
 
 impl<'a> Model for SliceSource<'a> {
@@ -70,14 +70,14 @@ impl<'a> SliceSource<'a> {
         ensures at_most { result.at_most ≡ at_most }
         ensures failure { result.fails_after ≡ None }
         ensures sound { result.has_failed ≡ false }
-        ensures untold { result.told_end ≡ false }
+        ensures unreported { result.reported_end ≡ false }
     {
         SliceSource {
             left,
             at_most,
             failure: Failure { calls_left: None },
             has_failed: false,
-            told_end: false,
+            reported_end: false,
         }
     }
 
@@ -92,7 +92,7 @@ impl<'a> SliceSource<'a> {
                 calls_left: Some(reads),
             },
             has_failed: self.has_failed,
-            told_end: self.told_end,
+            reported_end: self.reported_end,
         }
     }
 }
@@ -102,11 +102,11 @@ impl Source for SliceSource<'_> {
 
     ghost failed = { λ s count t. Raises s.has_failed count t.has_failed };
 
-    ghost has_ended = { λ s. IsTrue s.told_end × (s.left ≡ []) };
+    ghost has_ended = { λ s. IsTrue s.reported_end × (s.left ≡ []) };
 
     ghost reads_left = { λ s. length s.left };
 
-    ghost told = { λ s room answer t. IsSliceRead s room answer t };
+    ghost reported = { λ s room answer t. IsSliceRead s room answer t };
 
     fn read(&mut self, buffer: &mut [u8]) -> Result<usize, DeviceFault> {
         if self.failure.comes() {
@@ -117,7 +117,7 @@ impl Source for SliceSource<'_> {
         let (front, rest) = self.left.split_at(count);
         buffer[..count].copy_from_slice(front);
         self.left = rest;
-        self.told_end = count == 0;
+        self.reported_end = count == 0;
         Ok(count)
     }
 
@@ -190,7 +190,7 @@ impl Sink for VecSink {
 
     ghost failed = { λ s count t. Raises s.has_failed count t.has_failed };
 
-    ghost told = { λ s len answer t. IsVecWrite s len answer t };
+    ghost reported = { λ s len answer t. IsVecWrite s len answer t };
 
     fn write(&mut self, bytes: &[u8]) -> Result<usize, DeviceFault> {
         let count = bytes.len().min(self.at_most);

@@ -25,7 +25,7 @@ pub struct ReaderSource<R> {
     reader: R,
     budget: u64,
     has_failed: bool,
-    told_end: bool,
+    reported_end: bool,
 }
 
 impl<R> Model for ReaderSource<R> {
@@ -44,13 +44,13 @@ impl<R: Read> ReaderSource<R> {
         ensures reader { result.reader ≡ reader }
         ensures budget { result.budget ≡ 2 ^ 64 - 1 }
         ensures sound { result.has_failed ≡ false }
-        ensures untold { result.told_end ≡ false }
+        ensures unreported { result.reported_end ≡ false }
     {
         ReaderSource {
             reader,
             budget: u64::MAX,
             has_failed: false,
-            told_end: false,
+            reported_end: false,
         }
     }
 }
@@ -60,18 +60,18 @@ impl<R: Read> Source for ReaderSource<R> {
 
     ghost failed = { λ s count t. Raises s.has_failed count t.has_failed };
 
-    ghost has_ended = { λ s. IsTrue s.told_end × IsAtEnd (R.remaining s.reader) };
+    ghost has_ended = { λ s. IsTrue s.reported_end × IsAtEnd (R.remaining s.reader) };
 
     ghost reads_left = { λ s. s.budget };
 
-    ghost told = { λ _ _ _ _. Unit {0} };
+    ghost reported = { λ _ _ _ _. Unit {0} };
 
     fn read(&mut self, buffer: &mut [u8]) -> Result<usize, DeviceFault> {
         if self.budget > 0
             && let Ok(count) = self.reader.read(buffer)
         {
             self.budget -= 1;
-            self.told_end = count == 0;
+            self.reported_end = count == 0;
             return Ok(count);
         }
         self.has_failed = true;
@@ -120,7 +120,7 @@ impl<W: Write> Sink for WriterSink<W> {
 
     ghost failed = { λ s count t. Raises s.has_failed count t.has_failed };
 
-    ghost told = { λ _ _ _ _. Unit {0} };
+    ghost reported = { λ _ _ _ _. Unit {0} };
 
     fn write(&mut self, bytes: &[u8]) -> Result<usize, DeviceFault> {
         if let Ok(count) = self.writer.write(bytes)

@@ -8,6 +8,6 @@ mod failures;
 #[cfg(test)]
 mod faults;
 #[cfg(test)]
-mod lives;
+mod incarnations;
 #[cfg(test)]
 mod renewals;

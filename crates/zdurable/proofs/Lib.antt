@@ -1,5 +1,5 @@
 pub mod Logs
-pub mod Lives
+pub mod Incarnations
 pub mod Serving
 pub mod Leading
 pub mod Opening

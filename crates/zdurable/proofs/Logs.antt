@@ -6,7 +6,7 @@ use Rattle.zcalls.specs.declared.call.Call.TheVariants as call
 use Rattle.zcalls.specs.declared.call.Update.{Update}
 use Rattle.zprotocol.specs.world.PlainTree.{serve}
 use Rattle.ztree_service.specs.log.Logs.{Log, calls_of, served, tree_after}
-use Rattle.ztree_service.proofs.log_lemmas.Lives.{calls_zipped}
+use Rattle.ztree_service.proofs.log_lemmas.Incarnations.{calls_zipped}
 use Rattle.zsnapshots.specs.folder.Entries.{Entry, calls_again}
 use Rattle.zsnapshots.specs.folder.States.{after, after_entry}
 use Rattle.zfront.specs.Front.{updates_among}

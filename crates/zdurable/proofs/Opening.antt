@@ -3,7 +3,7 @@ use Rattle.std.proofs.Common.{◌≡◌, ℕ, List, [], refl, sym, ap, subst}
 use Rattle.ztree.specs.Tree.{Tree}
 use Rattle.zjournal.specs.Device.{LeavesOnly}
 use Rattle.zjournal.specs.Faults.{IsSuch, open_error}
-use Rattle.zjournal.specs.Journal.{IsAtRest, StandsFor}
+use Rattle.zjournal.specs.Journal.{IsAtRest, Represents}
 use Rattle.zjournal.specs.Journal as journal
 use Rattle.zjournal.specs.Scan.{joined}
 use Rattle.zjournal.specs.declared.device.DeviceError.{DeviceError}
@@ -15,10 +15,10 @@ use Rattle.zjournal.proofs.Readings.{files_have_one_reading}
 use Rattle.zfront.specs.Front.{FrontView}
 use Rattle.zfront.specs.Inputs.{ServerView}
 use Rattle.zfront.specs.Restoring.{all_taken}
-use Rattle.zdurable.specs.declared.kept.Kept.{Kept}
-use Rattle.zdurable.specs.declared.fault.KeptFault.TheVariants as ending
+use Rattle.zdurable.specs.declared.kept.DurableFront.{DurableFront}
+use Rattle.zdurable.specs.declared.fault.DurableFault.TheVariants as ending
 use Rattle.zdurable.specs.Restored.{clock_at, restored}
-use Rattle.zdurable.specs.Kept.{IsOpen, IsServing}
+use Rattle.zdurable.specs.DurableFront.{IsOpen, IsServing}
 use Rattle.zdurable.specs.Faults.{put_fault, read_fault, IsLeftBy, IsSuchFile}
 use Rattle.zsnapshots.specs.declared.folder.fault.ReadFault.{ReadFault}
 use Rattle.zsnapshots.specs.declared.folder.fault.ReadFault.TheVariants as reading
@@ -27,12 +27,12 @@ use Rattle.zsnapshots.specs.folder.Texts.{IsNoText, IsTextOf}
 
 -- what was read is what is opened
 pub serves : {D : Type 0} (seen : D → List ℕ) (may_leave : D → List ℕ → Type 0) (secret : List ℕ) (tick now_ms servers m : ℕ) (file now : List ℕ) (t : Tree)
-    (kept : Kept D) → m ≡ servers → now ≡ file → (read : List (List ℕ)) → StandsFor servers read file → IsTextOf t (joined read)
+    (kept : DurableFront D) → m ≡ servers → now ≡ file → (read : List (List ℕ)) → Represents servers read file → IsTextOf t (joined read)
     → kept.front ≡ restored secret tick now_ms t
-    → (batches : List (List ℕ)) → StandsFor m batches now → IsAtRest seen may_leave m batches kept.journal → journal.IsOpen kept.journal
-    → StandsFor servers batches file × IsServing seen may_leave servers batches t kept
+    → (batches : List (List ℕ)) → Represents m batches now → IsAtRest seen may_leave m batches kept.journal → journal.IsOpen kept.journal
+    → Represents servers batches file × IsServing seen may_leave servers batches t kept
 serves seen may_leave secret tick now_ms servers m file now t kept m_is same read reads keeps front batches stands rest takes =
-    let stand : StandsFor servers batches file = subst (λ k. StandsFor k batches file) m_is (subst (StandsFor m batches) same stands) in
+    let stand : Represents servers batches file = subst (λ k. Represents k batches file) m_is (subst (Represents m batches) same stands) in
     let one = files_have_one_reading servers file read batches reads stand in (
       stand,
       record {
@@ -53,11 +53,11 @@ serves seen may_leave secret tick now_ms servers m file now t kept m_is same rea
 
 -- a text of this fault is that of the file
 pub such_read : (fault : ReadFault) (servers n : ℕ) (file text : List ℕ) → n ≡ servers → (read : List (List ℕ))
-    → StandsFor n read file → text ≡ joined read → IsReadFault text fault
+    → Represents n read file → text ≡ joined read → IsReadFault text fault
     → IsSuchFile servers file (read_fault fault)
 such_read reading.Memory servers n file text n_is read reads text_is such = tt
 such_read reading.NotRecords servers n file text n_is read reads text_is such =
-    (read, subst (λ k. StandsFor k read file) n_is reads, subst IsNoText text_is such)
+    (read, subst (λ k. Represents k read file) n_is reads, subst IsNoText text_is such)
 
 -- a device that fails says nothing of the file
 pub says_nothing : (e : DeviceError) (servers : ℕ) (file : List ℕ) → IsSuch servers file (open_error e)
@@ -76,7 +76,7 @@ pub none_taken : (v : FrontView) → v.made ≡ [] → v ≡ all_taken v
 none_taken v none i = record v { made = none i }
 
 -- what a fault of a put leaves
-pub left_put : {D : Type 0} (old new : Kept D) (e : PutError) → (e ≡ put.NotText → ⊥) → (e ≡ put.Closed → ⊥) → (IsOpen new → ⊥)
+pub left_put : {D : Type 0} (old new : DurableFront D) (e : PutError) → (e ≡ put.NotText → ⊥) → (e ≡ put.Closed → ⊥) → (IsOpen new → ⊥)
     → IsLeftBy (put_fault e) old new
 left_put old new put.Memory text closed ended = ended
 left_put old new put.Failed text closed ended = ended

@@ -1,4 +1,4 @@
--- A journal that is shortened, piece by piece.
+-- A journal that is shortened, chunk by chunk.
 use Rattle.std.proofs.Common.{◌≡◌, inl, inr, ⊎_elim, ◌∙◌, ℕ, ◌+◌, ◌<◌, ◌≤◌, ◌^◌, ◌-◌, List, [], ◌∷◌, ◌++◌, length}
 use Rattle.std.proofs.Common.{sym, ap, subst, arith, append_assoc, append-nil}
 use Rattle.ztree.specs.Tree.{Tree}
@@ -8,21 +8,21 @@ use Rattle.zjournal.specs.Renewal.{IsRenewing, IsInRenewal, IsOldOrNew, renewed_
 use Rattle.zjournal.specs.Scan.{joined}
 use Rattle.zjournal.specs.declared.journal.Journal.{Journal}
 use Rattle.zjournal.proofs.Moments.{joined_runs, started, weaker}
-use Rattle.zsnapshots.specs.folder.Shortening.{ShorteningView, IsPiece, IsAllWritten, text_left}
+use Rattle.zsnapshots.specs.folder.Compaction.{CompactionView, IsChunk, IsAllWritten, text_left}
 use Rattle.zsnapshots.specs.folder.Texts.{row_records, snapshot_text, IsKeepable, IsTextOf}
 use Rattle.zsnapshots.proofs.folder_lemmas.Apart.{snapshots_keep}
-use Rattle.zsnapshots.proofs.folder_lemmas.Pieces.{nothing_left, pieces_join}
-use Rattle.zdurable.specs.Kept.{KeepsTree}
-use Rattle.zdurable.specs.Shortening.{IsOldOrTree, IsTooLong, KeepsEither}
+use Rattle.zsnapshots.proofs.folder_lemmas.Chunks.{nothing_left, chunks_join}
+use Rattle.zdurable.specs.DurableFront.{KeepsTree}
+use Rattle.zdurable.specs.Compaction.{IsOldOrTree, IsTooLong, KeepsEither}
 use Rattle.zdurable.proofs.Serving.{joined-more}
 
--- ---- pieces
+-- ---- chunks
 
--- a piece makes what is left shorter
-pub piece_shorter : (tree : Tree) (old new : ShorteningView) (piece : List ℕ) → old.tree ≡ tree → IsPiece old new piece
+-- a chunk makes what is left shorter
+pub chunk_shorter : (tree : Tree) (old new : CompactionView) (chunk : List ℕ) → old.tree ≡ tree → IsChunk old new chunk
     → length (row_records tree) - new.written < length (row_records tree) - old.written
-piece_shorter tree old new piece same is =
-    let count : new.written ≡ old.written + is.count = ap (λ (v : ShorteningView). v.written) is.view in
+chunk_shorter tree old new chunk same is =
+    let count : new.written ≡ old.written + is.count = ap (λ (v : CompactionView). v.written) is.view in
     let all : length (row_records old.tree) ≡ length (row_records tree) = ap (λ (u : Tree). length (row_records u)) same in
     omega (arith, count, all, is.some, is.within)
 
@@ -63,8 +63,8 @@ module _ {D : Type 0} (seen : D → List ℕ) (may_leave : D → List ℕ → Ty
 
 module _ {D : Type 0} (seen : D → List ℕ) (may_leave : D → List ℕ → Type 0) (beside : D → List ℕ) (moment : D
     → ℕ) (left_since : D → ℕ → List ℕ → Type 0) where
-  -- so far the new file has the pieces that were handed out, and the old one is what it was
-  pub record IsGoing (tree : Tree) (old now : Journal D) (text : ShorteningView) : Type 0 where
+  -- so far the new file has the chunks that were handed out, and the old one is what it was
+  pub record IsGoing (tree : Tree) (old now : Journal D) (text : CompactionView) : Type 0 where
     pub same : text.tree ≡ tree
     pub was_open : IsOpen old
     pub is_open : IsOpen now
@@ -74,7 +74,7 @@ module _ {D : Type 0} (seen : D → List ℕ) (may_leave : D → List ℕ → Ty
     pub leaves : (servers : ℕ) (batches : List (List ℕ)) → IsAtRest seen may_leave servers batches old
         → LeavesOnly moment left_since (device_of old) (device_of now) (Keeps servers batches)
 
-  module _ (tree : Tree) (old now : Journal D) (text : ShorteningView) (going : IsGoing tree old now text)
+  module _ (tree : Tree) (old now : Journal D) (text : CompactionView) (going : IsGoing tree old now text)
       (servers : ℕ) (batches : List (List ℕ)) (rest : IsAtRest seen may_leave servers batches old) where
     -- the file that is at rest now
     pub rest_now : IsAtRest seen may_leave servers batches now
@@ -119,7 +119,7 @@ module _ {D : Type 0} (seen : D → List ℕ) (may_leave : D → List ℕ → Ty
           run (λ file keeps. ⊎_elim (λ was. inl was) (λ is. inr ((going.so_far servers batches rest).0, is, text_keeps)) keeps))
 
   -- the beginning
-  pub begun : (tree : Tree) (old new : Journal D) (text : ShorteningView) → text ≡ record { tree = tree; written = 0 }
+  pub begun : (tree : Tree) (old new : Journal D) (text : CompactionView) → text ≡ record { tree = tree; written = 0 }
       → IsOpen old → IsOpen new → IsInRenewal seen may_leave beside new
       → ((servers : ℕ) (batches : List (List ℕ)) → IsOpen old → IsAtRest seen may_leave servers batches old
       → IsRenewing seen may_leave beside servers batches [] new)
@@ -127,25 +127,25 @@ module _ {D : Type 0} (seen : D → List ℕ) (may_leave : D → List ℕ → Ty
       → LeavesOnly moment left_since (device_of old) (device_of new) (Keeps servers batches))
       → IsGoing tree old new text
   begun tree old new text is was_open is_open renewing begins leaves = record {
-    same = ap (λ (v : ShorteningView). v.tree) is;
+    same = ap (λ (v : CompactionView). v.tree) is;
     was_open = was_open;
     is_open = is_open;
     renewing = renewing;
-    so_far = λ servers batches rest. ([], begins servers batches was_open rest, ap (λ (v : ShorteningView). text_left v) is);
+    so_far = λ servers batches rest. ([], begins servers batches was_open rest, ap (λ (v : CompactionView). text_left v) is);
     leaves = leaves;
   }
 
-  -- one piece more
-  pub goes_on : (tree : Tree) (old now new : Journal D) (before text : ShorteningView) (piece given : List ℕ)
-      → IsGoing tree old now before → IsPiece before text piece → given ≡ piece
+  -- one chunk more
+  pub goes_on : (tree : Tree) (old now new : Journal D) (before text : CompactionView) (chunk given : List ℕ)
+      → IsGoing tree old now before → IsChunk before text chunk → given ≡ chunk
       → IsOpen new → IsInRenewal seen may_leave beside new
       → ((servers : ℕ) (batches next : List (List ℕ)) → IsOpen now → IsRenewing seen may_leave beside servers batches next now
       → IsRenewing seen may_leave beside servers batches (next ++ given ∷ []) new)
       → ((servers : ℕ) (batches : List (List ℕ)) → IsAtRest seen may_leave servers batches now
       → LeavesOnly moment left_since (device_of now) (device_of new) (Keeps servers batches))
       → IsGoing tree old new text
-  goes_on tree old now new before text piece given going is same is_open renewing adds leaves = record {
-    same = ap (λ (v : ShorteningView). v.tree) is.view ∙ going.same;
+  goes_on tree old now new before text chunk given going is same is_open renewing adds leaves = record {
+    same = ap (λ (v : CompactionView). v.tree) is.view ∙ going.same;
     was_open = going.was_open;
     is_open = is_open;
     renewing = renewing;
@@ -155,7 +155,7 @@ module _ {D : Type 0} (seen : D → List ℕ) (may_leave : D → List ℕ → Ty
           adds servers batches so_far.0 going.is_open so_far.1,
           ap (λ (t : List ℕ). t ++ text_left text) (joined-more so_far.0 given)
               ∙ append_assoc (joined so_far.0) given (text_left text)
-              ∙ ap (λ (t : List ℕ). joined so_far.0 ++ t) (ap (λ (t : List ℕ). t ++ text_left text) same ∙ sym (pieces_join before text piece is))
+              ∙ ap (λ (t : List ℕ). joined so_far.0 ++ t) (ap (λ (t : List ℕ). t ++ text_left text) same ∙ sym (chunks_join before text chunk is))
               ∙ so_far.2,
         );
     leaves = λ servers batches rest.

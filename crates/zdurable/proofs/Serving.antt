@@ -17,9 +17,9 @@ use Rattle.zsnapshots.proofs.folder_lemmas.States.{go_on}
 use Rattle.zsnapshots.proofs.folder_lemmas.Apart.{texts_go_on}
 use Rattle.zfront_laws.specs.Making.{took_at, took_in}
 use Rattle.zfront_laws.specs.Runs.{Step, Took, Does, Runs}
-use Rattle.zdurable.specs.declared.kept.Kept.{Kept}
+use Rattle.zdurable.specs.declared.kept.DurableFront.{DurableFront}
 use Rattle.zdurable.specs.Making.{HasKept, kept_since}
-use Rattle.zdurable.specs.Kept.{IsServing, front_in, made_in, more_if}
+use Rattle.zdurable.specs.DurableFront.{IsServing, front_in, made_in, more_if}
 
 -- ---- batches and their text
 
@@ -80,7 +80,7 @@ keeps_same : (t : Tree) (step : Step) (v w : FrontView) → took_at step v ≡ [
 keeps_same t step v w none has does = subst (λ (u : Tree). HasKept u w) (ap (after t) none) (keeps_more t step v w has does)
 
 module _ {D : Type 0} (seen : D → List ℕ) (may_leave : D → List ℕ → Type 0) (servers : ℕ) (batches : List (List ℕ)) (t : Tree)
-    (old new : Kept D) (serving : IsServing seen may_leave servers batches t old) where
+    (old new : DurableFront D) (serving : IsServing seen may_leave servers batches t old) where
   -- a step at which nothing is taken
   pub step_serves : (step : Step) → took_at step (front_in old) ≡ [] → new.journal ≡ old.journal → new.front.is_broken ≡ false
       → Does step (front_in old) (front_in new) → IsServing seen may_leave servers batches t new

@@ -4,24 +4,24 @@ use Rattle.zjournal.specs.declared.fault.PutError.{PutError}
 use Rattle.zjournal.specs.declared.fault.PutError.TheVariants as put
 use Rattle.zjournal.specs.declared.fault.OpenError.TheVariants as fault
 use Rattle.zjournal.specs.Faults.{IsOfContent, IsSuch}
-use Rattle.zjournal.specs.Journal.{StandsFor, size_of}
+use Rattle.zjournal.specs.Journal.{Represents, size_of}
 use Rattle.zjournal.specs.Scan.{joined}
 use Rattle.zdurable.specs.declared.fault.OpenFault.{OpenFault}
 use Rattle.zdurable.specs.declared.fault.OpenFault.TheVariants as opening
-use Rattle.zdurable.specs.declared.fault.KeptFault.{KeptFault}
-use Rattle.zdurable.specs.declared.fault.KeptFault.TheVariants as ending
-use Rattle.zdurable.specs.declared.kept.Kept.{Kept}
+use Rattle.zdurable.specs.declared.fault.DurableFault.{DurableFault}
+use Rattle.zdurable.specs.declared.fault.DurableFault.TheVariants as ending
+use Rattle.zdurable.specs.declared.kept.DurableFront.{DurableFront}
 use Rattle.zsnapshots.specs.declared.folder.fault.ReadFault.{ReadFault}
 use Rattle.zsnapshots.specs.declared.folder.fault.ReadFault.TheVariants as read
 use Rattle.zsnapshots.specs.folder.Texts.{IsNoText}
-use Rattle.zdurable.specs.Kept.{IsOpen}
+use Rattle.zdurable.specs.DurableFront.{IsOpen}
 
 -- what a fault of reading becomes for an opening, and one of a put for the service
 abbrev pub read_fault : ReadFault → OpenFault
 read_fault read.Memory = opening.Memory
 read_fault read.NotRecords = opening.NotRecords
 
-abbrev pub put_fault : PutError → KeptFault
+abbrev pub put_fault : PutError → DurableFault
 put_fault put.Memory = ending.Memory
 put_fault put.Failed = ending.Failed
 put_fault put.Full = ending.Full
@@ -29,21 +29,21 @@ put_fault put.NotText = ending.Ended
 put_fault put.Closed = ending.Ended
 
 -- the service takes nothing more; if it had ended before, it is unchanged
-abbrev pub IsLeftBy : {D : Type 0} → KeptFault → Kept D → Kept D → Type 0
+abbrev pub IsLeftBy : {D : Type 0} → DurableFault → DurableFront D → DurableFront D → Type 0
 IsLeftBy ending.Memory old new = IsOpen new → ⊥
 IsLeftBy ending.Failed old new = IsOpen new → ⊥
 IsLeftBy ending.Full old new = IsOpen new → ⊥
 IsLeftBy ending.Ended old new = (new ≡ old) × (IsOpen old → ⊥)
 
 -- an input finds no memory, or the service had ended: an input makes no device calls
-abbrev pub IsOfInput : KeptFault → Type 0
+abbrev pub IsOfInput : DurableFault → Type 0
 IsOfInput ending.Memory = Unit {0}
 IsOfInput ending.Failed = ⊥
 IsOfInput ending.Full = ⊥
 IsOfInput ending.Ended = Unit {0}
 
 -- the file has 2 ^ 60 bytes
-abbrev pub IsFull : {D : Type 0} → Kept D → Type 0
+abbrev pub IsFull : {D : Type 0} → DurableFront D → Type 0
 IsFull kept = 2 ^ 60 ≤ size_of kept.journal
 
 -- the fault leaves the file unchanged: it is one of the file's content, or of reading it
@@ -56,7 +56,7 @@ IsOfReading opening.NotRecords = Unit {0}
 abbrev pub IsSuchFile : ℕ → List ℕ → OpenFault → Type 0
 IsSuchFile servers file (opening.Journal e) = IsSuch servers file e
 IsSuchFile servers file opening.Memory = Unit {0}
-IsSuchFile servers file opening.NotRecords = (batches : List (List ℕ)) × StandsFor servers batches file × IsNoText (joined batches)
+IsSuchFile servers file opening.NotRecords = (batches : List (List ℕ)) × Represents servers batches file × IsNoText (joined batches)
 
 -- the disk failed while the service was opened
 abbrev pub disk_failed : OpenFault

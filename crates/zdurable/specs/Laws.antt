@@ -7,7 +7,7 @@ use Rattle.zsnapshots.specs.folder.States.{after}
 use Rattle.zfront.specs.Front.{FrontView}
 use Rattle.zfront_laws.specs.Making.{updates_in}
 use Rattle.zdurable.specs.Making.{HasKept, kept_since, log_since}
-use Rattle.zdurable.specs.Lives.{Life, FileKeeps, AreLives, IsWoven}
+use Rattle.zdurable.specs.Incarnations.{Incarnation, FileKeeps, AreIncarnations, IsWoven}
 
 -- A front end whose changes are durable made its calls after any log that leaves the tree with
 -- which it began. All of it is one log of one tree, the front's. The front's updates are those that
@@ -25,8 +25,8 @@ WhatIsKeptStandsInALog =
 -- each once, in order and with the reply that was sent. Its replies are those of one plain tree.
 -- The last file holds the tree that its changes leave. So an acknowledged change is never undone,
 -- and what was in flight acted once or not at all.
-abbrev pub LivesAreOneTree : Type 0
-LivesAreOneTree =
-    (servers : ℕ) (lives : List Life) (last : List ℕ) (t : Tree) → AreLives servers [] lives last → FileKeeps servers t last
-    → (log : Log) × (entries : List Entry) × IsWoven lives log entries × Leaves log t
+abbrev pub IncarnationsAreOneTree : Type 0
+IncarnationsAreOneTree =
+    (servers : ℕ) (incarnations : List Incarnation) (last : List ℕ) (t : Tree) → AreIncarnations servers [] incarnations last → FileKeeps servers t last
+    → (log : Log) × (entries : List Entry) × IsWoven incarnations log entries × Leaves log t
     × (t ≡ after opening_tree entries) × (updates_in log ≡ entries)

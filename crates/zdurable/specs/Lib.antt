@@ -1,9 +1,9 @@
 pub mod Making
-pub mod Lives
+pub mod Incarnations
 pub mod Laws
 pub mod Restored
-pub mod Kept
-pub mod Shortening
+pub mod DurableFront
+pub mod Compaction
 pub mod Faults
 pub mod Looking
 pub mod Stored

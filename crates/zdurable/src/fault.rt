@@ -25,7 +25,7 @@ pub enum OpenFault {
 
 /// Why an input isn't taken, or changes aren't made durable. The service has ended.
 #[derive(Clone, Copy, Debug, PartialEq, Eq, Error)]
-pub enum KeptFault {
+pub enum DurableFault {
     /// Out of memory.
     #[error("out of memory")]
     Memory,
@@ -65,7 +65,7 @@ impl From<ReadFault> for OpenFault {
     }
 }
 
-impl From<PutError> for KeptFault {
+impl From<PutError> for DurableFault {
     ghost use Rattle.zdurable.specs.Faults.{put_fault};
     ghost use Rattle.std.specs.Prelude.{◌≡◌};
 
@@ -73,21 +73,21 @@ impl From<PutError> for KeptFault {
 
     fn from(cause: PutError) -> Self {
         match cause {
-            PutError::Memory => KeptFault::Memory,
-            PutError::Failed => KeptFault::Failed,
-            PutError::Full => KeptFault::Full,
-            PutError::NotText | PutError::Closed => KeptFault::Ended,
+            PutError::Memory => DurableFault::Memory,
+            PutError::Failed => DurableFault::Failed,
+            PutError::Full => DurableFault::Full,
+            PutError::NotText | PutError::Closed => DurableFault::Ended,
         }
     }
 }
 
-impl From<Memory> for KeptFault {
-    ghost use Rattle.zdurable.specs.declared.fault.KeptFault.TheVariants as fault;
+impl From<Memory> for DurableFault {
+    ghost use Rattle.zdurable.specs.declared.fault.DurableFault.TheVariants as fault;
     ghost use Rattle.std.specs.Prelude.{◌≡◌};
 
     ghost from_gives = { λ _ e. e ≡ fault.Memory };
 
     fn from(_: Memory) -> Self {
-        KeptFault::Memory
+        DurableFault::Memory
     }
 }

@@ -5,16 +5,16 @@ ghost use Rattle.ztree.specs.Tree.{Tree};
 ghost use Rattle.zconnections.specs.buffers.Inputs.{input_of};
 ghost use Rattle.zfront.specs.Inputs.{Does};
 ghost use Rattle.zdurable.specs.Faults.{IsOfInput};
-ghost use Rattle.zdurable.specs.Kept.{front_in, IsOpen, IsSameFile, IsServing, IsSound};
+ghost use Rattle.zdurable.specs.DurableFront.{front_in, IsOpen, IsSameFile, IsServing, IsSound};
 
-use crate::Kept;
-use crate::fault::KeptFault;
+use crate::DurableFront;
+use crate::fault::DurableFault;
 use zfront::Input;
 use zjournal::Device;
 
-impl<D: Device> Kept<D> {
+impl<D: Device> DurableFront<D> {
     /// Takes an input (`Front::take`). The file isn't touched.
-    pub fn take(&mut self, input: Input<'_>) -> Result<(), KeptFault>
+    pub fn take(&mut self, input: Input<'_>) -> Result<(), DurableFault>
         requires { IsSound D.seen D.may_leave self.old }
         ensures does { OnOk result
             (Does (input_of input.entry) (front_in self.old) (front_in self.new)) }
@@ -26,12 +26,12 @@ impl<D: Device> Kept<D> {
         ensures open { OnOk result (IsOpen self.old × IsOpen self.new) }
         ensures left { OnErr result (IsOpen self.new → ⊥) }
         ensures ended { (IsOpen self.old → ⊥)
-            → IsErrOf result KeptFault.Ended × (self.new ≡ self.old) }
-        ensures only { IsErrOf result KeptFault.Ended → IsOpen self.old → ⊥ }
+            → IsErrOf result DurableFault.Ended × (self.new ≡ self.old) }
+        ensures only { IsErrOf result DurableFault.Ended → IsOpen self.old → ⊥ }
         ensures fault { IfErr result IsOfInput }
     {
         if !self.is_open {
-            return Err(KeptFault::Ended);
+            return Err(DurableFault::Ended);
         }
         self.is_open = false;
         self.front.take(input)?;

@@ -10,19 +10,19 @@ ghost use Rattle.std.specs.Prelude.{IfErr, IfOk, IsErrOf, IsOk, OnOk};
 ghost use Rattle.ztree.specs.Tree.{Tree};
 ghost use Rattle.zjournal.specs.Blocks.{IsText};
 ghost use Rattle.zjournal.specs.Device.{LeavesOnly, Only};
-ghost use Rattle.zjournal.specs.Journal.{IsAtRest, IsWithOrWithout, StandsFor, device_of, size_of};
+ghost use Rattle.zjournal.specs.Journal.{IsAtRest, IsWithOrWithout, Represents, device_of, size_of};
 ghost use Rattle.zjournal.specs.Journal as state;
 ghost use Rattle.zjournal.specs.Puts as puts;
 ghost use Rattle.zfront.specs.Restoring.{all_taken};
 ghost use Rattle.zdurable.specs.Faults.{disk_failed, IsFull, IsLeftBy, IsOfReading, IsSuchFile};
-ghost use Rattle.zdurable.specs.Kept.{disk_of, front_in, made_in, more_if, shortened_size};
-ghost use Rattle.zdurable.specs.Kept.{IsOpen, IsServing, IsSound};
-ghost use Rattle.zdurable.specs.Looking.{TellsOfPasswords};
+ghost use Rattle.zdurable.specs.DurableFront.{disk_of, front_in, made_in, more_if, compacted_size};
+ghost use Rattle.zdurable.specs.DurableFront.{IsOpen, IsServing, IsSound};
+ghost use Rattle.zdurable.specs.Looking.{ReportsOfPasswords};
 ghost use Rattle.zdurable.specs.Restored.{restored};
 ghost use Rattle.zsnapshots.specs.folder.Entries.{entries_text};
 ghost use Rattle.zsnapshots.specs.folder.States.{after};
 
-use crate::fault::{KeptFault, OpenFault};
+use crate::fault::{DurableFault, OpenFault};
 use crate::looking::look;
 use crate::opened::Opened;
 use crate::restored::restored;
@@ -39,7 +39,7 @@ use zsnapshots::folder::Found;
 /// It returns chunks only while all its changes are durable. After any fault it has ended, and its
 /// file is to be opened again.
 #[derive(Drop)]
-pub struct Kept<D: Device> {
+pub struct DurableFront<D: Device> {
     pub(crate) alloc: Global,
     pub(crate) front: Front<LocalTree>,
     pub(crate) journal: Journal<D>,
@@ -48,7 +48,7 @@ pub struct Kept<D: Device> {
     pub(crate) is_open: bool,
 }
 
-impl<D: Device> Kept<D> {
+impl<D: Device> DurableFront<D> {
     /// Opens the service of a file that a crash may have left, or of a new one. Its front end
     /// begins with the tree that the file holds. If reading fails, the file is unchanged. A crash
     /// while opening leaves a file with the same tree. The tree's time is `now_ms` now, in
@@ -64,21 +64,21 @@ impl<D: Device> Kept<D> {
         // After a restart, a read returns what is durable.
         requires durable { Only (D.seen device) (D.may_leave device) }
         ensures serving { IfOk result (λ opened. (batches : List (List ℕ)) × (t : Tree)
-            × StandsFor servers batches (D.seen device)
+            × Represents servers batches (D.seen device)
             × IsServing D.seen D.may_leave servers batches t opened.kept
             × (opened.kept.front ≡ restored secret tick now_ms t)) }
         ensures open { IfOk result (λ opened. IsOpen opened.kept) }
         ensures sound { IfOk result (λ opened. IsSound D.seen D.may_leave opened.kept) }
-        ensures measured { IfOk result (λ opened. shortened_size opened.kept ≡ 0) }
+        ensures measured { IfOk result (λ opened. compacted_size opened.kept ≡ 0) }
         ensures passwords { IfOk result (λ opened.
-            TellsOfPasswords servers (D.seen device) opened.had_passwords) }
-        ensures any_moment { (batches : List (List ℕ)) → StandsFor servers batches (D.seen device)
+            ReportsOfPasswords servers (D.seen device) opened.had_passwords) }
+        ensures any_moment { (batches : List (List ℕ)) → Represents servers batches (D.seen device)
             → IfOk result (λ opened. LeavesOnly D.moment D.left_since device (disk_of opened.kept)
-            (StandsFor servers batches)) }
+            (Represents servers batches)) }
         ensures any_moment_err { (batches : List (List ℕ))
-            → StandsFor servers batches (D.seen device)
+            → Represents servers batches (D.seen device)
             → IfErr result (λ e. LeavesOnly D.moment D.left_since device e.1
-            (StandsFor servers batches)) }
+            (Represents servers batches)) }
         ensures untouched { IfErr result (λ e. IsOfReading e.0
             → (D.seen e.1 ≡ D.seen device)
             × LeavesOnly D.moment D.left_since device e.1 (λ c. c ≡ D.seen device)) }
@@ -101,7 +101,7 @@ impl<D: Device> Kept<D> {
         };
         match zjournal::open(alloc, device, servers.number()) {
             Ok((journal, _)) => Ok(Opened {
-                kept: Kept {
+                kept: DurableFront {
                     alloc,
                     front,
                     journal,
@@ -127,14 +127,14 @@ impl<D: Device> Kept<D> {
     /// Commits the changes since the last commit, as one block. At `Ok` the block is durable, and
     /// its chunks can be taken. Without changes nothing is written. After any fault the service has
     /// ended; a file that is opened again then has all these changes, or none.
-    pub fn commit(&mut self) -> Result<(), KeptFault>
+    pub fn commit(&mut self) -> Result<(), DurableFault>
         requires { IsSound D.seen D.may_leave self.old }
         ensures kept { (servers : ℕ) (batches : List (List ℕ)) (t : Tree) → IsOpen self.old
             → IsServing D.seen D.may_leave servers batches t self.old
             → OnOk result (IsServing D.seen D.may_leave servers
             (more_if (made_in self.old) batches) (after t (made_in self.old)) self.new) }
         ensures taken { OnOk result (front_in self.new ≡ all_taken (front_in self.old)) }
-        ensures measured { shortened_size self.new ≡ shortened_size self.old }
+        ensures measured { compacted_size self.new ≡ compacted_size self.old }
         ensures nothing { made_in self.old ≡ [] → IsOpen self.old
             → IsOk result × (self.new ≡ self.old) }
         ensures any_moment { (servers : ℕ) (batches : List (List ℕ)) (t : Tree)
@@ -145,13 +145,13 @@ impl<D: Device> Kept<D> {
         ensures open { OnOk result (IsOpen self.old × IsOpen self.new) }
         ensures left { IfErr result (λ e. IsLeftBy e self.old self.new) }
         ensures ended { (IsOpen self.old → ⊥)
-            → IsErrOf result KeptFault.Ended × (self.new ≡ self.old) }
-        ensures full { IsErrOf result KeptFault.Full → IsFull self.old }
-        ensures failed { IsErrOf result KeptFault.Failed
+            → IsErrOf result DurableFault.Ended × (self.new ≡ self.old) }
+        ensures full { IsErrOf result DurableFault.Full → IsFull self.old }
+        ensures failed { IsErrOf result DurableFault.Failed
             → D.faults (disk_of self.old) < D.faults (disk_of self.new) }
     {
         if !self.is_open {
-            return Err(KeptFault::Ended);
+            return Err(DurableFault::Ended);
         }
         if self.front.made().is_empty() {
             return Ok(());

@@ -1,14 +1,14 @@
 //! A server for ZooKeeper's clients whose changes are durable. Changes of a front end are written
 //! as one block of a file, and only then acknowledged. A service that is opened again begins with
-//! the tree that its file holds. `shorten` compacts a file: it replaces one that has become long
+//! the tree that its file holds. `compact` compacts a file: it replaces one that has become long
 //! with a snapshot alone.
 //!
 //! ```text
-//! let opened = Kept::open(alloc, device, ServerId::first(), secret, tick, now_ms)?;
+//! let opened = DurableFront::open(alloc, device, ServerId::first(), secret, tick, now_ms)?;
 //! let Opened { mut kept, .. } = opened;
 //! kept.take(Input::Came(connection, bytes))?;
 //! kept.commit()?;    // what it changed is durable
-//! while let Some(piece) = kept.next_piece() { .. }    // and is sent
+//! while let Some(chunk) = kept.next_chunk() { .. }    // and is sent
 //! ```
 //!
 //! It works over any `Device` (zjournal), whose law says what a crash may leave. At each moment a
@@ -27,19 +27,19 @@ mod kept;
 pub mod laws;
 mod looking;
 mod opened;
-mod pieces;
+mod chunks;
 mod restored;
 mod rows;
-mod shortening;
+mod compaction;
 mod stored;
 mod writing;
 
-pub use fault::{KeptFault, OpenFault};
-pub use kept::Kept;
+pub use fault::{DurableFault, OpenFault};
+pub use kept::DurableFront;
 pub use looking::{folder_stat, look};
 pub use opened::Opened;
 pub use stored::Stored;
 pub use zsnapshots::export::FolderStat;
-pub use zfront::{Input, Piece, Secret, TickLength};
+pub use zfront::{Input, Chunk, Secret, TickLength};
 pub use zprotocol::ServerId;
 pub use zsnapshots::folder::Found;

@@ -7,8 +7,8 @@
 ghost use Rattle.std.specs.Prelude.{◌≡◌, ◌<◌, ◌≤◌, false, IfErr, IfOk};
 ghost use Rattle.zjournal.specs.Device.{LeavesOnly, Only};
 ghost use Rattle.zdurable.specs.Faults.{disk_failed, IsSuchFile};
-ghost use Rattle.zdurable.specs.Lives.{FileKeeps};
-ghost use Rattle.zdurable.specs.Looking.{IsLook, IsStatOf, TellsOfPasswords};
+ghost use Rattle.zdurable.specs.Incarnations.{FileKeeps};
+ghost use Rattle.zdurable.specs.Looking.{IsLook, IsStatOf, ReportsOfPasswords};
 
 use crate::fault::OpenFault;
 use std::alloc::Global;
@@ -25,7 +25,7 @@ pub fn look<D: Device>(alloc: Global, device: &mut D, servers: ServerId) -> Resu
     ensures look { IfOk result (λ found.
         IsLook servers (D.seen device.old) found.tree.tree found.snapshot) }
     ensures passwords { IfOk result (λ found.
-        TellsOfPasswords servers (D.seen device.old) found.had_passwords) }
+        ReportsOfPasswords servers (D.seen device.old) found.had_passwords) }
     ensures whole { IfOk result (λ found. found.tree.is_broken ≡ false) }
     ensures seen { D.seen device.new ≡ D.seen device.old }
     ensures durable { Only (D.seen device.new) (D.may_leave device.new) }

@@ -6,8 +6,8 @@ ghost use Rattle.zcalls.specs.declared.call.Call.TheVariants as call;
 ghost use Rattle.zcalls.specs.declared.call.Update.TheVariants.{Tick};
 ghost use Rattle.zcalls.specs.declared.reply.Reply.{Reply};
 ghost use Rattle.zsnapshots.specs.folder.Entries.{entries_text};
-ghost use Rattle.zdurable.specs.Kept.{more_if};
-ghost use Rattle.zdurable.specs.Lives.{IsWoven};
+ghost use Rattle.zdurable.specs.DurableFront.{more_if};
+ghost use Rattle.zdurable.specs.Incarnations.{IsWoven};
 ghost use Rattle.zdurable.specs.Restored.{clock_at};
 
 /// With a tick of 500 ms, a service at tick 16 began eight seconds ago, whenever it was opened.
@@ -26,15 +26,15 @@ pub fn nothing_is_no_block()
 
 /// What may be in a log after some incarnations: an acknowledged call is there once. A change in
 /// flight is there once or not at all.
-pub fn what_was_told_stands()
+pub fn what_was_reported_stands()
     ensures under_way { (r : Reply)
-        → IsWoven (record { told = []; kept = []; under_way = Tick ∷ [] } ∷ [])
+        → IsWoven (record { reported = []; kept = []; under_way = Tick ∷ [] } ∷ [])
         ((call.Update Tick, r) ∷ []) (Tick ∷ []) }
-    ensures not_at_all { IsWoven (record { told = []; kept = []; under_way = Tick ∷ [] } ∷ [])
+    ensures not_at_all { IsWoven (record { reported = []; kept = []; under_way = Tick ∷ [] } ∷ [])
         [] [] }
     ensures undone { (c : Call) (r : Reply)
-        → IsWoven (record { told = (c, r) ∷ []; kept = []; under_way = [] } ∷ []) [] [] → ⊥ }
+        → IsWoven (record { reported = (c, r) ∷ []; kept = []; under_way = [] } ∷ []) [] [] → ⊥ }
     ensures twice { (c : Call) (r : Reply)
-        → IsWoven (record { told = (c, r) ∷ []; kept = []; under_way = [] } ∷ [])
+        → IsWoven (record { reported = (c, r) ∷ []; kept = []; under_way = [] } ∷ [])
         ((c, r) ∷ ((c, r) ∷ [])) [] → ⊥ }
 {}

@@ -2,16 +2,16 @@
 
 ghost use Rattle.std.specs.Prelude.{◌≡◌, List, ℕ, IfErr, IfOk, OnOk};
 ghost use Rattle.zjournal.specs.Device.{LeavesOnly, Only};
-ghost use Rattle.zjournal.specs.Journal.{StandsFor};
+ghost use Rattle.zjournal.specs.Journal.{Represents};
 ghost use Rattle.zjournal.specs.Scan.{joined};
 ghost use Rattle.zdurable.specs.Faults.{IsOfReading, IsSuchFile};
-ghost use Rattle.zdurable.specs.Kept.{KeepsTree};
+ghost use Rattle.zdurable.specs.DurableFront.{KeepsTree};
 ghost use Rattle.zdurable.specs.Stored.{bytes_of, file_of, tree_of, IsGood, IsStored};
 ghost use Rattle.zsnapshots.specs.folder.Texts.{snapshot_text};
 
-use crate::fault::{KeptFault, OpenFault};
+use crate::fault::{DurableFault, OpenFault};
 use crate::looking::look;
-use crate::shortening::shorten;
+use crate::compaction::compact;
 use std::alloc::Global;
 use zjournal::{Device, Journal};
 use zprotocol::ServerId;
@@ -33,16 +33,16 @@ impl<D: Device> Stored<D> {
         // After a restart, a read returns what is durable.
         requires durable { Only (D.seen device) (D.may_leave device) }
         ensures stored { IfOk result (λ stored. (batches : List (List ℕ))
-            × StandsFor servers batches (D.seen device)
+            × Represents servers batches (D.seen device)
             × IsStored D.seen D.may_leave servers batches stored) }
         ensures good { IfOk result (IsGood D.seen D.may_leave) }
-        ensures any_moment { (batches : List (List ℕ)) → StandsFor servers batches (D.seen device)
+        ensures any_moment { (batches : List (List ℕ)) → Represents servers batches (D.seen device)
             → IfOk result (λ stored. LeavesOnly D.moment D.left_since device (file_of stored)
-            (StandsFor servers batches)) }
+            (Represents servers batches)) }
         ensures any_moment_err { (batches : List (List ℕ))
-            → StandsFor servers batches (D.seen device)
+            → Represents servers batches (D.seen device)
             → IfErr result (λ e. LeavesOnly D.moment D.left_since device e.1
-            (StandsFor servers batches)) }
+            (Represents servers batches)) }
         ensures untouched { IfErr result (λ e. IsOfReading e.0
             → (D.seen e.1 ≡ D.seen device)
             × LeavesOnly D.moment D.left_since device e.1 (λ c. c ≡ D.seen device)) }
@@ -76,7 +76,7 @@ impl<D: Device> Stored<D> {
 
     /// Replaces the file, which may have many changes, with one that holds the tree alone. At each
     /// moment a crash leaves a file with the same tree. After a fault it is to be opened again.
-    pub fn shorten(&mut self) -> Result<(), KeptFault>
+    pub fn compact(&mut self) -> Result<(), DurableFault>
         requires { IsGood D.seen D.may_leave self.old }
         ensures kept { (servers : ℕ) (batches : List (List ℕ))
             → IsStored D.seen D.may_leave servers batches self.old
@@ -90,7 +90,7 @@ impl<D: Device> Stored<D> {
             → LeavesOnly D.moment D.left_since (file_of self.old) (file_of self.new)
             (KeepsTree servers (tree_of self.old)) }
     {
-        shorten(self.alloc, &mut self.journal, &self.tree)?;
+        compact(self.alloc, &mut self.journal, &self.tree)?;
         Ok(())
     }
 }

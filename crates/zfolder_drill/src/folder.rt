@@ -5,7 +5,7 @@ use std::alloc::Global;
 use zcalls::Update;
 use zwire::records::write_records;
 use ztree_service::LocalTree;
-use zsnapshots::folder::{Found, Shortening, add_entry, read};
+use zsnapshots::folder::{Found, Compaction, add_entry, read};
 
 // More chunks than any snapshot has.
 const MANY: usize = 10_000;
@@ -65,13 +65,13 @@ fn read_again(alloc: Global, text: &[u8], wanted: &[u8]) -> Result<LocalTree, Tr
 
 // Returns the text of a tree's snapshot.
 fn snapshot(alloc: Global, tree: &LocalTree) -> Result<Vec<u8>, Trouble> {
-    let mut shortening = Shortening::new(alloc, tree)?;
+    let mut compaction = Compaction::new(alloc, tree)?;
     let mut text = Vec::new(alloc);
     for _ in 0..MANY {
-        let Some(piece) = shortening.next_piece()? else {
+        let Some(chunk) = compaction.next_chunk()? else {
             break;
         };
-        text.extend_from_slice(&piece)?;
+        text.extend_from_slice(&chunk)?;
     }
     Ok(text)
 }

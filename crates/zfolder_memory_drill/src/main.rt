@@ -8,10 +8,10 @@ mod services;
 mod tree_stories;
 mod trees;
 
-use services::{change_is_kept, change_is_shortened, service_is_opened, service_is_shortened};
+use services::{change_is_kept, change_is_compacted, service_is_opened, service_is_compacted};
 use std::io;
 use tree_stories::{entry_is_applied, snapshot_is_written, text_is_read};
-use ztesting::{tell, tell_end};
+use ztesting::{tell, report_end};
 
 fn main(rt: HostRuntime) -> io::Result<()> {
     tell(
@@ -30,12 +30,12 @@ fn main(rt: HostRuntime) -> io::Result<()> {
     tell(
         &rt,
         "a service is shortened",
-        service_is_shortened(rt.alloc()),
+        service_is_compacted(rt.alloc()),
     )?;
     tell(
         &rt,
         "a service is shortened with a change",
-        change_is_shortened(rt.alloc()),
+        change_is_compacted(rt.alloc()),
     )?;
-    tell_end(&rt, rt.alloc())
+    report_end(&rt, rt.alloc())
 }

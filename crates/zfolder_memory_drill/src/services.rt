@@ -1,13 +1,13 @@
 //! A service with durable changes that runs out of memory: it has ended, and its file loses
 //! nothing.
 
-ghost use Rattle.zdurable.specs.Kept.{IsSound};
+ghost use Rattle.zdurable.specs.DurableFront.{IsSound};
 
 use crate::files::{stage_in, worked_file};
 use crate::trees::Stage;
 use std::alloc::Global;
 use zjournal::{Device, OpenError};
-use zdurable::{Input, Kept, KeptFault, OpenFault, Opened, Secret, ServerId, TickLength};
+use zdurable::{Input, DurableFront, DurableFault, OpenFault, Opened, Secret, ServerId, TickLength};
 use ztesting::Ended;
 
 // The milliseconds of a tick.
@@ -21,7 +21,7 @@ pub(crate) fn service_is_opened(alloc: Global) -> Ended {
     let Some(file) = worked_file(alloc) else {
         return Ended::NotBegun;
     };
-    match Kept::open(alloc, file, ServerId::first(), secret(), tick, 0) {
+    match DurableFront::open(alloc, file, ServerId::first(), secret(), tick, 0) {
         Ok(Opened { kept, .. }) => {
             let found = stage_in(alloc, &kept.device().current().disk);
             drop(kept);
@@ -52,9 +52,9 @@ fn is_memory(fault: OpenFault) -> bool {
 #[derive(Clone, Copy)]
 enum Act {
     Ticks,
-    Shortens,
+    Compacts,
     // A tick that isn't committed yet becomes durable with the compaction.
-    ShortensATick,
+    CompactsATick,
 }
 
 /// Commits a tick.
@@ -63,13 +63,13 @@ pub(crate) fn change_is_kept(alloc: Global) -> Ended {
 }
 
 /// Compacts the file.
-pub(crate) fn service_is_shortened(alloc: Global) -> Ended {
-    is_done(alloc, Act::Shortens)
+pub(crate) fn service_is_compacted(alloc: Global) -> Ended {
+    is_done(alloc, Act::Compacts)
 }
 
 /// Compacts the file after a tick.
-pub(crate) fn change_is_shortened(alloc: Global) -> Ended {
-    is_done(alloc, Act::ShortensATick)
+pub(crate) fn change_is_compacted(alloc: Global) -> Ended {
+    is_done(alloc, Act::CompactsATick)
 }
 
 fn is_done(alloc: Global, act: Act) -> Ended {
@@ -79,7 +79,7 @@ fn is_done(alloc: Global, act: Act) -> Ended {
     let Some(file) = worked_file(alloc) else {
         return Ended::NotBegun;
     };
-    let opened = Kept::open(alloc, file, ServerId::first(), secret(), tick, 0);
+    let opened = DurableFront::open(alloc, file, ServerId::first(), secret(), tick, 0);
     let Ok(Opened { mut kept, .. }) = opened else {
         return Ended::NotBegun;
     };
@@ -97,24 +97,24 @@ fn is_done(alloc: Global, act: Act) -> Ended {
 fn is_left(found: Stage, act: Act, ended: Ended) -> bool {
     let last = match act {
         Act::Ticks => Stage::Ticked,
-        Act::Shortens => Stage::Short,
-        Act::ShortensATick => Stage::ShortTicked,
+        Act::Compacts => Stage::Short,
+        Act::CompactsATick => Stage::ShortTicked,
     };
     found == last || (found == Stage::Worked && !matches!(ended, Ended::Done))
 }
 
 // When out of memory, the service has ended.
-fn does<D: Device>(kept: &mut Kept<D>, act: Act) -> Ended
+fn does<D: Device>(kept: &mut DurableFront<D>, act: Act) -> Ended
     requires { IsSound D.seen D.may_leave kept.old }
 {
     match did(kept, act) {
         Ok(()) => Ended::Done,
-        Err(KeptFault::Memory) => Ended::refused(did(kept, act) == Err(KeptFault::Ended)),
+        Err(DurableFault::Memory) => Ended::refused(did(kept, act) == Err(DurableFault::Ended)),
         Err(_) => Ended::Wrong,
     }
 }
 
-fn did<D: Device>(kept: &mut Kept<D>, act: Act) -> Result<(), KeptFault>
+fn did<D: Device>(kept: &mut DurableFront<D>, act: Act) -> Result<(), DurableFault>
     requires { IsSound D.seen D.may_leave kept.old }
     ensures { IsSound D.seen D.may_leave kept.new }
 {
@@ -123,10 +123,10 @@ fn did<D: Device>(kept: &mut Kept<D>, act: Act) -> Result<(), KeptFault>
             kept.take(Input::Tick)?;
             kept.commit()
         }
-        Act::Shortens => kept.shorten(),
-        Act::ShortensATick => {
+        Act::Compacts => kept.compact(),
+        Act::CompactsATick => {
             kept.take(Input::Tick)?;
-            kept.shorten()
+            kept.compact()
         }
     }
 }

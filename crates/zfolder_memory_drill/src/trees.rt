@@ -6,7 +6,7 @@ use zcalls::{Create, Data, Kind, Lifetime, Query, Reply, Update};
 use zpath::{Name, Path};
 use zwire::records::write_records;
 use ztree_service::{LocalTree, TreeService};
-use zsnapshots::folder::{Found, ReadFault, Shortening, add_entry, read};
+use zsnapshots::folder::{Found, ReadFault, Compaction, add_entry, read};
 
 // More chunks than its snapshot has.
 const MANY: usize = 9;
@@ -63,13 +63,13 @@ pub(crate) fn create(alloc: Global, path: &str, kind: Kind) -> Result<Update, Me
 
 /// Returns the text of a tree's snapshot.
 pub(crate) fn snapshot(alloc: Global, tree: &LocalTree) -> Result<Vec<u8>, Memory> {
-    let mut shortening = Shortening::new(alloc, tree)?;
+    let mut compaction = Compaction::new(alloc, tree)?;
     let mut text = Vec::new(alloc);
     for _ in 0..MANY {
-        let Some(piece) = shortening.next_piece()? else {
+        let Some(chunk) = compaction.next_chunk()? else {
             break;
         };
-        text.extend_from_slice(&piece)?;
+        text.extend_from_slice(&chunk)?;
     }
     Ok(text)
 }

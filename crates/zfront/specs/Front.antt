@@ -18,7 +18,7 @@ use Rattle.zwatches.specs.declared.place.Place.{Place}
 use Rattle.zwatches.specs.Places.{node_places}
 use Rattle.zwatches.specs.Events.{Lists}
 use Rattle.zconnections.specs.Tables.{TablesView}
-use Rattle.zconnections.specs.Telling.{told_all}
+use Rattle.zconnections.specs.Reporting.{reported_all}
 use Rattle.zconnections.specs.Sweeping.{gone, swept_all, some_made_one}
 use Rattle.zresponses.specs.effects.Looking.{seen}
 
@@ -66,7 +66,7 @@ may_end other = false
 
 -- the sessions in the tables that the tree no longer has
 abbrev pub gone_from : FrontView → List ℕ
-gone_from v = gone v.tree.sessions v.tables.sittings
+gone_from v = gone v.tree.sessions v.tables.attachments
 
 -- these sessions are removed
 abbrev pub swept : FrontView → FrontView
@@ -75,12 +75,12 @@ swept v = with_tables (swept_all (gone_from v) v.tables) v
 -- a tick deleted nodes
 abbrev pub takes_nodes : Reply → Bool
 takes_nodes (reply.Ticked time ended removed) = nat_lt 0 removed
-takes_nodes told = false
+takes_nodes reported = false
 
 -- nodes may be gone that no reply names: a tick deleted them, or they went with a session that made
 -- an ephemeral node
 abbrev pub took_unnamed : List Reply → FrontView → Bool
-took_unnamed replies v = list_any takes_nodes replies || some_made_one v.tables.sittings (gone_from v)
+took_unnamed replies v = list_any takes_nodes replies || some_made_one v.tables.attachments (gone_from v)
 
 -- the reply to an exists query at each position
 abbrev pub looks : Tree → List Place → List Reply
@@ -88,7 +88,7 @@ looks t places = map (λ (p : Place). query_reply t (Exists p.path)) places
 
 -- these positions are checked: events are sent for nodes that are gone or lost a child
 abbrev pub looked : List Place → FrontView → FrontView
-looked places v = with_tables (told_all (seen v.tree.zxid places (looks v.tree places)) v.tables) v
+looked places v = with_tables (reported_all (seen v.tree.zxid places (looks v.tree places)) v.tables) v
 
 -- all watched positions are checked
 abbrev pub Looks : FrontView → FrontView → Type 0

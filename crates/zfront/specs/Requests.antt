@@ -9,7 +9,7 @@ use Rattle.zrequests.specs.declared.fault.Unasked.TheVariants.{Refused, Memory}
 use Rattle.zrequests.specs.Asking.{Meaning}
 use Rattle.zrequests.specs.Requests.{calls_in}
 use Rattle.zresponses.specs.Answers.{failed}
-use Rattle.zconnections.specs.attachments.Sittings.{touched, with_changed}
+use Rattle.zconnections.specs.attachments.Attachments.{touched, with_changed}
 use Rattle.zconnections.specs.Tables.{closed}
 use Rattle.zresponses.specs.effects.Answering.{answered, now_of}
 use Rattle.zresponses.specs.effects.Replying.{replied}
@@ -18,7 +18,7 @@ use Rattle.zfront.specs.Front.{FrontView, with_tables, asked, replies_to, Tidies
 -- the flag of the request's session is set
 abbrev pub touched_by : ℕ → FrontView → FrontView
 touched_by session v =
-    with_tables (record v.tables { sittings = with_changed touched v.tables.sittings session }) v
+    with_tables (record v.tables { attachments = with_changed touched v.tables.attachments session }) v
 
 -- the calls of a request are made, and its answer is sent
 abbrev pub with_answer : List Call → ℕ → Request → FrontView → FrontView

@@ -6,22 +6,22 @@ use Rattle.std.specs.FinMap as finite
 use Rattle.std.specs.FinSet as sets
 use Rattle.ztree.specs.Tree.{Tree}
 use Rattle.zresponses.specs.declared.clock.Clock.{Clock}
-use Rattle.zconnections.specs.attachments.Sittings.{SittingsView, restored_sitting}
+use Rattle.zconnections.specs.attachments.Attachments.{AttachmentsView, restored_attachment}
 use Rattle.zconnections.specs.Tables.{TablesView}
 use Rattle.zfront.specs.Front.{FrontView}
 
 -- these sessions are added, without a connection
-abbrev pub seated : List ℕ → SittingsView → SittingsView
+abbrev pub seated : List ℕ → AttachmentsView → AttachmentsView
 seated [] m = m
-seated (session ∷ sessions) m = seated sessions (finite.insert m session restored_sitting)
+seated (session ∷ sessions) m = seated sessions (finite.insert m session restored_attachment)
 
 -- empty tables
 abbrev pub no_tables : TablesView
-no_tables = record { streams = finite.empty; sittings = finite.empty; watches = sets.empty; unsent = [] }
+no_tables = record { streams = finite.empty; attachments = finite.empty; watches = sets.empty; unsent = [] }
 
 -- tables with these sessions
 abbrev pub tables_of : List ℕ → TablesView
-tables_of sessions = record no_tables { sittings = seated sessions finite.empty }
+tables_of sessions = record no_tables { attachments = seated sessions finite.empty }
 
 -- a front that begins with this tree
 abbrev pub beginning : Tree → List ℕ → Clock → Bool → FrontView

@@ -4,7 +4,7 @@ use Rattle.std.specs.Prelude.{ℕ, List, [], ◌∷◌, ◌++◌, map}
 use Rattle.zcalls.specs.declared.call.Call.{Call}
 use Rattle.zcalls.specs.declared.call.Call.TheVariants.{Update}
 use Rattle.zcalls.specs.declared.call.Update.TheVariants.{Ping, Tick}
-use Rattle.zconnections.specs.attachments.Sittings.{all_rested, touched_ids}
+use Rattle.zconnections.specs.attachments.Attachments.{all_rested, touched_ids}
 use Rattle.zfront.specs.Front.{FrontView, with_tables, asked, replies_to, Tidies}
 
 -- the call that renews a session
@@ -17,7 +17,7 @@ tick_calls sessions = map ping sessions ++ Update Tick ∷ []
 
 -- the flag of a request is cleared for each session
 abbrev pub rested : FrontView → FrontView
-rested v = with_tables (record v.tables { sittings = all_rested v.tables.sittings }) v
+rested v = with_tables (record v.tables { attachments = all_rested v.tables.attachments }) v
 
 -- a tick that makes these calls
 abbrev pub TicksBy : List Call → FrontView → FrontView → Type 0
@@ -25,4 +25,4 @@ TicksBy calls old new = Tidies calls (replies_to calls old) (rested (asked calls
 
 -- a tick
 abbrev pub Ticks : FrontView → FrontView → Type 0
-Ticks old new = TicksBy (tick_calls (touched_ids old.tables.sittings)) old new
+Ticks old new = TicksBy (tick_calls (touched_ids old.tables.attachments)) old new

@@ -37,7 +37,7 @@ abbrev pub mntr_text : FrontView → List ℕ
 mntr_text v =
     codes "zk_version\tjellqupas-0.1.0\nzk_server_state\tstandalone\n"
     ++ (number_line (codes "zk_num_alive_connections\t") (finite.len v.tables.streams)
-    ++ (number_line (codes "zk_global_sessions\t") (finite.len v.tables.sittings)
+    ++ (number_line (codes "zk_global_sessions\t") (finite.len v.tables.attachments)
     ++ number_line (codes "zk_watch_count\t") (sets.len v.tables.watches)))
 
 -- the answer to a word

@@ -19,7 +19,7 @@ use zalloc::Memory;
 use zresponses::Clock;
 use zcalls::Update;
 use zpasswords::Secret;
-use zconnections::buffers::{Input, Piece};
+use zconnections::buffers::{Input, Chunk};
 use ztree_service::TreeService;
 
 /// A front end for ZooKeeper's clients, over a service of one tree.
@@ -80,18 +80,18 @@ impl<T: TreeService + Drop> Front<T> {
     }
 
     /// Returns the chunk to be sent first, if there is one.
-    pub fn first_piece(&self) -> Option<&Piece>
+    pub fn first_chunk(&self) -> Option<&Chunk>
         ensures { option_copied result ≡ first_of self.now.front.tables.unsent }
     {
-        self.inner.tables.first_piece()
+        self.inner.tables.first_chunk()
     }
 
     /// Removes and returns the chunk to be sent first, if there is one.
-    pub fn next_piece(&mut self) -> Option<Piece>
+    pub fn next_chunk(&mut self) -> Option<Chunk>
         ensures first { result ≡ first_of self.old.front.tables.unsent }
         ensures rest { self.new ≡ record self.old { front = without_first self.old.front } }
     {
-        self.inner.tables.next_piece()
+        self.inner.tables.next_chunk()
     }
 
     /// Returns the recorded updates, in order.

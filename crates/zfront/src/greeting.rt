@@ -46,11 +46,11 @@ impl<T: TreeService> Inner<T> {
     {
         let calls = [opening(self.clock.tick, greeting)];
         let replies = self.ask(&calls)?;
-        self.tell_opened(greeting, connection, &replies)
+        self.report_opened(greeting, connection, &replies)
     }
 
     // Sends a client its new session, or closes the connection if none was opened.
-    fn tell_opened(
+    fn report_opened(
         &mut self,
         greeting: &ConnectRequest,
         connection: u32,

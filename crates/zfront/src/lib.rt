@@ -32,4 +32,4 @@ pub use zalloc::Memory;
 pub use zresponses::Clock;
 pub use zrequests::TickLength;
 pub use zpasswords::Secret;
-pub use zconnections::buffers::{Input, Piece};
+pub use zconnections::buffers::{Input, Chunk};

@@ -16,7 +16,7 @@ ghost use Rattle.zjute.specs.Frames.{next_of};
 ghost use Rattle.zresponses.specs.declared.clock.Clock.{Clock};
 ghost use Rattle.zpasswords.specs.Passwords.{password_of};
 ghost use Rattle.zconnections.specs.declared.buffers.phase.Phase.TheVariants.{Closing, Silent, Speaking};
-ghost use Rattle.zconnections.specs.attachments.Sittings.{restored_sitting};
+ghost use Rattle.zconnections.specs.attachments.Attachments.{restored_attachment};
 ghost use Rattle.zconnections.specs.Tables.{TablesView, closed, is_open};
 ghost use Rattle.zresponses.specs.effects.Greeting.{came_back, turned_away, welcomed};
 ghost use Rattle.zresponses.specs.effects.support.Samples.{greeting};
@@ -116,7 +116,7 @@ pub fn rests()
 pub fn sessions_are_restored()
     ensures none { tables_of [] ≡ no_tables }
     ensures two { tables_of (7 ∷ 9 ∷ []) ≡ record no_tables {
-      sittings = insert (insert empty 7 restored_sitting) 9 restored_sitting;
+      attachments = insert (insert empty 7 restored_attachment) 9 restored_attachment;
     } }
     ensures new { (secret : List ℕ) (times : Clock)
         → (beginning opening_tree secret times false).tree ≡ opening_tree }

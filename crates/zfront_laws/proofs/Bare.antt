@@ -1,4 +1,4 @@
--- Tables without connections, in which each session has a sitting that is marked.
+-- Tables without connections, in which each session has a attachment that is marked.
 use Rattle.std.proofs.Common.{◌≡◌, ◌≢◌, ◌⊎◌, inl, inr, ◌∙◌, ℕ, Bool, true, false, List, [], ◌∷◌, Option, None, Some, refl, sym, ap, subst}
 use Rattle.std.specs.Prelude.{◌||◌}
 use Rattle.std.specs.Cmp.{nat_cmp_total}
@@ -11,14 +11,14 @@ use Rattle.std.specs.Ordering.{eq_by_cmp, nat_cmp}
 use Rattle.ztree.proofs.Maps.{get-insert-here, get-insert-elsewhere, get-inserted, none_some, tied, tied_same}
 use Rattle.zconnections.specs.declared.buffers.phase.Phase.{Phase}
 use Rattle.zconnections.specs.buffers.Streams.{StreamRows, StreamView, phase_of}
-use Rattle.zconnections.specs.declared.attachments.sitting.Sitting.{Sitting}
-use Rattle.zconnections.specs.attachments.Sittings.{SittingsView, restored_sitting}
+use Rattle.zconnections.specs.declared.attachments.attachment.Attachment.{Attachment}
+use Rattle.zconnections.specs.attachments.Attachments.{AttachmentsView, restored_attachment}
 use Rattle.zconnections.specs.Tables.{TablesView, connection_of}
 use Rattle.zfront.specs.Restoring.{no_tables, seated, tables_of}
 use Rattle.zfront_laws.proofs.Seated.{Has, connection_in, same_number}
 
 -- it has no connection, and may have made an ephemeral node
-pub record IsApart (s : Sitting) : Type 0 where
+pub record IsApart (s : Attachment) : Type 0 where
   pub free : s.connection ≡ None
   pub marked : s.made_ephemeral ≡ true
 
@@ -26,7 +26,7 @@ pub record IsBare (t : TablesView) : Type 0 where
   pub streams : t.streams ≡ finite.empty
   pub watches : t.watches ≡ sets.empty
   pub unsent : t.unsent ≡ []
-  pub apart : (id : ℕ) (s : Sitting) → get t.sittings id ≡ Some s → IsApart s
+  pub apart : (id : ℕ) (s : Attachment) → get t.attachments id ≡ Some s → IsApart s
 
 -- no connection is in a phase, and no session has a connection
 pub no_phase : (t : TablesView) → IsBare t → (c : ℕ) (p : Phase) → phase_of t.streams c ≡ Some p → ⊥
@@ -36,14 +36,14 @@ no_phase t bare c p has =
     ∙ ap (λ (rows : StreamRows). phase_of rows c) (sym bare.streams) ∙ has
     )
 
-pub unseated : (t : TablesView) → IsBare t → (session : ℕ) → connection_of t.sittings session ≡ None
-unseated t bare session = each (get t.sittings session) refl
+pub unseated : (t : TablesView) → IsBare t → (session : ℕ) → connection_of t.attachments session ≡ None
+unseated t bare session = each (get t.attachments session) refl
   where
-    each : (o : Option Sitting) → get t.sittings session ≡ o → connection_in o ≡ None
+    each : (o : Option Attachment) → get t.attachments session ≡ o → connection_in o ≡ None
     each None found = refl
     each (Some s) found = (bare.apart session s found).free
 
--- ---- the sittings of sessions
+-- ---- the attachments of sessions
 
 -- a number is one of these
 abbrev Listed : ℕ → List ℕ → Type 0
@@ -59,53 +59,53 @@ later_listed id session sessions is = behind (eq_by_cmp nat_cmp id session)
     behind true = refl
     behind false = is
 
--- what holds of each sitting before, and of each session, holds of each sitting behind them
-each_seat : (P : ℕ → Sitting → Type 0) (sessions : List ℕ) (m : SittingsView) → ((id : ℕ) (s : Sitting) → get m id ≡ Some s → P id s)
-    → ((id : ℕ) → Listed id sessions → P id restored_sitting) → (id : ℕ) (s : Sitting) → get (seated sessions m) id ≡ Some s → P id s
+-- what holds of each attachment before, and of each session, holds of each attachment behind them
+each_seat : (P : ℕ → Attachment → Type 0) (sessions : List ℕ) (m : AttachmentsView) → ((id : ℕ) (s : Attachment) → get m id ≡ Some s → P id s)
+    → ((id : ℕ) → Listed id sessions → P id restored_attachment) → (id : ℕ) (s : Attachment) → get (seated sessions m) id ≡ Some s → P id s
 each_seat P [] m before at id s there = before id s there
-each_seat P (session ∷ sessions) m before at id s there = each_seat P sessions (insert m session restored_sitting) put
+each_seat P (session ∷ sessions) m before at id s there = each_seat P sessions (insert m session restored_attachment) put
     (λ other listed. at other (later_listed other session sessions listed)) id s there
   where
-    by : (q : ℕ) (x : Sitting) → ((q ≡ session) × (restored_sitting ≡ x)) ⊎ ((q ≢ session) × (get m q ≡ Some x)) → P q x
+    by : (q : ℕ) (x : Attachment) → ((q ≡ session) × (restored_attachment ≡ x)) ⊎ ((q ≢ session) × (get m q ≡ Some x)) → P q x
     by q x (inl is) = subst (λ (n : ℕ). P n x) (sym is.0) (subst (P session) is.1 (at session (first_listed session sessions)))
     by q x (inr was) = before q x was.1
 
-    put : (q : ℕ) (x : Sitting) → get (insert m session restored_sitting) q ≡ Some x → P q x
-    put q x is = by q x (get-inserted nat_cmp_total nat_cmp-IsAntisymmetric m session restored_sitting q x is)
+    put : (q : ℕ) (x : Attachment) → get (insert m session restored_attachment) q ≡ Some x → P q x
+    put q x is = by q x (get-inserted nat_cmp_total nat_cmp-IsAntisymmetric m session restored_attachment q x is)
 
--- who has a sitting keeps one
-keeps_one : (sessions : List ℕ) (m : SittingsView) (id : ℕ) → Has m id → Has (seated sessions m) id
+-- who has a attachment keeps one
+keeps_one : (sessions : List ℕ) (m : AttachmentsView) (id : ℕ) → Has m id → Has (seated sessions m) id
 keeps_one [] m id has = has
-keeps_one (session ∷ sessions) m id has = keeps_one sessions (insert m session restored_sitting) id (by (same_number id session))
+keeps_one (session ∷ sessions) m id has = keeps_one sessions (insert m session restored_attachment) id (by (same_number id session))
   where
-    by : (id ≡ session) ⊎ (id ≢ session) → Has (insert m session restored_sitting) id
+    by : (id ≡ session) ⊎ (id ≢ session) → Has (insert m session restored_attachment) id
     by (inl is) = (
-      restored_sitting,
-      ap (get (insert m session restored_sitting)) is ∙ get-insert-here nat_cmp_total nat_cmp-IsAntisymmetric m session restored_sitting,
+      restored_attachment,
+      ap (get (insert m session restored_attachment)) is ∙ get-insert-here nat_cmp_total nat_cmp-IsAntisymmetric m session restored_attachment,
     )
-    by (inr other) = (has.0, get-insert-elsewhere nat_cmp_total nat_cmp-IsAntisymmetric m session restored_sitting id other ∙ has.1)
+    by (inr other) = (has.0, get-insert-elsewhere nat_cmp_total nat_cmp-IsAntisymmetric m session restored_attachment id other ∙ has.1)
 
 -- and each of these sessions has one
-pub each_sits : (sessions : List ℕ) (m : SittingsView) (id : ℕ) → list_any (eq_by_cmp nat_cmp id) sessions ≡ true → Has (seated sessions m) id
+pub each_sits : (sessions : List ℕ) (m : AttachmentsView) (id : ℕ) → list_any (eq_by_cmp nat_cmp id) sessions ≡ true → Has (seated sessions m) id
 each_sits [] m id is = absurd (cc is)
-each_sits (session ∷ sessions) m id is = by (each_sits sessions (insert m session restored_sitting) id) (eq_by_cmp nat_cmp id session) refl is
+each_sits (session ∷ sessions) m id is = by (each_sits sessions (insert m session restored_attachment) id) (eq_by_cmp nat_cmp id session) refl is
   where
-    by : (Listed id sessions → Has (seated sessions (insert m session restored_sitting)) id) → (b : Bool) → eq_by_cmp nat_cmp id session ≡ b
-        → b || list_any (eq_by_cmp nat_cmp id) sessions ≡ true → Has (seated sessions (insert m session restored_sitting)) id
+    by : (Listed id sessions → Has (seated sessions (insert m session restored_attachment)) id) → (b : Bool) → eq_by_cmp nat_cmp id session ≡ b
+        → b || list_any (eq_by_cmp nat_cmp id) sessions ≡ true → Has (seated sessions (insert m session restored_attachment)) id
     by later true same any =
         let here = tied_same nat_cmp_total nat_cmp-IsAntisymmetric id session same in
-        keeps_one sessions (insert m session restored_sitting) id (
-          restored_sitting,
-          ap (get (insert m session restored_sitting)) here
-              ∙ get-insert-here nat_cmp_total nat_cmp-IsAntisymmetric m session restored_sitting,
+        keeps_one sessions (insert m session restored_attachment) id (
+          restored_attachment,
+          ap (get (insert m session restored_attachment)) here
+              ∙ get-insert-here nat_cmp_total nat_cmp-IsAntisymmetric m session restored_attachment,
         )
     by later false same any = later any
 
-nobody_sits : {P : Type 0} (id : ℕ) (s : Sitting) → get no_tables.sittings id ≡ Some s → P
+nobody_sits : {P : Type 0} (id : ℕ) (s : Attachment) → get no_tables.attachments id ≡ Some s → P
 nobody_sits id s there = absurd (none_some s (sym (finite.get-empty nat_cmp id) ∙ there))
 
--- behind no sittings, no other session has one
-pub is_listed : (sessions : List ℕ) (id : ℕ) (s : Sitting) → get (tables_of sessions).sittings id ≡ Some s
+-- behind no attachments, no other session has one
+pub is_listed : (sessions : List ℕ) (id : ℕ) (s : Attachment) → get (tables_of sessions).attachments id ≡ Some s
     → list_any (eq_by_cmp nat_cmp id) sessions ≡ true
 is_listed sessions = each_seat (λ id s. Listed id sessions) sessions finite.empty (λ id s there. nobody_sits id s there) (λ id listed. listed)
 

@@ -13,7 +13,7 @@ use Rattle.zfront.specs.Front.{FrontView, with_tables, asked, replies_to, update
 use Rattle.zfront.specs.Front.{looks, looked, LooksIf, TidiesIf, Tidies}
 use Rattle.zfront_laws.specs.Logs.{done_by}
 use Rattle.zfront_laws.specs.Making.{updates_in}
-use Rattle.zfront_laws.proofs.Changes.{sweeps_all, tells_all}
+use Rattle.zfront_laws.proofs.Changes.{sweeps_all, reports_all}
 use Rattle.zfront_laws.proofs.Lighter.{Lighter, carries_lighter, lighter, unmoved}
 use Rattle.zfront_laws.proofs.Living.{swept_lives}
 use Rattle.zfront_laws.proofs.Rising.{sessions_last}
@@ -41,7 +41,7 @@ record Tidied (ends : Bool) (old new : FrontView) : Type 0 where
   rows : TablesView
   becomes : new ≡ with_tables rows old
   light : Lighter old.tables rows
-  lives : ends ≡ true → (id : ℕ) → Has rows.sittings id → contains_key old.tree.sessions id ≡ true
+  lives : ends ≡ true → (id : ℕ) → Has rows.attachments id → contains_key old.tree.sessions id ≡ true
 
 looks_if : (must : Bool) (old new : FrontView) → LooksIf must (swept old) new → Tidied true old new
 looks_if false old new is = record {
@@ -52,12 +52,12 @@ looks_if false old new is = record {
 }
 looks_if true old new has =
     let middle = swept old in
-    let tells = tells_all Lighter carries_lighter (seen middle.tree.zxid has.0 (looks middle.tree has.0)) middle.tables in
+    let reports = reports_all Lighter carries_lighter (seen middle.tree.zxid has.0 (looks middle.tree has.0)) middle.tables in
     record {
       rows = (looked has.0 middle).tables;
       becomes = has.2;
-      light = lighter old.tables middle.tables (looked has.0 middle).tables (sweeps_all Lighter carries_lighter (gone_from old) old.tables) tells;
-      lives = λ ends id sits. swept_lives old.tree.sessions old.tables id (tells.1.1 id sits);
+      light = lighter old.tables middle.tables (looked has.0 middle).tables (sweeps_all Lighter carries_lighter (gone_from old) old.tables) reports;
+      lives = λ ends id sits. swept_lives old.tree.sessions old.tables id (reports.1.1 id sits);
     }
 
 tidies_if : (ends : Bool) (replies : List Reply) (old new : FrontView) → TidiesIf ends replies old new → Tidied ends old new
@@ -76,7 +76,7 @@ makes calls t old new light has = subst (Goes [] (done_by calls old) old) (sym d
     all : Lighter old.tables done.rows
     all = lighter old.tables t done.rows light done.light
 
-    alive : Fine old → (id : ℕ) → Has done.rows.sittings id → (ends : Bool) → list_any may_end calls ≡ ends
+    alive : Fine old → (id : ℕ) → Has done.rows.attachments id → (ends : Bool) → list_any may_end calls ≡ ends
         → contains_key (tree_after old.tree calls).sessions id ≡ true
     alive fine id sits true ends = done.lives ends id sits
     alive fine id sits false ends = sessions_last calls old.tree id ends (fine.alive id (all.1.1 id sits))

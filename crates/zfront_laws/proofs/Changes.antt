@@ -1,5 +1,5 @@
 -- What a server does to its tables is made of single changes. What each of these carries, from the
--- tables before it to those after it, is carried by what is told, swept and answered.
+-- tables before it to those after it, is carried by what is reported, swept and answered.
 use Rattle.std.proofs.Common.{ℕ, true, false, List, [], ◌∷◌}
 use Rattle.std.specs.Prelude.{ℤ, if◌then◌else◌}
 use Rattle.zcalls.specs.declared.call.Call.{Call}
@@ -9,12 +9,12 @@ use Rattle.zcalls.specs.declared.reply.Reply.{Reply}
 use Rattle.zwatches.specs.declared.changes.event.Event.{Event}
 use Rattle.zwatches.specs.changes.Events.{events_of}
 use Rattle.zresponses.specs.declared.answer.Answer.{Answer}
-use Rattle.zconnections.specs.buffers.Outbox.{PieceView}
-use Rattle.zconnections.specs.attachments.Sittings.{all_rested, touched, with_changed}
+use Rattle.zconnections.specs.buffers.Outbox.{ChunkView}
+use Rattle.zconnections.specs.attachments.Attachments.{all_rested, touched, with_changed}
 use Rattle.zwatches.specs.Events as watch
 use Rattle.zwatches.specs.Watches.{Watches}
-use Rattle.zconnections.specs.Tables.{TablesView, is_open, piece, with_piece, sent, closed}
-use Rattle.zconnections.specs.Telling.{event_frame, sent_on, unwatched, in_order, told, told_all}
+use Rattle.zconnections.specs.Tables.{TablesView, is_open, chunk, with_chunk, sent, closed}
+use Rattle.zconnections.specs.Reporting.{event_frame, sent_on, unwatched, in_order, reported, reported_all}
 use Rattle.zconnections.specs.Sweeping.{noted, swept_all, swept}
 use Rattle.zresponses.specs.effects.Frames.{answer_frame, ends_connection}
 use Rattle.zresponses.specs.effects.Replying.{absorbed, absorbed_all, replied}
@@ -24,17 +24,17 @@ pub record Carries (R : TablesView → TablesView → Type 0) : Type 0 where
   pub none : (t : TablesView) → R t t
   pub both : (t u v : TablesView) → R t u → R u v → R t v
   pub closes : (c : ℕ) (t : TablesView) → R t (closed c t)
-  pub piece : (p : PieceView) (t : TablesView) → R t (with_piece p t)
+  pub chunk : (p : ChunkView) (t : TablesView) → R t (with_chunk p t)
   pub watches : (w : Watches) (t : TablesView) → R t (record t { watches = w })
-  pub notes : (update : Act) (told : Reply) (t : TablesView) → R t (record t { sittings = noted update told t.sittings })
-  pub touches : (session : ℕ) (t : TablesView) → R t (record t { sittings = with_changed touched t.sittings session })
-  pub rests : (t : TablesView) → R t (record t { sittings = all_rested t.sittings })
+  pub notes : (update : Act) (reported : Reply) (t : TablesView) → R t (record t { attachments = noted update reported t.attachments })
+  pub touches : (session : ℕ) (t : TablesView) → R t (record t { attachments = with_changed touched t.attachments session })
+  pub rests : (t : TablesView) → R t (record t { attachments = all_rested t.attachments })
   pub sweeps : (session : ℕ) (t : TablesView) → R t (swept session t)
 
 module _ (R : TablesView → TablesView → Type 0) (carry : Carries R) where
   pub sends : (c : ℕ) (bytes : List ℕ) (t : TablesView) → R t (sent c bytes t)
-  sends c bytes t = elim (is_open t c) as (λ b. R t (if b then with_piece (piece c bytes) t else t)) [
-    | true ↦ carry.piece (piece c bytes) t
+  sends c bytes t = elim (is_open t c) as (λ b. R t (if b then with_chunk (chunk c bytes) t else t)) [
+    | true ↦ carry.chunk (chunk c bytes) t
     | false ↦ carry.none t
   ]
 
@@ -45,19 +45,19 @@ module _ (R : TablesView → TablesView → Type 0) (carry : Carries R) where
   sends_on [] bytes t = carry.none t
   sends_on (c ∷ cs) bytes t = carry.both t (sent c bytes t) (sent_on cs bytes (sent c bytes t)) (sends c bytes t) (sends_on cs bytes (sent c bytes t))
 
-  tells : (e : Event) (t : TablesView) → R t (told e t)
-  tells e t =
-      carry.both t (unwatched e t) (told e t) (carry.watches (watch.unfired t.watches e.kind e.path) t)
-      (sends_on (in_order (watch.told t.watches e.kind e.path)) (event_frame e) (unwatched e t))
+  reports : (e : Event) (t : TablesView) → R t (reported e t)
+  reports e t =
+      carry.both t (unwatched e t) (reported e t) (carry.watches (watch.unfired t.watches e.kind e.path) t)
+      (sends_on (in_order (watch.reported t.watches e.kind e.path)) (event_frame e) (unwatched e t))
 
-  pub tells_all : (es : List Event) (t : TablesView) → R t (told_all es t)
-  tells_all [] t = carry.none t
-  tells_all (e ∷ es) t = carry.both t (told e t) (told_all es (told e t)) (tells e t) (tells_all es (told e t))
+  pub reports_all : (es : List Event) (t : TablesView) → R t (reported_all es t)
+  reports_all [] t = carry.none t
+  reports_all (e ∷ es) t = carry.both t (reported e t) (reported_all es (reported e t)) (reports e t) (reports_all es (reported e t))
 
   pub absorbs : (call : Call) (reply : Reply) (t : TablesView) → R t (absorbed call reply t)
   absorbs (Update update) reply t =
-      let u = record t { sittings = noted update reply t.sittings } in
-      carry.both t u (told_all (events_of update reply) u) (carry.notes update reply t) (tells_all (events_of update reply) u)
+      let u = record t { attachments = noted update reply t.attachments } in
+      carry.both t u (reported_all (events_of update reply) u) (carry.notes update reply t) (reports_all (events_of update reply) u)
   absorbs (Query query) reply t = carry.none t
 
   pub absorbs_all : (calls : List Call) (replies : List Reply) (t : TablesView) → R t (absorbed_all calls replies t)

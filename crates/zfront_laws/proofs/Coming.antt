@@ -16,7 +16,7 @@ use Rattle.zfront_laws.specs.Logs.{done_by, frame_calls, frame_log, frames_log, 
 use Rattle.zfront_laws.specs.Runs.{KeepsFew}
 use Rattle.zfront_laws.proofs.Changes.{says}
 use Rattle.zfront_laws.proofs.Held.{held-changed}
-use Rattle.zfront_laws.proofs.Kept.{Kept, closes_kept, bytes_kept}
+use Rattle.zfront_laws.proofs.Cached.{Cached, closes_kept, bytes_kept}
 use Rattle.zfront_laws.proofs.Lighter.{Lighter, carries_lighter, closes, none_more}
 use Rattle.zfront_laws.proofs.Steps.{Goes, both, retabled, same, seats_kept, tables_change, then_none}
 use Rattle.zfront_laws.proofs.Serving.{serves, greets}
@@ -57,7 +57,7 @@ keeps_by false true rest c t is few = omega (arith, (closes c t).0, few)
 keeps_by false false rest c t is few = with_rest rest c t is
 
 rest_kept : (over : Bool) (rest : List ℕ) (c : ℕ) (t : TablesView)
-    → Kept t (if over then closed c t else record t { streams = with_bytes t.streams c rest })
+    → Cached t (if over then closed c t else record t { streams = with_bytes t.streams c rest })
 rest_kept true rest c t = closes_kept c t
 rest_kept false rest c t = bytes_kept c rest t
 

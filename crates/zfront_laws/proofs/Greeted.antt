@@ -17,16 +17,16 @@ use Rattle.zcalls.specs.declared.reply.Reply.{Reply}
 use Rattle.zcalls.specs.declared.reply.Reply.TheVariants as reply
 use Rattle.zjute.specs.Connecting.{connect_request}
 use Rattle.zjute.specs.declared.connecting.ConnectRequest.{ConnectRequest}
-use Rattle.zrequests.specs.Timeouts.{millis_told}
+use Rattle.zrequests.specs.Timeouts.{millis_reported}
 use Rattle.zpasswords.specs.Passwords.{password_of}
 use Rattle.zconnections.specs.declared.buffers.phase.Phase.{Phase}
 use Rattle.zconnections.specs.declared.buffers.phase.Phase.TheVariants.{Silent, Speaking, Closing}
 use Rattle.zconnections.specs.buffers.Streams.{phase_of, with_phase}
-use Rattle.zconnections.specs.attachments.Sittings.{SittingsView}
+use Rattle.zconnections.specs.attachments.Attachments.{AttachmentsView}
 use Rattle.zprotocol.specs.world.PlainTree.{serve}
 use Rattle.zconnections.proofs.Closed.{nothing_behind}
-use Rattle.zconnections.specs.Tables.{TablesView, may_send, is_open, piece, sent, with_piece, closed, moved, sitting, taken_up}
-use Rattle.zresponses.specs.effects.Greeting.{session_told, turned_away, given, came_back, is_ahead}
+use Rattle.zconnections.specs.Tables.{TablesView, may_send, is_open, chunk, sent, with_chunk, closed, moved, attachment, taken_up}
+use Rattle.zresponses.specs.effects.Greeting.{session_reported, turned_away, given, came_back, is_ahead}
 use Rattle.zfront.specs.Front.{FrontView, with_tables}
 use Rattle.zfront.specs.Greeting.{opening, opened, with_session, returned, greeted_by, greeted}
 use Rattle.zfront_laws.specs.Given.{Gains}
@@ -38,21 +38,21 @@ use Rattle.zfront_laws.proofs.Seated.{phase_here}
 abbrev pub IsShut : TablesView → ℕ → Type 0
 IsShut t c = is_open t c ≡ false
 
--- a piece more makes them longer
+-- a chunk more makes them longer
 one_more : {A : Type 0} (xs : List A) (x : A) → xs ++ x ∷ [] ≡ xs → ⊥
 one_more [] x is = cc
 one_more (y ∷ xs) x is = one_more xs x (ap (drop 1) is)
 
--- a connection that was closed is shut, since nothing goes behind its last piece
+-- a connection that was closed is shut, since nothing goes behind its last chunk
 pub shuts : (c : ℕ) (t : TablesView) → IsShut (closed c t) c
 shuts c t = by (is_open u c) refl (nothing_behind c [] t)
   where
     u : TablesView
     u = closed c t
 
-    by : (b : Bool) → is_open u c ≡ b → (if b then with_piece (piece c []) u else u) ≡ u → is_open u c ≡ false
+    by : (b : Bool) → is_open u c ≡ b → (if b then with_chunk (chunk c []) u else u) ≡ u → is_open u c ≡ false
     by false is same = is
-    by true is same = absurd (one_more u.unsent (piece c []) (ap (λ (v : TablesView). v.unsent) same))
+    by true is same = absurd (one_more u.unsent (chunk c []) (ap (λ (v : TablesView). v.unsent) same))
 
 pub shut_silent : (t : TablesView) (c : ℕ) → IsShut t c → phase_of t.streams c ≡ Some Silent → ⊥
 shut_silent t c shut is =
@@ -103,10 +103,10 @@ closes frame c v = shut_becomes frame c v (closed c v.tables) (carries_quiet.clo
 turns_away : (frame : List ℕ) (greeting : ConnectRequest) (c : ℕ) (v : FrontView) → Becomes frame c v (turned_away greeting c v.tables)
 turns_away frame greeting c v = shut_becomes frame c v (turned_away greeting c v.tables) (changes.says Quiet carries_quiet c _ v.tables) (shuts c _)
 
--- its connection speaks for a session now, which it is told
-module _ (frame : List ℕ) (session c : ℕ) (bytes : List ℕ) (v : FrontView) (u : TablesView) (m : SittingsView) where
+-- its connection speaks for a session now, which it is reported
+module _ (frame : List ℕ) (session c : ℕ) (bytes : List ℕ) (v : FrontView) (u : TablesView) (m : AttachmentsView) where
   abbrev speaking : TablesView
-  speaking = record u { streams = with_phase u.streams c (Speaking session); sittings = m }
+  speaking = record u { streams = with_phase u.streams c (Speaking session); attachments = m }
 
   last : Quiet speaking (sent c bytes speaking)
   last = changes.sends Quiet carries_quiet c bytes speaking
@@ -138,12 +138,12 @@ returns frame greeting (pos session) c v spelled names = by (get v.tree.sessions
     password = password_of v.secret session
 
     there_by : (s : Session) → get v.tree.sessions session ≡ Some s → (b : Bool) → pointwise nat_eq (given greeting) password ≡ b
-        → Becomes frame c v (if b then session_told greeting session (millis_told v.clock.tick s.timeout) password c (taken_up session c v.tables)
+        → Becomes frame c v (if b then session_reported greeting session (millis_reported v.clock.tick s.timeout) password c (taken_up session c v.tables)
         else turned_away greeting c v.tables)
     there_by s there true passes =
         let u = moved session v.tables in
         let whole_password = (pointwise_decides unsigned_Decides (given greeting) password).0 passes in
-        speaks frame session c _ v u (taken_up session c v.tables).sittings (moves_quiet session v.tables)
+        speaks frame session c _ v u (taken_up session c v.tables).attachments (moves_quiet session v.tables)
         (greeting, spelled, inr (names, is_there (get v.tree.sessions session) s there, whole_password))
     there_by s there false fails = turns_away frame greeting c v
 
@@ -158,10 +158,10 @@ opens : (frame : List ℕ) (greeting : ConnectRequest) (c : ℕ) (v : FrontView)
     → greeting.session_id ≡ pos 0 → Becomes frame c v (with_session greeting c v).tables
 opens frame greeting c v spelled asks = by (serve v.tree 0 (opening v.clock.tick greeting)).1 refl
   where
-    by : (told : Reply) → (serve v.tree 0 (opening v.clock.tick greeting)).1 ≡ told
-        → Becomes frame c v (opened v.clock.tick v.secret greeting c (told ∷ []) v.tables)
+    by : (reported : Reply) → (serve v.tree 0 (opening v.clock.tick greeting)).1 ≡ reported
+        → Becomes frame c v (opened v.clock.tick v.secret greeting c (reported ∷ []) v.tables)
     by (reply.Opened session ticks) is =
-        speaks frame session c _ v v.tables (sitting session c v.tables).sittings (carries_quiet.none v.tables)
+        speaks frame session c _ v v.tables (attachment session c v.tables).attachments (carries_quiet.none v.tables)
         (greeting, spelled, inl (asks, ticks, is))
     by other is = closes frame c v
 

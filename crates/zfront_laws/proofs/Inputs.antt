@@ -5,7 +5,7 @@ use Rattle.zconnections.specs.buffers.Inputs.{InputView}
 use Rattle.zconnections.specs.buffers.Inputs.InputView.{Opened, Came, Ended, Tick}
 use Rattle.zconnections.specs.buffers.Streams.{held_of}
 use Rattle.zconnections.specs.buffers.Streams as streams
-use Rattle.zconnections.specs.attachments.Sittings.{touched_ids}
+use Rattle.zconnections.specs.attachments.Attachments.{touched_ids}
 use Rattle.ztree_service.proofs.log_lemmas.Lives.{leads_more}
 use Rattle.zconnections.specs.Tables as tables
 use Rattle.ztree.specs.Tree.{opening_tree}
@@ -23,15 +23,15 @@ use Rattle.zfront_laws.specs.Seats.{EveryFrontIsSeated}
 use Rattle.zfront_laws.proofs.Calling.{makes}
 use Rattle.zfront_laws.proofs.Coming.{comes, empties, handles_all}
 use Rattle.zfront_laws.proofs.Held.{held-insert, held-remove}
-use Rattle.zfront_laws.proofs.Kept.{ends_kept, opens_kept, rests_kept}
+use Rattle.zfront_laws.proofs.Cached.{ends_kept, opens_kept, rests_kept}
 use Rattle.zfront_laws.proofs.Lighter.{as_many, none_more, unmoved}
 use Rattle.zfront_laws.proofs.Restored.{is_few, is_fine}
 use Rattle.zfront_laws.proofs.Seated.{has_seat}
 use Rattle.zfront_laws.proofs.Steps.{Goes, both, retabled, same, takes}
 
-ticks : (old new : FrontView) → Ticks old new → Goes [] (done_by (tick_calls (touched_ids old.tables.sittings)) old) old new
+ticks : (old new : FrontView) → Ticks old new → Goes [] (done_by (tick_calls (touched_ids old.tables.attachments)) old) old new
 ticks old new has =
-    let calls = tick_calls (touched_ids old.tables.sittings) in
+    let calls = tick_calls (touched_ids old.tables.attachments) in
     makes calls (rested (asked calls old)).tables old new (as_many (held_of old.tables.streams), rests_kept old.tables) has
 
 takes_input : (input : InputView) (old new : FrontView) → KeepsFew old → (does : inputs.Does input old new)

@@ -2,7 +2,7 @@ pub mod frames_lemmas
 pub mod watches_lemmas
 pub mod Held
 pub mod Seated
-pub mod Kept
+pub mod Cached
 pub mod Changes
 pub mod Lighter
 pub mod Wishes

@@ -9,12 +9,12 @@ use Rattle.zconnections.specs.buffers.Streams as stream
 use Rattle.zconnections.specs.Tables.{TablesView, is_open, closed, closing, connection_of, moved}
 use Rattle.zconnections.specs.Sweeping.{swept}
 use Rattle.zfront_laws.proofs.Held.{held-changed}
-use Rattle.zfront_laws.proofs.Kept.{Kept, unchanged, kept_both, closes_kept, noted_kept, rests_kept, sweeps_kept, touched_kept}
+use Rattle.zfront_laws.proofs.Cached.{Cached, unchanged, kept_both, closes_kept, noted_kept, rests_kept, sweeps_kept, touched_kept}
 use Rattle.zfront_laws.proofs.Changes.{Carries}
 
 -- the streams hold no more, and the seats are kept
 abbrev pub Lighter : TablesView → TablesView → Type 0
-Lighter old new = (held_of new.streams ≤ held_of old.streams) × Kept old new
+Lighter old new = (held_of new.streams ≤ held_of old.streams) × Cached old new
 
 -- the streams are the same
 pub as_many : (n : ℕ) → n ≤ n
@@ -47,7 +47,7 @@ closes c t = (closes_few c t, closes_kept c t)
 
 -- the connection of a session is closed, and one that ended is gone
 pub moves : (session : ℕ) (t : TablesView) → Lighter t (moved session t)
-moves session t = elim (connection_of t.sittings session) as (λ o. Lighter t (option_map_or (λ c. closed c t) o t)) [
+moves session t = elim (connection_of t.attachments session) as (λ o. Lighter t (option_map_or (λ c. closed c t) o t)) [
   | None ↦ unmoved t
   | Some c ↦ closes c t
 ]
@@ -61,9 +61,9 @@ carries_lighter = record {
   none = unmoved;
   both = lighter;
   closes = closes;
-  piece = λ p t. unmoved t;
+  chunk = λ p t. unmoved t;
   watches = λ w t. unmoved t;
-  notes = λ update told t. (as_many (held_of t.streams), noted_kept update told t);
+  notes = λ update reported t. (as_many (held_of t.streams), noted_kept update reported t);
   touches = λ session t. (as_many (held_of t.streams), touched_kept session t);
   rests = λ t. (as_many (held_of t.streams), rests_kept t);
   sweeps = sweeps;

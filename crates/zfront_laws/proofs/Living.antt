@@ -1,4 +1,4 @@
--- Behind a sweep each session that has a sitting is one of the tree.
+-- Behind a sweep each session that has a attachment is one of the tree.
 use Rattle.std.proofs.Common.{◌≡◌, ◌∙◌, ℕ, Bool, true, false, List, [], ◌∷◌, refl, sym, ap}
 use Rattle.std.specs.Prelude.{not, ◌||◌}
 use Rattle.std.specs.Cmp.{nat_cmp_total}
@@ -14,9 +14,9 @@ use Rattle.zfront_laws.proofs.Changes.{sweeps_all}
 use Rattle.zfront_laws.proofs.Lighter.{Lighter, carries_lighter}
 use Rattle.zfront_laws.proofs.Seated.{Has}
 
--- who was swept has no sitting
+-- who was swept has no attachment
 
-sweeps_away : (ids : List ℕ) (t : TablesView) (id : ℕ) → list_any (eq_by_cmp nat_cmp id) ids ≡ true → Has (swept_all ids t).sittings id → ⊥
+sweeps_away : (ids : List ℕ) (t : TablesView) (id : ℕ) → list_any (eq_by_cmp nat_cmp id) ids ≡ true → Has (swept_all ids t).attachments id → ⊥
 sweeps_away [] t id is has = cc
 sweeps_away (session ∷ ids) t id is has = by (λ some. sweeps_away ids (swept session t) id some has) (eq_by_cmp nat_cmp id session) refl is
   where
@@ -24,7 +24,7 @@ sweeps_away (session ∷ ids) t id is has = by (λ some. sweeps_away ids (swept 
         → b || list_any (eq_by_cmp nat_cmp id) ids ≡ true → ⊥
     by later true same some =
         let kept = (sweeps_all Lighter carries_lighter ids (swept session t)).1.1 id has in
-        (get-removed nat_cmp_total nat_cmp-IsAntisymmetric (moved session t).sittings session id kept.0 kept.1).0
+        (get-removed nat_cmp_total nat_cmp-IsAntisymmetric (moved session t).attachments session id kept.0 kept.1).0
         (tied_same nat_cmp_total nat_cmp-IsAntisymmetric id session same)
     by later false other some = later some
 
@@ -44,16 +44,16 @@ among test id passes (first ∷ ids) is = by (among test id passes ids) (eq_by_c
     by later false are true taken some = rw (taken, are) (later some)
     by later false are false left some = rw left (later some)
 
--- so behind a sweep each sitting is of a session of the tree
-pub swept_lives : (sessions : Sessions) (t : TablesView) (id : ℕ) → Has (swept_all (gone sessions t.sittings) t).sittings id
+-- so behind a sweep each attachment is of a session of the tree
+pub swept_lives : (sessions : Sessions) (t : TablesView) (id : ℕ) → Has (swept_all (gone sessions t.attachments) t).attachments id
     → contains_key sessions id ≡ true
 swept_lives sessions t id has = by (contains_key sessions id) refl
   where
-    sat : Has t.sittings id
-    sat = (sweeps_all Lighter carries_lighter (gone sessions t.sittings) t).1.1 id has
+    sat : Has t.attachments id
+    sat = (sweeps_all Lighter carries_lighter (gone sessions t.attachments) t).1.1 id has
 
     by : (b : Bool) → contains_key sessions id ≡ b → contains_key sessions id ≡ true
     by true is = is
     by false is =
-        let listed = sym (finite.contains_key-keys t.sittings id) ∙ is_there (get t.sittings id) sat.0 sat.1 in
-        absurd (sweeps_away (gone sessions t.sittings) t id (among (is_gone sessions) id (ap not is) (finite.keys t.sittings) listed) has)
+        let listed = sym (finite.contains_key-keys t.attachments id) ∙ is_there (get t.attachments id) sat.0 sat.1 in
+        absurd (sweeps_away (gone sessions t.attachments) t id (among (is_gone sessions) id (ap not is) (finite.keys t.attachments) listed) has)

@@ -81,7 +81,7 @@ closes_quiet c t = elim (is_open t c) as (λ b. Quiet t (if b then closing c t e
 ]
 
 pub moves_quiet : (session : ℕ) (t : TablesView) → Quiet t (moved session t)
-moves_quiet session t = elim (connection_of t.sittings session) as (λ o. Quiet t (option_map_or (λ c. closed c t) o t)) [
+moves_quiet session t = elim (connection_of t.attachments session) as (λ o. Quiet t (option_map_or (λ c. closed c t) o t)) [
   | None ↦ unmoved t
   | Some c ↦ closes_quiet c t
 ]
@@ -91,9 +91,9 @@ carries_quiet = record {
   none = unmoved;
   both = λ t u v one two c. stays_both t.streams u.streams v.streams c (one c) (two c);
   closes = closes_quiet;
-  piece = λ p t. unmoved t;
+  chunk = λ p t. unmoved t;
   watches = λ w t. unmoved t;
-  notes = λ update told t. unmoved t;
+  notes = λ update reported t. unmoved t;
   touches = λ session t. unmoved t;
   rests = λ t. unmoved t;
   sweeps = moves_quiet;

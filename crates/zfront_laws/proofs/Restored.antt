@@ -1,4 +1,4 @@
--- What a server is that begins with a tree: it has no connections, and its sittings are those of
+-- What a server is that begins with a tree: it has no connections, and its attachments are those of
 -- the tree's sessions.
 use Rattle.std.proofs.Common.{◌≡◌, ◌∙◌, ℕ, List, Bool, true, sym, arith}
 use Rattle.std.specs.FinMap as finite
@@ -27,10 +27,10 @@ module _ (t : Tree) (secret : List ℕ) (times : Clock) (is_kept : Bool) where
   is_few = omega (arith, held-empty)
 
   -- its sessions are those of the tree
-  pub sits : (id : ℕ) → contains_key t.sessions id ≡ true → Has v.tables.sittings id
+  pub sits : (id : ℕ) → contains_key t.sessions id ≡ true → Has v.tables.attachments id
   sits id lives = each_sits (finite.keys t.sessions) finite.empty id (sym (finite.contains_key-keys t.sessions id) ∙ lives)
 
-  pub lives : (id : ℕ) → Has v.tables.sittings id → contains_key t.sessions id ≡ true
+  pub lives : (id : ℕ) → Has v.tables.attachments id → contains_key t.sessions id ≡ true
   lives id has = finite.contains_key-keys t.sessions id ∙ is_listed (finite.keys t.sessions) id has.0 has.1
 
   pub is_fine : CanStart t → Fine v

@@ -10,13 +10,13 @@ use Rattle.zconnections.specs.declared.buffers.phase.Phase.{Phase}
 use Rattle.zconnections.specs.declared.buffers.phase.Phase.TheVariants.{Silent, Speaking, Closing}
 use Rattle.zconnections.specs.buffers.Streams.{StreamView, StreamRows, changed, empty_in, phase_of, with_phase}
 use Rattle.zconnections.specs.buffers.Streams as stream
-use Rattle.zconnections.specs.declared.attachments.sitting.Sitting.{Sitting}
-use Rattle.zconnections.specs.attachments.Sittings.{SittingsView, left, new_sitting, restored_sitting, with_changed, with_seat}
-use Rattle.zconnections.specs.attachments.Sittings as seats
+use Rattle.zconnections.specs.declared.attachments.attachment.Attachment.{Attachment}
+use Rattle.zconnections.specs.attachments.Attachments.{AttachmentsView, left, new_attachment, restored_attachment, with_changed, with_seat}
+use Rattle.zconnections.specs.attachments.Attachments as seats
 use Rattle.zwatches.specs.Events as watches
 use Rattle.zconnections.specs.Tables.{TablesView, may_send, is_open, session_in, without_seat, closing, closed, ended, sent}
-use Rattle.zconnections.specs.Tables.{piece, with_piece, connection_of, moved, taken_up, sitting}
-use Rattle.zconnections.specs.Telling.{event_frame, sent_on, unwatched, in_order, told, told_all}
+use Rattle.zconnections.specs.Tables.{chunk, with_chunk, connection_of, moved, taken_up, attachment}
+use Rattle.zconnections.specs.Reporting.{event_frame, sent_on, unwatched, in_order, reported, reported_all}
 use Rattle.zconnections.specs.Sweeping.{swept, swept_all}
 use Rattle.zfront_laws.specs.Seats.{IsSeated, OneSpeaks, SeatsAreKept}
 
@@ -54,30 +54,30 @@ same_session session other is = cc
 closed_silent : (rows : StreamRows) (c session : ℕ) → phase_of (stream.closed rows c) c ≡ Some (Speaking session) → ⊥
 closed_silent rows c session is = never_speaks session (phase_here (λ s. empty_in Closing) rows c (Speaking session) is).2
 
--- a sitting that is changed, and the others
-pub seat_elsewhere : (to : Sitting → Sitting) (m : SittingsView) (id other : ℕ) → other ≢ id → get (with_changed to m id) other ≡ get m other
+-- a attachment that is changed, and the others
+pub seat_elsewhere : (to : Attachment → Attachment) (m : AttachmentsView) (id other : ℕ) → other ≢ id → get (with_changed to m id) other ≡ get m other
 seat_elsewhere to m id other apart = each (get m id)
   where
-    each : (o : Option Sitting) → get (option_map_or (λ s. insert m id (to s)) o m) other ≡ get m other
+    each : (o : Option Attachment) → get (option_map_or (λ s. insert m id (to s)) o m) other ≡ get m other
     each None = refl
     each (Some s) = get-insert-elsewhere nat_cmp_total nat_cmp-IsAntisymmetric m id (to s) other apart
 
-pub seat_here : (to : Sitting → Sitting) (m : SittingsView) (id : ℕ) (s : Sitting) → get m id ≡ Some s → get (with_changed to m id) id ≡ Some (to s)
+pub seat_here : (to : Attachment → Attachment) (m : AttachmentsView) (id : ℕ) (s : Attachment) → get m id ≡ Some s → get (with_changed to m id) id ≡ Some (to s)
 seat_here to m id s is =
     ap (λ o. get (option_map_or (λ s. insert m id (to s)) o m) id) is ∙ get-insert-here nat_cmp_total nat_cmp-IsAntisymmetric m id (to s)
 
-abbrev pub connection_in : Option Sitting → Option ℕ
+abbrev pub connection_in : Option Attachment → Option ℕ
 connection_in o = option_and_then (λ s. s.connection) o
 
--- a session has a sitting
-abbrev pub Has : SittingsView → ℕ → Type 0
-Has m id = (s : Sitting) × (get m id ≡ Some s)
+-- a session has a attachment
+abbrev pub Has : AttachmentsView → ℕ → Type 0
+Has m id = (s : Attachment) × (get m id ≡ Some s)
 
--- who speaks has a sitting
-pub has_seat : (t : TablesView) (c session : ℕ) → IsSeated t → phase_of t.streams c ≡ Some (Speaking session) → Has t.sittings session
-has_seat t c session seated speaks = each (get t.sittings session) refl (seated c session speaks)
+-- who speaks has a attachment
+pub has_seat : (t : TablesView) (c session : ℕ) → IsSeated t → phase_of t.streams c ≡ Some (Speaking session) → Has t.attachments session
+has_seat t c session seated speaks = each (get t.attachments session) refl (seated c session speaks)
   where
-    each : (o : Option Sitting) → get t.sittings session ≡ o → connection_in o ≡ Some c → Has t.sittings session
+    each : (o : Option Attachment) → get t.attachments session ≡ o → connection_in o ≡ Some c → Has t.attachments session
     each None found has = absurd (none_some c has)
     each (Some s) found has = (s, found)
 
@@ -88,13 +88,13 @@ one_speaks t c d session seated one two = same_some c d (sym (seated c session o
 -- where one connection leaves its session, the others keep theirs
 left_seat : (c d mine session : ℕ) (t : TablesView) → IsSeated t → d ≢ c → phase_of t.streams c ≡ Some (Speaking mine)
     → phase_of t.streams d ≡ Some (Speaking session)
-    → connection_of (with_changed left t.sittings mine) session ≡ Some d
+    → connection_of (with_changed left t.attachments mine) session ≡ Some d
 left_seat c d mine session t seated other is speaks = each (same_number session mine)
   where
-    each : (session ≡ mine) ⊎ (session ≢ mine) → connection_of (with_changed left t.sittings mine) session ≡ Some d
+    each : (session ≡ mine) ⊎ (session ≢ mine) → connection_of (with_changed left t.attachments mine) session ≡ Some d
     each (inl same) =
-        absurd (other (same_some d c (sym (seated d session speaks) ∙ ap (connection_of t.sittings) same ∙ seated c mine is)))
-    each (inr apart) = ap connection_in (seat_elsewhere left t.sittings mine session apart) ∙ seated d session speaks
+        absurd (other (same_some d c (sym (seated d session speaks) ∙ ap (connection_of t.attachments) same ∙ seated c mine is)))
+    each (inr apart) = ap connection_in (seat_elsewhere left t.attachments mine session apart) ∙ seated d session speaks
 
 parts : (c : ℕ) (t : TablesView) → IsSeated t → (d session : ℕ) → d ≢ c → phase_of t.streams d ≡ Some (Speaking session)
     → connection_of (without_seat (session_in (phase_of t.streams c)) t) session ≡ Some d
@@ -109,7 +109,7 @@ parts c t seated d session other speaks = each (phase_of t.streams c) refl
 closes_now : (c : ℕ) (t : TablesView) → IsSeated t → IsSeated (closing c t)
 closes_now c t seated d session speaks = each (same_number d c)
   where
-    each : (d ≡ c) ⊎ (d ≢ c) → connection_of (closing c t).sittings session ≡ Some d
+    each : (d ≡ c) ⊎ (d ≢ c) → connection_of (closing c t).attachments session ≡ Some d
     each (inl same) = absurd (closed_silent t.streams c session (ap (phase_of (stream.closed t.streams c)) (sym same) ∙ speaks))
     each (inr other) = parts c t seated d session other (sym (phase_elsewhere (λ s. empty_in Closing) t.streams c d other) ∙ speaks)
 
@@ -125,7 +125,7 @@ ends c t seated d session speaks = each (same_number d c)
     phase : Option StreamView → Option Phase
     phase o = option_map (λ s. s.phase) o
 
-    each : (d ≡ c) ⊎ (d ≢ c) → connection_of (ended c t).sittings session ≡ Some d
+    each : (d ≡ c) ⊎ (d ≢ c) → connection_of (ended c t).attachments session ≡ Some d
     each (inl same) =
         absurd (none_some (Speaking session) (
         sym (ap phase (get-remove-here nat_cmp_total nat_cmp-IsAntisymmetric t.streams c)) ∙ ap (phase_of (remove t.streams c)) (sym same) ∙ speaks
@@ -135,20 +135,20 @@ ends c t seated d session speaks = each (same_number d c)
         (sym (ap phase (get-remove-elsewhere nat_cmp_total nat_cmp-IsAntisymmetric t.streams c d other)) ∙ speaks)
 
 pub sends : (c : ℕ) (bytes : List ℕ) (t : TablesView) → IsSeated t → IsSeated (sent c bytes t)
-sends c bytes t seated = elim (is_open t c) as (λ b. IsSeated (if b then with_piece (piece c bytes) t else t)) [
+sends c bytes t seated = elim (is_open t c) as (λ b. IsSeated (if b then with_chunk (chunk c bytes) t else t)) [
   | true ↦ seated
   | false ↦ seated
 ]
 
--- what is told
+-- what is reported
 sends_on : (cs bytes : List ℕ) (t : TablesView) → IsSeated t → IsSeated (sent_on cs bytes t)
 sends_on [] bytes t seated = seated
 sends_on (c ∷ cs) bytes t seated = sends_on cs bytes (sent c bytes t) (sends c bytes t seated)
 
-pub tells_all : (es : List Event) (t : TablesView) → IsSeated t → IsSeated (told_all es t)
-tells_all [] t seated = seated
-tells_all (e ∷ es) t seated =
-    tells_all es (told e t) (sends_on (in_order (watches.told t.watches e.kind e.path)) (event_frame e) (unwatched e t) seated)
+pub reports_all : (es : List Event) (t : TablesView) → IsSeated t → IsSeated (reported_all es t)
+reports_all [] t seated = seated
+reports_all (e ∷ es) t seated =
+    reports_all es (reported e t) (sends_on (in_order (watches.reported t.watches e.kind e.path)) (event_frame e) (unwatched e t) seated)
 
 -- who speaks behind a close spoke before, and is another one
 spoke : (c : ℕ) (t : TablesView) (d session : ℕ) → phase_of (closed c t).streams d ≡ Some (Speaking session)
@@ -171,16 +171,16 @@ spoke c t d session speaks = each (is_open t c) refl speaks
     )
 
 pub moves : (session : ℕ) (t : TablesView) → IsSeated t → IsSeated (moved session t)
-moves session t seated = elim (connection_of t.sittings session) as (λ o. IsSeated (option_map_or (λ c. closed c t) o t)) [
+moves session t seated = elim (connection_of t.attachments session) as (λ o. IsSeated (option_map_or (λ c. closed c t) o t)) [
   | None ↦ seated
   | Some c ↦ closes c t seated
 ]
 
 -- nobody speaks for a session whose connection was closed
 nobody : (session : ℕ) (t : TablesView) → IsSeated t → (d : ℕ) → phase_of (moved session t).streams d ≡ Some (Speaking session) → ⊥
-nobody session t seated d speaks = each (connection_of t.sittings session) refl speaks
+nobody session t seated d speaks = each (connection_of t.attachments session) refl speaks
   where
-    each : (o : Option ℕ) → connection_of t.sittings session ≡ o → phase_of (option_map_or (λ c. closed c t) o t).streams d
+    each : (o : Option ℕ) → connection_of t.attachments session ≡ o → phase_of (option_map_or (λ c. closed c t) o t).streams d
         ≡ Some (Speaking session) → ⊥
     each None is has = none_some d (sym is ∙ seated d session has)
     each (Some c) is has =
@@ -191,11 +191,11 @@ nobody session t seated d speaks = each (connection_of t.sittings session) refl 
 pub sweeps : (session : ℕ) (t : TablesView) → IsSeated t → IsSeated (swept session t)
 sweeps session t seated d other speaks = each (same_number other session)
   where
-    each : (other ≡ session) ⊎ (other ≢ session) → connection_of (swept session t).sittings other ≡ Some d
+    each : (other ≡ session) ⊎ (other ≢ session) → connection_of (swept session t).attachments other ≡ Some d
     each (inl same) =
         absurd (nobody session t seated d (subst (λ s. phase_of (moved session t).streams d ≡ Some (Speaking s)) same speaks))
     each (inr apart) =
-        ap connection_in (get-remove-elsewhere nat_cmp_total nat_cmp-IsAntisymmetric (moved session t).sittings session other apart)
+        ap connection_in (get-remove-elsewhere nat_cmp_total nat_cmp-IsAntisymmetric (moved session t).attachments session other apart)
         ∙ moves session t seated d other speaks
 
 pub sweeps_all : (sessions : List ℕ) (t : TablesView) → IsSeated t → IsSeated (swept_all sessions t)
@@ -203,10 +203,10 @@ sweeps_all [] t seated = seated
 sweeps_all (session ∷ sessions) t seated = sweeps_all sessions (swept session t) (sweeps session t seated)
 
 -- a session gets a connection, and no other one speaks for it
-takes_seat : (session c : ℕ) (t : TablesView) (m : SittingsView) → connection_of m session ≡ Some c
-    → ((other : ℕ) → other ≢ session → connection_of m other ≡ connection_of t.sittings other)
+takes_seat : (session c : ℕ) (t : TablesView) (m : AttachmentsView) → connection_of m session ≡ Some c
+    → ((other : ℕ) → other ≢ session → connection_of m other ≡ connection_of t.attachments other)
     → ((d : ℕ) → phase_of t.streams d ≡ Some (Speaking session) → ⊥) → IsSeated t
-    → IsSeated (record t { streams = with_phase t.streams c (Speaking session); sittings = m })
+    → IsSeated (record t { streams = with_phase t.streams c (Speaking session); attachments = m })
 takes_seat session c t m here elsewhere free seated d other speaks = near (same_number d c)
   where
     same_rows : StreamView → StreamView
@@ -222,8 +222,8 @@ takes_seat session c t m here elsewhere free seated d other speaks = near (same_
         ap (connection_of m) (sym (same_session session other row.2)) ∙ here ∙ ap (λ n. Some n) (sym same)
     near (inr away) = far (sym (phase_elsewhere same_rows t.streams c d away) ∙ speaks) (same_number other session)
 
--- where a sitting is put, its session has the connection that stands in it
-module _ (m : SittingsView) (session : ℕ) (s : Sitting) where
+-- where a attachment is put, its session has the connection that stands in it
+module _ (m : AttachmentsView) (session : ℕ) (s : Attachment) where
   put_here : connection_of (insert m session s) session ≡ s.connection
   put_here = ap connection_in (get-insert-here nat_cmp_total nat_cmp-IsAntisymmetric m session s)
 
@@ -233,21 +233,21 @@ module _ (m : SittingsView) (session : ℕ) (s : Sitting) where
 pub takes_up : (session c : ℕ) (t : TablesView) → IsSeated t → IsSeated (taken_up session c t)
 takes_up session c t seated =
     let u = moved session t in
-    let s = seats.taken_up c (unwrap_or (get u.sittings session) restored_sitting) in
-    takes_seat session c u (with_seat u.sittings session c) (put_here u.sittings session s) (put_elsewhere u.sittings session s)
+    let s = seats.taken_up c (unwrap_or (get u.attachments session) restored_attachment) in
+    takes_seat session c u (with_seat u.attachments session c) (put_here u.attachments session s) (put_elsewhere u.attachments session s)
     (nobody session t seated) (moves session t seated)
 
-pub opens : (session c : ℕ) (t : TablesView) → connection_of t.sittings session ≡ None → IsSeated t → IsSeated (sitting session c t)
+pub opens : (session c : ℕ) (t : TablesView) → connection_of t.attachments session ≡ None → IsSeated t → IsSeated (attachment session c t)
 opens session c t none seated =
-    takes_seat session c t (insert t.sittings session (new_sitting c)) (put_here t.sittings session (new_sitting c))
-    (put_elsewhere t.sittings session (new_sitting c)) (λ d speaks. none_some d (sym none ∙ seated d session speaks)) seated
+    takes_seat session c t (insert t.attachments session (new_attachment c)) (put_here t.attachments session (new_attachment c))
+    (put_elsewhere t.attachments session (new_attachment c)) (λ d speaks. none_some d (sym none ∙ seated d session speaks)) seated
 
 pub seats_are_kept : SeatsAreKept
 seats_are_kept = record {
   closed = closes;
   ended = ends;
   sent = sends;
-  told = tells_all;
+  reported = reports_all;
   swept = sweeps_all;
   taken_up = takes_up;
   opened = opens;

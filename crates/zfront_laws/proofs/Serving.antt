@@ -20,21 +20,21 @@ use Rattle.zjute.specs.declared.connecting.ConnectRequest.{ConnectRequest}
 use Rattle.zjute.specs.declared.request.Request.{Request}
 use Rattle.zrequests.specs.Asking.{Meaning}
 use Rattle.zrequests.specs.Requests.{calls_in}
-use Rattle.zrequests.specs.Timeouts.{millis_told, ticks_asked}
+use Rattle.zrequests.specs.Timeouts.{millis_reported, ticks_asked}
 use Rattle.zrequests.specs.declared.fault.Unasked.TheVariants.{Refused, Memory}
 use Rattle.zresponses.specs.Answers.{failed}
 use Rattle.zresponses.specs.Stats.{long_of}
 use Rattle.zpasswords.specs.Passwords.{password_of}
 use Rattle.zconnections.specs.buffers.Streams.{held_of}
 use Rattle.zconnections.specs.declared.buffers.phase.Phase.TheVariants.{Speaking}
-use Rattle.zconnections.specs.declared.attachments.sitting.Sitting.{Sitting}
-use Rattle.zconnections.specs.attachments.Sittings.{SittingsView, new_sitting, restored_sitting}
-use Rattle.zconnections.specs.attachments.Sittings as sittings
+use Rattle.zconnections.specs.declared.attachments.attachment.Attachment.{Attachment}
+use Rattle.zconnections.specs.attachments.Attachments.{AttachmentsView, new_attachment, restored_attachment}
+use Rattle.zconnections.specs.attachments.Attachments as attachments
 use Rattle.zprotocol.specs.world.PlainTree.{serve}
 use Rattle.ztree_service.proofs.log_lemmas.Lives.{trees_can_start_again}
-use Rattle.zconnections.specs.Tables.{TablesView, closed, connection_of, moved, sitting, taken_up, sent}
+use Rattle.zconnections.specs.Tables.{TablesView, closed, connection_of, moved, attachment, taken_up, sent}
 use Rattle.zresponses.specs.effects.Frames.{response_frame}
-use Rattle.zresponses.specs.effects.Greeting.{came_back, given, is_ahead, session_told, turned_away}
+use Rattle.zresponses.specs.effects.Greeting.{came_back, given, is_ahead, session_reported, turned_away}
 use Rattle.zresponses.specs.effects.Replying.{replied}
 use Rattle.zfront.specs.Front.{FrontView, with_tables, asked}
 use Rattle.zfront.specs.Greeting.{opening, opened, with_session, returned, greeted_by, greeted}
@@ -43,7 +43,7 @@ use Rattle.zfront_laws.specs.Logs.{done_by, greeting_calls, meant, request_calls
 use Rattle.zfront_laws.specs.Seats.{IsSeated}
 use Rattle.zfront_laws.proofs.Calling.{made, makes}
 use Rattle.zfront_laws.proofs.Changes.{replies_to, says, sends}
-use Rattle.zfront_laws.proofs.Kept.{closes_kept, touched_kept}
+use Rattle.zfront_laws.proofs.Cached.{closes_kept, touched_kept}
 use Rattle.zfront_laws.proofs.Lighter.{Lighter, as_many, carries_lighter, closes, moves, phase_lighter}
 use Rattle.zfront_laws.proofs.Rising.{new_id, sessions_last, step_adds}
 use Rattle.zfront_laws.proofs.Seated.{Has, connection_in}
@@ -76,8 +76,8 @@ serves bytes session c old new has = requests (whole request bytes) session c ol
 
 -- ---- a client comes back
 
--- who sits where a sitting is put
-sits : (m n : SittingsView) (session : ℕ) (s : Sitting) → ((id : ℕ) → Has n id → Has m id) → (id : ℕ) → Has (insert n session s) id
+-- who sits where a attachment is put
+sits : (m n : AttachmentsView) (session : ℕ) (s : Attachment) → ((id : ℕ) → Has n id → Has m id) → (id : ℕ) → Has (insert n session s) id
     → (id ≡ session) ⊎ Has m id
 sits m n session s kept id has = by (get-inserted nat_cmp_total nat_cmp-IsAntisymmetric n session s id has.0 has.1)
   where
@@ -102,17 +102,17 @@ takes_up session c v there = tables_change (taken_up session c t) v
     moving : Lighter t u
     moving = moves session t
 
-    alive : Fine v → (id : ℕ) → (id ≡ session) ⊎ Has t.sittings id → contains_key v.tree.sessions id ≡ true
+    alive : Fine v → (id : ℕ) → (id ≡ session) ⊎ Has t.attachments id → contains_key v.tree.sessions id ≡ true
     alive fine id (inl is) = ap (contains_key v.tree.sessions) is ∙ there
     alive fine id (inr has) = fine.alive id has
 
-    s : Sitting
-    s = sittings.taken_up c (unwrap_or (get u.sittings session) restored_sitting)
+    s : Attachment
+    s = attachments.taken_up c (unwrap_or (get u.attachments session) restored_attachment)
 
     seats : Fine v → Fine (with_tables (taken_up session c t) v)
     seats fine = record {
       seated = seat.takes_up session c t fine.seated;
-      alive = λ id has. alive fine id (sits t.sittings u.sittings session s moving.1.1 id has);
+      alive = λ id has. alive fine id (sits t.attachments u.attachments session s moving.1.1 id has);
       can = fine.can;
     }
 
@@ -120,11 +120,11 @@ comes_back : (greeting : ConnectRequest) (session ticks : ℕ) (c : ℕ) (v : Fr
     → Goes [] [] v (with_tables (came_back v.clock.tick greeting session ticks (password_of v.secret session) c v.tables) v)
 comes_back greeting session ticks c v there =
     let password = password_of v.secret session in
-    let timeout = millis_told v.clock.tick ticks in
+    let timeout = millis_reported v.clock.tick ticks in
     let bytes = response_frame greeting timeout (long_of session) password in
     let middle = with_tables (taken_up session c v.tables) v in
     elim (pointwise nat_eq (given greeting) password) as
-    (λ b. Goes [] [] v (with_tables (if b then session_told greeting session timeout password c (taken_up session c v.tables)
+    (λ b. Goes [] [] v (with_tables (if b then session_reported greeting session timeout password c (taken_up session c v.tables)
     else turned_away greeting c v.tables) v)) [
       | true ↦ both (takes_up session c v there)
           (retabled (sent c bytes middle.tables) middle (with_tables (sent c bytes middle.tables) middle) refl
@@ -145,10 +145,10 @@ returns greeting (pos session) c v = by (get v.tree.sessions session) refl
 -- ---- a session is opened
 
 -- a new one, so nobody sits there yet
-no_sitting : (m : SittingsView) (id bound : ℕ) → id ≡ bound + 1 → ((other : ℕ) → Has m other → other ≤ bound) → connection_of m id ≡ None
-no_sitting m id bound is low = by (get m id) refl
+no_attachment : (m : AttachmentsView) (id bound : ℕ) → id ≡ bound + 1 → ((other : ℕ) → Has m other → other ≤ bound) → connection_of m id ≡ None
+no_attachment m id bound is low = by (get m id) refl
   where
-    by : (o : Option Sitting) → get m id ≡ o → connection_of m id ≡ None
+    by : (o : Option Attachment) → get m id ≡ o → connection_of m id ≡ None
     by None none = ap connection_in none
     by (Some s) there = absurd (omega (arith, is, low id (s, there)))
 
@@ -162,11 +162,11 @@ module _ (greeting : ConnectRequest) (c : ℕ) (v : FrontView) where
   abbrev the_tables : List Reply → TablesView
   the_tables replies = opened v.clock.tick v.secret greeting c replies v.tables
 
-  lasts : (id : ℕ) → Fine v → Has v.tables.sittings id → contains_key (serve v.tree 0 the_call).0.sessions id ≡ true
+  lasts : (id : ℕ) → Fine v → Has v.tables.attachments id → contains_key (serve v.tree 0 the_call).0.sessions id ≡ true
   lasts id fine has = sessions_last (the_call ∷ []) v.tree id refl (fine.alive id has)
 
   opens_to : (t : TablesView) → held_of t.streams ≤ held_of v.tables.streams → (Fine v → IsSeated t)
-      → ((id : ℕ) → Fine v → Has t.sittings id → contains_key (serve v.tree 0 the_call).0.sessions id ≡ true)
+      → ((id : ℕ) → Fine v → Has t.attachments id → contains_key (serve v.tree 0 the_call).0.sessions id ≡ true)
       → Goes [] (done_by (the_call ∷ []) v) v (with_tables t (asked (the_call ∷ []) v))
   opens_to t few seated alive = made (the_call ∷ []) t v few (λ fine. record {
     seated = seated fine;
@@ -181,27 +181,27 @@ module _ (greeting : ConnectRequest) (c : ℕ) (v : FrontView) where
 
   welcomes : (session ticks : ℕ) → (serve v.tree 0 the_call).1 ≡ Opened session ticks
       → Goes [] (done_by (the_call ∷ []) v) v (with_tables (the_tables (Opened session ticks ∷ [])) (asked (the_call ∷ []) v))
-  welcomes session ticks is = opens_to (sent c bytes u) (omega (arith, telling.0, phase_lighter t.streams c (Speaking session))) seated
-      (λ id fine has. alive id fine (sits t.sittings t.sittings session (new_sitting c) (λ n there. there) id (telling.1.1 id has)))
+  welcomes session ticks is = opens_to (sent c bytes u) (omega (arith, reporting.0, phase_lighter t.streams c (Speaking session))) seated
+      (λ id fine has. alive id fine (sits t.attachments t.attachments session (new_attachment c) (λ n there. there) id (reporting.1.1 id has)))
     where
       t : TablesView
       t = v.tables
 
       u : TablesView
-      u = sitting session c t
+      u = attachment session c t
 
       bytes : List ℕ
-      bytes = response_frame greeting (millis_told v.clock.tick ticks) (long_of session) (password_of v.secret session)
+      bytes = response_frame greeting (millis_reported v.clock.tick ticks) (long_of session) (password_of v.secret session)
 
-      telling : Lighter u (sent c bytes u)
-      telling = sends Lighter carries_lighter c bytes u
+      reporting : Lighter u (sent c bytes u)
+      reporting = sends Lighter carries_lighter c bytes u
 
       seated : Fine v → IsSeated (sent c bytes u)
       seated fine =
-          telling.1.0 (seat.opens session c t (no_sitting t.sittings session v.tree.zxid (new_id v.tree ticks_wanted session ticks is).0
+          reporting.1.0 (seat.opens session c t (no_attachment t.attachments session v.tree.zxid (new_id v.tree ticks_wanted session ticks is).0
           (below v fine)) fine.seated)
 
-      alive : (id : ℕ) → Fine v → (id ≡ session) ⊎ Has t.sittings id → contains_key (serve v.tree 0 the_call).0.sessions id ≡ true
+      alive : (id : ℕ) → Fine v → (id ≡ session) ⊎ Has t.attachments id → contains_key (serve v.tree 0 the_call).0.sessions id ≡ true
       alive id fine (inl same) =
           ap (contains_key (serve v.tree 0 the_call).0.sessions) same ∙ step_adds v.tree ticks_wanted session ticks is
       alive id fine (inr has) = lasts id fine has

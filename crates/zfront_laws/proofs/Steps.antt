@@ -20,24 +20,24 @@ use Rattle.zfront_laws.specs.Making.{updates_in}
 use Rattle.zfront_laws.specs.Runs.{KeepsFew}
 use Rattle.zfront_laws.specs.Seats.{IsSeated}
 use Rattle.zfront_laws.proofs.Seated.{Has}
-use Rattle.zfront_laws.proofs.Kept.{Kept}
+use Rattle.zfront_laws.proofs.Cached.{Cached}
 use Rattle.zfront_laws.proofs.Lighter.{Lighter, unmoved}
 
--- each connection that speaks for a session has its seat, each session with a sitting is one of the
+-- each connection that speaks for a session has its seat, each session with a attachment is one of the
 -- tree, and a service can begin with this tree
 pub record Fine (v : FrontView) : Type 0 where
   pub seated : IsSeated v.tables
-  pub alive : (id : ℕ) → Has v.tables.sittings id → contains_key v.tree.sessions id ≡ true
+  pub alive : (id : ℕ) → Has v.tables.attachments id → contains_key v.tree.sessions id ≡ true
   pub can : CanStart v.tree
 
--- so no session with a sitting is newer than the tree
-pub below : (v : FrontView) → Fine v → (id : ℕ) → Has v.tables.sittings id → id ≤ v.tree.zxid
+-- so no session with a attachment is newer than the tree
+pub below : (v : FrontView) → Fine v → (id : ℕ) → Has v.tables.attachments id → id ≤ v.tree.zxid
 below v fine id has =
     let s = has_some (get v.tree.sessions id) (fine.alive id has) in
     (fine.can.granted id s.0 s.1).before
 
 -- the same tree, and tables whose seats are kept
-pub seats_kept : (t : TablesView) (v : FrontView) → Kept v.tables t → Fine v → Fine (with_tables t v)
+pub seats_kept : (t : TablesView) (v : FrontView) → Cached v.tables t → Fine v → Fine (with_tables t v)
 seats_kept t v kept fine = record { seated = kept.0 fine.seated; alive = λ id has. fine.alive id (kept.1 id has); can = fine.can }
 
 -- the secret, the clock and whether updates are kept stay
@@ -61,7 +61,7 @@ among_both (call.Query query ∷ calls) more = among_both calls more
 
 pub updates_both : (log more : Log) → updates_in (log ++ more) ≡ updates_in log ++ updates_in more
 updates_both log more =
-    ap updates_among (map-append (λ (told : Call × Reply). told.0) log more) ∙ among_both (calls_of log) (calls_of more)
+    ap updates_among (map-append (λ (reported : Call × Reply). reported.0) log more) ∙ among_both (calls_of log) (calls_of more)
 
 all_made : (left one two took rest middle last : List Update) → left ++ one ≡ took ++ middle → middle ++ two ≡ rest ++ last
     → left ++ (one ++ two) ≡ (took ++ rest) ++ last

@@ -25,7 +25,7 @@ use Rattle.zwatches.specs.declared.kind.Kind.{Kind}
 use Rattle.zwatches.specs.declared.kind.Kind.TheVariants.{Data, Missing, Children}
 use Rattle.zwatches.specs.Watches.{is_full, watch}
 use Rattle.zconnections.specs.Tables.{TablesView, sent}
-use Rattle.zconnections.specs.Telling.{event_frame}
+use Rattle.zconnections.specs.Reporting.{event_frame}
 use Rattle.zresponses.specs.effects.Answering.{answered, answer_unless}
 use Rattle.zresponses.specs.effects.Replying.{absorbed_all, replied}
 use Rattle.zresponses.specs.effects.Watching.{waiting, granted, granted_all, some_lacked}
@@ -41,9 +41,9 @@ module _ {W : Type 0} (one : W → TablesView → TablesView) (all : List W → 
   appended (x ∷ xs) ys t = next x (xs ++ ys) t ∙ appended xs ys (one x t) ∙ ap (all ys) (sym (next x xs t))
 
 -- what is so where nothing is done, of one thing behind another, where a watch waits and where an
--- event is told: so it is of all wishes of a request
+-- event is reported: so it is of all wishes of a request
 module _ (Is : TablesView → TablesView → Type 0) (same : (t : TablesView) → Is t t) (both : (t u w : TablesView) → Is t u → Is u w → Is t w) (c : ℕ)
-    (waits : (kind : Kind) (path : Path) (t : TablesView) → Is t (waiting c kind path t)) (tells : (e : Event) (t : TablesView)
+    (waits : (kind : Kind) (path : Path) (t : TablesView) → Is t (waiting c kind path t)) (reports : (e : Event) (t : TablesView)
     → Is t (sent c (event_frame e) t)) where
   behind : {W : Type 0} (one : W → TablesView → TablesView) (all : List W → TablesView → TablesView) → ((t : TablesView) → all [] t ≡ t)
       → ((w : W) (ws : List W) (t : TablesView) → all (w ∷ ws) t ≡ all ws (one w t)) → (xs ys : List W) (t : TablesView) → Is t (all xs t)
@@ -51,18 +51,18 @@ module _ (Is : TablesView → TablesView → Type 0) (same : (t : TablesView) �
   behind one all first next xs ys t here there =
       subst (Is t) (sym (appended one all first next xs ys t)) (both t (all xs t) (all ys (all xs t)) here (there (all xs t)))
 
-  query_wished : (asks : Question) (told : Reply) (t : TablesView) → Is t (granted_all c (query_wish asks told) t)
+  query_wished : (asks : Question) (reported : Reply) (t : TablesView) → Is t (granted_all c (query_wish asks reported) t)
   query_wished (query.Exists path) (reply.Exists stat) t = waits Data path t
   query_wished (query.Exists path) (reply.Refused NoNode) t = waits Missing path t
   query_wished (query.GetData path) (reply.Data bytes stat) t = waits Data path t
   query_wished (query.GetChildren path) (reply.Children names) t = waits Children path t
-  query_wished asks told t = same t
+  query_wished asks reported t = same t
 
   first_wished : (calls : List Call) (replies : List Reply) (t : TablesView) → Is t (granted_all c (first_wish calls replies) t)
   first_wished [] replies t = same t
   first_wished (Update update ∷ calls) replies t = same t
   first_wished (Query asks ∷ calls) [] t = same t
-  first_wished (Query asks ∷ calls) (told ∷ replies) t = query_wished asks told t
+  first_wished (Query asks ∷ calls) (reported ∷ replies) t = query_wished asks reported t
 
   look_wished : (look : Look) (calls : List Call) (replies : List Reply) (t : TablesView) → Is t (granted_all c (look_wish look calls replies) t)
   look_wished look calls replies t = by look.watch refl
@@ -71,34 +71,34 @@ module _ (Is : TablesView → TablesView → Type 0) (same : (t : TablesView) �
       by true is = rw is (first_wished calls replies t)
       by false is = rw is (same t)
 
-  again : (kind : Kind) (seen : ℤ) (path : Path) (told : Reply) (t : TablesView) → Is t (granted_all c (wish_again kind seen path told) t)
+  again : (kind : Kind) (seen : ℤ) (path : Path) (reported : Reply) (t : TablesView) → Is t (granted_all c (wish_again kind seen path reported) t)
   again Data seen path (reply.Exists stat) t = by (int_lt seen (long_of stat.mzxid)) refl
     where
       by : (b : Bool) → int_lt seen (long_of stat.mzxid) ≡ b → Is t (granted_all c (wish_again Data seen path (reply.Exists stat)) t)
-      by true is = rw is (tells (event NodeDataChanged path) t)
+      by true is = rw is (reports (event NodeDataChanged path) t)
       by false is = rw is (waits Data path t)
-  again Data seen path (reply.Refused NoNode) t = tells (event NodeDeleted path) t
-  again Missing seen path (reply.Exists stat) t = tells (event NodeCreated path) t
+  again Data seen path (reply.Refused NoNode) t = reports (event NodeDeleted path) t
+  again Missing seen path (reply.Exists stat) t = reports (event NodeCreated path) t
   again Missing seen path (reply.Refused NoNode) t = waits Missing path t
   again Children seen path (reply.Exists stat) t = by (int_lt seen (long_of stat.pzxid)) refl
     where
       by : (b : Bool) → int_lt seen (long_of stat.pzxid) ≡ b → Is t (granted_all c (wish_again Children seen path (reply.Exists stat)) t)
-      by true is = rw is (tells (event NodeChildrenChanged path) t)
+      by true is = rw is (reports (event NodeChildrenChanged path) t)
       by false is = rw is (waits Children path t)
-  again Children seen path (reply.Refused NoNode) t = tells (event NodeDeleted path) t
-  again kind seen path told t = same t
+  again Children seen path (reply.Refused NoNode) t = reports (event NodeDeleted path) t
+  again kind seen path reported t = same t
 
-  calls_again : (kind : Kind) (seen : ℤ) (call : Call) (told : Reply) (t : TablesView) → Is t (granted_all c (call_again kind seen call told) t)
-  calls_again kind seen (Query (query.Exists path)) told t = again kind seen path told t
-  calls_again kind seen call told t = same t
+  calls_again : (kind : Kind) (seen : ℤ) (call : Call) (reported : Reply) (t : TablesView) → Is t (granted_all c (call_again kind seen call reported) t)
+  calls_again kind seen (Query (query.Exists path)) reported t = again kind seen path reported t
+  calls_again kind seen call reported t = same t
 
   kind_again : (kind : Kind) (seen : ℤ) (calls : List Call) (replies : List Reply) (t : TablesView)
       → Is t (granted_all c (wishes_again kind seen calls replies) t)
   kind_again kind seen [] replies t = same t
   kind_again kind seen (call ∷ calls) [] t = same t
-  kind_again kind seen (call ∷ calls) (told ∷ replies) t =
-      behind (granted c) (granted_all c) (λ u. refl) (λ w ws u. refl) (call_again kind seen call told) (wishes_again kind seen calls replies) t
-      (calls_again kind seen call told t) (kind_again kind seen calls replies)
+  kind_again kind seen (call ∷ calls) (reported ∷ replies) t =
+      behind (granted c) (granted_all c) (λ u. refl) (λ w ws u. refl) (call_again kind seen call reported) (wishes_again kind seen calls replies) t
+      (calls_again kind seen call reported t) (kind_again kind seen calls replies)
 
   set_again : (set : SetWatches) (calls : List Call) (replies : List Reply) (t : TablesView) → Is t (granted_all c (all_again set calls replies) t)
   set_again set calls replies t =

@@ -11,7 +11,7 @@ use Rattle.zrequests.specs.Asking.{Meaning}
 use Rattle.zrequests.specs.Requests.{calls_in}
 use Rattle.zrequests.specs.declared.fault.Unasked.TheVariants.{Refused, Memory}
 use Rattle.zresponses.specs.Answers.{failed}
-use Rattle.zconnections.specs.attachments.Sittings.{touched_ids}
+use Rattle.zconnections.specs.attachments.Attachments.{touched_ids}
 use Rattle.zconnections.specs.Tables.{TablesView, closed}
 use Rattle.zresponses.specs.effects.Answering.{now_of}
 use Rattle.zresponses.specs.effects.Looking.{seen}
@@ -20,7 +20,7 @@ use Rattle.zfront.specs.Front.{FrontView, with_tables, asked, replies_to, gone_f
 use Rattle.zfront.specs.Front.{TidiesIf, Tidies}
 use Rattle.zfront.specs.Requests.{touched_by, with_answer, Acts, Requests, Serves}
 use Rattle.zfront.specs.Ticking.{rested, tick_calls, Ticks}
-use Rattle.zfront_laws.proofs.Changes.{Carries, replies_to as told, sweeps_all, tells_all}
+use Rattle.zfront_laws.proofs.Changes.{Carries, replies_to as reported, sweeps_all, reports_all}
 use Rattle.zfront_laws.proofs.Wishes.{answers}
 
 module _ (R : TablesView → TablesView → Type 0) (carry : Carries R) where
@@ -40,7 +40,7 @@ module _ (R : TablesView → TablesView → Type 0) (carry : Carries R) where
   looks_if : (must : Bool) (old new : FrontView) → LooksIf must old new → From old new
   looks_if false old new is = same old new is
   looks_if true old new has =
-      becomes old (looked has.0 old) new has.2 (tells_all R carry (seen old.tree.zxid has.0 (looks old.tree has.0)) old.tables)
+      becomes old (looked has.0 old) new has.2 (reports_all R carry (seen old.tree.zxid has.0 (looks old.tree has.0)) old.tables)
 
   tidies_if : (ends : Bool) (replies : List Reply) (old new : FrontView) → TidiesIf ends replies old new → From old new
   tidies_if false replies old new is = same old new is
@@ -57,7 +57,7 @@ module _ (R : TablesView → TablesView → Type 0) (carry : Carries R) where
   acts : (meaning : Meaning (List Call)) (c : ℕ) (r : Request) (old new : FrontView) → Acts meaning c r old new → From old new
   acts (Err (Refused code)) c r old new is =
       becomes old (with_tables (replied old.tree.zxid c r.xid (failed code) old.tables) old) new is
-      (told R carry old.tree.zxid c r.xid (failed code) old.tables)
+      (reported R carry old.tree.zxid c r.xid (failed code) old.tables)
   acts (Err Memory) c r old new is = absurd is
   acts (Ok calls) c r old new has =
       joins old (with_answer calls c r old) new (answered_by calls c r old) (tidies calls (replies_to calls old) (with_answer calls c r old) new has)
@@ -74,5 +74,5 @@ module _ (R : TablesView → TablesView → Type 0) (carry : Carries R) where
   -- ticks
   pub ticks : (old new : FrontView) → Ticks old new → From old new
   ticks old new has =
-      let calls = tick_calls (touched_ids old.tables.sittings) in
+      let calls = tick_calls (touched_ids old.tables.attachments) in
       joins old (rested (asked calls old)) new (carry.rests old.tables) (tidies calls (replies_to calls old) (rested (asked calls old)) new has)

@@ -17,7 +17,7 @@ use Rattle.zconnections.specs.buffers.Streams.{bytes_of, phase_of}
 use Rattle.zconnections.specs.declared.buffers.phase.Phase.{Phase}
 use Rattle.zconnections.specs.declared.buffers.phase.Phase.TheVariants.{Silent, Speaking, Closing}
 use Rattle.ztree_service.specs.log.Logs.{Log}
-use Rattle.zconnections.specs.attachments.Sittings.{touched_ids}
+use Rattle.zconnections.specs.attachments.Attachments.{touched_ids}
 use Rattle.zconnections.specs.Tables.{is_open}
 use Rattle.zresponses.specs.effects.Greeting.{is_ahead}
 use Rattle.zfront.specs.Front.{FrontView, replies_to}
@@ -82,7 +82,7 @@ abbrev pub input_log : (input : InputView) (old new : FrontView) → inputs.Does
 input_log (Opened c) old new is = []
 input_log (Came c bytes) old new has = came_log (is_open old.tables c) bytes c old new has
 input_log (Ended c) old new is = []
-input_log Tick old new has = done_by (tick_calls (touched_ids old.tables.sittings)) old
+input_log Tick old new has = done_by (tick_calls (touched_ids old.tables.attachments)) old
 
 -- the log of a step, and of steps in order
 abbrev pub step_log : (step : Step) (old new : FrontView) → Does step old new → Log

@@ -4,7 +4,7 @@ use Rattle.std.specs.FinMap.{contains_key, get}
 use Rattle.ztree.specs.Tree.{Tree}
 use Rattle.zcalls.specs.declared.call.Update.{Update}
 use Rattle.zresponses.specs.declared.clock.Clock.{Clock}
-use Rattle.zconnections.specs.declared.attachments.sitting.Sitting.{Sitting}
+use Rattle.zconnections.specs.declared.attachments.attachment.Attachment.{Attachment}
 use Rattle.ztree_service.specs.log.Logs.{Log, calls_of}
 use Rattle.zfront.specs.Front.{FrontView, updates_among}
 use Rattle.zfront.specs.Restoring.{beginning}
@@ -38,7 +38,7 @@ EveryStepMakesMore =
 abbrev pub EverySessionIsRestored : Type 0
 EverySessionIsRestored =
     (t : Tree) (secret : List ℕ) (times : Clock) (is_kept : Bool) (session : ℕ) → contains_key t.sessions session ≡ true
-    → (s : Sitting) × (get (beginning t secret times is_kept).tables.sittings session ≡ Some s) × (s.connection ≡ None)
+    → (s : Attachment) × (get (beginning t secret times is_kept).tables.attachments session ≡ Some s) × (s.connection ≡ None)
 
 -- the updates of the log are those taken and those still recorded: each once, in order
 abbrev pub EveryChangeIsMade : Type 0

@@ -8,16 +8,16 @@ use Rattle.zresponses.specs.declared.clock.Clock.{Clock}
 use Rattle.zconnections.specs.declared.buffers.phase.Phase.TheVariants.{Speaking}
 use Rattle.zconnections.specs.buffers.Streams.{phase_of}
 use Rattle.zprotocol.specs.world.FromTree.{CanStart}
-use Rattle.zconnections.specs.Tables.{TablesView, connection_of, closed, ended, sent, sitting, taken_up}
+use Rattle.zconnections.specs.Tables.{TablesView, connection_of, closed, ended, sent, attachment, taken_up}
 use Rattle.zconnections.specs.Sweeping.{swept_all}
-use Rattle.zconnections.specs.Telling.{told_all}
+use Rattle.zconnections.specs.Reporting.{reported_all}
 use Rattle.zfront.specs.Front.{FrontView}
 use Rattle.zfront.specs.Restoring.{beginning}
 use Rattle.zfront_laws.specs.Runs.{Step, Runs}
 
 -- for each connection that has a session, this session is attached to it
 abbrev pub IsSeated : TablesView → Type 0
-IsSeated t = (c session : ℕ) → phase_of t.streams c ≡ Some (Speaking session) → connection_of t.sittings session ≡ Some c
+IsSeated t = (c session : ℕ) → phase_of t.streams c ≡ Some (Speaking session) → connection_of t.attachments session ≡ Some c
 
 -- so no two connections have the same session
 abbrev pub OneSpeaks : Type 0
@@ -35,10 +35,10 @@ pub record SeatsAreKept : Type 0 where
   pub closed : (c : ℕ) (t : TablesView) → Seats (closed c) t
   pub ended : (c : ℕ) (t : TablesView) → Seats (ended c) t
   pub sent : (c : ℕ) (bytes : List ℕ) (t : TablesView) → Seats (sent c bytes) t
-  pub told : (events : List Event) (t : TablesView) → Seats (told_all events) t
+  pub reported : (events : List Event) (t : TablesView) → Seats (reported_all events) t
   pub swept : (sessions : List ℕ) (t : TablesView) → Seats (swept_all sessions) t
   pub taken_up : (session c : ℕ) (t : TablesView) → Seats (taken_up session c) t
-  pub opened : (session c : ℕ) (t : TablesView) → connection_of t.sittings session ≡ None → Seats (sitting session c) t
+  pub opened : (session c : ℕ) (t : TablesView) → connection_of t.attachments session ≡ None → Seats (attachment session c) t
 
 -- it holds of every front, whatever its steps, if a service can begin with the first tree
 abbrev pub EveryFrontIsSeated : Type 0

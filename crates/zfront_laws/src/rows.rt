@@ -74,13 +74,13 @@ pub fn steps_are_logged()
 /// The connection that has a session is the one attached to it.
 pub fn seats()
     ensures { (t : TablesView) → IsSeated t → phase_of t.streams 3 ≡ Some (Speaking 7)
-        → connection_of t.sittings 7 ≡ Some 3 }
+        → connection_of t.attachments 7 ≡ Some 3 }
 {}
 
 /// The bytes that arrived on connection 1 since it was opened.
 pub fn bytes_since()
     ensures opened { since_opened 1 (Takes (Opened 1) ∷ []) None ≡ Some [] }
-    ensures pieces { since_opened 1 (Takes (Opened 1) ∷ Takes (Came 1 (7 ∷ [])) ∷
+    ensures chunks { since_opened 1 (Takes (Opened 1) ∷ Takes (Came 1 (7 ∷ [])) ∷
         Takes (Came 2 (8 ∷ [])) ∷ Takes Tick ∷ Sent ∷ Takes (Came 1 (9 ∷ [])) ∷ []) None
         ≡ Some (7 ∷ 9 ∷ []) }
     ensures again { since_opened 1 (Takes (Opened 1) ∷ Takes (Came 1 (7 ∷ [])) ∷

@@ -5,8 +5,8 @@ use Rattle.std.proofs.lemmas.Bool.{cases_eq}
 use Rattle.std.proofs.lemmas.List.{take_at, drop_at, append-nil}
 use Rattle.zjournal.specs.Blocks.{IsText, AreTexts, blocks, at_rest, IsEnd}
 use Rattle.zjournal.specs.Checksum.{stamped}
-use Rattle.zjournal.specs.Gates.{IsClosing, IsAdding}
-use Rattle.zjournal.specs.Journal.{head, holdings, Keeps, IsUnmade, StandsFor, IsWithOrWithout}
+use Rattle.zjournal.specs.CommitBytes.{IsClosing, IsAdding}
+use Rattle.zjournal.specs.Journal.{head, holdings, Keeps, IsUnmade, Represents, IsWithOrWithout}
 use Rattle.zjournal.specs.Found.{KeepsTo}
 use Rattle.zjournal.proofs.Blocks.{blocks-push, length-blocks-push, texts-push, front_of_end}
 
@@ -14,10 +14,10 @@ use Rattle.zjournal.proofs.Blocks.{blocks-push, length-blocks-push, texts-push, 
 pub head_text : (servers : ℕ) → 0 < servers → IsText (head servers)
 head_text servers some = grind (arith, some)
 
--- a closed gate and anything behind it is an end
-pub closed_end : (gate : ℕ) (rest : List ℕ) → gate ≢ 1 → IsEnd (gate ∷ rest)
-closed_end gate [] shut = tt
-closed_end gate (b ∷ rest) shut = shut
+-- a closed commit_byte and anything behind it is an end
+pub closed_end : (commit_byte : ℕ) (rest : List ℕ) → commit_byte ≢ 1 → IsEnd (commit_byte ∷ rest)
+closed_end commit_byte [] shut = tt
+closed_end commit_byte (b ∷ rest) shut = shut
 
 take_past : (xs ys : List ℕ) (m n : ℕ) → m ≡ length xs + n → take m (xs ++ ys) ≡ xs ++ take n ys
 take_past [] ys m n is = let same : m ≡ n = omega arith in ap (λ (k : ℕ). take k ys) same
@@ -42,8 +42,8 @@ module _ (servers : ℕ) (batches : List (List ℕ)) (file : List ℕ) (end : �
             (drop end file) cut.0 n (let le = cut.1 in omega (arith, le, k.long));
         counts_for_nothing = front_of_end n (drop end file) k.counts_for_nothing;
       }
-  closing_keeps c (inr gate) =
-      record { texts = k.texts; end = gate.0 ∷ []; split = gate.1 ∙ ap (λ (l : List ℕ). l ++ gate.0 ∷ []) front_stays; counts_for_nothing = tt }
+  closing_keeps c (inr commit_byte) =
+      record { texts = k.texts; end = commit_byte.0 ∷ []; split = commit_byte.1 ∙ ap (λ (l : List ℕ). l ++ commit_byte.0 ∷ []) front_stays; counts_for_nothing = tt }
 
   pub closed_rests : (c : List ℕ) → c ≡ take end file ++ 0 ∷ [] → c ≡ at_rest (holdings servers batches)
   closed_rests c is = is ∙ ap (λ (l : List ℕ). l ++ 0 ∷ []) front_stays
@@ -90,17 +90,17 @@ module _ (servers : ℕ) (batches : List (List ℕ)) (file : List ℕ) (end : �
   pub rest_keeps : Keeps servers batches file
   rest_keeps = record { texts = texts; end = 0 ∷ []; split = is; counts_for_nothing = tt }
 
-  any_gate : (batch : List ℕ) → IsText (stamped batch) → (gate : ℕ) (c : List ℕ) → c ≡ blocks (holdings servers batches)
-      ++ gate ∷ (stamped batch ++ 0 ∷ 0 ∷ []) → IsWithOrWithout servers batches batch c
-  any_gate batch h gate c at = elim (cases_eq gate 1) [
-    | inl open_gate ↦ inr (record {
+  any_commit_byte : (batch : List ℕ) → IsText (stamped batch) → (commit_byte : ℕ) (c : List ℕ) → c ≡ blocks (holdings servers batches)
+      ++ commit_byte ∷ (stamped batch ++ 0 ∷ 0 ∷ []) → IsWithOrWithout servers batches batch c
+  any_commit_byte batch h commit_byte c at = elim (cases_eq commit_byte 1) [
+    | inl set_commit_byte ↦ inr (record {
       texts = more_texts servers batches texts batch h;
       end = 0 ∷ [];
-      split = at ∙ ap (λ (g : ℕ). blocks (holdings servers batches) ++ g ∷ (stamped batch ++ 0 ∷ 0 ∷ [])) open_gate
+      split = at ∙ ap (λ (g : ℕ). blocks (holdings servers batches) ++ g ∷ (stamped batch ++ 0 ∷ 0 ∷ [])) set_commit_byte
           ∙ more_blocks servers batches batch (0 ∷ []);
       counts_for_nothing = tt;
     })
-    | inr shut ↦ inl (record { texts = texts; end = gate ∷ (stamped batch ++ 0 ∷ 0 ∷ []); split = at; counts_for_nothing = shut })
+    | inr shut ↦ inl (record { texts = texts; end = commit_byte ∷ (stamped batch ++ 0 ∷ 0 ∷ []); split = at; counts_for_nothing = shut })
   ]
 
   pub adding_keeps : (batch block c : List ℕ) → IsText (stamped batch) → block ≡ stamped batch ++ 0 ∷ 0 ∷ []
@@ -113,7 +113,7 @@ module _ (servers : ℕ) (batches : List (List ℕ)) (file : List ℕ) (end : �
         counts_for_nothing = closed_end 0 staged.0 (omega arith);
       })
   adding_keeps batch block c h block_is (inr opened) =
-      any_gate batch h opened.0 c (opened.1 ∙ ap (λ (l : List ℕ). l ++ opened.0 ∷ block) rest_front
+      any_commit_byte batch h opened.0 c (opened.1 ∙ ap (λ (l : List ℕ). l ++ opened.0 ∷ block) rest_front
       ∙ ap (λ (l : List ℕ). blocks (holdings servers batches) ++ opened.0 ∷ l) block_is)
 
   pub added_rests : (batch block c : List ℕ) → block ≡ stamped batch ++ 0 ∷ 0 ∷ [] → c ≡ take end file ++ 1 ∷ block
@@ -141,27 +141,27 @@ module _ (servers : ℕ) (some : 0 < servers) where
   unmade_front (suc (suc n)) (g ∷ []) h = tt
   unmade_front (suc (suc n)) (g ∷ b ∷ file) h = (h.0, (let short = h.1 in omega (arith, short, length-take n file)))
 
-  pub closing_unmade : (file c : List ℕ) → IsUnmade servers file → IsClosing file 0 c → StandsFor servers [] c
+  pub closing_unmade : (file c : List ℕ) → IsUnmade servers file → IsClosing file 0 c → Represents servers [] c
   closing_unmade file c h (inl cut) = inr (inl (subst (IsUnmade servers) (sym cut.2) (unmade_front cut.0 file h)), refl)
-  closing_unmade file c h (inr gate) = inr (inl (subst (IsUnmade servers) (sym gate.1) tt), refl)
+  closing_unmade file c h (inr commit_byte) = inr (inl (subst (IsUnmade servers) (sym commit_byte.1) tt), refl)
 
-  pub any_head_gate : (gate : ℕ) (c : List ℕ) → c ≡ gate ∷ (head servers ++ 0 ∷ 0 ∷ []) → StandsFor servers [] c
-  any_head_gate gate c at = elim (cases_eq gate 1) [
-    | inl open_gate ↦ inl (record {
+  pub any_head_commit_byte : (commit_byte : ℕ) (c : List ℕ) → c ≡ commit_byte ∷ (head servers ++ 0 ∷ 0 ∷ []) → Represents servers [] c
+  any_head_commit_byte commit_byte c at = elim (cases_eq commit_byte 1) [
+    | inl set_commit_byte ↦ inl (record {
       texts = made_texts;
       end = 0 ∷ [];
       split = at
-          ∙ ap (λ (g : ℕ). g ∷ (head servers ++ 0 ∷ 0 ∷ [])) open_gate;
+          ∙ ap (λ (g : ℕ). g ∷ (head servers ++ 0 ∷ 0 ∷ [])) set_commit_byte;
       counts_for_nothing = tt;
     })
-    | inr shut ↦ inr (inr (gate, shut, at), refl)
+    | inr shut ↦ inr (inr (commit_byte, shut, at), refl)
   ]
 
   staged_unmade : (rest : List ℕ) → length rest ≤ length (head servers) + 2 → IsUnmade servers (0 ∷ rest)
   staged_unmade [] short = tt
   staged_unmade (b ∷ rest) short = (refl, short)
 
-  pub adding_head : (block c : List ℕ) → block ≡ head servers ++ 0 ∷ 0 ∷ [] → IsAdding [] block c → StandsFor servers [] c
+  pub adding_head : (block c : List ℕ) → block ≡ head servers ++ 0 ∷ 0 ∷ [] → IsAdding [] block c → Represents servers [] c
   adding_head block c block_is (inl staged) =
       let short = staged.2 in let size = ap length block_is in
       inr (
@@ -169,4 +169,4 @@ module _ (servers : ℕ) (some : 0 < servers) where
             (staged_unmade staged.0 (omega (arith, short, size, length-append (head servers) (0 ∷ 0 ∷ []))))),
         refl,
       )
-  adding_head block c block_is (inr opened) = any_head_gate opened.0 c (opened.1 ∙ ap (λ (l : List ℕ). opened.0 ∷ l) block_is)
+  adding_head block c block_is (inr opened) = any_head_commit_byte opened.0 c (opened.1 ∙ ap (λ (l : List ℕ). opened.0 ∷ l) block_is)

@@ -56,8 +56,8 @@ module _ (servers : ℕ) (file : List ℕ) (some : 0 < servers) (headed : file �
     counts_for_nothing = nothing;
   }
 
-  nothing_there : (gate : ℕ) → gate + 1 < length file → drop (gate + 1) file ≡ [] → ⊥
-  nothing_there gate within none = omega (arith, within, ap length none, length-drop (gate + 1) file)
+  nothing_there : (commit_byte : ℕ) → commit_byte + 1 < length file → drop (commit_byte + 1) file ≡ [] → ⊥
+  nothing_there commit_byte within none = omega (arith, within, ap length none, length-drop (commit_byte + 1) file)
 
   pub other_is_such : (e : OpenError) → IsOther file 34 e → IsSuch servers file e
   other_is_such Memory other = tt
@@ -65,15 +65,15 @@ module _ (servers : ℕ) (file : List ℕ) (some : 0 < servers) (headed : file �
   other_is_such NotJournal other = absurd other
   other_is_such (Version version) other = absurd other
   other_is_such (Servers given) other = absurd other
-  other_is_such (Damaged gate) other =
+  other_is_such (Damaged commit_byte) other =
       inr (
         other.0,
         (head_text servers some, other.1.texts),
-        long other.0 gate other.1,
+        long other.0 commit_byte other.1,
         (
-          drop (gate + 1) file,
-          whole other.0 gate other.1 ∙ ap (λ (l : List ℕ). blocks (holdings servers other.0) ++ l) other.2,
-          nothing_there gate other.3,
+          drop (commit_byte + 1) file,
+          whole other.0 commit_byte other.1 ∙ ap (λ (l : List ℕ). blocks (holdings servers other.0) ++ l) other.2,
+          nothing_there commit_byte other.3,
           other.4,
         ),
       )

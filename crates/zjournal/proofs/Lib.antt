@@ -2,7 +2,7 @@ pub mod file_lemmas
 mod Blocks
 mod Files
 mod Heads
-mod Kept
+mod Cached
 pub mod Moments
 mod Opens
 pub mod Puts

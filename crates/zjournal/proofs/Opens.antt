@@ -3,11 +3,11 @@ use Rattle.std.proofs.Common.{◌≡◌, ◌<◌, inl, inr, ℕ, List, [], ◌�
 use Rattle.zjournal.specs.declared.reading.Found.{Found}
 use Rattle.zjournal.specs.Device.{Only, Elapses, LeavesOnly}
 use Rattle.zjournal.specs.Blocks.{at_rest}
-use Rattle.zjournal.specs.Gates.{IsClosing, IsOpening}
-use Rattle.zjournal.specs.Journal.{head, holdings, IsUnopened, StandsFor}
+use Rattle.zjournal.specs.CommitBytes.{IsClosing, IsOpening}
+use Rattle.zjournal.specs.Journal.{head, holdings, IsUnopened, Represents}
 use Rattle.zjournal.specs.Found.{KeepsTo, IsFound}
 use Rattle.zjournal.proofs.Moments.{started, goes_on, joined_runs, weaker}
-use Rattle.zjournal.proofs.Files.{keeps, closing_keeps, closed_rests, any_head_gate}
+use Rattle.zjournal.proofs.Files.{keeps, closing_keeps, closed_rests, any_head_commit_byte}
 use Rattle.zjournal.proofs.Readings.{files_have_one_reading}
 
 -- what was found of the bytes is found of the file
@@ -16,20 +16,20 @@ pub found_of : (servers : ℕ) (bytes file : List ℕ) (found variant : Found) �
 found_of servers bytes file found variant same is h = subst (λ (f : Found). IsFound servers file f) is
     (subst (λ (b : List ℕ). IsFound servers b found) same h)
 
--- the head's gate is opened
+-- the head's commit_byte is opened
 module _ (servers : ℕ) (some : 0 < servers) (file mid : List ℕ) (same : mid ≡ file) (unopened : IsUnopened servers file) where
   back : drop 1 mid ≡ head servers ++ 0 ∷ 0 ∷ []
   back = ap (λ (l : List ℕ). drop 1 l) (same ∙ unopened.2)
 
-  opening_head : (c : List ℕ) → IsOpening (take 0 mid) (drop 1 mid) c → StandsFor servers [] c
-  opening_head c o = any_head_gate servers some o.0 c (o.1 ∙ ap (λ (l : List ℕ). o.0 ∷ l) back)
+  opening_head : (c : List ℕ) → IsOpening (take 0 mid) (drop 1 mid) c → Represents servers [] c
+  opening_head c o = any_head_commit_byte servers some o.0 c (o.1 ∙ ap (λ (l : List ℕ). o.0 ∷ l) back)
 
   pub opened_head : (new : List ℕ) → new ≡ take 0 mid ++ 1 ∷ drop 1 mid → new ≡ at_rest (holdings servers [])
   opened_head new is = is ∙ ap (λ (l : List ℕ). 1 ∷ l) back
 
 -- the end is closed
 closing_stands : (servers : ℕ) (batches : List (List ℕ)) (end : ℕ) (file mid : List ℕ) → mid ≡ file → KeepsTo servers batches end file
-    → (c : List ℕ) → IsClosing mid end c → StandsFor servers batches c
+    → (c : List ℕ) → IsClosing mid end c → Represents servers batches c
 closing_stands servers batches end file mid same k c closing = inl (closing_keeps servers batches file end k c
     (subst (λ (f : List ℕ). IsClosing f end c) same closing))
 
@@ -56,33 +56,33 @@ module _ {D : Type 0} (seen : D → List ℕ) (may_leave : D → List ℕ → Ty
     → Type 0) (old mid : D) (only : Only (seen old) (may_leave old)) (now : (c : List ℕ) → left_since old (moment old) c
     → may_leave old c) (crash : (c : List ℕ) → may_leave mid c → may_leave old c)
     (time : Elapses (moment old) (moment mid) (left_since old) (left_since mid) (may_leave mid)) (same : seen mid ≡ seen old)
-    (servers : ℕ) (batches : List (List ℕ)) (stands : StandsFor servers batches (seen old)) where
-  read_leaves : LeavesOnly moment left_since old mid (StandsFor servers batches)
+    (servers : ℕ) (batches : List (List ℕ)) (stands : Represents servers batches (seen old)) where
+  read_leaves : LeavesOnly moment left_since old mid (Represents servers batches)
   read_leaves =
-      let P : List ℕ → Type 0 = StandsFor servers batches in
+      let P : List ℕ → Type 0 = Represents servers batches in
       goes_on moment left_since old old mid P (may_leave mid)
       (started moment left_since old P (λ c left. subst P (sym (only c (now c left))) stands)) time
       (λ c left. subst P (sym (only c (crash c left))) stands)
 
   -- what goes on leaves what stands for the batches that were found, and these are the same
-  then_leaves : (found : List (List ℕ)) → StandsFor servers found (seen old) → (new : D) (Q : List ℕ → Type 0)
-      → LeavesOnly moment left_since mid new Q → ((c : List ℕ) → Q c → StandsFor servers found c)
-      → LeavesOnly moment left_since old new (StandsFor servers batches)
+  then_leaves : (found : List (List ℕ)) → Represents servers found (seen old) → (new : D) (Q : List ℕ → Type 0)
+      → LeavesOnly moment left_since mid new Q → ((c : List ℕ) → Q c → Represents servers found c)
+      → LeavesOnly moment left_since old new (Represents servers batches)
   then_leaves found finds new Q second implies =
-      joined_runs moment left_since old mid new (StandsFor servers batches) read_leaves
-      (weaker moment left_since mid new Q (StandsFor servers batches) second
-      (λ c q. subst (λ (b : List (List ℕ)). StandsFor servers b c) (files_have_one_reading servers (seen old) found batches finds stands)
+      joined_runs moment left_since old mid new (Represents servers batches) read_leaves
+      (weaker moment left_since mid new Q (Represents servers batches) second
+      (λ c q. subst (λ (b : List (List ℕ)). Represents servers b c) (files_have_one_reading servers (seen old) found batches finds stands)
       (implies c q)))
 
   pub unopened_leaves : 0 < servers → IsUnopened servers (seen old) → (new : D)
       → LeavesOnly moment left_since mid new (IsOpening (take 0 (seen mid)) (drop 1 (seen mid)))
-      → LeavesOnly moment left_since old new (StandsFor servers batches)
+      → LeavesOnly moment left_since old new (Represents servers batches)
   unopened_leaves some unopened new second =
       then_leaves [] (inr (inr unopened, refl)) new (IsOpening (take 0 (seen mid)) (drop 1 (seen mid))) second
       (opening_head servers some (seen old) (seen mid) same unopened)
 
   pub kept_leaves : (found : List (List ℕ)) (end : ℕ) → KeepsTo servers found end (seen old) → (new : D)
-      → LeavesOnly moment left_since mid new (IsClosing (seen mid) end) → LeavesOnly moment left_since old new (StandsFor servers batches)
+      → LeavesOnly moment left_since mid new (IsClosing (seen mid) end) → LeavesOnly moment left_since old new (Represents servers batches)
   kept_leaves found end k new second =
       then_leaves found (inl (keeps servers found (seen old) end k)) new (IsClosing (seen mid) end) second
       (closing_stands servers found end (seen old) (seen mid) same k)

@@ -7,7 +7,7 @@ use Rattle.zjournal.specs.declared.journal.Journal.{Journal}
 use Rattle.zjournal.specs.Device.{Only, LeavesOnly}
 use Rattle.zjournal.specs.Blocks.{IsText}
 use Rattle.zjournal.specs.Checksum.{stamped}
-use Rattle.zjournal.specs.Gates.{IsAdding}
+use Rattle.zjournal.specs.CommitBytes.{IsAdding}
 use Rattle.zjournal.specs.Journal.{Keeps, IsAtRest, IsWithOrWithout}
 use Rattle.zjournal.proofs.Blocks.{stamped_text}
 use Rattle.zjournal.proofs.Moments.{started, weaker}

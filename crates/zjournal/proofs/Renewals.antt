@@ -13,20 +13,20 @@ use Rattle.zjournal.proofs.Moments.{started, goes_on, joined_runs, weaker}
 use Rattle.zjournal.proofs.Opens.{only_read, only_left}
 use Rattle.zjournal.proofs.Files.{rest_keeps, more_texts, one_more, more_size}
 
--- a block without the closed gate behind it
-pub without_gate : (held block : List ℕ) → block ≡ held ++ 0 ∷ 0 ∷ [] → take (length block - 1) block ≡ held ++ 0 ∷ []
-without_gate held block is =
+-- a block without the closed commit_byte behind it
+pub without_commit_byte : (held block : List ℕ) → block ≡ held ++ 0 ∷ 0 ∷ [] → take (length block - 1) block ≡ held ++ 0 ∷ []
+without_commit_byte held block is =
     let whole : block ≡ (held ++ 0 ∷ []) ++ 0 ∷ [] = is ∙ sym (append_assoc held (0 ∷ []) (0 ∷ [])) in
     let size : length block - 1 ≡ length (held ++ 0 ∷ []) = omega (arith, ap length whole, length-append (held ++ 0 ∷ []) (0 ∷ [])) in
     ap (λ (l : List ℕ). take (length block - 1) l) whole ∙ take_at (held ++ 0 ∷ []) (0 ∷ []) (length block - 1) (sym size)
 
--- the gate, and then the block
+-- the commit_byte, and then the block
 pub open_block_added : (old mid new held block : List ℕ) → block ≡ held ++ 0 ∷ 0 ∷ [] → mid ≡ old ++ 1 ∷ []
     → new ≡ mid ++ take (length block - 1) block → new ≡ old ++ 1 ∷ (held ++ 0 ∷ [])
-open_block_added old mid new held block is gate rest =
+open_block_added old mid new held block is commit_byte rest =
     rest
-    ∙ ap (λ (l : List ℕ). mid ++ l) (without_gate held block is)
-    ∙ ap (λ (l : List ℕ). l ++ (held ++ 0 ∷ [])) gate
+    ∙ ap (λ (l : List ℕ). mid ++ l) (without_commit_byte held block is)
+    ∙ ap (λ (l : List ℕ). l ++ (held ++ 0 ∷ [])) commit_byte
     ∙ append_assoc old (1 ∷ []) (held ++ 0 ∷ [])
 
 module _ {D : Type 0} (seen : D → List ℕ) (may_leave : D → List ℕ → Type 0) (moment : D → ℕ) (left_since : D → ℕ → List ℕ → Type 0) where

@@ -38,19 +38,19 @@ text_slice bytes start at ends =
     ap (λ (l : List ℕ). take (at - start) l) ends.1.1 ∙ take_at ends.1.0 (0 ∷ drop (at + 1) bytes) (at - start) (omega (arith, place))
 
 -- a text that doesn't end is no batch
-pub endless_is_none : (bytes : List ℕ) (gate : ℕ) → IsText (drop (gate + 1) bytes) → IsNoBatch bytes gate
-endless_is_none bytes gate text batch more h is = no_zero (stamped batch) more (subst IsText is text)
+pub endless_is_none : (bytes : List ℕ) (commit_byte : ℕ) → IsText (drop (commit_byte + 1) bytes) → IsNoBatch bytes commit_byte
+endless_is_none bytes commit_byte text batch more h is = no_zero (stamped batch) more (subst IsText is text)
 
 -- a text behind no checksum of its own is no batch
-pub other_is_none : (bytes : List ℕ) (gate at : ℕ) → (ends : EndsAt bytes (gate + 1) at) → ((text : List ℕ) → ends.1.0 ≡ stamped text → ⊥)
-    → IsNoBatch bytes gate
-other_is_none bytes gate at ends none batch more h is =
+pub other_is_none : (bytes : List ℕ) (commit_byte at : ℕ) → (ends : EndsAt bytes (commit_byte + 1) at) → ((text : List ℕ) → ends.1.0 ≡ stamped text → ⊥)
+    → IsNoBatch bytes commit_byte
+other_is_none bytes commit_byte at ends none batch more h is =
     none batch (first_zero ends.1.0 (stamped batch) (drop (at + 1) bytes) more ends.1.3 h (sym ends.1.1 ∙ is)).0
 
 -- a text behind its checksum is one
-pub checked_is_batch : (bytes : List ℕ) (gate at : ℕ) (ends : EndsAt bytes (gate + 1) at) (text : List ℕ)
-    → ends.1.0 ≡ stamped text → IsBatch bytes gate text (at + 1)
-checked_is_batch bytes gate at ends text is =
+pub checked_is_batch : (bytes : List ℕ) (commit_byte at : ℕ) (ends : EndsAt bytes (commit_byte + 1) at) (text : List ℕ)
+    → ends.1.0 ≡ stamped text → IsBatch bytes commit_byte text (at + 1)
+checked_is_batch bytes commit_byte at ends text is =
     let within = ends.0 in let place = ends.1.2 in
     record {
       text = subst IsText is ends.1.3;
@@ -68,16 +68,16 @@ map_more [] b = refl
 map_more (x ∷ bs) b = ap (λ (l : List (List ℕ)). stamped x ∷ l) (map_more bs b)
 
 -- one batch more
-pub more_batches : (bytes : List ℕ) (start gate end : ℕ) (batches : List (List ℕ)) (batch : List ℕ)
-    → AreBatches bytes start batches gate → gate < length bytes → get_or bytes gate 0 ≡ 1
-    → IsBatch bytes gate batch end → AreBatches bytes start (batches ++ batch ∷ []) end
-more_batches bytes start gate end batches batch so_far within open_gate one = record {
+pub more_batches : (bytes : List ℕ) (start commit_byte end : ℕ) (batches : List (List ℕ)) (batch : List ℕ)
+    → AreBatches bytes start batches commit_byte → commit_byte < length bytes → get_or bytes commit_byte 0 ≡ 1
+    → IsBatch bytes commit_byte batch end → AreBatches bytes start (batches ++ batch ∷ []) end
+more_batches bytes start commit_byte end batches batch so_far within set_commit_byte one = record {
   texts = subst AreTexts (sym (map_more batches batch)) (texts-push (map stamped batches) (stamped batch) so_far.texts one.text);
   within = one.within;
   stand =
       so_far.stand
-      ∙ ap (λ (l : List ℕ). blocks (map stamped batches) ++ l) (drop_more bytes gate 0 within
-      ∙ ap (λ (g : ℕ). g ∷ drop (gate + 1) bytes) open_gate ∙ ap (λ (l : List ℕ). 1 ∷ l) one.stands)
+      ∙ ap (λ (l : List ℕ). blocks (map stamped batches) ++ l) (drop_more bytes commit_byte 0 within
+      ∙ ap (λ (g : ℕ). g ∷ drop (commit_byte + 1) bytes) set_commit_byte ∙ ap (λ (l : List ℕ). 1 ∷ l) one.stands)
       ∙ sym (blocks-push (map stamped batches) (stamped batch) (drop end bytes))
       ∙ ap (λ (l : List (List ℕ)). blocks l ++ drop end bytes) (sym (map_more batches batch));
   long =
@@ -107,5 +107,5 @@ shut_end bytes end within shut = subst IsEnd (sym (drop_more bytes end 0 within)
     closed [] = tt
     closed (b ∷ rest) = shut
 
-pub open_gate_is : (bytes : List ℕ) (gate : ℕ) → gate < length bytes → get_or bytes gate 0 ≡ 1 → drop gate bytes ≡ 1 ∷ drop (gate + 1) bytes
-open_gate_is bytes gate within is = drop_more bytes gate 0 within ∙ ap (λ (g : ℕ). g ∷ drop (gate + 1) bytes) is
+pub open_commit_byte_is : (bytes : List ℕ) (commit_byte : ℕ) → commit_byte < length bytes → get_or bytes commit_byte 0 ≡ 1 → drop commit_byte bytes ≡ 1 ∷ drop (commit_byte + 1) bytes
+open_commit_byte_is bytes commit_byte within is = drop_more bytes commit_byte 0 within ∙ ap (λ (g : ℕ). g ∷ drop (commit_byte + 1) bytes) is

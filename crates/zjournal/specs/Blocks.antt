@@ -26,5 +26,5 @@ at_rest holds = blocks holds ++ 0 ∷ []
 -- anything after it
 abbrev pub IsEnd : List ℕ → Type 0
 IsEnd [] = Unit {0}
-IsEnd (gate ∷ []) = Unit {0}
-IsEnd (gate ∷ b ∷ more) = gate ≢ 1
+IsEnd (commit_byte ∷ []) = Unit {0}
+IsEnd (commit_byte ∷ b ∷ more) = commit_byte ≢ 1

@@ -1,7 +1,7 @@
 -- What a file turns out to be.
 use Rattle.std.specs.Prelude.{◌≡◌, ℕ, List, ◌++◌, length, drop}
 use Rattle.zjournal.specs.declared.reading.Found.{Found}
-use Rattle.zjournal.specs.declared.reading.Found.TheVariants.{Unmade, Unopened, Kept}
+use Rattle.zjournal.specs.declared.reading.Found.TheVariants.{Unmade, Unopened, Cached}
 use Rattle.zjournal.specs.Blocks.{AreTexts, blocks, IsEnd}
 use Rattle.zjournal.specs.Journal.{holdings, IsUnmade, IsUnopened}
 use Rattle.zjournal.specs.Scan.{joined}
@@ -16,4 +16,4 @@ pub record KeepsTo (servers : ℕ) (batches : List (List ℕ)) (end : ℕ) (file
 abbrev pub IsFound : ℕ → List ℕ → Found → Type 0
 IsFound servers file Unmade = IsUnmade servers file
 IsFound servers file Unopened = IsUnopened servers file
-IsFound servers file (Kept text end) = (batches : List (List ℕ)) × KeepsTo servers batches end file × (text.items ≡ joined batches)
+IsFound servers file (Cached text end) = (batches : List (List ℕ)) × KeepsTo servers batches end file × (text.items ≡ joined batches)

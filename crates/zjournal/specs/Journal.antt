@@ -42,20 +42,20 @@ pub record Keeps (servers : ℕ) (batches : List (List ℕ)) (file : List ℕ) :
 -- and after it no more than a head's block
 abbrev pub IsUnmade : ℕ → List ℕ → Type 0
 IsUnmade servers [] = Unit {0}
-IsUnmade servers (gate ∷ []) = Unit {0}
-IsUnmade servers (gate ∷ b ∷ more) = (gate ≡ 0) × (length (b ∷ more) ≤ length (head servers) + 2)
+IsUnmade servers (commit_byte ∷ []) = Unit {0}
+IsUnmade servers (commit_byte ∷ b ∷ more) = (commit_byte ≡ 0) × (length (b ∷ more) ≤ length (head servers) + 2)
 
 -- the whole head is written, but its commit byte isn't set
 abbrev pub IsUnopened : ℕ → List ℕ → Type 0
-IsUnopened servers file = (gate : ℕ) × (gate ≢ 1) × (file ≡ gate ∷ (head servers ++ 0 ∷ 0 ∷ []))
+IsUnopened servers file = (commit_byte : ℕ) × (commit_byte ≢ 1) × (file ≡ commit_byte ∷ (head servers ++ 0 ∷ 0 ∷ []))
 
 -- the file is being made: a crash may leave it so before its first batch
 abbrev pub IsBeingMade : ℕ → List ℕ → Type 0
 IsBeingMade servers file = IsUnmade servers file ⊎ IsUnopened servers file
 
 -- the file represents these batches: it holds them, or it is being made and there are none
-abbrev pub StandsFor : ℕ → List (List ℕ) → List ℕ → Type 0
-StandsFor servers batches file = Keeps servers batches file ⊎ (IsBeingMade servers file × (batches ≡ []))
+abbrev pub Represents : ℕ → List (List ℕ) → List ℕ → Type 0
+Represents servers batches file = Keeps servers batches file ⊎ (IsBeingMade servers file × (batches ≡ []))
 
 -- a journal over a device: the file is at rest with these batches, all of it durable, and the next
 -- block begins at the clear commit byte. It knows for how many servers it is

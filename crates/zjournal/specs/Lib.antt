@@ -4,7 +4,7 @@ pub mod Checksum
 pub mod Device
 pub mod Faults
 pub mod Found
-pub mod Gates
+pub mod CommitBytes
 pub mod Journal
 pub mod Laws
 pub mod Memory

@@ -11,15 +11,15 @@ EndsAt bytes start at = (at < length bytes)
     × ((text : List ℕ) × (drop start bytes ≡ text ++ 0 ∷ drop (at + 1) bytes) × (at ≡ start + length text) × IsText text)
 
 -- the batch is after this commit byte, and its block ends here
-pub record IsBatch (bytes : List ℕ) (gate : ℕ) (batch : List ℕ) (end : ℕ) : Type 0 where
+pub record IsBatch (bytes : List ℕ) (commit_byte : ℕ) (batch : List ℕ) (end : ℕ) : Type 0 where
   pub text : IsText (stamped batch)
   pub within : end ≤ length bytes
-  pub stands : drop (gate + 1) bytes ≡ stamped batch ++ 0 ∷ drop end bytes
-  pub long : end ≡ gate + (length (stamped batch) + 2)
+  pub stands : drop (commit_byte + 1) bytes ≡ stamped batch ++ 0 ∷ drop end bytes
+  pub long : end ≡ commit_byte + (length (stamped batch) + 2)
 
 -- no batch is after this commit byte
 abbrev pub IsNoBatch : List ℕ → ℕ → Type 0
-IsNoBatch bytes gate = (batch more : List ℕ) → IsText (stamped batch) → drop (gate + 1) bytes ≡ stamped batch ++ 0 ∷ more → ⊥
+IsNoBatch bytes commit_byte = (batch more : List ℕ) → IsText (stamped batch) → drop (commit_byte + 1) bytes ≡ stamped batch ++ 0 ∷ more → ⊥
 
 -- all texts in order, joined
 abbrev pub joined : List (List ℕ) → List ℕ
@@ -35,10 +35,10 @@ pub record AreBatches (bytes : List ℕ) (start : ℕ) (batches : List (List ℕ
 
 -- after some batches is a set commit byte at this index, and after it something that is no batch
 abbrev pub IsOtherAt : List ℕ → ℕ → ℕ → Type 0
-IsOtherAt bytes start gate = (batches : List (List ℕ)) × AreBatches bytes start batches gate
-    × (drop gate bytes ≡ 1 ∷ drop (gate + 1) bytes) × (gate + 1 < length bytes) × IsNoBatch bytes gate
+IsOtherAt bytes start commit_byte = (batches : List (List ℕ)) × AreBatches bytes start batches commit_byte
+    × (drop commit_byte bytes ≡ 1 ∷ drop (commit_byte + 1) bytes) × (commit_byte + 1 < length bytes) × IsNoBatch bytes commit_byte
 
 abbrev pub IsOther : List ℕ → ℕ → OpenError → Type 0
 IsOther bytes start fault.Memory = Unit {0}
-IsOther bytes start (fault.Damaged gate) = IsOtherAt bytes start gate
+IsOther bytes start (fault.Damaged commit_byte) = IsOtherAt bytes start commit_byte
 IsOther bytes start e = ⊥

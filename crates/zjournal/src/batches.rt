@@ -33,19 +33,19 @@ pub fn batches(alloc: Global, bytes: &[u8], start: usize) -> Result<(Vec<u8>, us
 }
 
 // Reads the batch after this set commit byte, and appends its text. Returns where its block ends.
-fn batch(bytes: &[u8], gate: usize, text: &mut Vec<u8>) -> Result<usize, OpenError>
-    requires within { gate + 1 < length bytes.now }
-    requires open { get_or bytes.now gate 0 ≡ 1 }
-    ensures ok { IfOk result (λ end. (batch : List ℕ) × IsBatch bytes.now gate batch end
+fn batch(bytes: &[u8], commit_byte: usize, text: &mut Vec<u8>) -> Result<usize, OpenError>
+    requires within { commit_byte + 1 < length bytes.now }
+    requires open { get_or bytes.now commit_byte 0 ≡ 1 }
+    ensures ok { IfOk result (λ end. (batch : List ℕ) × IsBatch bytes.now commit_byte batch end
         × (text.new.items ≡ text.old.items ++ batch)) }
     ensures err { IfErr result (λ e. (e ≡ fault.Memory)
-        ⊎ ((e ≡ fault.Damaged gate) × IsNoBatch bytes.now gate)) }
+        ⊎ ((e ≡ fault.Damaged commit_byte) × IsNoBatch bytes.now commit_byte)) }
 {
-    let Some(end) = text_end(bytes, gate + 1) else {
-        return Err(OpenError::Damaged(gate));
+    let Some(end) = text_end(bytes, commit_byte + 1) else {
+        return Err(OpenError::Damaged(commit_byte));
     };
-    let Some(batch) = checked(&bytes[gate + 1..end]) else {
-        return Err(OpenError::Damaged(gate));
+    let Some(batch) = checked(&bytes[commit_byte + 1..end]) else {
+        return Err(OpenError::Damaged(commit_byte));
     };
     text.extend_from_slice(batch)?;
     Ok(end + 1)

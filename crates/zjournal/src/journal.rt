@@ -13,7 +13,7 @@ ghost use Rattle.zjournal.specs.Journal.{device_of, size_of};
 ghost use Rattle.zjournal.specs.Puts.{IsLeftBy};
 
 use crate::checksum::block_of;
-use crate::gates::add_block;
+use crate::commit_bytes::add_block;
 use crate::limits::MAX_BYTES;
 use crate::{Device, PutError};
 use std::alloc::Global;

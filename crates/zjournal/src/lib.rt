@@ -35,7 +35,7 @@ mod checksum;
 mod device;
 mod fault;
 pub mod file;
-mod gates;
+mod commit_bytes;
 mod journal;
 pub mod laws;
 mod limits;

@@ -8,14 +8,14 @@ ghost use Rattle.std.specs.Prelude.{◌≡◌, ◌<◌, ◌≤◌, ◌++◌, [],
 ghost use Rattle.std.specs.Prelude.{IfOk, IfErr, OnOk, IsErrOf};
 ghost use Rattle.zjournal.specs.Device.{Only, LeavesOnly};
 ghost use Rattle.zjournal.specs.Blocks.{AreTexts, blocks, at_rest};
-ghost use Rattle.zjournal.specs.Journal.{holdings, IsUnmade, StandsFor, IsAtRest, IsOpen, IsSound};
+ghost use Rattle.zjournal.specs.Journal.{holdings, IsUnmade, Represents, IsAtRest, IsOpen, IsSound};
 ghost use Rattle.zjournal.specs.Journal.{device_of};
 ghost use Rattle.zjournal.specs.Scan.{joined};
 ghost use Rattle.zjournal.specs.declared.fault.OpenError.TheVariants as open_fault;
 ghost use Rattle.zjournal.specs.Faults.{IsSuch, IsOfContent};
 ghost use Rattle.zjournal.specs.Opened.{IsRead};
 
-use crate::gates::{add_block, close, open_gate};
+use crate::commit_bytes::{add_block, close, set_commit_byte};
 use crate::reading::{Found, HEAD_END, head_block, look};
 use crate::{Device, DeviceError, Journal, OpenError};
 use std::alloc::Global;
@@ -28,7 +28,7 @@ fn make<D: Device>(device: &mut D, servers: u8) -> Result<(), DeviceError>
     ensures made { OnOk result (D.seen device.new ≡ at_rest (holdings servers [])) }
     ensures durable { OnOk result (Only (D.seen device.new) (D.may_leave device.new)) }
     ensures any_moment { LeavesOnly D.moment D.left_since device.old device.new
-        (StandsFor servers []) }
+        (Represents servers []) }
     ensures failed { IsErrOf result DeviceError.Failed
         → D.faults device.old < D.faults device.new }
 {
@@ -46,10 +46,10 @@ pub fn open_file<D: Device>(
     requires some { 0 < servers }
     requires durable { Only (D.seen device.old) (D.may_leave device.old) }
     ensures read { IfOk result (λ read. (batches : List (List ℕ))
-        × StandsFor servers batches (D.seen device.old)
+        × Represents servers batches (D.seen device.old)
         × IsRead D.seen D.may_leave servers batches read.0.items read.1 device.new) }
-    ensures any_moment { (batches : List (List ℕ)) → StandsFor servers batches (D.seen device.old)
-        → LeavesOnly D.moment D.left_since device.old device.new (StandsFor servers batches) }
+    ensures any_moment { (batches : List (List ℕ)) → Represents servers batches (D.seen device.old)
+        → LeavesOnly D.moment D.left_since device.old device.new (Represents servers batches) }
     ensures fault { IfErr result (IsSuch servers (D.seen device.old)) }
     ensures untouched { IfErr result (λ e. IsOfContent e → (D.seen device.new ≡ D.seen device.old)
         × LeavesOnly D.moment D.left_since device.old device.new (λ c. c ≡ D.seen device.old)) }
@@ -63,10 +63,10 @@ pub fn open_file<D: Device>(
             Ok((Vec::new(alloc), HEAD_END))
         }
         Found::Unopened => {
-            open_gate(device, 0)?;
+            set_commit_byte(device, 0)?;
             Ok((Vec::new(alloc), HEAD_END))
         }
-        Found::Kept(text, end) => {
+        Found::Cached(text, end) => {
             close(device, end)?;
             Ok((text, end))
         }
@@ -82,7 +82,7 @@ pub fn read_text<D: Device>(
     requires some { 0 < servers }
     requires durable { Only (D.seen device.old) (D.may_leave device.old) }
     ensures text { IfOk result (λ text. (batches : List (List ℕ))
-        × StandsFor servers batches (D.seen device.old) × (text.items ≡ joined batches)) }
+        × Represents servers batches (D.seen device.old) × (text.items ≡ joined batches)) }
     ensures seen { D.seen device.new ≡ D.seen device.old }
     ensures durable { Only (D.seen device.new) (D.may_leave device.new) }
     ensures any_moment { LeavesOnly D.moment D.left_since device.old device.new
@@ -96,7 +96,7 @@ pub fn read_text<D: Device>(
     match look(alloc, &bytes, servers)? {
         Found::Unmade => Ok(Vec::new(alloc)),
         Found::Unopened => Ok(Vec::new(alloc)),
-        Found::Kept(text, _) => Ok(text),
+        Found::Cached(text, _) => Ok(text),
     }
 }
 
@@ -112,16 +112,16 @@ pub fn open<D: Device>(
     // After a restart, a read returns what is durable.
     requires durable { Only (D.seen device) (D.may_leave device) }
     ensures journal { IfOk result (λ opened. (batches : List (List ℕ))
-        × StandsFor servers batches (D.seen device)
+        × Represents servers batches (D.seen device)
         × IsAtRest D.seen D.may_leave servers batches opened.0
         × IsOpen opened.0 × (opened.1.items ≡ joined batches)) }
     ensures sound { IfOk result (λ opened. IsSound D.seen D.may_leave opened.0) }
-    ensures any_moment { (batches : List (List ℕ)) → StandsFor servers batches (D.seen device)
+    ensures any_moment { (batches : List (List ℕ)) → Represents servers batches (D.seen device)
         → IfOk result (λ opened. LeavesOnly D.moment D.left_since device (device_of opened.0)
-        (StandsFor servers batches)) }
-    ensures any_moment_err { (batches : List (List ℕ)) → StandsFor servers batches (D.seen device)
+        (Represents servers batches)) }
+    ensures any_moment_err { (batches : List (List ℕ)) → Represents servers batches (D.seen device)
         → IfErr result (λ e. LeavesOnly D.moment D.left_since device e.1
-        (StandsFor servers batches)) }
+        (Represents servers batches)) }
     ensures fault { IfErr result (λ e. IsSuch servers (D.seen device) e.0) }
     ensures untouched { IfErr result (λ e. IsOfContent e.0 → (D.seen e.1 ≡ D.seen device)
         × LeavesOnly D.moment D.left_since device e.1 (λ c. c ≡ D.seen device)) }

@@ -26,7 +26,7 @@ pub enum Found {
     /// It has its head, but the first commit byte isn't set.
     Unopened,
     /// It holds batches: their text, and where the last block ends.
-    Kept(Vec<u8>, usize),
+    Cached(Vec<u8>, usize),
 }
 
 /// Returns the head's block without its commit byte, and with the next, clear one.
@@ -75,7 +75,7 @@ fn is_unopened(bytes: &[u8], servers: u8) -> bool
     ensures { IsTrue result ↔ IsUnopened servers bytes.now }
 {
     match first(bytes) {
-        Some((gate, rest)) => gate != 1 && rest == head_block(servers).as_slice(),
+        Some((commit_byte, rest)) => commit_byte != 1 && rest == head_block(servers).as_slice(),
         None => false,
     }
 }
@@ -124,5 +124,5 @@ pub fn look(alloc: Global, bytes: &[u8], servers: u8) -> Result<Found, OpenError
     }
     check_head(bytes, servers)?;
     let (text, end) = batches(alloc, bytes, HEAD_END)?;
-    Ok(Found::Kept(text, end))
+    Ok(Found::Cached(text, end))
 }

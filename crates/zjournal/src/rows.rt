@@ -24,17 +24,17 @@ pub fn blocks_stand_in_a_row()
 /// What doesn't count after the blocks, and a set commit byte with something after it.
 pub fn ends_count_for_nothing()
     ensures nothing { IsEnd [] }
-    ensures torn_gate { IsEnd (1 ∷ []) }
-    ensures closed_gate { IsEnd (0 ∷ 97 ∷ 0 ∷ []) }
-    ensures other_gate { IsEnd (7 ∷ 97 ∷ []) }
-    ensures open_gate { IsEnd (1 ∷ 97 ∷ []) → ⊥ }
+    ensures torn_commit_byte { IsEnd (1 ∷ []) }
+    ensures clear_commit_byte { IsEnd (0 ∷ 97 ∷ 0 ∷ []) }
+    ensures other_commit_byte { IsEnd (7 ∷ 97 ∷ []) }
+    ensures set_commit_byte { IsEnd (1 ∷ 97 ∷ []) → ⊥ }
 {}
 
 /// A file while it is made, one that isn't, and one that was made.
 pub fn files_are_made()
     ensures empty { IsUnmade 3 [] }
     ensures one_byte { IsUnmade 3 (74 ∷ []) }
-    ensures closed_gate { IsUnmade 3 (0 ∷ 1 ∷ 2 ∷ []) }
+    ensures clear_commit_byte { IsUnmade 3 (0 ∷ 1 ∷ 2 ∷ []) }
     ensures other { IsUnmade 3 (74 ∷ 101 ∷ []) → ⊥ }
     ensures made { Keeps 3 [] (at_rest (holdings 3 [])) }
 {}

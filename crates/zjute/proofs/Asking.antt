@@ -18,7 +18,7 @@ use Rattle.zjute.specs.Shapes.{with_number}
 use Rattle.zjute.specs.Requests.{create, create_ttl, at_version, look, set_data, set_acl, watches_at, add_watch, auth, set_watches, set_watches_2}
 use Rattle.zjute.specs.Parts.{parts, looks}
 use Rattle.zjute.specs.Asking.{op_number, ops, op_of, FitsOp, op_form, asked_at, asked_spelled, asked, request}
-use Rattle.zjute.specs.Laws.{RequestsAreToldApart}
+use Rattle.zjute.specs.Laws.{RequestsAreDistinct}
 use Rattle.zjute.proofs.Signed.{is_int}
 use Rattle.zjute.proofs.Numbered.{has_number}
 use Rattle.zjute.proofs.Before.{IsFormBefore, Nothing, before, left_last, both_before, fields_before, last_takes, last_again}
@@ -26,9 +26,9 @@ use Rattle.zjute.proofs.Tags.{TakesAt, takes_as, again_as, is_by_tag}
 use Rattle.zjute.proofs.Records.{is_buffer, is_create, is_create_ttl, is_at_version, is_look, is_set_data, is_set_acl, is_watches_at, is_add_watch, is_auth, is_set_watches, is_set_watches_2}
 use Rattle.zjute.proofs.Headers.{is_parts, is_looks}
 
-op_tells : (n : ℤ) → op_number (op_of n) ≡ n
+op_reports : (n : ℤ) → op_number (op_of n) ≡ n
 unfolding op_of
-op_tells n = by (with_number op_number ops n) refl
+op_reports n = by (with_number op_number ops n) refl
   where
     by : (found : Option Op) → with_number op_number ops n ≡ found → op_number (unwrap_or found (op.Other n)) ≡ n
     by None none = refl
@@ -37,7 +37,7 @@ op_tells n = by (with_number op_number ops n) refl
 is_op : IsForm op_form
 is_op = is_made int op_number (λ n. Ok (op_of n)) FitsOp is_int
     (λ n o fits e.
-    let is = op_tells n in
+    let is = op_reports n in
     subst (λ (o : Op). (op_number o ≡ n) × FitsOp o) (ok_is (op_of n) o e) (is, (subst int.Fits (sym is) fits, ap op_of is)))
     (λ o fits. (ap done fits.1, fits.0))
 
@@ -111,5 +111,5 @@ request_found bytes (Err e) are given = tt
 pub request_again : (r : Request) → request.Fits r → whole request (request.spell r) ≡ Ok r
 request_again r fits = last_again request request_is r fits
 
-pub requests_apart : RequestsAreToldApart
+pub requests_apart : RequestsAreDistinct
 requests_apart x y fits also same = ok_is x y (sym (request_again x fits) ∙ ap (whole request) same ∙ request_again y also)

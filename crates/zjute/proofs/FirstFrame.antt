@@ -11,7 +11,7 @@ use Rattle.zcodec.proofs.Choices.{is_flag}
 use Rattle.zjute.specs.declared.connecting.ConnectRequest.{ConnectRequest}
 use Rattle.zjute.specs.Jute.{int, long, buffer}
 use Rattle.zjute.specs.Connecting.{flag_if_any, flag_or_end, last_flag, connect_request}
-use Rattle.zjute.specs.Laws.{GreetingsAreToldApart}
+use Rattle.zjute.specs.Laws.{GreetingsAreDistinct}
 use Rattle.zjute.proofs.Signed.{is_int, is_long}
 use Rattle.zjute.proofs.Before.{IsFormBefore, Nothing, both_before, fields_before, last_takes, last_again}
 use Rattle.zjute.proofs.Records.{is_buffer}
@@ -50,5 +50,5 @@ connect_found bytes (Err e) are given = tt
 pub connect_again : (it : ConnectRequest) → connect_request.Fits it → whole connect_request (connect_request.spell it) ≡ Ok it
 connect_again it fits = last_again connect_request request_is it fits
 
-pub greetings_apart : GreetingsAreToldApart
+pub greetings_apart : GreetingsAreDistinct
 greetings_apart x y fits also same = ok_is x y (sym (connect_again x fits) ∙ ap (whole connect_request) same ∙ connect_again y also)

@@ -53,31 +53,31 @@ end_back number of n o false other e = absurd cc
 
 some_back : {K : Type 0} (number : K → ℤ) (of : ℤ → Option K) → ((n : ℤ) (k : K) → of n ≡ Some k → number k ≡ n) → (n : ℤ) (o : Option K) → int.Fits n → (found : Option K)
     → of n ≡ found → (or_invalid found >>= λ k. Ok (Some k)) ≡ Ok o → Back number of (n, (false, neg 1)) o
-some_back number of tells n o fits None none e = absurd cc
-some_back number of tells n o fits (Some k) has e =
-    let is = tells n k has in
+some_back number of reports n o fits None none e = absurd cc
+some_back number of reports n o fits (Some k) has e =
+    let is = reports n k has in
     subst (Back number of (n, (false, neg 1))) (ok_is (Some k) o e)
     (ap (λ (x : ℤ). (x, (false, neg 1))) is, (subst int.Fits (sym is) fits, ap of is ∙ has))
 
 kind_back : {K : Type 0} (number : K → ℤ) (of : ℤ → Option K) → ((n : ℤ) (k : K) → of n ≡ Some k → number k ≡ n) → (n : ℤ) (done : Bool) (o : Option K) → int.Fits n
     → kind_at of n done ≡ Ok o → Back number of (n, (done, neg 1)) o
-kind_back number of tells n true o fits e = end_back number of n o (int_eq n (neg 1)) refl e
-kind_back number of tells n false o fits e = some_back number of tells n o fits (of n) refl e
+kind_back number of reports n true o fits e = end_back number of n o (int_eq n (neg 1)) refl e
+kind_back number of reports n false o fits e = some_back number of reports n o fits (of n) refl e
 
 header_back : {K : Type 0} (number : K → ℤ) (of : ℤ → Option K) → ((n : ℤ) (k : K) → of n ≡ Some k → number k ≡ n) → (n : ℤ) (done : Bool) (code : ℤ) (o : Option K) (b : Bool) → int.Fits n
     → int_eq code (neg 1) ≡ b → cond b (kind_at of n done) (Err Invalid) ≡ Ok o → Back number of (n, (done, code)) o
-header_back number of tells n done code o true fits same e =
-    let r = kind_back number of tells n done o fits e in
+header_back number of reports n done code o true fits same e =
+    let r = kind_back number of reports n done o fits e in
     (r.0 ∙ ap (λ (x : ℤ). (n, (done, x))) (sym ((Decides-int_eq code (neg 1)).0 same)), r.1)
-header_back number of tells n done code o false fits other e = absurd cc
+header_back number of reports n done code o false fits other e = absurd cc
 
 header_forth : {K : Type 0} (number : K → ℤ) (of : ℤ → Option K) (o : Option K) → FitsKind number of o → (header_kind of (header_of number o) ≡ Ok o) × header_fields.Fits (header_of number o)
 header_forth number of None fits = (refl, (neg_1, (tt, neg_1)))
 header_forth {K} number of (Some k) fits = (ap (λ (found : Option K). or_invalid found >>= λ k. Ok (Some k)) fits.1, (fits.0, (tt, neg_1)))
 
 is_header : {K : Type 0} (number : K → ℤ) (of : ℤ → Option K) → ((n : ℤ) (k : K) → of n ≡ Some k → number k ≡ n) → IsForm (header number of)
-is_header number of tells = is_made header_fields (header_of number) (header_kind of) (FitsKind number of) is_header_fields
-    (λ h o fits e. header_back number of tells h.0 h.1.0 h.1.1 o (int_eq h.1.1 (neg 1)) fits.0 refl e)
+is_header number of reports = is_made header_fields (header_of number) (header_kind of) (FitsKind number of) is_header_fields
+    (λ h o fits e. header_back number of reports h.0 h.1.0 h.1.1 o (int_eq h.1.1 (neg 1)) fits.0 refl e)
     (header_forth number of)
 
 -- ---- behind a header

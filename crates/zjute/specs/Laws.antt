@@ -8,16 +8,16 @@ use Rattle.zjute.specs.Connecting.{connect_request}
 use Rattle.zjute.specs.Stats.{stat}
 
 -- two different requests have different bytes
-abbrev pub RequestsAreToldApart : Type 0
-RequestsAreToldApart =
+abbrev pub RequestsAreDistinct : Type 0
+RequestsAreDistinct =
     (x y : Request) → request.Fits x → request.Fits y → request.spell x ≡ request.spell y → x ≡ y
 
 -- two different first frames have different bytes
-abbrev pub GreetingsAreToldApart : Type 0
-GreetingsAreToldApart =
+abbrev pub GreetingsAreDistinct : Type 0
+GreetingsAreDistinct =
     (x y : ConnectRequest) → connect_request.Fits x → connect_request.Fits y →
     connect_request.spell x ≡ connect_request.spell y → x ≡ y
 
 -- two different stats have different bytes
-abbrev pub StatsAreToldApart : Type 0
-StatsAreToldApart = (x y : Stat) → stat.Fits x → stat.Fits y → stat.spell x ≡ stat.spell y → x ≡ y
+abbrev pub StatsAreDistinct : Type 0
+StatsAreDistinct = (x y : Stat) → stat.Fits x → stat.Fits y → stat.spell x ≡ stat.spell y → x ≡ y

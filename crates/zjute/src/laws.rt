@@ -1,7 +1,7 @@
 //! Laws of the definitions. Each function's contract is a law; its body does nothing.
 
 ghost use Rattle.zjute.specs.Frames.{FramesAreCut, OneSplit};
-ghost use Rattle.zjute.specs.Laws.{RequestsAreToldApart, GreetingsAreToldApart, StatsAreToldApart};
+ghost use Rattle.zjute.specs.Laws.{RequestsAreDistinct, GreetingsAreDistinct, StatsAreDistinct};
 
 /// Received bytes are cut into frames in one way, in whatever chunks they arrived.
 pub fn one_split()
@@ -14,8 +14,8 @@ pub fn frames_are_cut()
 {}
 
 /// Two different requests have different bytes. So have two first frames, and two stats.
-pub fn bytes_tell_apart()
-    ensures requests { RequestsAreToldApart }
-    ensures greetings { GreetingsAreToldApart }
-    ensures stats { StatsAreToldApart }
+pub fn bytes_are_distinct()
+    ensures requests { RequestsAreDistinct }
+    ensures greetings { GreetingsAreDistinct }
+    ensures stats { StatsAreDistinct }
 {}

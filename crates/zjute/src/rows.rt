@@ -25,10 +25,10 @@ ghost use Rattle.zjute.specs.support.Kazoo.{sync_asked, ping_asked, get_children
 ghost use Rattle.zjute.specs.support.Kazoo.{multi_asked, create_2_asked, auth_asked, close_asked};
 ghost use Rattle.zjute.specs.support.Kazoo.{reconfig_asked, asking, connect_front, connecting};
 ghost use Rattle.zjute.specs.support.Kazoo.{sent};
-ghost use Rattle.zjute.specs.support.Sent.{created, refused, told_data, told_null, told_names};
-ghost use Rattle.zjute.specs.support.Sent.{told_acl, multi_done, multi_refused, multi_kinds};
-ghost use Rattle.zjute.specs.support.Sent.{created_bytes, refused_bytes, told_data_bytes};
-ghost use Rattle.zjute.specs.support.Sent.{told_null_bytes, told_names_bytes, told_acl_bytes};
+ghost use Rattle.zjute.specs.support.Sent.{created, refused, reported_data, reported_null, reported_names};
+ghost use Rattle.zjute.specs.support.Sent.{reported_acl, multi_done, multi_refused, multi_kinds};
+ghost use Rattle.zjute.specs.support.Sent.{created_bytes, refused_bytes, reported_data_bytes};
+ghost use Rattle.zjute.specs.support.Sent.{reported_null_bytes, reported_names_bytes, reported_acl_bytes};
 ghost use Rattle.zjute.specs.support.Sent.{multi_done_bytes, multi_refused_bytes};
 ghost use Rattle.zjute.specs.support.Sent.{multi_kinds_bytes, event_bytes, data_changed};
 ghost use Rattle.zjute.specs.support.Sent.{some_stat, stat_bytes, connected_front, connected};
@@ -102,7 +102,7 @@ pub fn rarer_requests_are_read()
 {}
 
 /// The leftmost fault is returned. Null isn't empty.
-pub fn faults_are_told()
+pub fn faults_are_reported()
     ensures cut { whole request (0 ∷ 0 ∷ 0 ∷ 1 ∷ 0 ∷ 0 ∷ 0 ∷ []) ≡ Err Short }
     ensures cut_text { whole request (sent 6 (0 ∷ 0 ∷ 0 ∷ 2 ∷ 47 ∷ [])) ≡ Err Short }
     ensures long_text { whole request (sent 6 (255 ∷ 255 ∷ 255 ∷ 254 ∷ [])) ≡ Err Long }
@@ -132,10 +132,10 @@ pub fn connecting()
 pub fn replies_are_spelled()
     ensures created { reply_text created ≡ created_bytes }
     ensures refused { reply_text refused ≡ refused_bytes }
-    ensures told_data { reply_text told_data ≡ told_data_bytes }
-    ensures told_null { reply_text told_null ≡ told_null_bytes }
-    ensures told_names { reply_text told_names ≡ told_names_bytes }
-    ensures told_acl { reply_text told_acl ≡ told_acl_bytes }
+    ensures reported_data { reply_text reported_data ≡ reported_data_bytes }
+    ensures reported_null { reply_text reported_null ≡ reported_null_bytes }
+    ensures reported_names { reply_text reported_names ≡ reported_names_bytes }
+    ensures reported_acl { reply_text reported_acl ≡ reported_acl_bytes }
     ensures multi_done { reply_text multi_done ≡ multi_done_bytes }
     ensures multi_refused { reply_text multi_refused ≡ multi_refused_bytes }
     ensures multi_kinds { reply_text multi_kinds ≡ multi_kinds_bytes }

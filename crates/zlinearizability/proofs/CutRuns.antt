@@ -1,10 +1,10 @@
 -- Every history has a legal order, also where links lose their ends.
 use Rattle.std.proofs.Common.{◌≡◌, ℕ, zero, suc, Bool, true, false, if◌then◌else◌, List, [], ◌∷◌, map, take, refl, sym, ap, ◌∙◌, subst}
 use Rattle.ztree.specs.Tree.{opening_tree}
-use Rattle.zcalls.specs.Kept.{Plain}
+use Rattle.zcalls.specs.Cached.{Plain}
 use Rattle.zprotocol.specs.declared.process.Process.{Process}
 use Rattle.zprotocol.specs.declared.process.Process.TheVariants.{Master, Server, Client}
-use Rattle.zprotocol.specs.server.Machine.{Does, kept_tree_from, plain_from, replay}
+use Rattle.zprotocol.specs.server.Machine.{Does, cached_tree_from, plain_from, replay}
 use Rattle.zprotocol.specs.server.support.Homomorphism.{IsHomomorphism, message_with}
 use Rattle.zprotocol.proofs.server_lemmas.Projection.{log_stands_for_machine}
 use Rattle.zprotocol.specs.declared.world.event.Event.{Event}
@@ -102,7 +102,7 @@ module _ {M N : Type 0} (h : M → N) where
 pub every_history_from_with_cuts_is_explained : EveryHistoryFromWithCutsIsExplained
 every_history_from_with_cuts_is_explained t can servers clients steps =
     let plain = plain_from t in
-    let machine = kept_tree_from t in
+    let machine = cached_tree_from t in
     let account = opening_account plain servers clients in
     let s = runs_sound_with_cuts plain account (lasts_kept plain servers clients []) (opening_sound plain servers clients) steps in
     let explained = items_explain_from t can _ _ _ s.acted s.replays s.rising s.in_time s.answered s.once in

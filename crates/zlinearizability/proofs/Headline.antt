@@ -1,7 +1,7 @@
 -- Every history has a legal order.
 use Rattle.std.proofs.Common.{◌≡◌, sym, ap, ◌∙◌, subst}
 use Rattle.ztree.specs.Tree.{opening_tree}
-use Rattle.zprotocol.specs.server.Machine.{kept_tree_from, plain_from, replay}
+use Rattle.zprotocol.specs.server.Machine.{cached_tree_from, plain_from, replay}
 use Rattle.zprotocol.proofs.server_lemmas.Projection.{log_stands_for_machine}
 use Rattle.zprotocol.specs.world.World.{World}
 use Rattle.zprotocol.specs.world.FromTree.{IsExplainedFrom, world_after_from}
@@ -18,7 +18,7 @@ use Rattle.zlinearizability.proofs.Runs.{run_world, run_is_sound}
 pub every_history_from_is_explained : EveryHistoryFromIsExplained
 every_history_from_is_explained t can servers clients events =
     let plain = plain_from t in
-    let machine = kept_tree_from t in
+    let machine = cached_tree_from t in
     let account = account_after plain (opening_account plain servers clients) events in
     let s = run_is_sound plain servers clients events in
     let explained = items_explain_from t can _ _ _ s.acted s.replays s.rising s.in_time s.answered s.once in

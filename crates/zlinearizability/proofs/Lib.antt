@@ -2,7 +2,7 @@ pub mod Runs
 pub mod Headline
 pub mod CutRuns
 pub mod Tails
-pub mod Told
+pub mod Reported
 pub mod legal_lemmas
 pub mod chain_lemmas
 pub mod servers_lemmas

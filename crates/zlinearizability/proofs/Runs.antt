@@ -1,6 +1,6 @@
 -- Every event keeps a run sound, so every run is sound, and what is committed stays committed.
 use Rattle.std.proofs.Common.{◌≡◌, ℕ, Bool, true, false, if◌then◌else◌, List, [], ◌∷◌, ◌++◌, refl, sym, ap, ◌∙◌, subst}
-use Rattle.zcalls.specs.Kept.{Plain}
+use Rattle.zcalls.specs.Cached.{Plain}
 use Rattle.zcalls.specs.PlainTree.{plain_tree}
 use Rattle.zprotocol.specs.declared.process.Process.TheVariants.{Master, Server, Client}
 use Rattle.zprotocol.specs.declared.world.event.Event.{Event}
@@ -25,7 +25,7 @@ use Rattle.zlinearizability.proofs.master_lemmas.orders.Orders.{servers_hear_mas
 use Rattle.zlinearizability.proofs.master_lemmas.Events.{master_hears, master_obeys}
 use Rattle.zlinearizability.specs.Facts.{account_of, EveryRunIsSound, CommittedStays}
 
--- what is told beside the world leaves the world
+-- what is reported beside the world leaves the world
 account_world_if : (b : Bool) (t u : Account) → (if b then t else u).world ≡ (if b then t.world else u.world)
 account_world_if true t u = refl
 account_world_if false t u = refl

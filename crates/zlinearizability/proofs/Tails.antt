@@ -7,7 +7,7 @@ use Rattle.zcalls.specs.declared.call.Entry.{Entry}
 use Rattle.zcalls.specs.Lists.{ComesBefore}
 use Rattle.zcalls.specs.PlainTree.{plain_tree}
 use Rattle.zcalls.proofs.ActedLogs.{acted_entries_once}
-use Rattle.zprotocol.specs.server.Machine.{kept_tree, replay}
+use Rattle.zprotocol.specs.server.Machine.{cached_tree, replay}
 use Rattle.zprotocol.specs.server.View.{ServerView, is_tail, spare}
 use Rattle.zprotocol.specs.server.support.Homomorphism.{view_with}
 use Rattle.zprotocol.proofs.server_lemmas.Projection.{log_stands_for_machine}
@@ -82,24 +82,24 @@ tail_with h v = ap (λ b. b && is_none v.succ) (by v.machine)
     by (Some m) = refl
 
 -- a tail of a world that lets go of what failed servers held lives, and is one where that is kept
-lives_as_tail : (w : LogWorld) (x : ℕ) → is_tail (view_with (replay kept_tree) ((let_go w).servers x)) ≡ true
+lives_as_tail : (w : LogWorld) (x : ℕ) → is_tail (view_with (replay cached_tree) ((let_go w).servers x)) ≡ true
     → (w.failed x ≡ false) × (is_tail (w.servers x) ≡ true)
 lives_as_tail w x is = by (w.failed x) refl
   where
-    so : (b : Bool) → w.failed x ≡ b → is_tail (view_with (replay kept_tree) (if b then spare else w.servers x)) ≡ true
-    so b has = sym (ap (λ c. is_tail (view_with (replay kept_tree) (if c then spare else w.servers x))) has) ∙ is
+    so : (b : Bool) → w.failed x ≡ b → is_tail (view_with (replay cached_tree) (if b then spare else w.servers x)) ≡ true
+    so b has = sym (ap (λ c. is_tail (view_with (replay cached_tree) (if c then spare else w.servers x))) has) ∙ is
 
     by : (b : Bool) → w.failed x ≡ b → (w.failed x ≡ false) × (is_tail (w.servers x) ≡ true)
     by true has = absurd (let no : ◌≡◌ {A = Bool} false true = so true has in cc no)
-    by false lives = (lives, sym (tail_with (replay kept_tree) (w.servers x)) ∙ so false lives)
+    by false lives = (lives, sym (tail_with (replay cached_tree) (w.servers x)) ∙ so false lives)
 
 -- the world over trees
 pub one_tail_answers : OneTailAnswers
 one_tail_answers servers clients events s t =
     let kept = (account_of servers clients events).world in
-    let world : run kept_tree (opening_world kept_tree servers clients) events ≡ world_with (replay kept_tree) (let_go kept) =
-    runs_with (replay kept_tree) (log_stands_for_machine kept_tree) servers clients events
-    ∙ ap (world_with (replay kept_tree)) (run_world plain_tree servers clients events) in
+    let world : run cached_tree (opening_world cached_tree servers clients) events ≡ world_with (replay cached_tree) (let_go kept) =
+    runs_with (replay cached_tree) (log_stands_for_machine cached_tree) servers clients events
+    ∙ ap (world_with (replay cached_tree)) (run_world plain_tree servers clients events) in
     subst (λ (w : World _). is_tail (w.servers s) ≡ true → is_tail (w.servers t) ≡ true → s ≡ t) (sym world)
     (λ s_tail t_tail.
     let first = lives_as_tail kept s s_tail in

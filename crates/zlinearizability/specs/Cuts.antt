@@ -5,7 +5,7 @@
 use Rattle.std.specs.Prelude.{ℕ, List, [], ◌∷◌, take}
 use Rattle.zprotocol.specs.declared.process.Process.{Process}
 use Rattle.zprotocol.specs.declared.process.Process.TheVariants.{Master, Server, Client}
-use Rattle.zprotocol.specs.server.Machine.{Does, kept_tree}
+use Rattle.zprotocol.specs.server.Machine.{Does, cached_tree}
 use Rattle.zprotocol.specs.declared.world.event.Event.{Event}
 use Rattle.zprotocol.specs.world.Links.{Links}
 use Rattle.zprotocol.specs.world.World.{World, opening_world}
@@ -36,4 +36,4 @@ run_with_cuts machine w (step ∷ more) = run_with_cuts machine (happens machine
 abbrev pub EveryHistoryWithCutsIsExplained : Type 0
 EveryHistoryWithCutsIsExplained =
     (servers clients : ℕ) (steps : List (Stays × Event))
-    → IsExplained (run_with_cuts kept_tree (opening_world kept_tree servers clients) steps).history
+    → IsExplained (run_with_cuts cached_tree (opening_world cached_tree servers clients) steps).history

@@ -9,7 +9,7 @@ use Rattle.zcalls.specs.Lists.{Among, ComesBefore, NoTwo}
 use Rattle.zcalls.specs.Operation.{Operation, IsSameCall}
 use Rattle.zcalls.specs.PlainTree.{plain_tree}
 use Rattle.zcalls.specs.Acts.{after_log, acts_of}
-use Rattle.zprotocol.specs.server.Machine.{kept_tree}
+use Rattle.zprotocol.specs.server.Machine.{cached_tree}
 use Rattle.zprotocol.specs.server.View.{is_tail}
 use Rattle.zprotocol.specs.master.View.{members}
 use Rattle.zprotocol.specs.declared.world.event.Event.{Event}
@@ -34,7 +34,7 @@ EveryRunIsSound = (servers clients : ℕ) (events : List Event) → IsSound plai
 -- at most one server is a tail that answers; a failed server never is
 abbrev pub OneTailAnswers : Type 0
 OneTailAnswers =
-    (servers clients : ℕ) (events : List Event) (s t : ℕ) → let w = run kept_tree (opening_world kept_tree servers clients) events in
+    (servers clients : ℕ) (events : List Event) (s t : ℕ) → let w = run cached_tree (opening_world cached_tree servers clients) events in
     is_tail (w.servers s) ≡ true → is_tail (w.servers t) ≡ true → s ≡ t
 
 -- the log of each member is a prefix of that of each member before it

@@ -2,7 +2,7 @@
 -- linearizable from that tree on.
 use Rattle.std.specs.Prelude.{ℕ, List}
 use Rattle.ztree.specs.Tree.{Tree}
-use Rattle.zprotocol.specs.server.Machine.{kept_tree_from}
+use Rattle.zprotocol.specs.server.Machine.{cached_tree_from}
 use Rattle.zprotocol.specs.declared.world.event.Event.{Event}
 use Rattle.zprotocol.specs.world.FromTree.{CanStart, IsExplainedFrom, opening_world_from, world_after_from}
 use Rattle.zlinearizability.specs.Cuts.{Stays, run_with_cuts}
@@ -18,4 +18,4 @@ EveryHistoryFromIsExplained =
 abbrev pub EveryHistoryFromWithCutsIsExplained : Type 0
 EveryHistoryFromWithCutsIsExplained =
     (t : Tree) → CanStart t → (servers clients : ℕ) (steps : List (Stays × Event))
-    → IsExplainedFrom t (run_with_cuts (kept_tree_from t) (opening_world_from t servers clients) steps).history
+    → IsExplainedFrom t (run_with_cuts (cached_tree_from t) (opening_world_from t servers clients) steps).history

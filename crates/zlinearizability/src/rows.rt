@@ -48,5 +48,5 @@ pub fn connection_breaks()
 /// The master's orders and its messages to clients arrive, whatever is lost elsewhere.
 pub fn orders_are_not_lost()
     ensures head { ((after_cuts order_stays).servers 2).pred ≡ None }
-    ensures told { (after_cuts order_stays).links m c1 ≡ config 1 2 3 }
+    ensures reported { (after_cuts order_stays).links m c1 ≡ config 1 2 3 }
 {}

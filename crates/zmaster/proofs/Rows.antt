@@ -14,9 +14,9 @@ use Rattle.zprotocol.specs.declared.message.Message.TheVariants as message
 use Rattle.zprotocol.specs.declared.process.Process.TheVariants.{Server, Client}
 use Rattle.zprotocol.specs.server.View.{Neighbour, PostOf}
 use Rattle.zprotocol.specs.master.View.{MasterView, is_among, members, is_joining, with_number, head_of, tail_of}
-use Rattle.zprotocol.specs.master.Table.{before, without_next, have_row, joined_row, gone_row, own_tests, order_fault, order_step, and_tell_clients}
+use Rattle.zprotocol.specs.master.Table.{before, without_next, have_row, joined_row, gone_row, own_tests, order_fault, order_step, and_report_clients}
 use Rattle.zmaster.specs.support.Mending.{joins, who_stays, IsPlace, mended_at, mended_behind_at, chain_fault}
-use Rattle.zmaster.specs.support.Telling.{config_posts_to}
+use Rattle.zmaster.specs.support.Reporting.{config_posts_to}
 use Rattle.std.specs.List.{remove}
 use Rattle.zmaster.proofs.Mending.{place_among, mended_place}
 
@@ -39,7 +39,7 @@ module _ {T : Type 0} (v : MasterView) (s : ℕ) where
   unfolding joined_row
   joined_none is = let other : is_joining v s ≡ false = joins_is v v.joining s ∙ is in rw other refl
 
-  pub joined_some : joins v.joining s ≡ true → joined_row {T = T} v s ≡ and_tell_clients (record v { joining = None; epoch = v.epoch + 1 }) []
+  pub joined_some : joins v.joining s ≡ true → joined_row {T = T} v s ≡ and_report_clients (record v { joining = None; epoch = v.epoch + 1 }) []
   unfolding joined_row
   joined_some is = let yes : is_joining v s ≡ true = joins_is v v.joining s ∙ is in rw yes refl
 
@@ -48,7 +48,7 @@ module _ {T : Type 0} (v : MasterView) (s : ℕ) where
   gone_outside is = rw is refl
 
   pub gone_member : (at : ℕ) → IsPlace s at v.chain
-      → gone_row {T = T} v s ≡ and_tell_clients (record v {
+      → gone_row {T = T} v s ≡ and_report_clients (record v {
         chain = (mended_at {T = T} (v.epoch + 1) at (remove v.chain at)).0;
         joining = who_stays v.joining s;
         retiring = who_stays v.retiring s;
@@ -68,7 +68,7 @@ module _ {T : Type 0} (v : MasterView) (s : ℕ) where
   unfolding order_step
   join_nowhere is = rw (is, order_step) refl
 
--- at most one message tells of a mended chain
+-- at most one message reports of a mended chain
 next_few : (T : Type 0) (epoch p : ℕ) (rest : List Neighbour) → length (without_next {T = T} epoch p rest).1 ≤ 1
 next_few T epoch p [] = omega arith
 next_few T epoch p (t ∷ rest) = omega arith
@@ -124,7 +124,7 @@ fault_of_chain v s new = faults s v.chain v.joining v.retiring v.used v.epoch v.
 pub fault_used : (v : MasterView) (s : ℕ) → is_among s v.used ≡ true → first_that_holds (own_tests v (Join s)) ≡ Some Used
 fault_used v s old = rw old refl
 
--- what the first clients are told
+-- what the first clients are reported
 pub config_count : (T : Type 0) (v : MasterView) (count : ℕ) → length (config_posts_to {T = T} v count) ≡ count
 config_count T v count = length-map-range_with_len {X = PostOf T} (λ c. (Client c, message.Config v.epoch (head_of v) (tail_of v))) 0 count
 

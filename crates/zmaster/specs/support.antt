@@ -1,3 +1,3 @@
 pub mod Marks
 pub mod Mending
-pub mod Telling
+pub mod Reporting

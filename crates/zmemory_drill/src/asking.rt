@@ -9,11 +9,11 @@ use zpath::Path;
 use ztesting::Ended;
 
 /// Asks it for the names beneath the root.
-pub(crate) fn children_are_told(alloc: Global) -> Ended {
+pub(crate) fn children_are_reported(alloc: Global) -> Ended {
     match machine(alloc) {
         Ok(machine) => {
             let query = Query::GetChildren(Path::root());
-            let ended = tells(&machine, &query);
+            let ended = reports(&machine, &query);
             drop(machine);
             drop(query);
             ended
@@ -22,15 +22,15 @@ pub(crate) fn children_are_told(alloc: Global) -> Ended {
     }
 }
 
-fn tells(machine: &Machine, query: &Query) -> Ended {
-    match tells_of_a(machine, query) {
+fn reports(machine: &Machine, query: &Query) -> Ended {
+    match reports_of_a(machine, query) {
         Ok(is_so) => Ended::done(is_so),
-        Err(Memory) => Ended::refused(tells_of_a(machine, query) == Ok(true)),
+        Err(Memory) => Ended::refused(reports_of_a(machine, query) == Ok(true)),
     }
 }
 
 // Returns whether the reply has the name of `/a` alone.
-fn tells_of_a(machine: &Machine, query: &Query) -> Result<bool, Memory> {
+fn reports_of_a(machine: &Machine, query: &Query) -> Result<bool, Memory> {
     match machine.ask(query) {
         Ok(reply) => Ok(is_of_a(reply)),
         Err(memory) => Err(memory),

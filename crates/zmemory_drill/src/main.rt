@@ -30,14 +30,14 @@ mod worlds;
 
 use starting::cluster_starts;
 use std::io;
-use stories::tell_parts;
-use worlds::tell_worlds;
-use ztesting::{tell, tell_end};
+use stories::report_parts;
+use worlds::report_worlds;
+use ztesting::{tell, report_end};
 
 fn main(rt: HostRuntime) -> io::Result<()> {
-    tell_parts(&rt, rt.alloc())?;
-    tell_worlds(&rt, rt.alloc())?;
+    report_parts(&rt, rt.alloc())?;
+    report_worlds(&rt, rt.alloc())?;
     let started = cluster_starts(rt, rt.alloc());
     tell(&rt, "a cluster starts and is joined", started)?;
-    tell_end(&rt, rt.alloc())
+    report_end(&rt, rt.alloc())
 }

@@ -27,7 +27,7 @@ const ROOM: usize = 512;
 pub(crate) fn plays_over_one(alloc: Global) -> Ended {
     let mut room = [0u8; ROOM];
     let played = plays(alloc, ServerId::first(), &mut room);
-    let (whole, rest) = told(&room);
+    let (whole, rest) = reported(&room);
     match played {
         Ok(()) if whole < ANSWERS.len() => Ended::refused(is_silent(rest, whole)),
         _ => ended(played, whole, rest),
@@ -38,7 +38,7 @@ pub(crate) fn plays_over_one(alloc: Global) -> Ended {
 pub(crate) fn plays_over_three(alloc: Global) -> Ended {
     let mut room = [0u8; ROOM];
     let played = plays(alloc, server(3), &mut room);
-    let (whole, rest) = told(&room);
+    let (whole, rest) = reported(&room);
     ended(played, whole, rest)
 }
 
@@ -58,7 +58,7 @@ fn ended(played: Result<(), PlayFault>, whole: usize, rest: &str) -> Ended {
 }
 
 // How many lines of the answers the text begins with, and what follows them.
-fn told(room: &[u8]) -> (usize, &str) {
+fn reported(room: &[u8]) -> (usize, &str) {
     let mut rest = text(room);
     let mut whole = 0usize;
     for answer in ANSWERS {

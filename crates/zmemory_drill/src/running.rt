@@ -28,31 +28,31 @@ pub(crate) fn events_are_run(alloc: Global) -> Ended {
 
 fn runs(world: &mut World, events: Vec<Event>) -> Ended {
     let ran = world.run(events);
-    let told = world.history().len();
+    let reported = world.history().len();
     if !is_beginning(world.history()) {
         return Ended::Wrong;
     }
     match ran {
-        Ok(()) if told == 4 => Ended::Done,
-        Ok(()) => Ended::refused(goes_on(world, told)),
-        Err(Memory) => Ended::refused(is_broken(world, told)),
+        Ok(()) if reported == 4 => Ended::Done,
+        Ok(()) => Ended::refused(goes_on(world, reported)),
+        Err(Memory) => Ended::refused(is_broken(world, reported)),
     }
 }
 
 // The server has stopped at the update, which no server answers then; or it didn't receive the
 // query, which is asked again.
-fn goes_on(world: &mut World, told: usize) -> bool {
+fn goes_on(world: &mut World, reported: usize) -> bool {
     let is_settled = world.settle(LIMIT).is_ok();
     let now = world.history().len();
-    is_settled && is_beginning(world.history()) && matches!((told, now), (1, 1) | (3, 4))
+    is_settled && is_beginning(world.history()) && matches!((reported, now), (1, 1) | (3, 4))
 }
 
 /// Whether the world returns Memory for everything, and its history remains.
-pub(crate) fn is_broken(world: &mut World, told: usize) -> bool {
+pub(crate) fn is_broken(world: &mut World, reported: usize) -> bool {
     world.settle(LIMIT).is_err()
         && world.step(Event::Fail(server(1))).is_err()
         && world.step(Event::Retry(client(1))).is_err()
-        && world.history().len() == told
+        && world.history().len() == reported
 }
 
 // Whether it is a prefix of the history without any refusal.

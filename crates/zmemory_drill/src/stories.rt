@@ -3,7 +3,7 @@
 use crate::applying::{
     create_is_applied, multi_is_applied, open_is_applied, removal_is_applied, retry_is_applied,
 };
-use crate::asking::{children_are_told, machine_is_copied};
+use crate::asking::{children_are_reported, machine_is_copied};
 use crate::calling::{call_is_retried, config_is_taken, query_begins, update_begins};
 use crate::joining::snapshot_is_taken;
 use crate::marking::mark_is_set;
@@ -11,7 +11,7 @@ use crate::parsing::path_is_parsed;
 use crate::restoring::{rows_are_loaded, rows_are_written};
 use crate::serving::query_is_taken;
 use crate::sharing::data_is_made;
-use crate::story::{Taking, Word, told};
+use crate::story::{Taking, Word, reported};
 use std::alloc::Global;
 use std::io;
 use std::io::Print;
@@ -100,7 +100,7 @@ const STORIES: &[(&str, Story)] = &[
 ];
 
 /// Runs these stories in order.
-pub(crate) fn tell_parts(rt: &impl Print, alloc: Global) -> io::Result<()> {
+pub(crate) fn report_parts(rt: &impl Print, alloc: Global) -> io::Result<()> {
     for (name, story) in STORIES {
         tell(rt, name, ended(alloc, *story))?;
     }
@@ -117,11 +117,11 @@ fn ended(alloc: Global, story: Story) -> Ended {
         Story::ApplyOpen => open_is_applied(alloc),
         Story::ApplyRetry => retry_is_applied(alloc),
         Story::ApplyRemoval => removal_is_applied(alloc),
-        Story::AskChildren => children_are_told(alloc),
+        Story::AskChildren => children_are_reported(alloc),
         Story::Copy => machine_is_copied(alloc),
         Story::WriteRows => rows_are_written(alloc),
         Story::LoadRows => rows_are_loaded(alloc),
-        Story::Take(taking) => told(alloc, &taking),
+        Story::Take(taking) => reported(alloc, &taking),
         Story::TakeQuery => query_is_taken(alloc),
         Story::TakeSnapshot => snapshot_is_taken(alloc),
         Story::BeginUpdate => update_begins(alloc),

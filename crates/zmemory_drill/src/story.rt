@@ -36,18 +36,18 @@ pub(crate) enum Word {
 }
 
 /// Returns how a story ends.
-pub(crate) fn told(alloc: Global, story: &Taking) -> Ended {
+pub(crate) fn reported(alloc: Global, story: &Taking) -> Ended {
     let (pred, succ, before, word) = *story;
     let first = Server::first(alloc, ServerId::new(pred), ServerId::new(succ));
     let Ok(mut server) = first else {
         return Ended::NotBegun;
     };
-    let ended = told_at(alloc, &mut server, before, word);
+    let ended = reported_at(alloc, &mut server, before, word);
     drop(server);
     ended
 }
 
-fn told_at(alloc: Global, server: &mut Server, before: Option<Word>, word: Word) -> Ended {
+fn reported_at(alloc: Global, server: &mut Server, before: Option<Word>, word: Word) -> Ended {
     if let Some(before) = before
         && !hears(alloc, server, before)
     {

@@ -10,7 +10,7 @@ use std::io::Print;
 use ztesting::tell;
 
 /// Runs these stories in order.
-pub(crate) fn tell_worlds(rt: &impl Print, alloc: Global) -> io::Result<()> {
+pub(crate) fn report_worlds(rt: &impl Print, alloc: Global) -> io::Result<()> {
     tell(rt, "a world begins", world_begins(alloc))?;
     tell(rt, "a world runs events", events_are_run(alloc))?;
     tell(rt, "a server is to join", server_joins(alloc))?;

@@ -45,14 +45,14 @@ module _ (m : Items Row) (ids : IdsByPath) (owners : OwnerLists) (id : Id) (r : 
   after = (r.path, (r.node, Some key))
 
   module _ (there : get m id ≡ Some r) (list : Option (IdList 1)) where
-    told : (o : Option Row) → option_map face (option_map (λ (x : Row). record x { key = Some key }) o) ≡ option_map (λ (x : Row). (x.path, (x.node, Some key))) o
-    told None = refl
-    told (Some x) = refl
+    reported : (o : Option Row) → option_map face (option_map (λ (x : Row). record x { key = Some key }) o) ≡ option_map (λ (x : Row). (x.path, (x.node, Some key))) o
+    reported None = refl
+    reported (Some x) = refl
 
     pub face-here : option_map face (get (away_with list) id) ≡ Some after
     face-here =
         let part : Row → Face = λ x. (x.path, (x.node, Some key)) in
-        ap (option_map face) (at-here (without_owned cut list id) id (λ x. record x { key = Some key })) ∙ told (get (without_owned cut list id) id)
+        ap (option_map face) (at-here (without_owned cut list id) id (λ x. record x { key = Some key })) ∙ reported (get (without_owned cut list id) id)
         ∙ unowned-kept part (λ _ _. refl) cut list id id ∙ unchild-kept part (λ _ _. refl) (λ _ _. refl) m (get ids (parent_of r.path)) id id
         ∙ ap (option_map part) there
 

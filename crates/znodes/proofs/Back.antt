@@ -68,14 +68,14 @@ module _ (m : Items Row) (ids : IdsByPath) (owners : OwnerLists) (id : Id) (r : 
     owner-before = ap (option_and_then owner_key) there ∙ ap (λ (k : Option Key). cond (option_map_or (λ (_ : Key). false) k true) (somebody r.node.owner) None) gone
 
   module _ (there : get m id ≡ Some r) (list : Option (IdList 1)) where
-    told : (o : Option Row) → option_map face (option_map (λ (x : Row). record x { key = None }) o) ≡ option_map (λ (x : Row). (x.path, (x.node, None))) o
-    told None = refl
-    told (Some x) = refl
+    reported : (o : Option Row) → option_map face (option_map (λ (x : Row). record x { key = None }) o) ≡ option_map (λ (x : Row). (x.path, (x.node, None))) o
+    reported None = refl
+    reported (Some x) = refl
 
     pub face-here : option_map face (get (back_with list) id) ≡ Some after
     face-here =
         let part : Row → Face = λ x. (x.path, (x.node, None)) in
-        ap (option_map face) (at-here (with_owned put list id) id (λ x. record x { key = None })) ∙ told (get (with_owned put list id) id)
+        ap (option_map face) (at-here (with_owned put list id) id (λ x. record x { key = None })) ∙ reported (get (with_owned put list id) id)
         ∙ owned-kept part (λ _ _. refl) put list id id ∙ child-kept part (λ _ _. refl) (λ _ _. refl) m (get ids (parent_of r.path)) id id
         ∙ ap (option_map part) there
 

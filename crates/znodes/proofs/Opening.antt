@@ -77,9 +77,9 @@ module _ (alloc : Global) (root : Node) (id : Id) where
       by (inl own) = own
       by (inr other) = absurd (maps.none_some i (sym (get-empty path_cmp q) ∙ other.1))
 
-  -- what the root's row doesn't tell, no row tells
-  untold : {X : Type 0} (f : Row → Option X) → f row ≡ None → (q : Id) → option_and_then f (get rows q) ≡ None
-  untold f is q = by (maps.same_or_other id_cmp_total id_cmp_same q id)
+  -- what the root's row doesn't tell, no row reports
+  unreported : {X : Type 0} (f : Row → Option X) → f row ≡ None → (q : Id) → option_and_then f (get rows q) ≡ None
+  unreported f is q = by (maps.same_or_other id_cmp_total id_cmp_same q id)
     where
       by : (q ≡ id) ⊎ (q ≢ id) → option_and_then f (get rows q) ≡ None
       by (inl same) = ap (λ k. option_and_then f (get rows k)) same ∙ ap (option_and_then f) here ∙ is
@@ -99,12 +99,12 @@ module _ (alloc : Global) (root : Node) (id : Id) where
     named = λ path i e. let own = only_id path i e in (row, ap (get rows) (sym own.1) ∙ here, sym own.0, refl);
     found = λ i x e live. let own = only_row i x e in ap (λ (y : Row). get ids y.path) (sym own.1) ∙ at_root ∙ ap Some (sym own.0);
     keyed = λ i x e key has. absurd (maps.none_some key (ap (λ (y : Row). y.key) (only_row i x e).1 ∙ has));
-    children = families-none {L = 0} sibling_links rows (key_at parent_key rows) (children_of rows ids) (untold parent_key refl) childless;
-    owned = families-none {L = 1} fellow_links rows (key_at owner_key rows) (owned_by no_owners) (untold owner_key (ap somebody nobody)) (λ k. ap (λ o. option_map_or (λ (l : IdList 1). l) o empty_list) (get-empty nat_cmp k));
+    children = families-none {L = 0} sibling_links rows (key_at parent_key rows) (children_of rows ids) (unreported parent_key refl) childless;
+    owned = families-none {L = 1} fellow_links rows (key_at owner_key rows) (owned_by no_owners) (unreported owner_key (ap somebody nobody)) (λ k. ap (λ o. option_map_or (λ (l : IdList 1). l) o empty_list) (get-empty nat_cmp k));
   }
 
   pub mortal-alone : root.ttl ≡ 0 → HasTimed rows empty_list
-  mortal-alone stays = families-none {L = 2} timed_links rows (key_at timed_key rows) (λ _. empty_list) (untold timed_key (ap timed_by stays)) (λ k. refl)
+  mortal-alone stays = families-none {L = 2} timed_links rows (key_at timed_key rows) (λ _. empty_list) (unreported timed_key (ap timed_by stays)) (λ k. refl)
 
   pub parents-alone : NamesParents rows ids
   parents-alone i x e live =
@@ -126,4 +126,4 @@ module _ (alloc : Global) (root : Node) (id : Id) where
 
   pub held-alone : held_of rows ≡ finite.empty
   held-alone =
-      same_map id_cmp_total id_cmp_same _ _ (λ q. get-held rows q ∙ untold taken_row refl q ∙ sym (get-empty id_cmp q))
+      same_map id_cmp_total id_cmp_same _ _ (λ q. get-held rows q ∙ unreported taken_row refl q ∙ sym (get-empty id_cmp q))

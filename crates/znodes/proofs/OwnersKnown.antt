@@ -74,8 +74,8 @@ module _ (m : Items Row) (ids : IdsByPath) (owners : OwnerLists) (owner : ℕ) (
         by [] is keys = list-of-none fellow_links m (owned_by owners owner) is
         by (id ∷ more) is keys =
             let row = owner-row m id owner (keys id (inl refl)) in
-            let told = maps.none_of_entries paths_total same_path (λ (e : Path × Node). cond (eqb e.1.owner owner) (Some e.0) None) (nodes_of m ids) row.0.path row.0.node none (node-shown m ids owners kept id row.0 row.1 row.2) in
-            absurd (maps.none_some row.0.path (sym told ∙ ap (λ b. cond b (Some row.0.path) None) (eq-eqb row.0.node.owner owner row.3)))
+            let reported = maps.none_of_entries paths_total same_path (λ (e : Path × Node). cond (eqb e.1.owner owner) (Some e.0) None) (nodes_of m ids) row.0.path row.0.node none (node-shown m ids owners kept id row.0 row.1 row.2) in
+            absurd (maps.none_some row.0.path (sym reported ∙ ap (λ b. cond b (Some row.0.path) None) (eq-eqb row.0.node.owner owner row.3)))
 
     pub linked-closed : IsLinked m ids (remove owners owner)
     linked-closed = linked-with m ids owners (remove owners owner) (λ k. by k (maps.same_or_other nat_cmp_total nat_cmp-IsAntisymmetric k owner)) kept

@@ -87,7 +87,7 @@ has-ttl tick n due none =
     true≢false (sym some ∙ not)
 
 module _ (s : Inside) (linked : IsLinked s.slots.items s.index.ids s.owners) (v : NodesView) (shown : view_of s ≡ v) (tick : ℕ) where
-  -- of a live row it is told by the tree
+  -- of a live row it is reported by the tree
   row-stale : (id : Id) (r : Row) → live_at s.slots.items id ≡ Some r → is_stale_at v.nodes tick r.path ≡ is_stale_row s.slots.items tick id
   row-stale id r is =
       let row = live_parts s.slots.items id r is in
@@ -122,12 +122,12 @@ module _ (s : Inside) (linked : IsLinked s.slots.items s.index.ids s.owners) (v 
                 row None none = absurd (no_path s linked v shown id none path at)
                 row (Some r) live =
                     let same = path-same s linked v shown id r live path at in
-                    let told : is_stale_row s.slots.items tick id ≡ true = sym (row-stale id r live) ∙ ap (is_stale_at v.nodes tick) (sym same) ∙ stale in
+                    let reported : is_stale_row s.slots.items tick id ≡ true = sym (row-stale id r live) ∙ ap (is_stale_at v.nodes tick) (sym same) ∙ stale in
                     let parts = live_parts s.slots.items id r live in
-                    let due = (both (is_due tick r.node) (r.children.len == 0) (sym (ap (λ (o : Option Row). option_map_or (λ (x : Row). is_due tick x.node && (x.children.len == 0)) o false) parts.0) ∙ told)).0 in
+                    let due = (both (is_due tick r.node) (r.children.len == 0) (sym (ap (λ (o : Option Row). option_map_or (λ (x : Row). is_due tick x.node && (x.children.len == 0)) o false) parts.0) ∙ reported)).0 in
                     let key = ap (option_and_then timed_key) parts.0 ∙ ap (λ (k : Option Key). cond (option_map_or (λ (_ : Key). false) k true) (timed_by r.node.ttl) None) parts.1
                     ∙ an_end r.node.ttl (not_zero r.node.ttl (has-ttl tick r.node due)) in
-                    in_stale s.slots.items tick id all ((members id).1 key) told
+                    in_stale s.slots.items tick id all ((members id).1 key) reported
 
             each : (id : Id) → IsIn id (stale_of s.slots.items tick all) ↔ IsStale v tick id
             each id = (from id, back id)

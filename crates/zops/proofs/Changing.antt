@@ -27,11 +27,11 @@ pub record Changed (old new : StoreView) (client : ℕ) (update : Update) (did :
   pub same : OnErr did (new ≡ old)
 
 -- as its branch of a match has it
-pub one_of : (old new late : StoreView) (client : ℕ) (update : Update) (did told : Result ChangeReply Stop) (change : Change)
-    → update ≡ update_of change → late ≡ new → told ≡ did
+pub one_of : (old new late : StoreView) (client : ℕ) (update : Update) (did reported : Result ChangeReply Stop) (change : Change)
+    → update ≡ update_of change → late ≡ new → reported ≡ did
     → IfOk did (IsDone (change_step old.tree client change) old new) → IfErr did (IsStop (change_step old.tree client change)) → OnErr did (new ≡ old)
-    → Changed old late client update told
-one_of old new late client update did told change is store_is did_is done stopped same = record {
+    → Changed old late client update reported
+one_of old new late client update did reported change is store_is did_is done stopped same = record {
   change = change;
   is = is;
   done = rw (store_is, did_is) done;

@@ -12,21 +12,21 @@ use Rattle.std.specs.FinMap.{get, insert, find, put, get-from_entries, entries-i
 use Rattle.std.specs.FinMap.Entries.{below_all}
 use Rattle.ztree.proofs.Sorted.{both_parts, is_less}
 use Rattle.ztree.proofs.Maps.{same_or_other, not_tied, get-insert-here, get-insert-elsewhere}
-use Rattle.zcalls.specs.Kept.{Kept}
+use Rattle.zcalls.specs.Cached.{Cached}
 use Rattle.zops.specs.support.Places.{entries_from, clients_from, replies_in}
 
 other_number : (n q : ℕ) → q ≢ n → is_eq (nat_cmp q n) ≡ false
 other_number n q other = not_tied nat_cmp_total nat_cmp-IsAntisymmetric q n other
 
 -- places from a number on have nothing under a smaller one
-find-below : (n : ℕ) (places : List (Option Kept)) (q : ℕ) → q < n → find nat_cmp q (entries_from n places) ≡ None
+find-below : (n : ℕ) (places : List (Option Cached)) (q : ℕ) → q < n → find nat_cmp q (entries_from n places) ≡ None
 find-below n [] q below = refl
 find-below n (None ∷ places) q below = find-below (n + 1) places q (omega arith)
 find-below n (Some kept ∷ places) q below =
     ap (λ b. cond b (Some kept) (find nat_cmp q (entries_from (n + 1) places))) (other_number n q (λ e. absurd (omega (arith, e, below))))
     ∙ find-below (n + 1) places q (omega arith)
 
-find-place : (n : ℕ) (places : List (Option Kept)) (at : ℕ) → find nat_cmp (n + at) (entries_from n places) ≡ get_or places at None
+find-place : (n : ℕ) (places : List (Option Cached)) (at : ℕ) → find nat_cmp (n + at) (entries_from n places) ≡ get_or places at None
 find-place n [] at = refl
 find-place n (None ∷ places) zero = find-below (n + 1) places (n + zero) (omega arith)
 find-place n (Some kept ∷ places) zero =
@@ -42,14 +42,14 @@ find-place n (Some kept ∷ places) (suc at) =
     ∙ ap (λ q. find nat_cmp q (entries_from (n + 1) places)) shift ∙ find-place (n + 1) places at
 
 -- what is kept for a client is what its place has
-pub get-replies : (places : List (Option Kept)) (client : ℕ) → get (replies_in places) client ≡ get_or places client None
+pub get-replies : (places : List (Option Cached)) (client : ℕ) → get (replies_in places) client ≡ get_or places client None
 get-replies places client =
     get-from_entries nat_cmp_total (entries_from 0 places) client
     ∙ ap (λ q. find nat_cmp q (entries_from 0 places)) (sym (zero-add client))
     ∙ find-place 0 places client
 
 -- a place that is written keeps a reply, in the place of one that was there
-pub replies-set : (places : List (Option Kept)) (client : ℕ) (kept : Kept) → client < length places → replies_in (set places client (Some kept)) ≡ insert (replies_in places) client kept
+pub replies-set : (places : List (Option Cached)) (client : ℕ) (kept : Cached) → client < length places → replies_in (set places client (Some kept)) ≡ insert (replies_in places) client kept
 replies-set places client kept within =
     same_map nat_cmp_total nat_cmp-IsAntisymmetric _ _ (λ q. get-replies (set places client (Some kept)) q ∙ by q (same_or_other nat_cmp_total nat_cmp-IsAntisymmetric q client))
   where
@@ -73,7 +73,7 @@ replies-none count = ap (λ es. finite.from_entries {R = nat_cmp} es) (entries-n
 -- ---- the clients in order
 
 -- places from a number on have clients above a smaller one
-below-places : (k n : ℕ) (places : List (Option Kept)) → k < n → T (below_all nat_cmp k (entries_from n places))
+below-places : (k n : ℕ) (places : List (Option Cached)) → k < n → T (below_all nat_cmp k (entries_from n places))
 below-places k n [] less = tt
 below-places k n (None ∷ places) less = below-places k (n + 1) places (omega (arith, less))
 below-places k n (Some kept ∷ places) less =
@@ -87,14 +87,14 @@ below-places k n (Some kept ∷ places) less =
     both_tests true b x y = y
     both_tests false b x y = absurd x
 
-put_below : (k : ℕ) (v : Kept) (es : List (ℕ × Kept)) → T (below_all nat_cmp k es) → put nat_cmp k v es ≡ (k, v) ∷ es
+put_below : (k : ℕ) (v : Cached) (es : List (ℕ × Cached)) → T (below_all nat_cmp k es) → put nat_cmp k v es ≡ (k, v) ∷ es
 put_below k v [] low = refl
 put_below k v (e ∷ es) low = rw (is_less _ (both_parts (is_lt (nat_cmp k e.0)) (below_all nat_cmp k es) low).0) refl
 
-entries-empty : finite.entries (finite.empty {X = Kept} {R = nat_cmp}) ≡ []
-entries-empty = nil_from_length _ (sym (len-entries (finite.empty {X = Kept} {R = nat_cmp})) ∙ len-empty nat_cmp Kept)
+entries-empty : finite.entries (finite.empty {X = Cached} {R = nat_cmp}) ≡ []
+entries-empty = nil_from_length _ (sym (len-entries (finite.empty {X = Cached} {R = nat_cmp})) ∙ len-empty nat_cmp Cached)
 
-entries-places : (n : ℕ) (places : List (Option Kept)) → finite.entries (finite.from_entries {R = nat_cmp} (entries_from n places)) ≡ entries_from n places
+entries-places : (n : ℕ) (places : List (Option Cached)) → finite.entries (finite.from_entries {R = nat_cmp} (entries_from n places)) ≡ entries_from n places
 entries-places n [] = entries-empty
 entries-places n (None ∷ places) = entries-places (n + 1) places
 entries-places n (Some kept ∷ places) =
@@ -102,32 +102,32 @@ entries-places n (Some kept ∷ places) =
     ∙ ap (put nat_cmp n kept) (entries-places (n + 1) places)
     ∙ put_below n kept (entries_from (n + 1) places) (below-places n (n + 1) places (omega arith))
 
-pub keys-replies : (places : List (Option Kept)) → finite.keys (replies_in places) ≡ clients_from 0 places
-keys-replies places = ap (map (λ (e : ℕ × Kept). e.0)) (entries-places 0 places)
+pub keys-replies : (places : List (Option Cached)) → finite.keys (replies_in places) ≡ clients_from 0 places
+keys-replies places = ap (map (λ (e : ℕ × Cached). e.0)) (entries-places 0 places)
 
 -- one more place
-entries-append : (n : ℕ) (places more : List (Option Kept)) → entries_from n (places ++ more) ≡ entries_from n places ++ entries_from (n + length places) more
+entries-append : (n : ℕ) (places more : List (Option Cached)) → entries_from n (places ++ more) ≡ entries_from n places ++ entries_from (n + length places) more
 entries-append n [] more = ap (λ (k : ℕ). entries_from k more) (let same : n ≡ n + 0 = omega arith in same)
 entries-append n (None ∷ places) more = entries-append (n + 1) places more ∙ ap (λ (k : ℕ). entries_from (n + 1) places ++ entries_from k more) (further n places)
   where
-    further : (n : ℕ) (places : List (Option Kept)) → n + 1 + length places ≡ n + suc (length places)
+    further : (n : ℕ) (places : List (Option Cached)) → n + 1 + length places ≡ n + suc (length places)
     further n places = omega arith
 entries-append n (Some kept ∷ places) more =
     ap (λ es. (n, kept) ∷ es) (entries-append (n + 1) places more ∙ ap (λ (k : ℕ). entries_from (n + 1) places ++ entries_from k more) (further n places))
   where
-    further : (n : ℕ) (places : List (Option Kept)) → n + 1 + length places ≡ n + suc (length places)
+    further : (n : ℕ) (places : List (Option Cached)) → n + 1 + length places ≡ n + suc (length places)
     further n places = omega arith
 
-pub clients-more : (places : List (Option Kept)) (i : ℕ) (d : Option Kept) → i < length places →
+pub clients-more : (places : List (Option Cached)) (i : ℕ) (d : Option Cached) → i < length places →
     clients_from 0 (take (i + 1) places) ≡ clients_from 0 (take i places) ++ clients_from i (get_or places i d ∷ [])
 clients-more places i d within =
     let one = get_or places i d ∷ [] in
     let number : 0 + length (take i places) ≡ i = zero-add (length (take i places)) ∙ length-take-le i places (omega (arith, within)) in
     ap (clients_from 0) (take_more places i d within)
-    ∙ ap (map (λ (e : ℕ × Kept). e.0)) (entries-append 0 (take i places) one ∙ ap (λ (k : ℕ). entries_from 0 (take i places) ++ entries_from k one) number)
-    ∙ map-append (λ (e : ℕ × Kept). e.0) (entries_from 0 (take i places)) (entries_from i one)
+    ∙ ap (map (λ (e : ℕ × Cached). e.0)) (entries-append 0 (take i places) one ∙ ap (λ (k : ℕ). entries_from 0 (take i places) ++ entries_from k one) number)
+    ∙ map-append (λ (e : ℕ × Cached). e.0) (entries_from 0 (take i places)) (entries_from i one)
 
-pub length-clients : (n : ℕ) (places : List (Option Kept)) → length (clients_from n places) ≤ length places
+pub length-clients : (n : ℕ) (places : List (Option Cached)) → length (clients_from n places) ≤ length places
 length-clients n [] = omega arith
 length-clients n (None ∷ places) = let few = length-clients (n + 1) places in omega (arith, few)
 length-clients n (Some kept ∷ places) = let few = length-clients (n + 1) places in omega (arith, few)

@@ -74,6 +74,6 @@ step-of_update t client update few =
     either (is_exhausted t update) (t, reply.Refused Exhausted) (update_result t client update) tt (updated t client update few)
 
 -- a step that was done gave such a reply
-pub made-of_update : (t : Tree) (client : ℕ) (update : Update) (u : Tree) (told : Reply) → HasFewParts update → (u, told) ≡ step t client update → IsOfUpdate told
-made-of_update t client update u told few is =
+pub made-of_update : (t : Tree) (client : ℕ) (update : Update) (u : Tree) (reported : Reply) → HasFewParts update → (u, reported) ≡ step t client update → IsOfUpdate reported
+made-of_update t client update u reported few is =
     subst (λ (did : Tree × Reply). IsOfUpdate did.1) (sym is) (step-of_update t client update few)

@@ -12,7 +12,7 @@ use Rattle.ztree.proofs.Sorted.{paths_total, same_path}
 use Rattle.ztree.proofs.Maps.{is_there, get-insert-here}
 use Rattle.zstore.proofs.Left.{Left, left_at, left_all, left_is, left_next}
 use Rattle.zstore.proofs.Rebuilt.{rebuilt, root_can, session_can, node_can, sessions_put}
-use Rattle.zstore.proofs.parts.Kept.{has-inserted}
+use Rattle.zstore.proofs.parts.Cached.{has-inserted}
 use Rattle.zcalls.specs.declared.limits.TheConstants.{MAX_RAISES}
 use Rattle.zcalls.specs.Bounds.{IsWithin, IsGranted}
 use Rattle.zops.specs.declared.limits.TheConstants.{MAX_APPLIED}

@@ -11,7 +11,7 @@ use Rattle.ztree.specs.Lawful.{AllNodes}
 use Rattle.zstore.specs.Restored.{rooted_tree, CanBeRoot, CanPut, CanPutSession}
 use Rattle.zcalls.specs.declared.limits.TheConstants.{MAX_PARTS, MAX_RAISES}
 use Rattle.zcalls.specs.declared.reply.Reply.{Reply}
-use Rattle.zcalls.specs.declared.reply.Reply.TheVariants as told
+use Rattle.zcalls.specs.declared.reply.Reply.TheVariants as reported
 use Rattle.zcalls.specs.Bounds.{IsWithin, IsGranted}
 use Rattle.zops.specs.declared.limits.TheConstants.{MAX_APPLIED}
 use Rattle.zops.specs.Machine.{MachineState}
@@ -36,10 +36,10 @@ with_reply s client number reply =
 
 -- The reply is one to an update: only these are cached. A multi has at most 64 parts.
 abbrev pub IsOfUpdate : Reply → Type 0
-IsOfUpdate (told.Data bytes stat) = ⊥
-IsOfUpdate (told.Exists stat) = ⊥
-IsOfUpdate (told.Children names) = ⊥
-IsOfUpdate (told.Multi replies) = length replies ≤ MAX_PARTS
+IsOfUpdate (reported.Data bytes stat) = ⊥
+IsOfUpdate (reported.Exists stat) = ⊥
+IsOfUpdate (reported.Children names) = ⊥
+IsOfUpdate (reported.Multi replies) = length replies ≤ MAX_PARTS
 IsOfUpdate other = Unit {0}
 
 -- no zxid of the node is above this one, and no tick of it is above this one

@@ -9,7 +9,7 @@ ghost use Rattle.zcalls.specs.Part.{has_no_owner, is_owned, has_other_version, m
 ghost use Rattle.zops.specs.support.Ready.{IsReadyForPart};
 ghost use Rattle.zops.specs.support.Stops.{IsDone, IsStop, IsFirst};
 ghost use Rattle.zops.specs.support.Names.{name_refusal};
-ghost use Rattle.zops.specs.support.Steps.{TellsWhether, is_parent};
+ghost use Rattle.zops.specs.support.Steps.{ReportsWhether, is_parent};
 
 use crate::session_calls::is_gone;
 use crate::stop::Stop;
@@ -33,7 +33,7 @@ fn has_no_owner(store: &Store, client: ClientId, lifetime: Lifetime) -> bool
 
 // Returns whether a session owns the node.
 fn is_ephemeral(store: &Store, id: Id) -> bool
-    ensures { TellsWhether is_owned store.now id result }
+    ensures { ReportsWhether is_owned store.now id result }
 {
     match store.node(id) {
         Some(node) => node.owner != 0,
@@ -43,7 +43,7 @@ fn is_ephemeral(store: &Store, id: Id) -> bool
 
 // Returns whether the node's version differs from the expected one.
 pub(crate) fn has_other_version(store: &Store, id: Id, expected: Expected) -> bool
-    ensures { TellsWhether (has_other_version expected) store.now id result }
+    ensures { ReportsWhether (has_other_version expected) store.now id result }
 {
     match (store.node(id), expected) {
         (Some(node), Expected::Exactly(version)) => node.version != version,

@@ -7,7 +7,7 @@
 ghost use Rattle.std.specs.Prelude.{◌≡◌, ◌<◌, ◌≤◌, ◌++◌, [], ◌∷◌, length, None, Some, IfNone, IfOk, IfSome, OnOk};
 ghost use Rattle.std.specs.FinMap.{empty, get, insert, keys};
 ghost use Rattle.ztree.specs.declared.limits.TheConstants.{MAX_CLIENTS};
-ghost use Rattle.zcalls.specs.Kept.{last_of, kept_reply};
+ghost use Rattle.zcalls.specs.Cached.{last_of, cached_reply};
 ghost use Rattle.zops.specs.Restored.{IsOfUpdate};
 ghost use Rattle.zops.specs.support.Places.{clients_from};
 
@@ -20,17 +20,17 @@ use ztree::limits::MAX_CLIENTS;
 
 // A cached reply with its call number.
 #[derive(Drop)]
-struct Kept {
+struct Cached {
     number: CallNumber,
     reply: Reply,
 }
 
-impl Model for Kept {
-    ghost use Rattle.zcalls.specs.Kept as kept;
+impl Model for Cached {
+    ghost use Rattle.zcalls.specs.Cached as kept;
     ghost use Rattle.zops.specs.support.Codes.{coded_kept};
     ghost use Rattle.zops.specs.Restored.{IsOfUpdate};
 
-    ghost Value = { kept.Kept };
+    ghost Value = { kept.Cached };
 
     ghost coded = { coded_kept };
 
@@ -39,12 +39,12 @@ impl Model for Kept {
     ghost invariant = { λ k. IsOfUpdate k.reply };
 }
 
-impl Kept {
+impl Cached {
     // Returns a copy.
-    fn copied(&self, alloc: Global) -> Result<Kept, Memory>
+    fn copied(&self, alloc: Global) -> Result<Cached, Memory>
         ensures { IfOk result (λ copy. copy ≡ self.now) }
     {
-        Ok(Kept {
+        Ok(Cached {
             number: self.number,
             reply: self.reply.copied(alloc)?,
         })
@@ -53,20 +53,20 @@ impl Kept {
 
 /// The last reply to each client, with its call number, indexed by the client's number.
 #[derive(Drop)]
-pub(crate) struct KeptReplies {
-    places: Vec<Option<Kept>>,
+pub(crate) struct CachedReplies {
+    places: Vec<Option<Cached>>,
 }
 
-impl Model for KeptReplies {
+impl Model for CachedReplies {
     ghost use Rattle.std.specs.Ordering.{nat_cmp};
     ghost use Rattle.std.specs.Prelude.{◌≡◌, length};
     ghost use Rattle.std.specs.FinMap as finite;
     ghost use Rattle.ztree.specs.declared.limits.TheConstants.{MAX_CLIENTS};
-    ghost use Rattle.zcalls.specs.Kept as kept;
+    ghost use Rattle.zcalls.specs.Cached as kept;
     ghost use Rattle.zops.specs.support.Codes.{coded_replies};
     ghost use Rattle.zops.specs.support.Places.{replies_in};
 
-    ghost Value = { finite.FinMap nat_cmp kept.Kept };
+    ghost Value = { finite.FinMap nat_cmp kept.Cached };
 
     ghost coded = { coded_replies };
 
@@ -75,17 +75,17 @@ impl Model for KeptReplies {
     ghost invariant = { λ k. length k.places.items ≡ MAX_CLIENTS };
 }
 
-impl KeptReplies {
+impl CachedReplies {
     /// Returns a cache without replies, or `Memory`. Allocates the room for every client, so that
     /// caching a reply allocates nothing.
-    pub(crate) fn new(alloc: Global) -> Result<KeptReplies, Memory>
+    pub(crate) fn new(alloc: Global) -> Result<CachedReplies, Memory>
         ensures { IfOk result (λ kept. kept ≡ empty) }
     {
         let mut places = Vec::with_capacity(alloc, MAX_CLIENTS as usize)?;
         for _ in 0..MAX_CLIENTS {
             places.push(None)?;
         }
-        Ok(KeptReplies { places })
+        Ok(CachedReplies { places })
     }
 
     /// Returns the number of the client's last call that acted, or 0 if none did.
@@ -105,7 +105,7 @@ impl KeptReplies {
         client: ClientId,
         number: CallNumber,
     ) -> Result<Option<Reply>, Memory>
-        ensures { IfOk result (λ reply. reply ≡ kept_reply number (get self.now client)) }
+        ensures { IfOk result (λ reply. reply ≡ cached_reply number (get self.now client)) }
     {
         let Some(kept) = &self.places[client.number() as usize] else {
             return Ok(None);
@@ -142,20 +142,20 @@ impl KeptReplies {
         requires { IsOfUpdate reply }
         ensures { self.new ≡ insert self.old client (record { number = number; reply = reply }) }
     {
-        self.places[client.number() as usize] = Some(Kept { number, reply });
+        self.places[client.number() as usize] = Some(Cached { number, reply });
     }
 
     /// Returns a copy of the cached replies, or `Memory`.
-    pub(crate) fn copied(&self, alloc: Global) -> Result<KeptReplies, Memory>
+    pub(crate) fn copied(&self, alloc: Global) -> Result<CachedReplies, Memory>
         ensures { IfOk result (λ copy. copy ≡ self.now) }
     {
         let places = copied_places(alloc, &self.places)?;
-        Ok(KeptReplies { places })
+        Ok(CachedReplies { places })
     }
 }
 
 // Returns the clients that have a cached reply.
-fn clients_of(alloc: Global, places: &[Option<Kept>]) -> Result<Vec<ClientId>, Memory>
+fn clients_of(alloc: Global, places: &[Option<Cached>]) -> Result<Vec<ClientId>, Memory>
     requires { length places.now ≡ MAX_CLIENTS }
     ensures clients { IfOk result (λ clients. clients.items ≡ clients_from 0 places.now) }
     ensures few { IfOk result (λ clients. length clients.items ≤ MAX_CLIENTS) }
@@ -168,7 +168,7 @@ fn clients_of(alloc: Global, places: &[Option<Kept>]) -> Result<Vec<ClientId>, M
 }
 
 // Adds the client with this number, if it has a cached reply.
-fn add_client(clients: &mut Vec<ClientId>, number: u8, place: &Option<Kept>) -> Result<(), Memory>
+fn add_client(clients: &mut Vec<ClientId>, number: u8, place: &Option<Cached>) -> Result<(), Memory>
     requires { number < MAX_CLIENTS }
     ensures { OnOk result
         (clients.new.items ≡ clients.old.items ++ clients_from number (place.now ∷ [])) }
@@ -186,7 +186,7 @@ fn add_client(clients: &mut Vec<ClientId>, number: u8, place: &Option<Kept>) -> 
 }
 
 // Returns a copy of these positions.
-fn copied_places(alloc: Global, places: &[Option<Kept>]) -> Result<Vec<Option<Kept>>, Memory>
+fn copied_places(alloc: Global, places: &[Option<Cached>]) -> Result<Vec<Option<Cached>>, Memory>
     ensures { IfOk result (λ copy. copy.items ≡ places.now) }
 {
     let mut copy = Vec::with_capacity(alloc, places.len())?;
@@ -197,7 +197,7 @@ fn copied_places(alloc: Global, places: &[Option<Kept>]) -> Result<Vec<Option<Ke
 }
 
 // Returns a copy of one position.
-fn copied_place(alloc: Global, place: &Option<Kept>) -> Result<Option<Kept>, Memory>
+fn copied_place(alloc: Global, place: &Option<Cached>) -> Result<Option<Cached>, Memory>
     ensures { IfOk result (λ copy. copy ≡ place.now) }
 {
     match place {

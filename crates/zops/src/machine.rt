@@ -10,7 +10,7 @@ ghost use Rattle.zops.specs.support.Ready.{IsSteady, StaysBounded};
 ghost use Rattle.zops.specs.support.Steps.{HasFewParts, IsEntered};
 ghost use Rattle.std.specs.Prelude.{◌≡◌, ◌<◌, ◌≤◌, IfOk, OnOk, OnErr, IsErr, true, false};
 
-use crate::kept::KeptReplies;
+use crate::kept::CachedReplies;
 use crate::query::answer;
 use crate::update::update;
 use std::alloc::Global;
@@ -27,7 +27,7 @@ use zstore::Store;
 pub struct Machine {
     pub(crate) alloc: Global,
     pub(crate) store: Store,
-    pub(crate) kept: KeptReplies,
+    pub(crate) kept: CachedReplies,
     pub(crate) applied: u64,
     pub(crate) is_broken: bool,
 }
@@ -65,7 +65,7 @@ impl Machine {
         let store = Store::new(alloc)?;
         store.keeps_lawful();
         store.keeps_paths();
-        let Ok(kept) = KeptReplies::new(alloc) else {
+        let Ok(kept) = CachedReplies::new(alloc) else {
             drop(store);
             return Err(Memory);
         };
@@ -179,11 +179,11 @@ impl Machine {
 
 // Applies an entry by the entry step: if it acts, its number and reply are cached. After `Memory`
 // the tree may have changed.
-#[tactic(auto, unfolding(zcalls::specs::Kept::entry_step))]
+#[tactic(auto, unfolding(zcalls::specs::Cached::entry_step))]
 fn enter(
     alloc: Global,
     store: &mut Store,
-    kept: &mut KeptReplies,
+    kept: &mut CachedReplies,
     entry: &Entry,
 ) -> Result<Option<Reply>, Memory>
     requires { IsSteady store.old }

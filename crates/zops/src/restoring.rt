@@ -21,7 +21,7 @@ ghost use Rattle.zstore.specs.declared.restore_fault.RestoreFault.TheVariants.{M
 ghost use Rattle.zstore.specs.Restored.{with_row, with_session_row};
 ghost use Rattle.zops.specs.Restored.{rooted_machine, with_plain, with_reply, IsDated, IsOfUpdate, CanBegin, CanPutNode, CanPutGranted};
 
-use crate::kept::KeptReplies;
+use crate::kept::CachedReplies;
 use crate::limits::MAX_APPLIED;
 use crate::machine::Machine;
 use std::alloc::Global;
@@ -37,7 +37,7 @@ use ztree::limits::{TICK_BOUND, ZXID_BOUND};
 pub struct Restoring {
     alloc: Global,
     store: Store,
-    kept: KeptReplies,
+    kept: CachedReplies,
     applied: u64,
 }
 
@@ -75,7 +75,7 @@ impl Restoring {
             drop(root);
             return Err(RestoreFault::Unlawful);
         }
-        let kept = match KeptReplies::new(alloc) {
+        let kept = match CachedReplies::new(alloc) {
             Ok(kept) => kept,
             Err(_) => {
                 drop(root);

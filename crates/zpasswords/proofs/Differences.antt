@@ -1,4 +1,4 @@
--- Bytes that are compared without a stop at the first that differs: what tells of a difference is 0
+-- Bytes that are compared without a stop at the first that differs: what reports of a difference is 0
 -- as long as there is none.
 use Rattle.std.proofs.Common.{◌≡◌, ℕ, zero, suc, ◌+◌, ◌<◌, ◌≤◌, Bool, true, false, ◌&&◌, nat_eq, List, length, drop, get_or, bit_or, bit_xor, arith, refl, sym, ap, ◌∙◌, ◌⊎◌, inl, inr}
 use Rattle.std.proofs.lemmas.Bool.{and_left, cases_eq, eq-eqb, false_from_ne_true, ne_eqb}
@@ -29,15 +29,15 @@ and_assoc : (p q r : Bool) → ((p && q) && r) ≡ (p && (q && r))
 and_assoc true q r = refl
 and_assoc false q r = refl
 
--- what is told so far, and whether the rests are the same
-abbrev pub told : ℕ → List ℕ → List ℕ → Bool
-told difference xs ys = nat_eq difference 0 && pointwise nat_eq xs ys
+-- what is reported so far, and whether the rests are the same
+abbrev pub reported : ℕ → List ℕ → List ℕ → Bool
+reported difference xs ys = nat_eq difference 0 && pointwise nat_eq xs ys
 
 -- one byte more
-pub told_more : (difference : ℕ) (xs ys : List ℕ) (i d e : ℕ) → i < length xs → i < length ys
-    → told (bit_or difference (bit_xor (get_or xs i d) (get_or ys i e))) (drop (i + 1) xs) (drop (i + 1) ys)
-    ≡ told difference (drop i xs) (drop i ys)
-told_more difference xs ys i d e in_xs in_ys =
+pub reported_more : (difference : ℕ) (xs ys : List ℕ) (i d e : ℕ) → i < length xs → i < length ys
+    → reported (bit_or difference (bit_xor (get_or xs i d) (get_or ys i e))) (drop (i + 1) xs) (drop (i + 1) ys)
+    ≡ reported difference (drop i xs) (drop i ys)
+reported_more difference xs ys i d e in_xs in_ys =
     let x = get_or xs i d in
     let y = get_or ys i e in
     let rest = pointwise nat_eq (drop (i + 1) xs) (drop (i + 1) ys) in
@@ -51,9 +51,9 @@ and-true true = refl
 and-true false = refl
 
 -- no byte more
-pub told_all : (difference : ℕ) (xs ys : List ℕ) (i : ℕ) → length xs ≤ i → length ys ≤ i
-    → nat_eq difference 0 ≡ told difference (drop i xs) (drop i ys)
-told_all difference xs ys i xs_end ys_end =
+pub reported_all : (difference : ℕ) (xs ys : List ℕ) (i : ℕ) → length xs ≤ i → length ys ≤ i
+    → nat_eq difference 0 ≡ reported difference (drop i xs) (drop i ys)
+reported_all difference xs ys i xs_end ys_end =
     rw (drop_all i xs xs_end, drop_all i ys ys_end) (and-true (nat_eq difference 0))
 
 -- bytes of another number are others

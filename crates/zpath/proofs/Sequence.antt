@@ -8,7 +8,7 @@ use Rattle.zpath.specs.declared.fault.PathFault.TheVariants.{NameTooLong, PathTo
 use Rattle.zpath.specs.declared.limits.TheConstants.{COUNTER_DIGITS, MAX_NAME_LEN, MAX_TEXT_LEN}
 use Rattle.zpath.specs.Grammar.{IsName, IsPath, is_long, is_reserved, text_of}
 use Rattle.zpath.specs.Numbered.{digits, numbered_path, numbered_tests, numbered_fault, is_over}
-use Rattle.zpath.specs.Laws.{TellsNumbersApart, RefusesWhatIsOver}
+use Rattle.zpath.specs.Laws.{NumbersAreDistinct, RefusesWhatIsOver}
 use Rattle.zpath.proofs.NameTests.{tests_from_names, at_most}
 use Rattle.zpath.proofs.Family.{all_front, all_more, all_last, length-text_of-child, child_depth}
 use Rattle.zpath.proofs.First.{no_test_holds}
@@ -111,8 +111,8 @@ last_name (name ∷ next ∷ path) below =
     let more = last_name (next ∷ path) (λ same. cc) in
     (name ∷ more.0, more.1, ap (λ names. name ∷ names) more.2)
 
-pub tells_numbers_apart : TellsNumbersApart
-tells_numbers_apart left right a b left_below right_below small_a small_b same =
+pub numbers_are_distinct : NumbersAreDistinct
+numbers_are_distinct left right a b left_below right_below small_a small_b same =
     let left_split = last_name left left_below in
     let right_split = last_name right right_below in
     let spread = λ (path : List (List ℕ)) (front : List (List ℕ)) (last : List ℕ) (counter : ℕ) (split : path ≡ front ++ last ∷ []).

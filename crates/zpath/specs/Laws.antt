@@ -15,8 +15,8 @@ IsFaultless = (text : List ℕ) → (fault_of text ≡ None) ↔ IsTextOfPath te
 
 -- Two paths below the root that end with different counters are different paths, whatever names
 -- were requested. The counters must have at most `COUNTER_DIGITS` digits.
-abbrev pub TellsNumbersApart : Type 0
-TellsNumbersApart =
+abbrev pub NumbersAreDistinct : Type 0
+NumbersAreDistinct =
     (left right : List (List ℕ)) (a b : ℕ) → left ≢ [] → right ≢ [] → a < 10 ^ COUNTER_DIGITS → b < 10 ^ COUNTER_DIGITS →
     numbered_path left a ≡ numbered_path right b → a ≡ b
 

@@ -1,6 +1,6 @@
 //! Laws of the definitions. Each function's contract is a law; its body does nothing.
 
-ghost use Rattle.zpath.specs.Laws.{SpellsOnePath, IsFaultless, TellsNumbersApart, RefusesWhatIsOver};
+ghost use Rattle.zpath.specs.Laws.{SpellsOnePath, IsFaultless, NumbersAreDistinct, RefusesWhatIsOver};
 
 /// Each path has one text, and no other path has that text. The texts without a fault are exactly
 /// the texts of paths.
@@ -11,7 +11,7 @@ pub fn spelling_is_unique()
 
 /// Sequential nodes with different counters have different paths. Appending a counter is refused
 /// exactly when the resulting path is over a limit.
-pub fn numbers_tell_apart()
-    ensures apart { TellsNumbersApart }
+pub fn numbers_are_distinct()
+    ensures apart { NumbersAreDistinct }
     ensures over { RefusesWhatIsOver }
 {}

@@ -8,7 +8,7 @@ pub mod FirstCalls
 pub mod FirstCallsFrom
 pub mod Starts
 pub mod Orders
-pub mod Lives
+pub mod Incarnations
 pub mod Tables
 pub mod Alike
 pub mod Keeping

@@ -2,7 +2,7 @@ pub mod History
 pub mod LegalOrder
 pub mod PlainTree
 pub mod FromTree
-pub mod Lives
+pub mod Incarnations
 pub mod Links
 pub mod World
 pub mod Orders

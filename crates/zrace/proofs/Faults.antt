@@ -2,12 +2,12 @@
 use Rattle.std.proofs.Common.{inl, inr}
 use Rattle.std.specs.Prelude.{◌⊎◌}
 use Rattle.zdevices.specs.Device.{SinkRun}
-use Rattle.zarguments.specs.Telling.{IsTold}
+use Rattle.zarguments.specs.Reporting.{IsReported}
 use Rattle.zrun.specs.declared.faults.StartFault.{StartFault}
 use Rattle.zrun.specs.declared.faults.StartFault.TheVariants.{Memory, Thread}
 use Rattle.zrace.specs.Run.{start_fault_text}
 
-pub told_either : (faults : SinkRun) (fault : StartFault) → IsTold faults (start_fault_text fault)
-    → IsTold faults (start_fault_text Memory) ⊎ IsTold faults (start_fault_text Thread)
-told_either faults Memory told = inl told
-told_either faults Thread told = inr told
+pub reported_either : (faults : SinkRun) (fault : StartFault) → IsReported faults (start_fault_text fault)
+    → IsReported faults (start_fault_text Memory) ⊎ IsReported faults (start_fault_text Thread)
+reported_either faults Memory reported = inl reported
+reported_either faults Thread reported = inr reported

@@ -1,4 +1,4 @@
-pub mod Kept
+pub mod Cached
 pub mod Seen
 pub mod Verdicts
 pub mod Lines

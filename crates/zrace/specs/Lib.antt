@@ -1,4 +1,4 @@
-pub mod Kept
+pub mod Cached
 pub mod Runners
 pub mod Ranges
 pub mod Text

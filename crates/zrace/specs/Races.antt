@@ -9,7 +9,7 @@ use Rattle.zprotocol.specs.traces.Lawful.{AreLawful}
 use Rattle.zaudit.specs.declared.faults.AuditFault.{AuditFault}
 use Rattle.zaudit.specs.declared.faults.AuditFault.TheVariants.{Cut, Memory}
 use Rattle.zrun.specs.declared.clients.Clients.{Clients}
-use Rattle.zrun.specs.Members.{AreTold, clients_run}
+use Rattle.zrun.specs.Members.{AreReported, clients_run}
 use Rattle.zrace.specs.declared.plan.Race.{Race}
 use Rattle.zrace.specs.declared.outcome.Outcome.{Outcome}
 use Rattle.zrace.specs.declared.racing.Finish.{Finish}
@@ -33,7 +33,7 @@ pub record IsAuditOf {X : Type 0} (t : Traces) (audit : Result X AuditFault) : T
 pub record IsFinishOf (race : Race) (f : Finish) : Type 0 where
   pub over : AreOf race f.traces
   pub clients : Clients
-  pub told : AreTold (race.clients + 1) f.traces clients
+  pub reported : AreReported (race.clients + 1) f.traces clients
   pub seen : AreSeenIn (clients_run clients) f.versions.items
 
 -- the outcome is that of a run of the race, and the audit is that of its traces

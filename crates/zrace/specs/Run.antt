@@ -1,7 +1,7 @@
 -- How a race ends as a run of the program, by its words and by what its devices did.
 use Rattle.std.specs.Prelude.{◌≡◌, ◌⊎◌, ℕ, List, [], length, All, IsSome, IsOk, IsErr, codes}
 use Rattle.zdevices.specs.Device.{SinkRun, Failed, TookBeginning}
-use Rattle.zarguments.specs.Telling.{IsTold}
+use Rattle.zarguments.specs.Reporting.{IsReported}
 use Rattle.zrace.specs.Text.{outcome_text}
 use Rattle.zrun.specs.declared.faults.StartFault.{StartFault}
 use Rattle.zrun.specs.declared.faults.StartFault.TheVariants.{Memory, Thread}
@@ -33,11 +33,11 @@ IsBadReport outcome sink faults =
 -- The sink took a prefix and failed, and the fault was reported.
 abbrev pub IsCutReport : Outcome → SinkRun → SinkRun → Type 0
 IsCutReport outcome sink faults =
-    TookBeginning sink.took (outcome_text outcome) × Failed sink.failed × IsTold faults (codes "zk: write failed")
+    TookBeginning sink.took (outcome_text outcome) × Failed sink.failed × IsReported faults (codes "zk: write failed")
 
 -- Nothing was written, since memory ran out, and the fault was reported.
 abbrev pub IsNoReport : SinkRun → SinkRun → Type 0
-IsNoReport sink faults = sink.took [] × IsTold faults (start_fault_text Memory)
+IsNoReport sink faults = sink.took [] × IsReported faults (start_fault_text Memory)
 
 -- One of these three.
 abbrev pub IsNotGoodReport : Outcome → SinkRun → SinkRun → Type 0
@@ -50,7 +50,7 @@ IsGoodRace words sink = (outcome : Outcome) × IsOutcomeOf words outcome × IsGo
 -- Nothing was written, since memory ran out or a thread could not be started. The fault was
 -- reported.
 abbrev pub IsNoRace : SinkRun → SinkRun → Type 0
-IsNoRace sink faults = sink.took [] × (IsTold faults (start_fault_text Memory) ⊎ IsTold faults (start_fault_text Thread))
+IsNoRace sink faults = sink.took [] × (IsReported faults (start_fault_text Memory) ⊎ IsReported faults (start_fault_text Thread))
 
 -- There was no race, or it wasn't good.
 abbrev pub IsNotGood : List (List ℕ) → SinkRun → SinkRun → Type 0

@@ -22,26 +22,26 @@ abbrev pub AsksFor : ℕ → Call → Type 0
 AsksFor node call = (path : List (List ℕ)) × IsPathOf node path × (call ≡ Query (query.Exists path))
 
 -- from the one state to the other the client asked for the node, and received this version
-abbrev pub WasTold : ℕ → ℕ → Client → Client → Type 0
-WasTold node version a b =
+abbrev pub WasReported : ℕ → ℕ → Client → Client → Type 0
+WasReported node version a b =
     (patience : Patience) × (call : Call) × (stat : Stat)
     × AsksFor node call × CalledPatientlyUntil patience call a b (reply.Exists stat) × (stat.version ≡ version)
 
 -- the same, of the node with this path
-abbrev pub IsToldOf : List (List ℕ) → ℕ → Client → Client → Type 0
-IsToldOf path version a b = (node : ℕ) → IsPathOf node path → WasTold node version a b
+abbrev pub IsReportedOf : List (List ℕ) → ℕ → Client → Client → Type 0
+IsReportedOf path version a b = (node : ℕ) → IsPathOf node path → WasReported node version a b
 
 -- it did so after any other calls
-abbrev pub WasToldSince : ℕ → Client → Client → ℕ → Type 0
-WasToldSince node a b version = (m : Client) × SameClient a m × WasTold node version m b
+abbrev pub WasReportedSince : ℕ → Client → Client → ℕ → Type 0
+WasReportedSince node a b version = (m : Client) × SameClient a m × WasReported node version m b
 
 -- the client received this version at some time
 abbrev pub HasSeen : Client → ℕ → ℕ → Type 0
-HasSeen c node version = ∥ ((a b : Client) × SameClient c a × SameClient c b × WasTold node version a b) ∥₁
+HasSeen c node version = ∥ ((a b : Client) × SameClient c a × SameClient c b × WasReported node version a b) ∥₁
 
 -- one of the run's clients received this version
 abbrev pub IsSeenIn : Run → ℕ → ℕ → Type 0
-IsSeenIn run node version = ∥ ((a b : Client) × BelongsTo run a × BelongsTo run b × WasTold node version a b) ∥₁
+IsSeenIn run node version = ∥ ((a b : Client) × BelongsTo run a × BelongsTo run b × WasReported node version a b) ∥₁
 
 -- each version that is known is one that a client of the run received
 abbrev pub AreSeenIn : Run → List (Option ℕ) → Type 0

@@ -2,7 +2,7 @@
 
 ghost use Rattle.std.specs.Prelude.{◌≡◌, ◌≤◌, [], codes};
 ghost use Rattle.zdevices.specs.Device.{sink_run};
-ghost use Rattle.zarguments.specs.Telling.{IsTold};
+ghost use Rattle.zarguments.specs.Reporting.{IsReported};
 ghost use Rattle.zarguments.specs.Asked.{texts_of};
 ghost use Rattle.zrace.specs.declared.plan.Race.{Race};
 ghost use Rattle.zrace.specs.Asked.{IsRaceAsked};
@@ -46,7 +46,7 @@ pub fn race_command<R: Threads + Wait + Copy + Send + 'static, K: Sink, F: Sink>
     // The words are bad, and nothing was written.
     ensures bad { result ≡ 2 → (race : Race) → IsRaceAsked (texts_of words.now) race → ⊥ }
     ensures idle { result ≡ 2 → sink.new ≡ sink.old }
-    ensures refused { result ≡ 2 → IsTold
+    ensures refused { result ≡ 2 → IsReported
         (sink_run F.took F.failed faults.old faults.new) (codes "zk: bad words") }
 {
     let race_asked = match race_settings(alloc, words) {

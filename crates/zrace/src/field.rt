@@ -34,7 +34,7 @@ pub(crate) struct Field {
     pub(crate) versions: Vec<Option<u64>>,
     ghost own: { All (λ handle.
         BelongsTo (clients_run clients) (given_client handle)) handles.items },
-    ghost told: { AreSeenIn (clients_run clients) versions.items },
+    ghost reported: { AreSeenIn (clients_run clients) versions.items },
 }
 
 impl Field {
@@ -137,7 +137,7 @@ fn racer(clients: &mut Clients, number: u8) -> Option<Client>
 // Notes all versions that one client received.
 fn note_all(versions: &mut Vec<Option<u64>>, seen: &Seen)
     ensures nodes { length versions.new.items ≡ length versions.old.items }
-    ensures told { KeepsSeen versions.old.items versions.new.items seen.now.items }
+    ensures reported { KeepsSeen versions.old.items versions.new.items seen.now.items }
 {
     for at in 0..seen.len() {
         let (node, version) = seen[at];
@@ -148,7 +148,7 @@ fn note_all(versions: &mut Vec<Option<u64>>, seen: &Seen)
 // Notes a node's version.
 fn note(versions: &mut Vec<Option<u64>>, node: u64, version: u64)
     ensures nodes { length versions.new.items ≡ length versions.old.items }
-    ensures told { NotesSeen versions.old.items versions.new.items node version }
+    ensures reported { NotesSeen versions.old.items versions.new.items node version }
 {
     let place = node as usize;
     if place < versions.len() {

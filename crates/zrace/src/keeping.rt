@@ -1,6 +1,6 @@
 //! Appending one value.
 
-ghost use Rattle.zrace.specs.Kept.{IsKeptBehind};
+ghost use Rattle.zrace.specs.Cached.{IsKeptBehind};
 
 /// Appends one value. Returns false out of memory: the value is then dropped.
 pub(crate) fn keep<X: Drop>(all: &mut Vec<X>, one: X) -> bool

@@ -4,7 +4,7 @@ ghost use Rattle.std.specs.Prelude.{◌≡◌, [], All, IfSome};
 ghost use Rattle.zcalls.specs.declared.call.Call.TheVariants as call;
 ghost use Rattle.zcalls.specs.declared.call.Query.TheVariants as query;
 ghost use Rattle.zrun.specs.Clients.{SameClient};
-ghost use Rattle.zrace.specs.Seen.{HasSeen, IsPathOf, IsToldOf, WasToldSince};
+ghost use Rattle.zrace.specs.Seen.{HasSeen, IsPathOf, IsReportedOf, WasReportedSince};
 
 use crate::keeping::keep;
 use std::alloc::Global;
@@ -29,7 +29,7 @@ pub(crate) type Seen = Vec<(u64, u64)>;
 pub(crate) struct Racer {
     pub(crate) client: Client,
     pub(crate) seen: Seen,
-    ghost told: { All (λ it. HasSeen client it.0 it.1) seen.items },
+    ghost reported: { All (λ it. HasSeen client it.0 it.1) seen.items },
 }
 
 /// The promise to return this client, with the versions that it received.
@@ -70,7 +70,7 @@ fn call_thrice(
     halted: Option<ServerId>,
 ) -> Option<u64>
     ensures same { SameClient client.old client.new }
-    ensures told { IfSome result (WasToldSince node client.old client.new) }
+    ensures reported { IfSome result (WasReportedSince node client.old client.new) }
 {
     let path = path_of(alloc, node)?;
     let created = client.ask(create(alloc, &path)?, PATIENCE).ok()?;
@@ -93,7 +93,7 @@ fn halt_one(client: &mut Client, halted: Option<ServerId>)
 // Asks for the version of the node with this path.
 fn version_of(client: &mut Client, path: Path) -> Option<u64>
     ensures same { SameClient client.old client.new }
-    ensures told { IfSome result (λ version. IsToldOf path version client.old client.new) }
+    ensures reported { IfSome result (λ version. IsReportedOf path version client.old client.new) }
 {
     let Ok(reply) = client.ask(exists(path), PATIENCE) else {
         return None;

@@ -2,7 +2,7 @@
 
 ghost use Rattle.std.specs.Prelude.{◌≡◌, ◌≤◌, [], All, IsErr, IsOk, IsSome};
 ghost use Rattle.zdevices.specs.Device.{sink_run};
-ghost use Rattle.zarguments.specs.Telling.{IsTold};
+ghost use Rattle.zarguments.specs.Reporting.{IsReported};
 ghost use Rattle.zrace.specs.Run.{IsGoodReport, IsNotGoodReport, start_fault_text};
 
 use crate::{Outcome, StartFault};
@@ -50,7 +50,7 @@ fn status_of(outcome: &Outcome) -> u8
 /// Writes to `faults` why there was no race. Returns the exit status, which is 1.
 pub(crate) fn refuse_start<F: Sink>(fault: StartFault, faults: &mut F) -> u8
     ensures status { result ≡ 1 }
-    ensures told { IsTold
+    ensures reported { IsReported
         (sink_run F.took F.failed faults.old faults.new) (start_fault_text fault) }
 {
     match fault {

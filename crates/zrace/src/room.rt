@@ -19,7 +19,7 @@ pub(crate) struct Room {
     pub(crate) handles: Vec<Racing>,
     pub(crate) versions: Vec<Option<u64>>,
     ghost none_runs: { handles.items ≡ [] },
-    ghost none_told: { All IsNone versions.items },
+    ghost none_reported: { All IsNone versions.items },
 }
 
 impl Room {

@@ -10,5 +10,5 @@ ticks_asked tick (pos millis) = div_ceil millis tick + 1
 ticks_asked tick (negsuc n) = 1
 
 -- the milliseconds returned to the client, from those of a tick and the ticks granted
-abbrev pub millis_told : ℕ → ℕ → ℤ
-millis_told tick ticks = pos (min ((ticks - 1) * tick) (2 ^ 31 - 1))
+abbrev pub millis_reported : ℕ → ℕ → ℤ
+millis_reported tick ticks = pos (min ((ticks - 1) * tick) (2 ^ 31 - 1))

@@ -6,7 +6,7 @@
 //!
 //! `calls_of` returns the calls that a request makes, or why it makes none (`calls_in`,
 //! `specs/Requests.antt`). `code_of` returns the error code for a refusal. `ticks_asked` and
-//! `millis_told` convert session timeouts to ticks and back. All of it is pure: it knows no
+//! `millis_reported` convert session timeouts to ticks and back. All of it is pure: it knows no
 //! connection, no session but the one given, and no state of the service.
 //!
 //! # Why
@@ -33,4 +33,4 @@ pub use fault::Unasked;
 pub use limits::{ALL_PERMISSIONS, NO_VERSION};
 pub use requests::calls_of;
 pub use tick::TickLength;
-pub use timeouts::{millis_told, ticks_asked};
+pub use timeouts::{millis_reported, ticks_asked};

@@ -23,8 +23,8 @@ pub fn ticks_asked(tick: TickLength, millis: i32) -> u64
 
 /// Returns the milliseconds for the client, for the ticks granted: one tick less, and at most what
 /// 32 bits hold.
-pub fn millis_told(tick: TickLength, ticks: u64) -> i32
-    ensures { result ≡ timeouts.millis_told tick ticks }
+pub fn millis_reported(tick: TickLength, ticks: u64) -> i32
+    ensures { result ≡ timeouts.millis_reported tick ticks }
 {
     let whole = ticks.saturating_sub(1);
     let millis = whole.saturating_mul(u64::from(tick.millis()));

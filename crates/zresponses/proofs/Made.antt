@@ -74,20 +74,20 @@ module _ (t : Tree) (path : Path) (new : Node) (f : Node → Node) (below : path
       ap (option_map (stat_of More path)) more-here
       ∙ ap (λ (names : List Name). Some (stat_with new (length names))) (more-leaf lawful free)
 
--- the stat is told wherever the path is
-abbrev Tells : Create → Path → Tree × Reply → Type 0
-Tells create path s = s.1 ≡ reply.Created path → stat_at s.0.nodes path ≡ Some (made_stat (now_of s.0) create)
+-- the stat is reported wherever the path is
+abbrev Reports : Create → Path → Tree × Reply → Type 0
+Reports create path s = s.1 ≡ reply.Created path → stat_at s.0.nodes path ≡ Some (made_stat (now_of s.0) create)
 
 created : (t : Tree) (client : ℕ) (create : Create) (path : Path) → IsLawful t
     → (exhausted : Bool) (refused : Option Refusal) → first_that_holds (create_refusals t client create) ≡ refused
-    → Tells create path (if exhausted then (t, reply.Refused Exhausted) else
+    → Reports create path (if exhausted then (t, reply.Refused Exhausted) else
     change_result t (unless_refused refused (
       with_node t (made_path t.nodes create.kind create.path) create.bytes (owner_of create.kind.lifetime) (ttl_of create.kind.lifetime) create.kind.is_sequential,
       did.Created (made_path t.nodes create.kind create.path),
     )))
-created t client create path lawful true refused e told = cc
-created t client create path lawful false (Some refusal) e told = cc
-created t client create path lawful false None e told =
+created t client create path lawful true refused e reported = cc
+created t client create path lawful false (Some refusal) e reported = cc
+created t client create path lawful false None e reported =
     let made = made_path t.nodes create.kind create.path in
     let new = new_node create.bytes (owner_of create.kind.lifetime) (ttl_of create.kind.lifetime) (t.zxid + 1) t.time in
     let tests = no_test_holds (create_refusals t client create) e in
@@ -98,5 +98,5 @@ created t client create path lawful false None e told =
 
 pub made_nodes_have_this_stat : MadeNodesHaveThisStat
 unfolding step create_step
-made_nodes_have_this_stat t client create path lawful told =
-    created t client create path lawful (is_exhausted t (act.Create create)) (first_that_holds (create_refusals t client create)) refl told
+made_nodes_have_this_stat t client create path lawful reported =
+    created t client create path lawful (is_exhausted t (act.Create create)) (first_that_holds (create_refusals t client create)) refl reported

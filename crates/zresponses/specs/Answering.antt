@@ -26,13 +26,13 @@ was_lost = failed code.SystemError
 
 -- from the first reply
 abbrev pub by_first : (Reply → Answer) → List Reply → Answer
-by_first told [] = was_lost
-by_first told (reply ∷ replies) = told reply
+by_first reported [] = was_lost
+by_first reported (reply ∷ replies) = reported reply
 
 -- from the first two replies
 abbrev pub by_two : (Reply → Reply → Answer) → List Reply → Answer
-by_two told (first ∷ second ∷ replies) = told first second
-by_two told replies = was_lost
+by_two reported (first ∷ second ∷ replies) = reported first second
+by_two reported replies = was_lost
 
 -- of a create that asks for the stat too
 abbrev pub made_by : Clock → Now → List Call → List Reply → Answer

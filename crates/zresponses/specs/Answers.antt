@@ -18,11 +18,11 @@ use Rattle.zrequests.specs.Codes.{code_of}
 use Rattle.zresponses.specs.declared.clock.Clock.{Clock}
 use Rattle.zresponses.specs.declared.clock.Now.{Now}
 use Rattle.zresponses.specs.declared.answer.Answer.{Answer}
-use Rattle.zresponses.specs.Stats.{stat_told, made_stat}
+use Rattle.zresponses.specs.Stats.{stat_reported, made_stat}
 
 -- the request was done
 abbrev pub done : Body → Answer
-done told = record { code = code.Ok; body = told }
+done reported = record { code = code.Ok; body = reported }
 
 -- it wasn't done, for this reason
 abbrev pub failed : Code → Answer
@@ -36,9 +36,9 @@ names_answer names = if nat_lt MAX_FRAME (length names) then failed code.Marshal
 abbrev pub answer_of : Clock → Reply → Answer
 answer_of clock (reply.Created path) = done (body.Path (text_of path))
 answer_of clock reply.Deleted = done body.Nothing
-answer_of clock (reply.Set stat) = done (body.Stat (stat_told clock stat))
-answer_of clock (reply.Exists stat) = done (body.Stat (stat_told clock stat))
-answer_of clock (reply.Data bytes stat) = done (body.DataStat (Some bytes) (stat_told clock stat))
+answer_of clock (reply.Set stat) = done (body.Stat (stat_reported clock stat))
+answer_of clock (reply.Exists stat) = done (body.Stat (stat_reported clock stat))
+answer_of clock (reply.Data bytes stat) = done (body.DataStat (Some bytes) (stat_reported clock stat))
 answer_of clock (reply.Children names) = names_answer names
 answer_of clock (reply.Refused refusal) = failed (code_of refusal)
 answer_of clock (reply.MultiRefused number refusal) = failed (code_of refusal)
@@ -50,8 +50,8 @@ answer_of clock (reply.Ticked time ended removed) = done body.Nothing
 
 -- the answer to a create that asks for the new node's stat too
 abbrev pub made_answer : Clock → Now → Create → Reply → Answer
-made_answer clock now create (reply.Created path) = done (body.PathStat (text_of path) (stat_told clock (made_stat now create)))
-made_answer clock now create told = answer_of clock told
+made_answer clock now create (reply.Created path) = done (body.PathStat (text_of path) (stat_reported clock (made_stat now create)))
+made_answer clock now create reported = answer_of clock reported
 
 -- the ACL of every node: the open one (`ZooDefs.Ids.OPEN_ACL_UNSAFE`)
 abbrev pub open_acls : List Acl
@@ -59,15 +59,15 @@ open_acls = record { perms = ALL_PERMISSIONS; scheme = Some (codes "world"); id 
 
 -- the answer to a request for a node's ACL, from its stat
 abbrev pub acl_answer : Clock → Reply → Answer
-acl_answer clock (reply.Exists stat) = done (body.AclsStat open_acls (stat_told clock stat))
-acl_answer clock told = answer_of clock told
+acl_answer clock (reply.Exists stat) = done (body.AclsStat open_acls (stat_reported clock stat))
+acl_answer clock reported = answer_of clock reported
 
 -- names and a stat
 abbrev pub names_stat_answer : Clock → List Name → Stat → Answer
 names_stat_answer clock names stat =
     if nat_lt MAX_FRAME (length names)
     then failed code.MarshallingError
-    else done (body.NamesStat names (stat_told clock stat))
+    else done (body.NamesStat names (stat_reported clock stat))
 
 -- the answer to a request for the names of a node's children and its stat
 abbrev pub children_answer : Clock → Reply → Reply → Answer

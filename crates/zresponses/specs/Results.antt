@@ -24,7 +24,7 @@ use Rattle.zrequests.specs.Codes.{code_of}
 use Rattle.zresponses.specs.declared.clock.Clock.{Clock}
 use Rattle.zresponses.specs.declared.clock.Now.{Now}
 use Rattle.zresponses.specs.declared.answer.Answer.{Answer}
-use Rattle.zresponses.specs.Stats.{stat_told, made_stat}
+use Rattle.zresponses.specs.Stats.{stat_reported, made_stat}
 use Rattle.zresponses.specs.Answers.{done, answer_of}
 
 -- the results of a multi of `count` parts, of which one was refused; parts are counted from 1
@@ -35,8 +35,8 @@ refused_results count number why =
 
 -- a node that a part created; with its stat, if the part asked for it or has a TTL
 abbrev pub made_result : Clock → Now → AskedPart → Create → List ℕ → PartResult
-made_result clock now (asked.Create2 create) made path = result_of.Create2 path (stat_told clock (made_stat now made))
-made_result clock now (asked.CreateTtl timed) made path = result_of.Create2 path (stat_told clock (made_stat now made))
+made_result clock now (asked.Create2 create) made path = result_of.Create2 path (stat_reported clock (made_stat now made))
+made_result clock now (asked.CreateTtl timed) made path = result_of.Create2 path (stat_reported clock (made_stat now made))
 made_result clock now other made path = result_of.Create path
 
 -- the result of a part that was done, from the request's part, the call's part and its reply
@@ -44,7 +44,7 @@ abbrev pub part_result : Clock → Now → AskedPart → Part → PartReply → 
 part_result clock now asked (part.Create create) (part_reply.Created path) = made_result clock now asked create (text_of path)
 part_result clock now asked part (part_reply.Created path) = result_of.Create (text_of path)
 part_result clock now asked part part_reply.Deleted = result_of.Delete
-part_result clock now asked part (part_reply.Set stat) = result_of.SetData (stat_told clock stat)
+part_result clock now asked part (part_reply.Set stat) = result_of.SetData (stat_reported clock stat)
 part_result clock now asked part part_reply.Checked = result_of.Check
 
 -- the results of the parts, in order
@@ -58,7 +58,7 @@ abbrev pub multi_answer : Clock → Now → List AskedPart → List Part → Rep
 multi_answer clock now asked parts (reply.Multi replies) = done (body.Results (part_results clock now asked parts replies))
 multi_answer clock now asked parts (reply.MultiRefused number refusal) =
     done (body.Results (refused_results (length parts) number (code_of refusal)))
-multi_answer clock now asked parts told = answer_of clock told
+multi_answer clock now asked parts reported = answer_of clock reported
 
 -- names as a result; more than a frame can hold give an error
 abbrev pub names_result : List Name → PartResult
@@ -66,10 +66,10 @@ names_result names = if nat_lt MAX_FRAME (length names) then result_of.Error cod
 
 -- the result of a part of a multiRead, from its reply
 abbrev pub look_result : Clock → Reply → PartResult
-look_result clock (reply.Data bytes stat) = result_of.GetData (Some bytes) (stat_told clock stat)
+look_result clock (reply.Data bytes stat) = result_of.GetData (Some bytes) (stat_reported clock stat)
 look_result clock (reply.Children names) = names_result names
 look_result clock (reply.Refused refusal) = result_of.Error (code_of refusal)
-look_result clock told = result_of.Error code.SystemError
+look_result clock reported = result_of.Error code.SystemError
 
 -- the answer to a multiRead
 abbrev pub looks_answer : Clock → List Reply → Answer

@@ -7,7 +7,7 @@ use Rattle.ztree.specs.Tree.{new_node, stat_with}
 use Rattle.ztree.specs.declared.node.Stat.{Stat}
 use Rattle.zcalls.specs.declared.call.Create.{Create}
 use Rattle.zcalls.specs.Part.{owner_of, ttl_of}
-use Rattle.zjute.specs.declared.stat.Stat.{Stat as ToldStat}
+use Rattle.zjute.specs.declared.stat.Stat.{Stat as ReportedStat}
 use Rattle.zresponses.specs.declared.clock.Clock.{Clock}
 use Rattle.zresponses.specs.declared.clock.Now.{Now}
 
@@ -24,8 +24,8 @@ abbrev pub millis_at : Clock → ℕ → ℕ
 millis_at clock ticks = clock.started + ticks * clock.tick
 
 -- the stat for a client; no node has an ACL of its own, so `aversion` is 0
-abbrev pub stat_told : Clock → Stat → ToldStat
-stat_told clock s = record {
+abbrev pub stat_reported : Clock → Stat → ReportedStat
+stat_reported clock s = record {
   czxid = long_of s.czxid;
   mzxid = long_of s.mzxid;
   ctime = long_of (millis_at clock s.ctime);

@@ -25,7 +25,7 @@ pub fn answer_to(
     calls: &[Call],
     replies: &[Reply],
 ) -> Result<Answer, Memory>
-    ensures { IfOk result (λ told. told
+    ensures { IfOk result (λ reported. reported
         ≡ answer_in clock.now at.now asked.now calls.now replies.now) }
 {
     match asked {
@@ -49,7 +49,7 @@ fn lost() -> Answer
 
 // Returns the answer from the first reply.
 fn first(alloc: Global, clock: &Clock, replies: &[Reply]) -> Result<Answer, Memory>
-    ensures { IfOk result (λ told. told ≡ by_first (of_one.answer_of clock.now) replies.now) }
+    ensures { IfOk result (λ reported. reported ≡ by_first (of_one.answer_of clock.now) replies.now) }
 {
     match replies {
         [reply, ..] => answer_of(alloc, clock, reply),
@@ -65,7 +65,7 @@ fn made(
     calls: &[Call],
     replies: &[Reply],
 ) -> Result<Answer, Memory>
-    ensures { IfOk result (λ told. told ≡ made_by clock.now at.now calls.now replies.now) }
+    ensures { IfOk result (λ reported. reported ≡ made_by clock.now at.now calls.now replies.now) }
 {
     let [Call::Update(Update::Create(create)), ..] = calls else {
         return first(alloc, clock, replies);
@@ -85,7 +85,7 @@ fn multi(
     calls: &[Call],
     replies: &[Reply],
 ) -> Result<Answer, Memory>
-    ensures { IfOk result (λ told. told
+    ensures { IfOk result (λ reported. reported
         ≡ multi_by clock.now at.now asked.now calls.now replies.now) }
 {
     let [Call::Update(Update::Multi(parts)), ..] = calls else {
@@ -100,7 +100,7 @@ fn multi(
 // Returns the answer to a request for the names of children and the stat.
 fn children(alloc: Global, clock: &Clock, replies: &[Reply]) -> Result<Answer, Memory>
     ensures { IfOk result
-        (λ told. told ≡ by_two (of_one.children_answer clock.now) replies.now) }
+        (λ reported. reported ≡ by_two (of_one.children_answer clock.now) replies.now) }
 {
     match replies {
         [names, stat, ..] => children_answer(alloc, clock, names, stat),
@@ -110,7 +110,7 @@ fn children(alloc: Global, clock: &Clock, replies: &[Reply]) -> Result<Answer, M
 
 // Returns the answer to a request for an ACL.
 fn acl(alloc: Global, clock: &Clock, replies: &[Reply]) -> Result<Answer, Memory>
-    ensures { IfOk result (λ told. told ≡ by_first (of_one.acl_answer clock.now) replies.now) }
+    ensures { IfOk result (λ reported. reported ≡ by_first (of_one.acl_answer clock.now) replies.now) }
 {
     match replies {
         [reply, ..] => acl_answer(alloc, clock, reply),
@@ -120,7 +120,7 @@ fn acl(alloc: Global, clock: &Clock, replies: &[Reply]) -> Result<Answer, Memory
 
 // Returns the answer to a sync.
 fn sync(alloc: Global, path: &Option<Bytes>) -> Result<Answer, Memory>
-    ensures { IfOk result (λ told. told ≡ sync_by path.now) }
+    ensures { IfOk result (λ reported. reported ≡ sync_by path.now) }
 {
     match path {
         Some(text) => Ok(Answer::done(Body::Path(bytes_of(alloc, text.as_slice())?))),

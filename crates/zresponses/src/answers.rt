@@ -3,14 +3,14 @@
 ghost use Rattle.std.specs.Prelude.{◌≡◌, Some, IfOk};
 ghost use Rattle.zpath.specs.Grammar.{text_of};
 ghost use Rattle.zjute.specs.declared.reply.Body.TheVariants as body;
-ghost use Rattle.zresponses.specs.Stats as told;
+ghost use Rattle.zresponses.specs.Stats as reported;
 ghost use Rattle.zresponses.specs.Answers as table;
 ghost use Rattle.zresponses.specs.Answers.{names_answer, names_stat_answer};
 
 use crate::answer::Answer;
 use crate::clock::{Clock, Now};
-use crate::stats::{made_stat, stat_told};
-use crate::texts::{bytes_of, data_told, names_told, path_told};
+use crate::stats::{made_stat, stat_reported};
+use crate::texts::{bytes_of, data_reported, names_reported, path_reported};
 use std::alloc::Global;
 use zalloc::Memory;
 use zrequests::{ALL_PERMISSIONS, code_of};
@@ -25,7 +25,7 @@ pub(crate) fn answer_of(alloc: Global, clock: &Clock, reply: &Reply) -> Result<A
     match reply {
         Reply::Created(path) => path_alone(alloc, path),
         Reply::Set(stat) | Reply::Exists(stat) => {
-            Ok(Answer::done(Body::Stat(stat_told(clock, stat))))
+            Ok(Answer::done(Body::Stat(stat_reported(clock, stat))))
         }
         Reply::Data(bytes, stat) => data_and_stat(alloc, clock, bytes, stat),
         Reply::Children(names) => names_alone(alloc, names),
@@ -45,24 +45,24 @@ pub(crate) fn answer_of(alloc: Global, clock: &Clock, reply: &Reply) -> Result<A
 fn path_alone(alloc: Global, path: &Path) -> Result<Answer, Memory>
     ensures { IfOk result (λ answer. answer ≡ table.done (body.Path (text_of path.now))) }
 {
-    Ok(Answer::done(Body::Path(path_told(alloc, path)?)))
+    Ok(Answer::done(Body::Path(path_reported(alloc, path)?)))
 }
 
 // Returns data and a stat.
 fn data_and_stat(alloc: Global, clock: &Clock, bytes: &Data, stat: &Stat) -> Result<Answer, Memory>
     ensures { IfOk result (λ answer. answer
-        ≡ table.done (body.DataStat (Some bytes.now) (told.stat_told clock.now stat.now))) }
+        ≡ table.done (body.DataStat (Some bytes.now) (reported.stat_reported clock.now stat.now))) }
 {
-    let data = data_told(alloc, bytes)?;
-    Ok(Answer::done(Body::DataStat(data, stat_told(clock, stat))))
+    let data = data_reported(alloc, bytes)?;
+    Ok(Answer::done(Body::DataStat(data, stat_reported(clock, stat))))
 }
 
 // Returns names.
 fn names_alone(alloc: Global, names: &Names) -> Result<Answer, Memory>
     ensures { IfOk result (λ answer. answer ≡ names_answer names.now) }
 {
-    match names_told(alloc, names)? {
-        Some(told) => Ok(Answer::done(Body::Names(told))),
+    match names_reported(alloc, names)? {
+        Some(reported) => Ok(Answer::done(Body::Names(reported))),
         None => Ok(Answer::failed(Code::MarshallingError)),
     }
 }
@@ -81,9 +81,9 @@ pub(crate) fn made_answer(
     let Reply::Created(path) = reply else {
         return answer_of(alloc, clock, reply);
     };
-    let told = path_told(alloc, path)?;
-    let stat = stat_told(clock, &made_stat(at, create));
-    Ok(Answer::done(Body::PathStat(told, stat)))
+    let reported = path_reported(alloc, path)?;
+    let stat = stat_reported(clock, &made_stat(at, create));
+    Ok(Answer::done(Body::PathStat(reported, stat)))
 }
 
 /// Returns the answer to a request for a node's ACL.
@@ -94,7 +94,7 @@ pub(crate) fn acl_answer(alloc: Global, clock: &Clock, reply: &Reply) -> Result<
         return answer_of(alloc, clock, reply);
     };
     let acls = open_acls(alloc)?;
-    Ok(Answer::done(Body::AclsStat(acls, stat_told(clock, stat))))
+    Ok(Answer::done(Body::AclsStat(acls, stat_reported(clock, stat))))
 }
 
 // Returns the open ACL.
@@ -143,8 +143,8 @@ fn names_and_stat(
     ensures { IfOk result
         (λ answer. answer ≡ names_stat_answer clock.now names.now stat.now) }
 {
-    match names_told(alloc, names)? {
-        Some(told) => Ok(Answer::done(Body::NamesStat(told, stat_told(clock, stat)))),
+    match names_reported(alloc, names)? {
+        Some(reported) => Ok(Answer::done(Body::NamesStat(reported, stat_reported(clock, stat)))),
         None => Ok(Answer::failed(Code::MarshallingError)),
     }
 }

@@ -3,7 +3,7 @@
 ghost use Rattle.std.specs.Prelude.{◌≡◌, ◌<◌, ◌++◌, replicate, map, IfOk, OnOk};
 ghost use Rattle.zrequests.specs.Codes as codes;
 ghost use Rattle.zjute.specs.declared.reply.PartResult.TheVariants as result_of;
-ghost use Rattle.zresponses.specs.Answers as told;
+ghost use Rattle.zresponses.specs.Answers as reported;
 ghost use Rattle.zresponses.specs.Results as table;
 ghost use Rattle.zresponses.specs.Results.{part_results, refused_results};
 
@@ -56,7 +56,7 @@ fn results_of(
 {
     let mut results = Vec::new(alloc);
     for place in 0..asked.len().min(parts.len()).min(replies.len()) {
-        let told = part_result(
+        let reported = part_result(
             alloc,
             clock,
             at,
@@ -64,7 +64,7 @@ fn results_of(
             &parts[place],
             &replies[place],
         )?;
-        results.push(told)?;
+        results.push(reported)?;
     }
     Ok(results)
 }

@@ -12,8 +12,8 @@ ghost use Rattle.zresponses.specs.Results as table;
 ghost use Rattle.zresponses.specs.Results.{names_result};
 
 use crate::clock::{Clock, Now};
-use crate::stats::{made_stat, stat_told};
-use crate::texts::{data_told, names_told, path_told};
+use crate::stats::{made_stat, stat_reported};
+use crate::texts::{data_reported, names_reported, path_reported};
 use std::alloc::Global;
 use zalloc::Memory;
 use zrequests::code_of;
@@ -31,17 +31,17 @@ pub(crate) fn part_result(
     reply: &PartReply,
 ) -> Result<PartResult, Memory>
     ensures { IfOk result
-        (λ told. told ≡ table.part_result clock.now at.now asked.now part.now reply.now) }
+        (λ reported. reported ≡ table.part_result clock.now at.now asked.now part.now reply.now) }
 {
     match reply {
         PartReply::Created(path) => match part {
             Part::Create(create) => made_result(alloc, clock, at, asked, create, path),
             Part::Delete(_) | Part::SetData(_) | Part::Check(_) => {
-                Ok(PartResult::Create(path_told(alloc, path)?))
+                Ok(PartResult::Create(path_reported(alloc, path)?))
             }
         },
         PartReply::Deleted => Ok(PartResult::Delete),
-        PartReply::Set(stat) => Ok(PartResult::SetData(stat_told(clock, stat))),
+        PartReply::Set(stat) => Ok(PartResult::SetData(stat_reported(clock, stat))),
         PartReply::Checked => Ok(PartResult::Check),
     }
 }
@@ -55,13 +55,13 @@ fn made_result(
     create: &Create,
     path: &Path,
 ) -> Result<PartResult, Memory>
-    ensures { IfOk result (λ told. told
+    ensures { IfOk result (λ reported. reported
         ≡ table.made_result clock.now at.now asked.now create.now (text_of path.now)) }
 {
-    let path = path_told(alloc, path)?;
+    let path = path_reported(alloc, path)?;
     match asked {
         zjute::Part::Create2(_) | zjute::Part::CreateTtl(_) => {
-            let stat = stat_told(clock, &made_stat(at, create));
+            let stat = stat_reported(clock, &made_stat(at, create));
             Ok(PartResult::Create2(path, stat))
         }
         _ => Ok(PartResult::Create(path)),
@@ -70,12 +70,12 @@ fn made_result(
 
 /// Returns the result of a part of a multiRead.
 pub(crate) fn look_result(alloc: Global, clock: &Clock, reply: &Reply) -> Result<PartResult, Memory>
-    ensures { IfOk result (λ told. told ≡ table.look_result clock.now reply.now) }
+    ensures { IfOk result (λ reported. reported ≡ table.look_result clock.now reply.now) }
 {
     match reply {
         Reply::Data(bytes, stat) => {
-            let told = data_told(alloc, bytes)?;
-            Ok(PartResult::GetData(told, stat_told(clock, stat)))
+            let reported = data_reported(alloc, bytes)?;
+            Ok(PartResult::GetData(reported, stat_reported(clock, stat)))
         }
         Reply::Children(names) => names_of(alloc, names),
         Reply::Refused(refusal) => Ok(PartResult::Error(code_of(*refusal))),
@@ -85,10 +85,10 @@ pub(crate) fn look_result(alloc: Global, clock: &Clock, reply: &Reply) -> Result
 
 // Returns names as a result.
 fn names_of(alloc: Global, names: &Names) -> Result<PartResult, Memory>
-    ensures { IfOk result (λ told. told ≡ names_result names.now) }
+    ensures { IfOk result (λ reported. reported ≡ names_result names.now) }
 {
-    match names_told(alloc, names)? {
-        Some(told) => Ok(PartResult::GetChildren(told)),
+    match names_reported(alloc, names)? {
+        Some(reported) => Ok(PartResult::GetChildren(reported)),
         None => Ok(PartResult::Error(Code::MarshallingError)),
     }
 }

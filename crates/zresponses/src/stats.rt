@@ -1,7 +1,7 @@
 //! The stat in an answer.
 
 ghost use Rattle.std.specs.Prelude.{◌≡◌};
-ghost use Rattle.zresponses.specs.Stats as told;
+ghost use Rattle.zresponses.specs.Stats as reported;
 
 use crate::clock::{Clock, Now};
 use zcalls::Create;
@@ -9,7 +9,7 @@ use ztree::Stat;
 
 /// Returns the stat of a node that a create has just made, at the zxid of that create.
 pub fn made_stat(at: &Now, create: &Create) -> Stat
-    ensures { result ≡ told.made_stat at.now create.now }
+    ensures { result ≡ reported.made_stat at.now create.now }
 {
     Stat {
         czxid: at.zxid,
@@ -27,8 +27,8 @@ pub fn made_stat(at: &Now, create: &Create) -> Stat
 
 /// Returns a stat for a client: times in milliseconds since 1970, and each number in 32 or 64 bits,
 /// as in zookeeper.jute.
-pub fn stat_told(clock: &Clock, stat: &Stat) -> zjute::Stat
-    ensures { result ≡ told.stat_told clock.now stat.now }
+pub fn stat_reported(clock: &Clock, stat: &Stat) -> zjute::Stat
+    ensures { result ≡ reported.stat_reported clock.now stat.now }
 {
     zjute::Stat {
         czxid: long_of(stat.czxid.number()),
@@ -47,7 +47,7 @@ pub fn stat_told(clock: &Clock, stat: &Stat) -> zjute::Stat
 
 // Returns the time of a tick.
 fn time_of(clock: &Clock, ticks: u64) -> i64
-    ensures { result ≡ told.long_of (told.millis_at clock.now ticks) }
+    ensures { result ≡ reported.long_of (reported.millis_at clock.now ticks) }
 {
     let since = ticks.wrapping_mul(u64::from(clock.tick.millis()));
     clock.started.wrapping_add(since).cast_signed()
@@ -55,14 +55,14 @@ fn time_of(clock: &Clock, ticks: u64) -> i64
 
 // Returns the low 64 bits of a number.
 fn long_of(number: u64) -> i64
-    ensures { result ≡ told.long_of number }
+    ensures { result ≡ reported.long_of number }
 {
     number.cast_signed()
 }
 
 // Returns the low 32 bits of a number.
 fn int_of(number: u64) -> i32
-    ensures { result ≡ told.int_of number }
+    ensures { result ≡ reported.int_of number }
 {
     ((number % 4_294_967_296) as u32).cast_signed()
 }

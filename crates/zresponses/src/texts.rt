@@ -13,17 +13,17 @@ use zpath::Path;
 /// Returns a copy of a few bytes.
 pub(crate) fn bytes_of(alloc: Global, bytes: &[u8]) -> Result<Bytes, Memory>
     requires { length bytes.now ≤ MAX_FRAME }
-    ensures { IfOk result (λ told. told ≡ bytes.now) }
+    ensures { IfOk result (λ reported. reported ≡ bytes.now) }
 {
     match Bytes::new(Vec::from_slice(alloc, bytes)?) {
-        Some(told) => Ok(told),
+        Some(reported) => Ok(reported),
         None => unreachable!(),
     }
 }
 
 /// Returns the text of a path.
-pub(crate) fn path_told(alloc: Global, path: &Path) -> Result<Bytes, Memory>
-    ensures { IfOk result (λ told. told ≡ text_of path.now) }
+pub(crate) fn path_reported(alloc: Global, path: &Path) -> Result<Bytes, Memory>
+    ensures { IfOk result (λ reported. reported ≡ text_of path.now) }
 {
     // The text of a path is short.
     path.keeps_its_form();
@@ -32,17 +32,17 @@ pub(crate) fn path_told(alloc: Global, path: &Path) -> Result<Bytes, Memory>
 }
 
 /// Returns data.
-pub(crate) fn data_told(alloc: Global, bytes: &Data) -> Result<Option<Bytes>, Memory>
-    ensures { IfOk result (λ told. told ≡ Some bytes.now) }
+pub(crate) fn data_reported(alloc: Global, bytes: &Data) -> Result<Option<Bytes>, Memory>
+    ensures { IfOk result (λ reported. reported ≡ Some bytes.now) }
 {
     Ok(Some(bytes_of(alloc, bytes.as_slice())?))
 }
 
 /// Returns names; `None` if there are more than a frame can hold.
-pub(crate) fn names_told(alloc: Global, names: &Names) -> Result<Option<Texts>, Memory>
-    ensures some { IfOk result (λ told. IfSome told (λ texts. texts ≡ names.now)) }
-    ensures few { IfOk result (λ told. IfSome told (λ _. length names.now ≤ MAX_FRAME)) }
-    ensures none { IfOk result (λ told. IfNone told (MAX_FRAME < length names.now)) }
+pub(crate) fn names_reported(alloc: Global, names: &Names) -> Result<Option<Texts>, Memory>
+    ensures some { IfOk result (λ reported. IfSome reported (λ texts. texts ≡ names.now)) }
+    ensures few { IfOk result (λ reported. IfSome reported (λ _. length names.now ≤ MAX_FRAME)) }
+    ensures none { IfOk result (λ reported. IfNone reported (MAX_FRAME < length names.now)) }
 {
     let names = names.as_slice();
     if names.len() > zjute::MAX_FRAME as usize {

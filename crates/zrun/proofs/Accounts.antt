@@ -3,20 +3,20 @@ use Rattle.std.proofs.Common.{◌≡◌, ◌<◌, ℕ, true, false, true≢false
 use Rattle.std.proofs.Common.{subst, ◌∙◌, append-nil, append_assoc}
 use mathlib.Core.Option.{some}
 use lib.ListN.{get_elem?}
-use Rattle.zprotocol.specs.server.Machine.{kept_tree}
+use Rattle.zprotocol.specs.server.Machine.{cached_tree}
 use Rattle.zprotocol.specs.declared.process.Process.{Process}
 use Rattle.zprotocol.specs.declared.process.Process.TheVariants.{Client}
 use Rattle.zprotocol.specs.world.World.{opening_world}
 use Rattle.zprotocol.specs.declared.traces.trace.Traces.{Traces}
 use Rattle.zprotocol.specs.traces.Traces.{client_count, record_of, trace_of}
-use Rattle.zprotocol.specs.traces.Deeds.{GoesBy, puts, standing_in, takes, told_by, trace_by}
+use Rattle.zprotocol.specs.traces.Deeds.{GoesBy, puts, standing_in, takes, reported_by, trace_by}
 use Rattle.zprotocol.specs.traces.Lawful.{AreLawful, Begins}
 use Rattle.zprotocol.specs.Places.{process_at}
 use Rattle.zchannels.specs.declared.rings.Tx.{Tx}
 use Rattle.zchannels.specs.declared.rings.Rx.{Rx}
 use Rattle.zchannels.specs.Rings.{put_of, taken_of}
-use Rattle.zthreads.specs.declared.desk.Ending.{Ending}
-use Rattle.zthreads.specs.Desks.{IsOutside, opening_of, TreeDeed, TreeStamped}
+use Rattle.zthreads.specs.declared.endpoint.Ending.{Ending}
+use Rattle.zthreads.specs.Endpoints.{IsOutside, opening_of, TreeDeed, TreeStamped}
 use Rattle.zthreads.specs.Endings.{AccountsAtEnd}
 use Rattle.zchannels.proofs.Said.{within}
 use Rattle.zrun.specs.Left.{self_at}
@@ -34,13 +34,13 @@ pub record Linked (es : List Ending) : Type 0 where
       → Begins (taken_of rx) (put_of tx)
 
 -- the traces, none of which is cut, tell what was left
-pub record Tells (last n : ℕ) (t : Traces) (es : List Ending) : Type 0 where
+pub record Reports (last n : ℕ) (t : Traces) (es : List Ending) : Type 0 where
   pub end : t.last ≡ last
   pub count : client_count t ≡ n
   pub events : (p : Process) (i : ℕ) (e : Ending) → p ≡ process_at i → get_elem? es i ≡ some e → trace_of t p ≡ e.trace.events.items
   pub no_events : (p : Process) → IsOutside p (length es) → trace_of t p ≡ []
-  pub told : (c i : ℕ) (e : Ending) → Client c ≡ process_at i → get_elem? es i ≡ some e → record_of t c ≡ e.seen.items
-  pub none_told : (c : ℕ) → IsOutside (Client c) (length es) → record_of t c ≡ []
+  pub reported : (c i : ℕ) (e : Ending) → Client c ≡ process_at i → get_elem? es i ≡ some e → record_of t c ≡ e.seen.items
+  pub none_reported : (c : ℕ) → IsOutside (Client c) (length es) → record_of t c ≡ []
   pub whole : (i : ℕ) (e : Ending) → get_elem? es i ≡ some e → e.trace.is_cut ≡ false
 
 pub begins_so : {A : Type 0} (a b c : List A) → Begins a b → Begins b c → Begins a c
@@ -55,11 +55,11 @@ module _ (last n : ℕ) (es : List Ending) (ds : List (List TreeDeed)) (g : Link
   deeds_in p (Inside i lt at) = get_or ds i []
   deeds_in p (Outside out) = []
 
-  goes : (p : Process) (f : Found p (length es)) → GoesBy kept_tree p (opening_of last n p) 0 (deeds_in p f)
+  goes : (p : Process) (f : Found p (length es)) → GoesBy cached_tree p (opening_of last n p) 0 (deeds_in p f)
   goes p (Inside i lt at) =
       let e = element es i lt in
-      let went : GoesBy kept_tree (process_at i) (opening_of last n (process_at i)) 0 (get_or ds i []) = (mine i e.0 e.1).goes in
-      subst (λ (q : Process). GoesBy kept_tree q (opening_of last n q) 0 (get_or ds i [])) (sym at) went
+      let went : GoesBy cached_tree (process_at i) (opening_of last n (process_at i)) 0 (get_or ds i []) = (mine i e.0 e.1).goes in
+      subst (λ (q : Process). GoesBy cached_tree q (opening_of last n q) 0 (get_or ds i [])) (sym at) went
   goes p (Outside out) = tt
 
   linked : (from to : Process) (f : Found from (length es)) (h : Found to (length es))
@@ -75,10 +75,10 @@ module _ (last n : ℕ) (es : List Ending) (ds : List (List TreeDeed)) (g : Link
       let tx = element a.0.outs.items j (subst (λ m. j < m) (sym (g.outs i a.0 a.1)) lt') in
       let rx = element b.0.ins.items i (subst (λ m. i < m) (sym (g.ins j b.0 b.1)) lt) in
       let taken = (mine j b.0 b.1).taken i rx.0 rx.1 in
-      let told = g.links i j a.0 b.0 tx.0 rx.0 a.1 tx.1 b.1 rx.1 in
+      let reported = g.links i j a.0 b.0 tx.0 rx.0 a.1 tx.1 b.1 rx.1 in
       let put = (mine i a.0 a.1).put j tx.0 tx.1 in
       let so : Begins (takes (process_at i) (get_or ds j [])) (puts (process_at j) (get_or ds i [])) =
-      begins_so _ (taken_of rx.0) _ taken (subst (λ l. Begins (taken_of rx.0) l) put told) in
+      begins_so _ (taken_of rx.0) _ taken (subst (λ l. Begins (taken_of rx.0) l) put reported) in
       subst (λ (q : Process × Process). Begins (takes q.0 (get_or ds j [])) (puts q.1 (get_or ds i []))) (λ k. (sym at k, sym at' k)) so
 
   left : (i : ℕ) (e : Ending) → get_elem? es i ≡ some e → (f : Found (process_at i) (length es))
@@ -97,12 +97,12 @@ module _ (last n : ℕ) (es : List Ending) (ds : List (List TreeDeed)) (g : Link
         },
       )
 
-  module _ (t : Traces) (h : Tells last n t es) where
+  module _ (t : Traces) (h : Reports last n t es) where
     went_on : (p : Process) (f : Found p (length es))
-        → GoesBy kept_tree p (standing_in (opening_world kept_tree t.last (client_count t)) p) 0 (deeds_in p f)
+        → GoesBy cached_tree p (standing_in (opening_world cached_tree t.last (client_count t)) p) 0 (deeds_in p f)
     unfolding opening_of
     went_on p f =
-        subst (λ (w : ℕ × ℕ). GoesBy kept_tree p (standing_in (opening_world kept_tree w.0 w.1) p) 0 (deeds_in p f))
+        subst (λ (w : ℕ × ℕ). GoesBy cached_tree p (standing_in (opening_world cached_tree w.0 w.1) p) 0 (deeds_in p f))
         (λ k. (sym h.end k, sym h.count k)) (goes p f)
 
     traced : (p : Process) (f : Found p (length es)) → trace_by (deeds_in p f) ≡ trace_of t p
@@ -110,10 +110,10 @@ module _ (last n : ℕ) (es : List Ending) (ds : List (List TreeDeed)) (g : Link
         let e = element es i lt in (mine i e.0 e.1).traced (h.whole i e.0 e.1) ∙ sym (h.events p i e.0 at e.1)
     traced p (Outside out) = sym (h.no_events p out)
 
-    recorded : (c : ℕ) (f : Found (Client c) (length es)) → told_by (deeds_in (Client c) f) ≡ record_of t c
+    recorded : (c : ℕ) (f : Found (Client c) (length es)) → reported_by (deeds_in (Client c) f) ≡ record_of t c
     recorded c (Inside i lt at) =
-        let e = element es i lt in (mine i e.0 e.1).told (h.whole i e.0 e.1) ∙ sym (h.told c i e.0 at e.1)
-    recorded c (Outside out) = sym (h.none_told c out)
+        let e = element es i lt in (mine i e.0 e.1).reported (h.whole i e.0 e.1) ∙ sym (h.reported c i e.0 at e.1)
+    recorded c (Outside out) = sym (h.none_reported c out)
 
     pub accounted : AreLawful t
     accounted =

@@ -1,5 +1,5 @@
 pub mod Openings
-pub mod Desks
+pub mod Endpoints
 pub mod Leavings
 pub mod Still
 pub mod Pairs

@@ -6,13 +6,13 @@ use Rattle.std.proofs.lemmas.Bool.Decides.{nat_tests}
 use Rattle.std.proofs.lemmas.List.Elements.{All-head, All-tail}
 use Rattle.zprotocol.specs.declared.limits.TheConstants.{MAX_SERVERS}
 use Rattle.zprotocol.specs.declared.process.Process.TheVariants.{Master, Server, Client}
-use Rattle.zprotocol.specs.server.Machine.{kept_tree}
+use Rattle.zprotocol.specs.server.Machine.{cached_tree}
 use Rattle.zprotocol.specs.server.View.{opening_server}
 use Rattle.zprotocol.specs.master.View.{opening_master}
 use Rattle.zprotocol.specs.client.View.{opening_client}
 use Rattle.zprotocol.specs.Places.{is_server}
 use Rattle.zprotocol.specs.world.Does.{AtMaster, AtServer, AtClient}
-use Rattle.zthreads.specs.Desks.{Each, opening_of}
+use Rattle.zthreads.specs.Endpoints.{Each, opening_of}
 
 pub master_opening : (last clients : ℕ) → opening_of last clients Master ≡ AtMaster (opening_master last clients)
 unfolding opening_of
@@ -22,7 +22,7 @@ master_opening last clients = refl
 pub server_is : (s : ℕ) → 0 < s → s ≤ MAX_SERVERS → is_server s ≡ true
 server_is s some few = grind (arith, nat_tests, some, few)
 
-pub server_opening : (last clients s : ℕ) → is_server s ≡ true → opening_of last clients (Server s) ≡ AtServer (opening_server kept_tree last s)
+pub server_opening : (last clients s : ℕ) → is_server s ≡ true → opening_of last clients (Server s) ≡ AtServer (opening_server cached_tree last s)
 unfolding opening_of
 server_opening last clients s is = rw is refl
 

@@ -5,14 +5,14 @@ use Rattle.std.specs.Prelude.{IfSome}
 use Rattle.std.proofs.lemmas.List.{length-map}
 use mathlib.Core.Option.{some, some-injective, some-ne-none}
 use lib.ListN.{get_elem?}
-use Rattle.zthreads.specs.Callers.{caller_desk, caller_id}
-use Rattle.zthreads.specs.declared.desk.Desk.{Desk}
-use Rattle.zthreads.specs.Desks.{Each}
+use Rattle.zthreads.specs.Callers.{caller_endpoint, caller_id}
+use Rattle.zthreads.specs.declared.endpoint.Endpoint.{Endpoint}
+use Rattle.zthreads.specs.Endpoints.{Each}
 use Rattle.zchannels.proofs.Said.{within}
 use Rattle.atomic_table.proofs.Lists.{at_set}
 use Rattle.zrun.proofs.Elements.{element_map, element_right}
 use Rattle.zrun.specs.declared.posts.ClientPost.{ClientPost}
-use Rattle.zrun.specs.Origins.{client_desks, desk_wiring, IsOneOf, Run}
+use Rattle.zrun.specs.Origins.{client_endpoints, endpoint_wiring, IsOneOf, Run}
 use Rattle.zrun.specs.declared.client.Client as client
 use Rattle.zrun.specs.Clients.{AreIn, BelongsTo, client_wiring, number_of}
 
@@ -31,11 +31,11 @@ module _ (run yielded rest : Run) (p : ClientPost) (numbers : Each (λ i q. call
   pub next_number : caller_id p.caller ≡ length yielded
   next_number = numbers (length yielded) p at_next
 
-  pub next_one : IsOneOf run (caller_id p.caller) (desk_wiring (caller_desk p.caller))
+  pub next_one : IsOneOf run (caller_id p.caller) (endpoint_wiring (caller_endpoint p.caller))
   next_one =
-      let desk_of : ClientPost → Desk = λ q. caller_desk q.caller in
-      ap (λ m. get_elem? (map desk_wiring (client_desks run)) m) next_number
-      ∙ element_map desk_wiring (client_desks run) (length yielded) (desk_of p) (element_map desk_of run (length yielded) p at_next)
+      let endpoint_of : ClientPost → Endpoint = λ q. caller_endpoint q.caller in
+      ap (λ m. get_elem? (map endpoint_wiring (client_endpoints run)) m) next_number
+      ∙ element_map endpoint_wiring (client_endpoints run) (length yielded) (endpoint_of p) (element_map endpoint_of run (length yielded) p at_next)
 
 -- what is true of whatever is there
 pub if_there : {X : Type 0} (o : Option X) (P : X → Type 0) → ((x : X) → o ≡ Some x → P x) → IfSome o P
@@ -55,6 +55,6 @@ module _ (run : Run) (places : List (Option client.Client)) (own : AreIn run pla
 -- a client of a run has a place in it
 pub has_place : (run : Run) (c : client.Client) → BelongsTo run c → number_of c < length run
 has_place run c belongs =
-    let desk_of : ClientPost → Desk = λ q. caller_desk q.caller in
-    subst (λ n. number_of c < n) (length-map (client_desks run) desk_wiring ∙ length-map run desk_of)
-    (within (map desk_wiring (client_desks run)) (number_of c) (client_wiring c) belongs)
+    let endpoint_of : ClientPost → Endpoint = λ q. caller_endpoint q.caller in
+    subst (λ n. number_of c < n) (length-map (client_endpoints run) endpoint_wiring ∙ length-map run endpoint_of)
+    (within (map endpoint_wiring (client_endpoints run)) (number_of c) (client_wiring c) belongs)

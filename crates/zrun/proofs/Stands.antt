@@ -8,7 +8,7 @@ use Rattle.zprotocol.specs.declared.process.Process.TheVariants.{Master, Server,
 use Rattle.zprotocol.specs.world.Links.{is_same}
 use Rattle.zprotocol.proofs.world_lemmas.Processes.{same_itself, same_process}
 use Rattle.zprotocol.specs.Places.{process_at}
-use Rattle.zthreads.specs.Desks.{IsOutside}
+use Rattle.zthreads.specs.Endpoints.{IsOutside}
 use Rattle.zthreads.proofs.Wires.{apart}
 use Rattle.zchannels.proofs.Said.{at_most}
 

@@ -2,12 +2,12 @@
 use Rattle.std.proofs.Common.{◌≡◌, ℕ, sym, ap, subst, ◌∙◌}
 use Rattle.zprotocol.specs.declared.process.Process.{Process}
 use Rattle.zprotocol.specs.declared.process.Process.TheVariants.{Master, Server, Client}
-use Rattle.zthreads.specs.declared.desk.Desk.{Desk}
-use Rattle.zthreads.specs.Desks.{SameDesk}
+use Rattle.zthreads.specs.declared.endpoint.Endpoint.{Endpoint}
+use Rattle.zthreads.specs.Endpoints.{SameEndpoint}
 use Rattle.zthreads.specs.declared.caller.Caller.{Caller}
-use Rattle.zthreads.specs.Callers.{caller_desk, caller_id}
+use Rattle.zthreads.specs.Callers.{caller_endpoint, caller_id}
 use Rattle.zrun.specs.declared.client.Client as client
-use Rattle.zrun.specs.Origins.{desk_wiring, IsOneOf, Run, Wiring}
+use Rattle.zrun.specs.Origins.{endpoint_wiring, IsOneOf, Run, Wiring}
 use Rattle.zrun.specs.Clients.{BelongsTo, SameClient}
 
 number_in : Process → ℕ
@@ -20,11 +20,11 @@ unfolding number_in
 same_client a b same = ap number_in same
 
 -- it has the number that it had
-pub still_number : (a b : Caller) → SameDesk (caller_desk a) (caller_desk b) → caller_id b ≡ caller_id a
+pub still_number : (a b : Caller) → SameEndpoint (caller_endpoint a) (caller_endpoint b) → caller_id b ≡ caller_id a
 still_number a b same = same_client (caller_id b) (caller_id a) (sym b.is_client ∙ same.me ∙ a.is_client)
 
 -- and its wiring
-pub still_wired : (a b : Desk) → SameDesk a b → desk_wiring b ≡ desk_wiring a
+pub still_wired : (a b : Endpoint) → SameEndpoint a b → endpoint_wiring b ≡ endpoint_wiring a
 still_wired a b same k = record {
   me = same.me k;
   last = same.last k;
@@ -35,7 +35,7 @@ still_wired a b same k = record {
   outs = same.outs k;
 }
 
-pub wired_alike : (a b : Desk) → desk_wiring b ≡ desk_wiring a → SameDesk a b
+pub wired_alike : (a b : Endpoint) → endpoint_wiring b ≡ endpoint_wiring a → SameEndpoint a b
 wired_alike a b same = record {
   me = ap (λ w. w.me) same;
   last = ap (λ w. w.last) same;

@@ -23,15 +23,15 @@ use Rattle.zchannels.specs.declared.rings.Tx.{Tx}
 use Rattle.zchannels.specs.declared.rings.Rx.{Rx}
 use Rattle.zchannels.specs.Rings.{put_of, Ring, ring_of_rx, ring_of_tx, taken_of}
 use Rattle.zchannels.specs.Woven.{in_rings, IsWoven, out_rings}
-use Rattle.zchannels.specs.Told.{AreTold, in_lists, out_lists}
+use Rattle.zchannels.specs.Reported.{AreReported, in_lists, out_lists}
 use Rattle.zchannels.proofs.Said.{within}
-use Rattle.zthreads.specs.declared.desk.Ending.{Ending}
-use Rattle.zthreads.specs.Desks.{Each, IsOutside, TreeStamped}
+use Rattle.zthreads.specs.declared.endpoint.Ending.{Ending}
+use Rattle.zthreads.specs.Endpoints.{Each, IsOutside, TreeStamped}
 use Rattle.zthreads.specs.Endings.{AccountsAtEnd}
 use Rattle.zthreads.proofs.Endings.{neither}
 use Rattle.zrun.specs.Left.{AreLeft, AreWired, by_place, client_trace_of, is_left_cut, is_left_lost, self_at}
 use Rattle.zrun.specs.Gone.{HasGone}
-use Rattle.zrun.proofs.Accounts.{accounted, Linked, Tells, went}
+use Rattle.zrun.proofs.Accounts.{accounted, Linked, Reports, went}
 use Rattle.zrun.proofs.Elements.{choose, element_left, element_map, element_or, element_right}
 use Rattle.zrun.proofs.Stands.{client_at, client_here, master_at, same_at, server_at, server_here}
 
@@ -60,13 +60,13 @@ any_map test f (x ∷ xs) = ap (λ b. test (f x) || b) (any_map test f xs)
 -- what the links of what was left tell
 module _ (es : List Ending) (wired : AreWired es) (outs : List (Vec (Tx TreeStamped) Global)) (ins : List (Vec (Rx TreeStamped) Global))
     (puts : outs ≡ map (λ (e : Ending). e.outs) es) (takes : ins ≡ map (λ (e : Ending). e.ins) es)
-    (tells : AreTold (out_lists outs) (in_lists ins)) where
+    (reports : AreReported (out_lists outs) (in_lists ins)) where
   links : (i j : ℕ) (a b : Ending) (tx : Tx TreeStamped) (rx : Rx TreeStamped)
       → get_elem? es i ≡ some a → get_elem? a.outs.items j ≡ some tx
       → get_elem? es j ≡ some b → get_elem? b.ins.items i ≡ some rx
       → Begins (taken_of rx) (put_of tx)
   links i j a b tx rx at_a at_tx at_b at_rx =
-      tells i j (map put_of a.outs.items) (map taken_of b.ins.items) (put_of tx) (taken_of rx)
+      reports i j (map put_of a.outs.items) (map taken_of b.ins.items) (put_of tx) (taken_of rx)
       (subst (λ l. get_elem? (out_lists l) i ≡ some (map put_of a.outs.items)) (sym puts)
       (element_map (λ (row : Vec (Tx TreeStamped) Global). map put_of row.items) (map (λ (e : Ending). e.outs) es) i
       a.outs (element_map (λ (e : Ending). e.outs) es i a at_a)))
@@ -151,8 +151,8 @@ module _ (last : ℕ) (m : Ending) (ss cs : List Ending) (t : Traces) (all_serve
       ∙ element_or (λ (client : ClientTrace). client.trace.events.items) (map client_trace_of cs) c (client_trace_of e)
       [] (element_map client_trace_of cs c e there)
 
-  told : (c i : ℕ) (e : Ending) → Client c ≡ process_at i → get_elem? es i ≡ some e → record_of t c ≡ e.seen.items
-  told c i e is at =
+  reported : (c i : ℕ) (e : Ending) → Client c ≡ process_at i → get_elem? es i ≡ some e → record_of t c ≡ e.seen.items
+  reported c i e is at =
       let there = client_place c i e (client_at i c (same_at (Client c) i is)) at in
       ap (λ l. get_or (map (λ (client : ClientTrace). client.«record».items) l) c []) clients
       ∙ element_or (λ (client : ClientTrace). client.«record».items) (map client_trace_of cs) c (client_trace_of e) []
@@ -186,17 +186,17 @@ module _ (last : ℕ) (m : Ending) (ss cs : List Ending) (t : Traces) (all_serve
   pub lawful : Linked es → AreLeft last (length cs) es → is_left_cut m ss cs ≡ false → ∥ AreLawful t ∥₁
   lawful linked left uncut =
       let whole = none_of_all (λ (e : Ending). e.trace.is_cut) m ss cs uncut in
-      let tells : Tells last (length cs) t es = record {
+      let reports : Reports last (length cs) t es = record {
         end = end;
         count = count;
         events = events;
         no_events = no_events;
-        told = told;
-        none_told = none_beyond (λ (client : ClientTrace). client.«record».items);
+        reported = reported;
+        none_reported = none_beyond (λ (client : ClientTrace). client.«record».items);
         whole = whole;
       } in
       ∥∥₁_map (choose (λ i e d. AccountsAtEnd (self_at last (length cs) i) e d) es (λ i e at. left i e at (e.kept (whole i e at))))
-      (λ ds. accounted last (length cs) es ds.0 linked ds.1 t tells)
+      (λ ds. accounted last (length cs) es ds.0 linked ds.1 t reports)
 
 -- ends that were kept are wired as they were
 pub wired_lists : (es : List Ending) (outs : List (Vec (Tx TreeStamped) Global)) (ins : List (Vec (Rx TreeStamped) Global))

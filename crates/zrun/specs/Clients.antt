@@ -4,19 +4,19 @@ use Rattle.zcalls.specs.declared.call.Call.{Call}
 use Rattle.zcalls.specs.declared.reply.Reply.{Reply}
 use Rattle.zprotocol.specs.declared.client.begin_fault.BeginFault.{BeginFault}
 use Rattle.zprotocol.specs.client.View.{ClientView}
-use Rattle.zthreads.specs.declared.desk.Desk.{Desk}
-use Rattle.zthreads.specs.declared.desk.Ending.{Ending}
-use Rattle.zthreads.specs.Desks.{Each}
-use Rattle.zthreads.specs.Desks as desk
+use Rattle.zthreads.specs.declared.endpoint.Endpoint.{Endpoint}
+use Rattle.zthreads.specs.declared.endpoint.Ending.{Ending}
+use Rattle.zthreads.specs.Endpoints.{Each}
+use Rattle.zthreads.specs.Endpoints as endpoint
 use Rattle.zthreads.specs.Endings.{HasEnded, LeavesNothing, SameWires}
 use Rattle.zthreads.specs.declared.caller.Caller.{Caller}
-use Rattle.zthreads.specs.Callers.{caller_desk, caller_id, caller_view, Began, MayRefuse, SameCaller, Turned}
+use Rattle.zthreads.specs.Callers.{caller_endpoint, caller_id, caller_view, Began, MayRefuse, SameCaller, Turned}
 use Rattle.zchannels.specs.declared.halts.HaltSeat.{HaltSeat}
 use Rattle.zrun.specs.declared.client.Client.{Client}
 use Rattle.zrun.specs.declared.faults.Unanswered.{Unanswered}
 use Rattle.zrun.specs.declared.faults.Unanswered.TheVariants.{NoAnswer}
 use Rattle.zrun.specs.Faults.{unanswered_by}
-use Rattle.zrun.specs.Origins.{desk_wiring, IsOneOf, Run, Wiring}
+use Rattle.zrun.specs.Origins.{endpoint_wiring, IsOneOf, Run, Wiring}
 
 -- the caller that acts for it
 abbrev pub caller_of : Client → Caller
@@ -65,11 +65,11 @@ halt_seat c = c.seat
 abbrev pub number_of : Client → ℕ
 number_of c = caller_id c.caller
 
-abbrev pub client_desk : Client → Desk
-client_desk c = caller_desk c.caller
+abbrev pub client_endpoint : Client → Endpoint
+client_endpoint c = caller_endpoint c.caller
 
 abbrev pub client_wiring : Client → Wiring
-client_wiring c = desk_wiring (client_desk c)
+client_wiring c = endpoint_wiring (client_endpoint c)
 
 -- it is a client of that run
 abbrev pub BelongsTo : Run → Client → Type 0
@@ -93,8 +93,8 @@ AreIn run places = Each (λ i place. (c : Client) → place ≡ Some c → IsCli
 abbrev pub IsLeftIn : Option Client → Ending → Type 0
 IsLeftIn None e = (e.trace.is_cut ≡ true) × (e.is_lost ≡ true)
 IsLeftIn (Some c) e =
-    HasEnded (desk.self_of (client_desk c)) e
-    × SameWires (client_desk c) e
-    × (e.trace.events.items ≡ desk.trace_of (client_desk c))
-    × (e.seen.items ≡ desk.seen_of (client_desk c))
-    × (desk.is_traced_of (client_desk c) ≡ false → LeavesNothing e)
+    HasEnded (endpoint.self_of (client_endpoint c)) e
+    × SameWires (client_endpoint c) e
+    × (e.trace.events.items ≡ endpoint.trace_of (client_endpoint c))
+    × (e.seen.items ≡ endpoint.seen_of (client_endpoint c))
+    × (endpoint.is_traced_of (client_endpoint c) ≡ false → LeavesNothing e)

@@ -1,9 +1,9 @@
 -- What a clause says of a cluster.
 use Rattle.std.specs.Prelude.{ℕ, Bool, List}
-use Rattle.zthreads.specs.declared.desk.Desk.{Desk}
+use Rattle.zthreads.specs.declared.endpoint.Endpoint.{Endpoint}
 use Rattle.zrun.specs.declared.cluster.Cluster.{Cluster}
 use Rattle.zrun.specs.declared.opening.Opening.{Opening}
-use Rattle.zrun.specs.Handles.{given_desks}
+use Rattle.zrun.specs.Handles.{given_endpoints}
 use Rattle.zrun.specs.Origins.{Run}
 
 -- its initial state: the last server of its chain, and the number of its clients
@@ -21,8 +21,8 @@ abbrev pub cluster_run : Cluster → Run
 cluster_run c = c.run.value.items
 
 -- the endpoints that its processes were started with, by index
-abbrev pub cluster_desks : Cluster → List Desk
-cluster_desks c = given_desks c.master c.servers.items c.run.value.items
+abbrev pub cluster_endpoints : Cluster → List Endpoint
+cluster_endpoints c = given_endpoints c.master c.servers.items c.run.value.items
 
 -- whether its processes have traces
 abbrev pub cluster_is_traced : Cluster → Bool

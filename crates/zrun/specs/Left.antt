@@ -11,8 +11,8 @@ use Rattle.zchannels.specs.declared.rings.Tx.{Tx}
 use Rattle.zchannels.specs.declared.rings.Rx.{Rx}
 use Rattle.zchannels.specs.Rings.{ring_of_rx, ring_of_tx}
 use Rattle.zchannels.specs.Woven.{IsWoven}
-use Rattle.zthreads.specs.declared.desk.Ending.{Ending}
-use Rattle.zthreads.specs.Desks.{Each, opening_of, Self, TreeStamped}
+use Rattle.zthreads.specs.declared.endpoint.Ending.{Ending}
+use Rattle.zthreads.specs.Endpoints.{Each, opening_of, Self, TreeStamped}
 use Rattle.zthreads.specs.Endings.{HasEnded}
 
 -- all of them, by index

@@ -4,11 +4,11 @@ use Rattle.zprotocol.specs.declared.process.Process.TheVariants as process
 use Rattle.zprotocol.specs.declared.traces.trace.ClientTrace.{ClientTrace}
 use Rattle.zprotocol.specs.declared.traces.trace.Traces.{Traces}
 use Rattle.zprotocol.specs.traces.Traces.{record_of, trace_of}
-use Rattle.zthreads.specs.Desks as desk
+use Rattle.zthreads.specs.Endpoints as endpoint
 use Rattle.zrun.specs.declared.client.Client.{Client}
 use Rattle.zrun.specs.declared.clients.Clients.{Clients}
 use Rattle.zrun.specs.Origins.{Run}
-use Rattle.zrun.specs.Clients.{client_desk}
+use Rattle.zrun.specs.Clients.{client_endpoint}
 
 -- the slot of each client, by number
 abbrev pub places_of : Clients → List (Option Client)
@@ -32,9 +32,9 @@ is_cut_client t i = get_or (map (λ (c : ClientTrace). c.trace.is_cut) t.clients
 
 -- the client's trace and record are in the traces of the run; the trace of one that isn't there is
 -- cut
-abbrev pub IsTold : Traces → ℕ → Option Client → Type 0
-IsTold t i None = is_cut_client t i ≡ true
-IsTold t i (Some c) = (trace_of t (process.Client i) ≡ desk.trace_of (client_desk c)) × (record_of t i ≡ desk.seen_of (client_desk c))
+abbrev pub IsReported : Traces → ℕ → Option Client → Type 0
+IsReported t i None = is_cut_client t i ≡ true
+IsReported t i (Some c) = (trace_of t (process.Client i) ≡ endpoint.trace_of (client_endpoint c)) × (record_of t i ≡ endpoint.seen_of (client_endpoint c))
 
-abbrev pub AreTold : ℕ → Traces → Clients → Type 0
-AreTold n t cs = (i : ℕ) → i < n → IsTold t i (client_at cs i)
+abbrev pub AreReported : ℕ → Traces → Clients → Type 0
+AreReported n t cs = (i : ℕ) → i < n → IsReported t i (client_at cs i)

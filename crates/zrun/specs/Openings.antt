@@ -3,25 +3,25 @@ use Rattle.std.specs.Prelude.{◌≡◌, ◌+◌, List, length, map}
 use Rattle.zprotocol.specs.declared.limits.TheConstants.{MAX_SERVERS}
 use Rattle.zprotocol.specs.declared.process.Process.{Process}
 use Rattle.zchannels.specs.Rings.{Ring, ring_of_rx, ring_of_tx}
-use Rattle.zthreads.specs.declared.desk.Desk.{Desk}
-use Rattle.zthreads.specs.Desks.{AreFreshIns, AreFreshOuts, IsDeskOf}
+use Rattle.zthreads.specs.declared.endpoint.Endpoint.{Endpoint}
+use Rattle.zthreads.specs.Endpoints.{AreFreshIns, AreFreshOuts, IsEndpointOf}
 use Rattle.zrun.specs.declared.opening.Ends.{Ends}
 use Rattle.zrun.specs.declared.opening.Opening.{Opening}
-use Rattle.zrun.specs.Runs.{AreDesks, AreTraced, in_rings_of, IsRun, out_rings_of}
+use Rattle.zrun.specs.Runs.{AreEndpoints, AreTraced, in_rings_of, IsRun, out_rings_of}
 
 -- it is the endpoint of that process in a run with that initial state
-abbrev pub IsDeskAt : Opening → Process → Desk → Type 0
-IsDeskAt opening p d = IsDeskOf p opening.last opening.clients d
+abbrev pub IsEndpointAt : Opening → Process → Endpoint → Type 0
+IsEndpointAt opening p d = IsEndpointOf p opening.last opening.clients d
 
 -- they are the endpoints of its servers, of its clients, or of all its processes, traced as it says
-abbrev pub AreServerDesks : Opening → List Desk → Type 0
-AreServerDesks opening desks = AreDesks opening.last opening.clients 1 desks
+abbrev pub AreServerEndpoints : Opening → List Endpoint → Type 0
+AreServerEndpoints opening endpoints = AreEndpoints opening.last opening.clients 1 endpoints
 
-abbrev pub AreClientDesks : Opening → List Desk → Type 0
-AreClientDesks opening desks = AreDesks opening.last opening.clients (MAX_SERVERS + 1) desks
+abbrev pub AreClientEndpoints : Opening → List Endpoint → Type 0
+AreClientEndpoints opening endpoints = AreEndpoints opening.last opening.clients (MAX_SERVERS + 1) endpoints
 
-abbrev pub IsRunFrom : Opening → List Desk → Type 0
-IsRunFrom opening desks = IsRun opening.last opening.clients desks × AreTraced opening.is_traced desks
+abbrev pub IsRunFrom : Opening → List Endpoint → Type 0
+IsRunFrom opening endpoints = IsRun opening.last opening.clients endpoints × AreTraced opening.is_traced endpoints
 
 -- nothing was sent on them, and there are as many from others as to others
 abbrev pub AreFresh : Ends → Type 0
@@ -35,5 +35,5 @@ abbrev pub in_rings_in : Ends → List Ring
 in_rings_in e = map ring_of_rx e.ins.items
 
 -- the endpoint has these channels
-abbrev pub HasEnds : Ends → Desk → Type 0
+abbrev pub HasEnds : Ends → Endpoint → Type 0
 HasEnds e d = (out_rings_of d ≡ out_rings_in e) × (in_rings_of d ≡ in_rings_in e)

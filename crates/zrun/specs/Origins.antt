@@ -4,9 +4,9 @@ use mathlib.Core.Option.{some}
 use lib.ListN.{get_elem?}
 use Rattle.zprotocol.specs.declared.process.Process.{Process}
 use Rattle.zchannels.specs.Rings.{Ring}
-use Rattle.zthreads.specs.declared.desk.Desk.{Desk}
-use Rattle.zthreads.specs.Desks.{is_traced_of, link_count, process_of}
-use Rattle.zthreads.specs.Callers.{caller_desk}
+use Rattle.zthreads.specs.declared.endpoint.Endpoint.{Endpoint}
+use Rattle.zthreads.specs.Endpoints.{is_traced_of, link_count, process_of}
+use Rattle.zthreads.specs.Callers.{caller_endpoint}
 use Rattle.zrun.specs.declared.posts.ClientPost.{ClientPost}
 use Rattle.zrun.specs.Runs.{in_rings_of, out_rings_of}
 
@@ -21,8 +21,8 @@ pub record Wiring : Type 0 where
   pub ins : List Ring
   pub outs : List Ring
 
-abbrev pub desk_wiring : Desk → Wiring
-desk_wiring d = record {
+abbrev pub endpoint_wiring : Endpoint → Wiring
+endpoint_wiring d = record {
   me = process_of d;
   last = d.last;
   clients = d.clients;
@@ -37,9 +37,9 @@ abbrev pub Run : Type 0
 Run = List ClientPost
 
 -- the endpoints that they were made with
-abbrev pub client_desks : Run → List Desk
-client_desks run = map (λ (p : ClientPost). caller_desk p.caller) run
+abbrev pub client_endpoints : Run → List Endpoint
+client_endpoints run = map (λ (p : ClientPost). caller_endpoint p.caller) run
 
 -- the client of that number is the one with this wiring
 abbrev pub IsOneOf : Run → ℕ → Wiring → Type 0
-IsOneOf run number wiring = get_elem? (map desk_wiring (client_desks run)) number ≡ some wiring
+IsOneOf run number wiring = get_elem? (map endpoint_wiring (client_endpoints run)) number ≡ some wiring

@@ -2,7 +2,7 @@
 use Rattle.std.specs.Prelude.{◌≡◌, ℕ, List, [], ◌∷◌, ◌++◌, length, map}
 use Rattle.zchannels.specs.Rings.{Ring}
 use Rattle.zchannels.specs.Woven.{AreWoven, in_rings, out_rings}
-use Rattle.zthreads.specs.declared.desk.Desk.{Desk}
+use Rattle.zthreads.specs.declared.endpoint.Endpoint.{Endpoint}
 use Rattle.zrun.specs.declared.opening.Ends.{Ends}
 use Rattle.zrun.specs.declared.supply.Supply.{Supply}
 use Rattle.zrun.specs.Openings.{in_rings_in, out_rings_in}
@@ -29,6 +29,6 @@ HandsEnds a b e =
     (out_rings_left a ≡ out_rings_left b ++ out_rings_in e ∷ []) × (in_rings_left a ≡ in_rings_left b ++ in_rings_in e ∷ [])
 
 -- it returned the last channels, for these endpoints
-abbrev pub HandsOut : Supply → Supply → List Desk → Type 0
-HandsOut a b desks =
-    (out_rings_left a ≡ out_rings_left b ++ map out_rings_of desks) × (in_rings_left a ≡ in_rings_left b ++ map in_rings_of desks)
+abbrev pub HandsOut : Supply → Supply → List Endpoint → Type 0
+HandsOut a b endpoints =
+    (out_rings_left a ≡ out_rings_left b ++ map out_rings_of endpoints) × (in_rings_left a ≡ in_rings_left b ++ map in_rings_of endpoints)

@@ -1,11 +1,11 @@
 -- What a clause says of a cluster without traces.
 use Rattle.std.specs.Prelude.{ℕ, false, List}
-use Rattle.zthreads.specs.declared.desk.Ending.{Ending}
-use Rattle.zthreads.specs.Desks.{Each}
+use Rattle.zthreads.specs.declared.endpoint.Ending.{Ending}
+use Rattle.zthreads.specs.Endpoints.{Each}
 use Rattle.zthreads.specs.Endings.{LeavesNothing, SameWires}
 use Rattle.zrun.specs.Gone.{HasGone}
 use Rattle.zrun.specs.declared.untraced.Untraced.{Untraced}
-use Rattle.zrun.specs.Clusters.{client_count, cluster_desks, cluster_run, last_server}
+use Rattle.zrun.specs.Clusters.{client_count, cluster_endpoints, cluster_run, last_server}
 use Rattle.zrun.specs.Origins.{Run}
 use Rattle.zrun.specs.Runs.{AreTraced, Pairs}
 
@@ -21,11 +21,11 @@ untraced_run u = cluster_run u.cluster
 
 -- no process of it has a trace or a record
 abbrev pub KeepsNoTrace : Untraced → Type 0
-KeepsNoTrace u = AreTraced false (cluster_desks u.cluster)
+KeepsNoTrace u = AreTraced false (cluster_endpoints u.cluster)
 
 -- Its processes left their ends of its channels, with no trace and no record. There are steps of
 -- each, by its table from the initial state, that sent and received what those ends say.
 abbrev pub RanLawfully : Untraced → Type 0
 RanLawfully u =
-    (endings : List Ending) × Pairs SameWires (cluster_desks u.cluster) endings × Each (λ i e. LeavesNothing e) endings
+    (endings : List Ending) × Pairs SameWires (cluster_endpoints u.cluster) endings × Each (λ i e. LeavesNothing e) endings
     × HasGone (untraced_last u) (untraced_count u) endings

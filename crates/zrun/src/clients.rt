@@ -8,7 +8,7 @@
 
 ghost use Rattle.std.specs.Prelude.{◌≡◌, ◌≢◌, ◌<◌, ℕ, IfOk, IfSome, None, Some, length};
 ghost use Rattle.zthreads.specs.Callers.{caller_id};
-ghost use Rattle.zthreads.specs.Desks.{Each};
+ghost use Rattle.zthreads.specs.Endpoints.{Each};
 ghost use Rattle.zrun.specs.Clients.{AreIn, BelongsTo, IsClientOf, number_of};
 
 use crate::client::Client;

@@ -11,7 +11,7 @@ ghost use Rattle.zprotocol.specs.declared.limits.TheConstants.{MAX_SERVERS};
 ghost use Rattle.zprotocol.specs.traces.Audit.{is_any_cut};
 ghost use Rattle.zprotocol.specs.traces.Lawful.{AreLawful};
 ghost use Rattle.zrun.specs.Left.{by_place};
-ghost use Rattle.zrun.specs.Handles.{given_desks};
+ghost use Rattle.zrun.specs.Handles.{given_endpoints};
 ghost use Rattle.zrun.specs.Openings.{IsRunFrom};
 
 use crate::clients::Clients;
@@ -41,13 +41,13 @@ pub struct Cluster {
     pub(crate) run: Snapshot<Vec<ClientPost>>,
     ghost all: { length servers.items ≡ MAX_SERVERS },
     ghost count: { length run.value.items ≡ opening.clients },
-    ghost wired: { IsRunFrom opening (given_desks master servers.items run.value.items) },
+    ghost wired: { IsRunFrom opening (given_endpoints master servers.items run.value.items) },
 }
 
 impl Cluster {
     ghost use Rattle.zrun.specs.Clients.{IsLeftIn};
-    ghost use Rattle.zrun.specs.Clusters.{client_count, cluster_desks, cluster_run, last_server};
-    ghost use Rattle.zrun.specs.Members.{AreTold, clients_run, places_of};
+    ghost use Rattle.zrun.specs.Clusters.{client_count, cluster_endpoints, cluster_run, last_server};
+    ghost use Rattle.zrun.specs.Members.{AreReported, clients_run, places_of};
     ghost use Rattle.zrun.specs.Runs.{AreLeftBy, Pairs};
 
     /// Ends all threads, and returns the traces of all processes. They are lawful, unless one is
@@ -67,7 +67,7 @@ impl Cluster {
         ensures servers { IfOk result (λ traces. length traces.servers.items ≡ MAX_SERVERS) }
         ensures lawful { IfOk result (λ traces.
             is_any_cut traces ≡ false → ∥ AreLawful traces ∥₁) }
-        ensures told { IfOk result (λ traces. AreTold (client_count self) traces clients) }
+        ensures reported { IfOk result (λ traces. AreReported (client_count self) traces clients) }
     {
         let last = self.last();
         let (master, servers, clients) = self.leave(rt, alloc, console, clients)?;
@@ -94,7 +94,7 @@ impl Cluster {
         requires own { clients_run clients ≡ cluster_run self }
         ensures servers { IfOk result (λ left. length left.1.items ≡ MAX_SERVERS) }
         ensures left { IfOk result (λ left.
-            AreLeftBy (cluster_desks self) (by_place left.0 left.1.items left.2.items)) }
+            AreLeftBy (cluster_endpoints self) (by_place left.0 left.1.items left.2.items)) }
         ensures kept { IfOk result (λ left. Pairs IsLeftIn (places_of clients) left.2.items) }
     {
         let Cluster {

@@ -18,7 +18,7 @@ use std::alloc::Global;
 use zalloc::Memory;
 use zthreads::Ending;
 use zprotocol::ServerId;
-use zchannels::{Mesh, are_told};
+use zchannels::{Mesh, are_reported};
 use zprotocol::traces::{ClientTrace, Traces};
 
 /// Returns the traces of a run, from what its processes left: the master, the servers by number,
@@ -68,13 +68,13 @@ pub(crate) fn gather(
         drop((mesh, trace, servers));
         return Err(Memory);
     };
-    let is_told = if is_cut {
+    let is_reported = if is_cut {
         drop(mesh);
         true
     } else {
-        are_told(mesh)
+        are_reported(mesh)
     };
-    if !is_told {
+    if !is_reported {
         trace.is_cut = true;
     }
     Ok(Traces {

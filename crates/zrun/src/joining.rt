@@ -5,7 +5,7 @@ ghost use Rattle.std.specs.Vec.{vec_capacity};
 ghost use Rattle.zprotocol.specs.declared.limits.TheConstants.{MAX_SERVERS};
 ghost use Rattle.zrun.specs.Handles.{given_server};
 ghost use Rattle.zrun.specs.Runs.{AreLeftBy, Pairs};
-ghost use Rattle.zrun.specs.Origins.{client_desks};
+ghost use Rattle.zrun.specs.Origins.{client_endpoints};
 ghost use Rattle.zrun.specs.Clients.{IsLeftIn};
 ghost use Rattle.zrun.specs.Members.{clients_run};
 
@@ -40,7 +40,7 @@ pub(crate) fn join_servers<R: Threads>(
 /// it did is lost.
 pub(crate) fn end_clients(alloc: Global, clients: Clients) -> Result<Vec<Ending>, Memory>
     ensures left { IfOk result (λ ended.
-        AreLeftBy (client_desks (clients_run clients)) ended.items) }
+        AreLeftBy (client_endpoints (clients_run clients)) ended.items) }
     ensures kept { IfOk result (λ ended. Pairs IsLeftIn clients.places.items ended.items) }
 {
     let Clients { places, .. } = clients;

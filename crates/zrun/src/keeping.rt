@@ -2,7 +2,7 @@
 
 ghost use Rattle.std.specs.Prelude.{◌≡◌, ◌∷◌, ◌++◌, [], IfOk, OnOk, map};
 ghost use Rattle.std.specs.List.{list_any};
-ghost use Rattle.zthreads.specs.declared.desk.Ending.{Ending};
+ghost use Rattle.zthreads.specs.declared.endpoint.Ending.{Ending};
 ghost use Rattle.zrun.specs.Left.{client_trace_of, ins_of, outs_of, traces_of};
 
 use std::alloc::Global;

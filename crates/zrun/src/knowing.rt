@@ -8,7 +8,7 @@ use crate::keeping::{is_any_lost, keep, keep_clients, keep_servers};
 use std::alloc::Global;
 use zalloc::Memory;
 use zthreads::Ending;
-use zchannels::{Mesh, are_told};
+use zchannels::{Mesh, are_reported};
 
 /// Returns whether it is known of a run that it was lawful, from what its processes left: the
 /// master, the servers by number, and the clients by number. It isn't known if what one of them did
@@ -49,5 +49,5 @@ pub(crate) fn is_known(
         return Err(Memory);
     };
     drop(records);
-    Ok(are_told(mesh))
+    Ok(are_reported(mesh))
 }

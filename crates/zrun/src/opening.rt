@@ -3,16 +3,16 @@
 ghost use Rattle.std.specs.Prelude.{◌≡◌, ◌<◌, ◌≤◌, IfOk};
 ghost use Rattle.ztree.specs.declared.limits.TheConstants.{MAX_CLIENTS};
 ghost use Rattle.zprotocol.specs.declared.process.Process.TheVariants as process;
-ghost use Rattle.zthreads.specs.Desks.{is_traced_of};
-ghost use Rattle.zthreads.specs.Owned.{master_desk, server_desk};
-ghost use Rattle.zthreads.specs.Callers.{caller_desk};
+ghost use Rattle.zthreads.specs.Endpoints.{is_traced_of};
+ghost use Rattle.zthreads.specs.Owned.{master_endpoint, server_endpoint};
+ghost use Rattle.zthreads.specs.Callers.{caller_endpoint};
 
 use std::alloc::Global;
 use zalloc::Memory;
 use zchannels::bells::Bells;
 use zcalls::ClientId;
 use zclient::ClientCore;
-use zthreads::{Caller, Desk, MasterThread, ServerThread, Stamped};
+use zthreads::{Caller, Endpoint, MasterThread, ServerThread, Stamped};
 use zmaster::Master;
 use zprotocol::{Process, ServerId};
 use zserver::Server;
@@ -39,17 +39,17 @@ pub(crate) struct Ends {
 }
 
 impl Opening {
-    ghost use Rattle.zrun.specs.Openings.{AreFresh, HasEnds, IsDeskAt};
+    ghost use Rattle.zrun.specs.Openings.{AreFresh, HasEnds, IsEndpointAt};
 
     /// Returns the master.
     pub(crate) fn master(&self, alloc: Global, ends: Ends) -> MasterThread
         requires { AreFresh ends }
-        ensures desk { IsDeskAt self.now process.Master (master_desk result) }
-        ensures ends { HasEnds ends (master_desk result) }
-        ensures traced { is_traced_of (master_desk result) ≡ self.now.is_traced }
+        ensures endpoint { IsEndpointAt self.now process.Master (master_endpoint result) }
+        ensures ends { HasEnds ends (master_endpoint result) }
+        ensures traced { is_traced_of (master_endpoint result) ≡ self.now.is_traced }
     {
         let Ends { ins, outs, bells } = ends;
-        let desk = Desk::new(
+        let endpoint = Endpoint::new(
             alloc,
             Process::Master,
             self.last,
@@ -59,7 +59,7 @@ impl Opening {
             bells,
             self.is_traced,
         );
-        MasterThread::new(desk, Master::new(self.last, self.clients))
+        MasterThread::new(endpoint, Master::new(self.last, self.clients))
     }
 
     /// Returns the server of this number: a member of the chain, or a spare one.
@@ -70,16 +70,16 @@ impl Opening {
         ends: Ends,
     ) -> Result<ServerThread, Memory>
         requires { AreFresh ends }
-        ensures desk { IfOk result (λ server.
-            IsDeskAt self.now (process.Server id) (server_desk server)) }
-        ensures ends { IfOk result (λ server. HasEnds ends (server_desk server)) }
+        ensures endpoint { IfOk result (λ server.
+            IsEndpointAt self.now (process.Server id) (server_endpoint server)) }
+        ensures ends { IfOk result (λ server. HasEnds ends (server_endpoint server)) }
         ensures traced { IfOk result (λ server.
-            is_traced_of (server_desk server) ≡ self.now.is_traced) }
+            is_traced_of (server_endpoint server) ≡ self.now.is_traced) }
     {
         id.keeps_in_range();
         let server = Server::opening(alloc, id, self.last)?;
         let Ends { ins, outs, bells } = ends;
-        let desk = Desk::new(
+        let endpoint = Endpoint::new(
             alloc,
             Process::Server(id),
             self.last,
@@ -89,19 +89,19 @@ impl Opening {
             bells,
             self.is_traced,
         );
-        Ok(ServerThread::new(id, desk, server))
+        Ok(ServerThread::new(id, endpoint, server))
     }
 
     /// Returns the client of this number.
     pub(crate) fn caller(&self, alloc: Global, id: ClientId, ends: Ends) -> Caller
         requires fresh { AreFresh ends }
         requires known { id < self.now.clients }
-        ensures desk { IsDeskAt self.now (process.Client id) (caller_desk result) }
-        ensures ends { HasEnds ends (caller_desk result) }
-        ensures traced { is_traced_of (caller_desk result) ≡ self.now.is_traced }
+        ensures endpoint { IsEndpointAt self.now (process.Client id) (caller_endpoint result) }
+        ensures ends { HasEnds ends (caller_endpoint result) }
+        ensures traced { is_traced_of (caller_endpoint result) ≡ self.now.is_traced }
     {
         let Ends { ins, outs, bells } = ends;
-        let desk = Desk::new(
+        let endpoint = Endpoint::new(
             alloc,
             Process::Client(id),
             self.last,
@@ -111,6 +111,6 @@ impl Opening {
             bells,
             self.is_traced,
         );
-        Caller::new(id, desk, ClientCore::new(alloc, self.last))
+        Caller::new(id, endpoint, ClientCore::new(alloc, self.last))
     }
 }

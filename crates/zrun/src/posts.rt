@@ -3,11 +3,11 @@
 ghost use Rattle.std.specs.Prelude.{◌≡◌, ◌≤◌, ◌+◌, IfOk, OnOk, length};
 ghost use Rattle.zprotocol.specs.declared.limits.TheConstants.{MAX_SERVERS};
 ghost use Rattle.zrun.specs.Supplies.{HandsOut, left};
-ghost use Rattle.zrun.specs.Origins.{client_desks};
+ghost use Rattle.zrun.specs.Origins.{client_endpoints};
 ghost use Rattle.zrun.specs.Members.{clients_run, HasAll};
-ghost use Rattle.zrun.specs.Posts.{desks_in, post_desks, run_in};
+ghost use Rattle.zrun.specs.Posts.{endpoints_in, post_endpoints, run_in};
 ghost use Rattle.zrun.specs.Runs.{AreTraced};
-ghost use Rattle.zrun.specs.Openings.{AreClientDesks, AreServerDesks, IsRunFrom};
+ghost use Rattle.zrun.specs.Openings.{AreClientEndpoints, AreServerEndpoints, IsRunFrom};
 
 use crate::clients::Clients;
 use crate::opening::Opening;
@@ -64,7 +64,7 @@ pub(crate) fn prepare(alloc: Global, opening: &Opening, longest: Duration) -> Re
     ensures count { IfOk result (λ posts. length (run_in posts) ≡ opening.now.clients) }
     ensures own { IfOk result (λ posts. clients_run posts.clients ≡ run_in posts) }
     ensures all { IfOk result (λ posts. HasAll opening.now.clients posts.clients) }
-    ensures run { IfOk result (λ posts. IsRunFrom opening.now (desks_in posts)) }
+    ensures run { IfOk result (λ posts. IsRunFrom opening.now (endpoints_in posts)) }
 {
     let count = 1 + MAX_SERVERS as usize + opening.clients as usize;
     let bells = Bells::new(alloc, 1 + MAX_SERVERS as usize, longest)?;
@@ -110,12 +110,12 @@ fn prepare_clients(
     requires { opening.now.clients ≤ left supply.old }
     ensures clients { IfOk result (λ posts. length posts.items ≡ opening.now.clients) }
     ensures left { OnOk result (left supply.new + opening.now.clients ≡ left supply.old) }
-    ensures desks { IfOk result (λ posts.
-        AreClientDesks opening.now (client_desks posts.items)) }
+    ensures endpoints { IfOk result (λ posts.
+        AreClientEndpoints opening.now (client_endpoints posts.items)) }
     ensures traced { IfOk result (λ posts.
-        AreTraced opening.now.is_traced (client_desks posts.items)) }
+        AreTraced opening.now.is_traced (client_endpoints posts.items)) }
     ensures rings { IfOk result (λ posts.
-        HandsOut supply.old supply.new (client_desks posts.items)) }
+        HandsOut supply.old supply.new (client_endpoints posts.items)) }
 {
     let mut clients = Vec::with_capacity(alloc, opening.clients as usize)?;
     for done in 0..opening.clients {
@@ -139,11 +139,11 @@ fn prepare_servers(
     requires { MAX_SERVERS ≤ left supply.old }
     ensures servers { IfOk result (λ posts. length posts.items ≡ MAX_SERVERS) }
     ensures left { OnOk result (left supply.new + MAX_SERVERS ≡ left supply.old) }
-    ensures desks { IfOk result (λ posts. AreServerDesks opening.now (post_desks posts.items)) }
+    ensures endpoints { IfOk result (λ posts. AreServerEndpoints opening.now (post_endpoints posts.items)) }
     ensures traced { IfOk result (λ posts.
-        AreTraced opening.now.is_traced (post_desks posts.items)) }
+        AreTraced opening.now.is_traced (post_endpoints posts.items)) }
     ensures rings { IfOk result (λ posts.
-        HandsOut supply.old supply.new (post_desks posts.items)) }
+        HandsOut supply.old supply.new (post_endpoints posts.items)) }
 {
     let mut servers = Vec::with_capacity(alloc, MAX_SERVERS as usize)?;
     for done in 0..MAX_SERVERS {

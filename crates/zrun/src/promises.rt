@@ -1,8 +1,8 @@
 //! What threads promise of what they return.
 
 ghost use Rattle.std.specs.Prelude.{◌≡◌};
-ghost use Rattle.zthreads.specs.Desks.{SameDesk};
-ghost use Rattle.zthreads.specs.Owned.{master_desk, server_desk};
+ghost use Rattle.zthreads.specs.Endpoints.{SameEndpoint};
+ghost use Rattle.zthreads.specs.Owned.{master_endpoint, server_endpoint};
 ghost use Rattle.zrun.specs.Clients.{SameClient};
 ghost use Rattle.zrun.specs.Ticks.{CountsTicks};
 
@@ -18,7 +18,7 @@ use zchannels::console::Inbox;
 pub(crate) struct SameServer(pub(crate) Snapshot<ServerThread>);
 
 impl Promise<ServerThread> for SameServer {
-    ghost kept_by = { λ p r. SameDesk (server_desk p.0.value) (server_desk r) };
+    ghost kept_by = { λ p r. SameEndpoint (server_endpoint p.0.value) (server_endpoint r) };
 }
 
 /// The master that is returned has the endpoint of the one that was given.
@@ -26,7 +26,7 @@ impl Promise<ServerThread> for SameServer {
 pub(crate) struct SameMaster(pub(crate) Snapshot<MasterThread>);
 
 impl Promise<(MasterThread, Inbox)> for SameMaster {
-    ghost kept_by = { λ p r. SameDesk (master_desk p.0.value) (master_desk r.0) };
+    ghost kept_by = { λ p r. SameEndpoint (master_endpoint p.0.value) (master_endpoint r.0) };
 }
 
 /// The client that is returned is the one that was given. A thread that is given a client can

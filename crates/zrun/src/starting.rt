@@ -6,12 +6,12 @@ ghost use Rattle.std.specs.Arc.{arc_value};
 ghost use Rattle.zchannels.specs.HaltSeats.{IsSeatOf};
 ghost use Rattle.ztree.specs.declared.limits.TheConstants.{MAX_CLIENTS};
 ghost use Rattle.zprotocol.specs.declared.limits.TheConstants.{MAX_SERVERS};
-ghost use Rattle.zthreads.specs.Desks.{SameDesk};
-ghost use Rattle.zthreads.specs.Owned.{master_desk, server_desk};
+ghost use Rattle.zthreads.specs.Endpoints.{SameEndpoint};
+ghost use Rattle.zthreads.specs.Owned.{master_endpoint, server_endpoint};
 ghost use Rattle.zrun.specs.Handles.{given_master, given_server};
 ghost use Rattle.zrun.specs.Members.{clients_run, HasAll};
 ghost use Rattle.zrun.specs.Openings.{IsRunFrom};
-ghost use Rattle.zrun.specs.Posts.{desks_in, post_desks, run_in};
+ghost use Rattle.zrun.specs.Posts.{endpoints_in, post_endpoints, run_in};
 ghost use Rattle.zrun.specs.declared.faults.StartFault.TheVariants.{Thread};
 
 use crate::clients::Clients;
@@ -116,7 +116,7 @@ impl Cluster {
         requires count { length (run_in posts) ≡ opening.clients }
         requires own { clients_run posts.clients ≡ run_in posts }
         requires all { HasAll opening.clients posts.clients }
-        requires run { IsRunFrom opening (desks_in posts) }
+        requires run { IsRunFrom opening (endpoints_in posts) }
         requires gates { length gates.items ≡ MAX_SERVERS }
         requires none { threads.items ≡ [] }
         requires room { MAX_SERVERS ≤ vec_capacity threads }
@@ -167,7 +167,7 @@ fn start_master<R: Threads + Wait + Copy + Send + 'static>(
     rt: R,
     post: MasterPost,
 ) -> Result<PromisedHandle<(MasterThread, Inbox), SameMaster>, StartFault>
-    ensures given { IfOk result (λ handle. given_master handle ≡ master_desk post.chief) }
+    ensures given { IfOk result (λ handle. given_master handle ≡ master_endpoint post.chief) }
     ensures fault { IfErr result (λ fault. fault ≡ Thread) }
 {
     let MasterPost {
@@ -182,7 +182,7 @@ fn start_master<R: Threads + Wait + Copy + Send + 'static>(
         promise,
         move || -> (MasterThread, Inbox)
             requires { IsSeatOf (arc_value halt) seat }
-            ensures { SameDesk (master_desk chief) (master_desk result.0) }
+            ensures { SameEndpoint (master_endpoint chief) (master_endpoint result.0) }
         { preside(&rt, chief, inbox, &halt, seat) },
     ) {
         Ok(handle) => Ok(handle),
@@ -199,7 +199,7 @@ fn start_server<G: Gate + Send + 'static, R: Threads + Wait + Copy + Send + 'sta
     post: ServerPost,
     gate: G,
 ) -> Result<PromisedHandle<ServerThread, SameServer>, StartFault>
-    ensures given { IfOk result (λ handle. given_server handle ≡ server_desk post.member) }
+    ensures given { IfOk result (λ handle. given_server handle ≡ server_endpoint post.member) }
     ensures fault { IfErr result (λ fault. fault ≡ Thread) }
 {
     let ServerPost {
@@ -213,7 +213,7 @@ fn start_server<G: Gate + Send + 'static, R: Threads + Wait + Copy + Send + 'sta
         promise,
         move || -> ServerThread
             requires { IsSeatOf (arc_value halt) seat }
-            ensures { SameDesk (server_desk member) (server_desk result) }
+            ensures { SameEndpoint (server_endpoint member) (server_endpoint result) }
         { serve(&rt, member, gate, &halt, seat) },
     ) {
         Ok(handle) => Ok(handle),
@@ -241,7 +241,7 @@ fn start_servers<G: Gate + Send + 'static, R: Threads + Wait + Copy + Send + 'st
     requires room { MAX_SERVERS ≤ vec_capacity started }
     ensures count { IfOk result (λ handles. length handles.items ≡ MAX_SERVERS) }
     ensures given { IfOk result (λ handles. map given_server handles.items
-        ≡ post_desks posts.items) }
+        ≡ post_endpoints posts.items) }
     ensures fault { IfErr result (λ failed. failed.0 ≡ Thread) }
 {
     gates.reverse();

@@ -24,7 +24,7 @@ pub enum Seen {
     Create,
     Created,
     Get,
-    Told(u64),
+    Reported(u64),
 }
 
 /// A create and a get, each answered.
@@ -38,7 +38,7 @@ pub const HONEST: &[Step] = &[
 ];
 
 /// What its caller saw.
-pub const SEEN: &[Seen] = &[Seen::Create, Seen::Created, Seen::Get, Seen::Told(1)];
+pub const SEEN: &[Seen] = &[Seen::Create, Seen::Created, Seen::Get, Seen::Reported(1)];
 
 /// The same with the first stamp that there is, and the last.
 pub const BORDERS: &[Step] = &[

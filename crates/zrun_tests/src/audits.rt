@@ -38,7 +38,7 @@ fn runs_in_order_are_ok(rt: HostRuntime) -> Result<(), Fail> {
 }
 
 #[test]
-fn a_cut_trace_is_told_first(rt: HostRuntime) -> Result<(), Fail> {
+fn a_cut_trace_is_reported_first(rt: HostRuntime) -> Result<(), Fail> {
     judge(
         &rt,
         rt.alloc(),
@@ -76,7 +76,7 @@ fn another_record_is_a_mismatch(rt: HostRuntime) -> Result<(), Fail> {
         &[
             (
                 HONEST,
-                &[Seen::Create, Seen::Created, Seen::Get, Seen::Told(2)],
+                &[Seen::Create, Seen::Created, Seen::Get, Seen::Reported(2)],
                 None,
                 "mismatch",
             ),
@@ -88,7 +88,7 @@ fn another_record_is_a_mismatch(rt: HostRuntime) -> Result<(), Fail> {
             ),
             (
                 HONEST,
-                &[Seen::Create, Seen::Get, Seen::Created, Seen::Told(1)],
+                &[Seen::Create, Seen::Get, Seen::Created, Seen::Reported(1)],
                 None,
                 "mismatch",
             ),

@@ -6,7 +6,7 @@ use zrun::{Cluster, open_gates};
 use ztesting::{client, server};
 
 #[test]
-fn a_missing_client_is_told(rt: HostRuntime) -> Result<(), Fail> {
+fn a_missing_client_is_reported(rt: HostRuntime) -> Result<(), Fail> {
     let alloc = rt.alloc();
     let gates = open_gates(alloc)?;
     let (cluster, console, mut clients) = Cluster::start(rt, alloc, server(1), 2, gates)?;

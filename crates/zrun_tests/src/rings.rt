@@ -7,7 +7,7 @@ use std::test::Fail;
 use std::thread;
 use std::thread::join;
 use zprotocol::Message;
-use zchannels::rings::{Rx, Tx, link, told};
+use zchannels::rings::{Rx, Tx, link, reported};
 use ztesting::{epoch, log_number};
 
 const MESSAGES: u64 = 1_000;
@@ -86,6 +86,6 @@ fn a_full_ring_keeps_the_order(rt: HostRuntime) -> Result<(), Fail> {
         { take_all(rx) },
     );
     assert!(rt; in_order == MESSAGES);
-    assert!(rt; told(&mut tx, &mut rx) == Some(0));
+    assert!(rt; reported(&mut tx, &mut rx) == Some(0));
     Ok(())
 }

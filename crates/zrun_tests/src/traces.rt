@@ -120,7 +120,7 @@ fn one_stamp_twice_is_disorder(rt: HostRuntime) -> Result<(), Fail> {
 }
 
 #[test]
-fn a_cut_trace_is_told(rt: HostRuntime) -> Result<(), Fail> {
+fn a_cut_trace_is_reported(rt: HostRuntime) -> Result<(), Fail> {
     let mut traces = traces_of(rt, rt.alloc(), Work::CreatesAndGets)?;
     traces.master.is_cut = true;
     assert!(rt; verdict(rt.alloc(), &traces) == Err(AuditFault::Cut));

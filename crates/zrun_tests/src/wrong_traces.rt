@@ -86,7 +86,7 @@ fn event(alloc: Global, seen: Seen) -> Result<CallEvent, Fail> {
         Seen::Create => Ok(CallEvent::Begin(c, first, creates(alloc)?)),
         Seen::Created => Ok(CallEvent::Answer(c, first, Reply::Created(Path::parse(alloc, "/a")?))),
         Seen::Get => Ok(CallEvent::Begin(c, second, gets(alloc)?)),
-        Seen::Told(made) => Ok(CallEvent::Answer(
+        Seen::Reported(made) => Ok(CallEvent::Answer(
             c,
             second,
             Reply::Data(Data::empty(), stat(made)),
@@ -137,7 +137,7 @@ fn is_the_node(path: &Path) -> bool {
 }
 
 // Whether an event of the history is just what was seen.
-fn is_told(event: &CallEvent, seen: Seen) -> bool {
+fn is_reported(event: &CallEvent, seen: Seen) -> bool {
     match (event, seen) {
         (CallEvent::Begin(of, number, Call::Update(Update::Create(create))), Seen::Create) => {
             is_call(*of, *number, 1)
@@ -151,8 +151,8 @@ fn is_told(event: &CallEvent, seen: Seen) -> bool {
         (CallEvent::Begin(of, number, Call::Query(Query::GetData(path))), Seen::Get) => {
             is_call(*of, *number, 2) && is_the_node(path)
         }
-        (CallEvent::Answer(of, number, Reply::Data(bytes, told)), Seen::Told(made)) => {
-            is_call(*of, *number, 2) && bytes.as_slice().is_empty() && *told == stat(made)
+        (CallEvent::Answer(of, number, Reply::Data(bytes, reported)), Seen::Reported(made)) => {
+            is_call(*of, *number, 2) && bytes.as_slice().is_empty() && *reported == stat(made)
         }
         _ => false,
     }
@@ -164,7 +164,7 @@ fn is_history(history: &[CallEvent], seen: &[Seen]) -> bool {
         && history
             .iter()
             .zip(seen)
-            .all(|(event, &each)| is_told(event, each))
+            .all(|(event, &each)| is_reported(event, each))
 }
 
 /// What the audit says, in a word: that the history is just what was seen, or its fault.

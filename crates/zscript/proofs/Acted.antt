@@ -3,8 +3,8 @@ use Rattle.std.proofs.Common.{◌≡◌, ℕ, zero, suc, Bool, true, false, if�
 use Rattle.std.specs.Prelude.{◌+◌, nat_lt, ◌&&◌, Ok, Err}
 use Rattle.std.proofs.lemmas.List.{append-nil}
 use Rattle.ztree.specs.Tree.{Tree}
-use Rattle.zcalls.specs.Kept.{KeptState}
-use Rattle.zprotocol.specs.server.Machine.{kept_tree}
+use Rattle.zcalls.specs.Cached.{CachedState}
+use Rattle.zprotocol.specs.server.Machine.{cached_tree}
 use Rattle.zprotocol.specs.declared.world.event.Event.{Event}
 use Rattle.zprotocol.specs.declared.world.event.Event.TheVariants as event
 use Rattle.zprotocol.specs.declared.world.outcome.Outcome.{Outcome}
@@ -27,7 +27,7 @@ use Rattle.zscript.specs.Line.{after}
 use Rattle.zscript.specs.Done.{IsLineDone, IsLineActed}
 
 abbrev TreeSettling : Type 0
-TreeSettling = Settling (KeptState Tree)
+TreeSettling = Settling (CachedState Tree)
 
 -- the same, with no outcomes given
 abbrev bare : TreeSettling → TreeSettling
@@ -42,36 +42,36 @@ drop_acted [] acted = tt
 drop_acted (outcome ∷ outcomes) acted = acted.1
 
 -- an event that is tried
-bare_try : (s : TreeSettling) (event : Event) → AreActed s.outcomes → with_try kept_tree (bare s) event ≡ bare (with_try kept_tree s event)
+bare_try : (s : TreeSettling) (event : Event) → AreActed s.outcomes → with_try cached_tree (bare s) event ≡ bare (with_try cached_tree s event)
 bare_try s event acted = by (nat_lt 0 s.left && is_enabled s.world event)
   where
-    same : bare (with_event kept_tree s (read kept_tree s.world event Acted))
-        ≡ bare (with_event kept_tree s (read kept_tree s.world event (next_outcome s.outcomes)))
-    same = ap (λ (outcome : Outcome). bare (with_event kept_tree s (read kept_tree s.world event outcome))) (sym (next_acted s.outcomes acted))
+    same : bare (with_event cached_tree s (read cached_tree s.world event Acted))
+        ≡ bare (with_event cached_tree s (read cached_tree s.world event (next_outcome s.outcomes)))
+    same = ap (λ (outcome : Outcome). bare (with_event cached_tree s (read cached_tree s.world event outcome))) (sym (next_acted s.outcomes acted))
 
-    by : (may : Bool) → (if may then bare (with_event kept_tree s (read kept_tree s.world event Acted)) else bare s)
-        ≡ bare (if may then with_event kept_tree s (read kept_tree s.world event (next_outcome s.outcomes)) else s)
+    by : (may : Bool) → (if may then bare (with_event cached_tree s (read cached_tree s.world event Acted)) else bare s)
+        ≡ bare (if may then with_event cached_tree s (read cached_tree s.world event (next_outcome s.outcomes)) else s)
     by true = same
     by false = refl
 
-try_acted : (s : TreeSettling) (event : Event) → AreActed s.outcomes → AreActed (with_try kept_tree s event).outcomes
+try_acted : (s : TreeSettling) (event : Event) → AreActed s.outcomes → AreActed (with_try cached_tree s event).outcomes
 try_acted s event acted = by (nat_lt 0 s.left && is_enabled s.world event)
   where
-    by : (may : Bool) → AreActed (if may then with_event kept_tree s (read kept_tree s.world event (next_outcome s.outcomes)) else s).outcomes
+    by : (may : Bool) → AreActed (if may then with_event cached_tree s (read cached_tree s.world event (next_outcome s.outcomes)) else s).outcomes
     by true = drop_acted s.outcomes acted
     by false = acted
 
 -- events that are tried
-bare_tries : (events : List Event) (s : TreeSettling) → AreActed s.outcomes → with_tries kept_tree (bare s) events
-    ≡ bare (with_tries kept_tree s events)
+bare_tries : (events : List Event) (s : TreeSettling) → AreActed s.outcomes → with_tries cached_tree (bare s) events
+    ≡ bare (with_tries cached_tree s events)
 bare_tries [] s acted = refl
 bare_tries (event ∷ events) s acted =
-    ap (λ (t : TreeSettling). with_tries kept_tree t events) (bare_try s event acted)
-    ∙ bare_tries events (with_try kept_tree s event) (try_acted s event acted)
+    ap (λ (t : TreeSettling). with_tries cached_tree t events) (bare_try s event acted)
+    ∙ bare_tries events (with_try cached_tree s event) (try_acted s event acted)
 
-tries_acted : (events : List Event) (s : TreeSettling) → AreActed s.outcomes → AreActed (with_tries kept_tree s events).outcomes
+tries_acted : (events : List Event) (s : TreeSettling) → AreActed s.outcomes → AreActed (with_tries cached_tree s events).outcomes
 tries_acted [] s acted = acted
-tries_acted (event ∷ events) s acted = tries_acted events (with_try kept_tree s event) (try_acted s event acted)
+tries_acted (event ∷ events) s acted = tries_acted events (with_try cached_tree s event) (try_acted s event acted)
 
 -- one of two settlings
 abbrev either : Bool → TreeSettling → TreeSettling → TreeSettling
@@ -86,33 +86,33 @@ either_acted true s t first second = first
 either_acted false s t first second = second
 
 -- passes
-bare_passes : (events : List Event) (more : ℕ) (s : TreeSettling) → AreActed s.outcomes → passes kept_tree events more (bare s)
-    ≡ bare (passes kept_tree events more s)
+bare_passes : (events : List Event) (more : ℕ) (s : TreeSettling) → AreActed s.outcomes → passes cached_tree events more (bare s)
+    ≡ bare (passes cached_tree events more s)
 bare_passes events zero s acted = refl
 bare_passes events (suc more) s acted =
-    bare_either (is_over s events) s (passes kept_tree events more (with_tries kept_tree (bare s) events))
-    (passes kept_tree events more (with_tries kept_tree s events))
-    (ap (λ (t : TreeSettling). passes kept_tree events more t) (bare_tries events s acted)
-    ∙ bare_passes events more (with_tries kept_tree s events) (tries_acted events s acted))
+    bare_either (is_over s events) s (passes cached_tree events more (with_tries cached_tree (bare s) events))
+    (passes cached_tree events more (with_tries cached_tree s events))
+    (ap (λ (t : TreeSettling). passes cached_tree events more t) (bare_tries events s acted)
+    ∙ bare_passes events more (with_tries cached_tree s events) (tries_acted events s acted))
 
-passes_acted : (events : List Event) (more : ℕ) (s : TreeSettling) → AreActed s.outcomes → AreActed (passes kept_tree events more s).outcomes
+passes_acted : (events : List Event) (more : ℕ) (s : TreeSettling) → AreActed s.outcomes → AreActed (passes cached_tree events more s).outcomes
 passes_acted events zero s acted = acted
 passes_acted events (suc more) s acted =
-    either_acted (is_over s events) s (passes kept_tree events more (with_tries kept_tree s events)) acted
-    (passes_acted events more (with_tries kept_tree s events) (tries_acted events s acted))
+    either_acted (is_over s events) s (passes cached_tree events more (with_tries cached_tree s events)) acted
+    (passes_acted events more (with_tries cached_tree s events) (tries_acted events s acted))
 
 -- settling
-bare_settle : (w : ServiceWorld) (limit : ℕ) (outcomes : List Outcome) → AreActed outcomes → settle kept_tree w limit []
-    ≡ bare (settle kept_tree w limit outcomes)
+bare_settle : (w : ServiceWorld) (limit : ℕ) (outcomes : List Outcome) → AreActed outcomes → settle cached_tree w limit []
+    ≡ bare (settle cached_tree w limit outcomes)
 bare_settle w limit outcomes acted =
     let events = deliveries w.master.clients in
     let retries = retry_events w.master.clients in
     let opening : TreeSettling = opening_settling w limit outcomes in
     let first = passes_acted events limit opening acted in
-    ap (λ (s : TreeSettling). passes kept_tree events limit (with_tries kept_tree s retries)) (bare_passes events limit opening acted)
-    ∙ ap (λ (s : TreeSettling). passes kept_tree events limit s) (bare_tries retries (passes kept_tree events limit opening) first)
-    ∙ bare_passes events limit (with_tries kept_tree (passes kept_tree events limit opening) retries)
-    (tries_acted retries (passes kept_tree events limit opening) first)
+    ap (λ (s : TreeSettling). passes cached_tree events limit (with_tries cached_tree s retries)) (bare_passes events limit opening acted)
+    ∙ ap (λ (s : TreeSettling). passes cached_tree events limit s) (bare_tries retries (passes cached_tree events limit opening) first)
+    ∙ bare_passes events limit (with_tries cached_tree (passes cached_tree events limit opening) retries)
+    (tries_acted retries (passes cached_tree events limit opening) first)
 
 bare_settling : (before : TreeSettling) → AreActed before.outcomes → after_settling (bare before) ≡ bare (after_settling before)
 bare_settling before acted =
@@ -181,11 +181,11 @@ module _ (w : ServiceWorld) (outcomes : List Outcome) (acted : AreActed outcomes
 
 -- a line that was done, and at which no server ran out of memory
 pub acted_line : (old new : ServiceWorld) (line : List ℕ) (writes : List ℕ → Type 0) (done : IsLineDone old line new writes)
-    → AreActed done.told → IsLineActed old line new writes
+    → AreActed done.reported → IsLineActed old line new writes
 unfolding answer after
 acted_line old new line writes done acted =
-    let told : AreActed (done.told ++ []) = subst AreActed (sym (append-nil done.told)) acted in
-    let same = bare_effect_of old (done.told ++ []) told line in
+    let reported : AreActed (done.reported ++ []) = subst AreActed (sym (append-nil done.reported)) acted in
+    let same = bare_effect_of old (done.reported ++ []) reported line in
     record {
       left =
           ap (λ (effect : LineEffect). script_state (forgotten effect.did.world) effect.did.outcomes) same

@@ -3,7 +3,7 @@ use Rattle.std.proofs.Common.{◌≡◌, ◌<◌, ℕ, true, false, cond, List, 
 use Rattle.std.proofs.lemmas.List.{map-append, length-map}
 use Rattle.zscript.specs.support.Lines.{whole_lines_after, line_left, last_line, lines_after}
 use Rattle.zscript.specs.support.PlayerView.{kept_front}
-use Rattle.zscript.proofs.Kept.{kept-append, kept-nil, some-kept}
+use Rattle.zscript.proofs.Cached.{kept-append, kept-nil, some-kept}
 
 kept-push : (a b more : List ℕ) → kept_front a ≡ kept_front b → kept_front (a ++ more) ≡ kept_front (b ++ more)
 kept-push a b more e = sym (kept-append a more) ∙ ap (λ t. kept_front (t ++ more)) e ∙ kept-append b more

@@ -3,9 +3,9 @@ use Rattle.std.proofs.Common.{◌≡◌, ℕ, ◌+◌, Bool, true, false, if◌t
 use Rattle.std.proofs.Common.{codes, refl, sym, ap, subst, ◌∙◌}
 use Rattle.std.specs.Option.{option_map_or}
 use Rattle.ztree.specs.Tree.{Tree}
-use Rattle.zcalls.specs.Kept.{KeptState}
+use Rattle.zcalls.specs.Cached.{CachedState}
 use Rattle.zcalls.specs.declared.call.Call.{Call}
-use Rattle.zprotocol.specs.server.Machine.{kept_tree}
+use Rattle.zprotocol.specs.server.Machine.{cached_tree}
 use Rattle.zprotocol.specs.client.Table.{begin_step}
 use Rattle.zprotocol.specs.declared.world.event.Event.{Event}
 use Rattle.zprotocol.specs.declared.world.event.Event.TheVariants as event
@@ -42,7 +42,7 @@ use Rattle.zprotocol.proofs.world_lemmas.Past.{with_past, run_past}
 use Rattle.zworld.specs.Did.{outcome_of}
 
 -- no server takes part in the begin of a call
-begin_acted : (w : ServiceWorld) (client : ℕ) (call : Call) (did : Did) → is_fitting kept_tree w (event.Begin client call) (outcome_of did)
+begin_acted : (w : ServiceWorld) (client : ℕ) (call : Call) (did : Did) → is_fitting cached_tree w (event.Begin client call) (outcome_of did)
     ≡ true → outcome_of did ≡ Acted
 begin_acted w client call (became.Idle why) fits = refl
 begin_acted w client call became.Done fits = refl
@@ -50,7 +50,7 @@ begin_acted w client call became.Unheard fits = absurd (true≢false (sym fits))
 begin_acted w client call became.Stopped fits = absurd (true≢false (sym fits))
 
 -- the begin of a call reads as itself
-begin_reads : (w : ServiceWorld) (client : ℕ) (call : Call) (outcome : Outcome) → read kept_tree w (event.Begin client call) outcome
+begin_reads : (w : ServiceWorld) (client : ℕ) (call : Call) (outcome : Outcome) → read cached_tree w (event.Begin client call) outcome
     ≡ event.Begin client call
 begin_reads w client call Acted = refl
 begin_reads w client call other = refl
@@ -62,14 +62,14 @@ active_by became.Done other = refl
 active_by became.Unheard other = refl
 active_by became.Stopped other = refl
 
--- what a run tells stands behind what was told before
-told_behind : (w : ServiceWorld) (events : List Event) → (more : History) × ((run kept_tree w events).history ≡ w.history ++ more)
-told_behind w events =
+-- what a run reports stands behind what was reported before
+reported_behind : (w : ServiceWorld) (events : List Event) → (more : History) × ((run cached_tree w events).history ≡ w.history ++ more)
+reported_behind w events =
     let bare : ServiceWorld = record w { history = [] } in
     let same : w ≡ with_past w.history bare = ap (λ (h : History). record w { history = h }) (sym (append-nil w.history)) in (
-      (run kept_tree bare events).history,
-      ap (λ (u : ServiceWorld). (run kept_tree u events).history) same
-          ∙ ap (λ (u : ServiceWorld). u.history) (run_past kept_tree w.history bare events),
+      (run cached_tree bare events).history,
+      ap (λ (u : ServiceWorld). (run cached_tree u events).history) same
+          ∙ ap (λ (u : ServiceWorld). u.history) (run_past cached_tree w.history bare events),
     )
 
 -- a call that began
@@ -85,13 +85,13 @@ module _ (v u : ServiceWorld) (client : ℕ) (call : Call) (did : Did) (has : Ha
   abbrev number : ℕ
   number = (v.clients client).number + 1
 
-  begun : happens kept_tree v begins ≡ u
-  begun = subst (λ e. happens kept_tree v e ≡ u) (begin_reads v client call (outcome_of did)) has.leads
+  begun : happens cached_tree v begins ≡ u
+  begun = subst (λ e. happens cached_tree v e ≡ u) (begin_reads v client call (outcome_of did)) has.leads
 
-  -- and is all that is told
-  begun_told : v.history ≡ [] → u.history ≡ call_event.Begin client number call ∷ []
+  -- and is all that is reported
+  begun_reported : v.history ≡ [] → u.history ≡ call_event.Begin client number call ∷ []
   unfolding begin_step
-  begun_told none =
+  begun_reported none =
       ap (λ (w : ServiceWorld). w.history) (sym begun ∙ happens_so v begins on)
       ∙ ap (λ (h : History). h ++ call_event.Begin client number call ∷ []) none
 
@@ -103,33 +103,33 @@ module _ (v u : ServiceWorld) (client : ℕ) (call : Call) (did : Did) (has : Ha
     own_is : v.history ≡ [] → own_call w.history ≡ own
     own_is none =
         let outcomes = done.0 ++ [] in
-        let ran = settle kept_tree u MAX_EVENTS outcomes in
-        let behind = told_behind u ran.events in
+        let ran = settle cached_tree u MAX_EVENTS outcomes in
+        let behind = reported_behind u ran.events in
         ap own_call
-        (ap (λ (x : ServiceWorld). x.history) (sym (done.2 []).2 ∙ settling_is_a_run kept_tree u MAX_EVENTS outcomes)
-        ∙ behind.1 ∙ ap (λ (h : History). h ++ behind.0) (begun_told none))
+        (ap (λ (x : ServiceWorld). x.history) (sym (done.2 []).2 ∙ settling_is_a_run cached_tree u MAX_EVENTS outcomes)
+        ∙ behind.1 ∙ ap (λ (h : History). h ++ behind.0) (begun_reported none))
 
     module _ (later : List Outcome) where
       abbrev state : ScriptState
       state = script_state v (Acted ∷ done.0 ++ later)
 
       -- it is settled from the world that was come to
-      abbrev settling : Settling (KeptState Tree)
+      abbrev settling : Settling (CachedState Tree)
       settling = record { world = u; events = begins ∷ []; left = 0; outcomes = done.0 ++ later }
 
       tried : after_try state begins ≡ settling
       tried = tried_on v (Acted ∷ done.0 ++ later) begins on ∙ ap (λ (x : ServiceWorld). record settling { world = x }) begun
 
-      abbrev defined : Settling (KeptState Tree)
+      abbrev defined : Settling (CachedState Tree)
       defined = after_settling (after_try state begins)
 
       leads : defined.world ≡ w
-      leads = ap (λ (s : Settling (KeptState Tree)). (after_settling s).world) tried ∙ (done.2 later).2
+      leads = ap (λ (s : Settling (CachedState Tree)). (after_settling s).world) tried ∙ (done.2 later).2
 
       answered_leads : LeadsTo (call_answered defined own) w own (option_map_or reply_text (reply_in own w.history) (codes "unanswered")) later
       answered_leads = record {
         led = leads;
-        left = ap (λ (s : Settling (KeptState Tree)). (after_settling s).outcomes) tried ∙ (done.2 later).1;
+        left = ap (λ (s : Settling (CachedState Tree)). (after_settling s).outcomes) tried ∙ (done.2 later).1;
         owned = refl;
         answered = ap (λ history. option_map_or reply_text (reply_in own history) (codes "unanswered")) (ap (λ (x : ServiceWorld). x.history) leads);
       }
@@ -146,7 +146,7 @@ module _ (v u : ServiceWorld) (client : ℕ) (call : Call) (did : Did) (has : Ha
         → IsEffectDoneBy strict v w (λ s. call_effect s (record { client = client; call = call })) writes
     call_done none writes written = (
       record {
-        told = Acted ∷ done.0;
+        reported = Acted ∷ done.0;
         own = own;
         result = option_map_or reply_text (reply_in own w.history) (codes "unanswered");
         leads = λ later. call_leads later;
@@ -166,9 +166,9 @@ not_begun held history request outcomes (cause.Begin fault) (there, is) = rw the
 not_begun held history request outcomes cause.Nothing (is, none) = rw none refl
 not_begun held history request outcomes (cause.Order fault) (is, none) = let never : ⊥ = cc in absurd never
 
--- a world in which a call didn't begin has told nothing
-nothing_told : (v w : ServiceWorld) (event : Event) (why : IdleCause) → HasHappened v event (became.Idle why) w → v.history ≡ [] → w.history ≡ []
-nothing_told v w event why has none = ap (λ (x : ServiceWorld). x.history) (sym (idle_stays v w event why has)) ∙ none
+-- a world in which a call didn't begin has reported nothing
+nothing_reported : (v w : ServiceWorld) (event : Event) (why : IdleCause) → HasHappened v event (became.Idle why) w → v.history ≡ [] → w.history ≡ []
+nothing_reported v w event why has none = ap (λ (x : ServiceWorld). x.history) (sym (idle_stays v w event why has)) ∙ none
 
 -- a line that is a call, or its begin, which couldn't begin
 module _ (strict : Bool) (old new : WorldView) (request : Request) (why : IdleCause) (has : HasHappened (world_in old)
@@ -196,12 +196,12 @@ module _ (strict : Bool) (old new : WorldView) (request : Request) (why : IdleCa
       → IsEffectDoneBy strict (world_in old) (world_in new) (λ s. call_effect s request) writes
   call_not_begun writes written = (
     record {
-      told = [];
+      reported = [];
       own = None;
       result = cause_text why;
       leads = not_begun_leads;
       written = subst (λ (h : History). writes (flat_map (taken_text None) h ++ cause_text why))
-          (sym (nothing_told (world_in old) (world_in new) _ why has none)) written;
+          (sym (nothing_reported (world_in old) (world_in new) _ why has none)) written;
     },
     λ strictly. tt,
   )
@@ -213,7 +213,7 @@ module _ (strict : Bool) (old new : WorldView) (request : Request) (why : IdleCa
       (λ s. begin_effect s request) (codes "begun") (not_begun_text (script_state (world_in old) []) request) (cause_text why) (λ outcomes. refl)
       (not_begun old.held old.history request [] why caused)
       (subst (λ (h : History). writes (flat_map (taken_text None) h ++ cause_text why))
-      (sym (nothing_told (world_in old) (world_in new) _ why has none)) written)
+      (sym (nothing_reported (world_in old) (world_in new) _ why has none)) written)
 
 -- a line that is the begin of a call
 begin_active : (strict : Bool) (old new : WorldView) (request : Request) (did : Did) (writes : List ℕ → Type 0)
@@ -226,7 +226,7 @@ begin_active strict old new request did writes has active none written =
     (λ s. begin_effect s request) (codes "begun") (not_begun_text (script_state (world_in old) []) request) (codes "begun") (λ outcomes. refl)
     (ap (λ b. if b then not_begun_text (script_state (world_in old) []) request else codes "begun") active)
     (subst (λ (h : History). writes (flat_map (taken_text None) h ++ codes "begun"))
-    (sym (begun_told (world_in old) (world_in new) request.client request.call did has active none)) written)
+    (sym (begun_reported (world_in old) (world_in new) request.client request.call did has active none)) written)
 
 pub begin_done : (strict : Bool) (old new : WorldView) (request : Request) (did : Did) (writes : List ℕ → Type 0)
     → HasHappened (world_in old) (event.Begin request.client request.call) did (world_in new)

@@ -1,4 +1,4 @@
--- How bytes are cut into lines, piece by piece.
+-- How bytes are cut into lines, chunk by chunk.
 use Rattle.std.proofs.Common.{◌≡◌, ℕ, true, false, cond, List, [], ◌∷◌, ◌++◌, refl, sym, ap, ◌∙◌, append_assoc, ◌==◌}
 use Rattle.std.proofs.lemmas.List.{append-nil}
 use Rattle.zscript.specs.Line.{ScriptState, answer, after, answers}

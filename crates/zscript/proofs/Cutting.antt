@@ -84,7 +84,7 @@ cut_unread servers source sink unread unwritten sound sink_sound = (inr (unread,
 pub cut_at_read : (servers : ℕ) (source : SourceRun) (sink : SinkRun) (player : PlayerView) (bytes : List ℕ)
     → source.gave bytes → Heard (opening_of servers) sink.took bytes player → source.failed 1 → sink.failed 0 → IsCutBy servers source sink Read
 cut_at_read servers source sink player bytes given heard failed sound =
-    let outcomes = heard.done.told ++ [] in
+    let outcomes = heard.done.reported ++ [] in
     let text = ap (answers (opening_script servers outcomes)) (sym (whole_lines_of-carried bytes)) in
     let taken = done-text sink.took (opening_of servers) (world_now player) (whole_lines_after [] bytes) heard.done in
     (record { bytes = bytes; given = given; outcomes = outcomes; taken = subst sink.took text taken }, (1, omega arith, failed), sound)
@@ -94,7 +94,7 @@ pub played_whole : (servers : ℕ) (source : SourceRun) (sink : SinkRun) (new : 
     → source.gave bytes → AreLinesDone (opening_of servers) (lines_after [] bytes) new sink.took → source.ended
     → source.failed 0 → sink.failed 0 → IsPlayed servers source sink
 played_whole servers source sink new bytes given done end sound sink_sound =
-    let outcomes = done.told ++ [] in
+    let outcomes = done.reported ++ [] in
     let text = ap (answers (opening_script servers outcomes)) (sym (lines_of-carried bytes)) in
     record {
       bytes = bytes;

@@ -5,8 +5,8 @@ use Rattle.std.specs.List.{flat_map}
 use Rattle.std.specs.Option.{option_map_or}
 use mathlib.Core.Bool.{true≢false}
 use Rattle.ztree.specs.Tree.{Tree}
-use Rattle.zcalls.specs.Kept.{KeptState}
-use Rattle.zprotocol.specs.server.Machine.{kept_tree}
+use Rattle.zcalls.specs.Cached.{CachedState}
+use Rattle.zprotocol.specs.server.Machine.{cached_tree}
 use Rattle.zprotocol.specs.declared.master.order.Order.{Order}
 use Rattle.zprotocol.specs.master.Table.{order_fault}
 use Rattle.zprotocol.specs.declared.world.event.Event.{Event}
@@ -41,28 +41,28 @@ opposite false false e = absurd (true≢false (sym e))
 
 -- an event that is tried, where it is enabled, and where it isn't
 pub tried_on : (w : ServiceWorld) (outcomes : List Outcome) (event : Event) → is_enabled w event ≡ true
-    → after_try (script_state w outcomes) event ≡ with_event kept_tree (opening_settling w 1 outcomes)
-    (read kept_tree w event (next_outcome outcomes))
+    → after_try (script_state w outcomes) event ≡ with_event cached_tree (opening_settling w 1 outcomes)
+    (read cached_tree w event (next_outcome outcomes))
 tried_on w outcomes event on =
-    let opening : Settling (KeptState Tree) = opening_settling w 1 outcomes in
-    ap (λ b. if b then with_event kept_tree opening (read kept_tree w event (next_outcome outcomes)) else opening) on
+    let opening : Settling (CachedState Tree) = opening_settling w 1 outcomes in
+    ap (λ b. if b then with_event cached_tree opening (read cached_tree w event (next_outcome outcomes)) else opening) on
 
 tried_off : (w : ServiceWorld) (outcomes : List Outcome) (event : Event) → is_enabled w event ≡ false
     → after_try (script_state w outcomes) event ≡ opening_settling w 1 outcomes
 tried_off w outcomes event off =
-    let opening : Settling (KeptState Tree) = opening_settling w 1 outcomes in
-    ap (λ b. if b then with_event kept_tree opening (read kept_tree w event (next_outcome outcomes)) else opening) off
+    let opening : Settling (CachedState Tree) = opening_settling w 1 outcomes in
+    ap (λ b. if b then with_event cached_tree opening (read cached_tree w event (next_outcome outcomes)) else opening) off
 
 -- the outcomes that are met at an event
-abbrev pub told_of : Did → List Outcome
-told_of did = if is_idle did then [] else outcome_of did ∷ []
+abbrev pub reported_of : Did → List Outcome
+reported_of did = if is_idle did then [] else outcome_of did ∷ []
 
 -- no server ran out of memory at them
-told_acted : (did : Did) → outcome_of did ≡ Acted → AreActed (told_of did)
-told_acted (became.Idle why) acted = tt
-told_acted became.Done acted = (acted, tt)
-told_acted became.Unheard acted = (acted, tt)
-told_acted became.Stopped acted = (acted, tt)
+reported_acted : (did : Did) → outcome_of did ≡ Acted → AreActed (reported_of did)
+reported_acted (became.Idle why) acted = tt
+reported_acted became.Done acted = (acted, tt)
+reported_acted became.Unheard acted = (acted, tt)
+reported_acted became.Stopped acted = (acted, tt)
 
 module _ (v w : ServiceWorld) (event : Event) where
   -- an event that happened is enabled; one that is idle isn't, and the world stays
@@ -74,7 +74,7 @@ module _ (v w : ServiceWorld) (event : Event) where
 
   pub idle_stays : (why : IdleCause) → HasHappened v event (became.Idle why) w → v ≡ w
   idle_stays why has =
-      sym (ap (λ (e : Event). happens kept_tree v e) (read_acted v event) ∙ happens_not v event (not_enabled why has)) ∙ has.leads
+      sym (ap (λ (e : Event). happens cached_tree v e) (read_acted v event) ∙ happens_not v event (not_enabled why has)) ∙ has.leads
 
   -- the effect of an event
   happened : (did : Did) (done idle : List ℕ) (later : List Outcome) → HasHappened v event did w → is_idle did ≡ false
@@ -83,20 +83,20 @@ module _ (v w : ServiceWorld) (event : Event) where
       let on = enabled did has so in
       let tried = tried_on v (outcome_of did ∷ later) event on in
       record {
-        led = ap (λ (s : Settling (KeptState Tree)). s.world) tried ∙ has.leads;
-        left = ap (λ (s : Settling (KeptState Tree)). s.outcomes) tried;
+        led = ap (λ (s : Settling (CachedState Tree)). s.world) tried ∙ has.leads;
+        left = ap (λ (s : Settling (CachedState Tree)). s.outcomes) tried;
         owned = refl;
         answered = ap (λ b. if b then done else idle) on;
       }
 
   event_leads : (did : Did) (done idle : List ℕ) (later : List Outcome) → HasHappened v event did w
-      → LeadsTo (event_effect (script_state v (told_of did ++ later)) event done idle) w None (if is_idle did then idle else done) later
+      → LeadsTo (event_effect (script_state v (reported_of did ++ later)) event done idle) w None (if is_idle did then idle else done) later
   event_leads (became.Idle why) done idle later has =
       let off = not_enabled why has in
       let tried = tried_off v later event off in
       record {
-        led = ap (λ (s : Settling (KeptState Tree)). s.world) tried ∙ idle_stays why has;
-        left = ap (λ (s : Settling (KeptState Tree)). s.outcomes) tried;
+        led = ap (λ (s : Settling (CachedState Tree)). s.world) tried ∙ idle_stays why has;
+        left = ap (λ (s : Settling (CachedState Tree)). s.outcomes) tried;
         owned = refl;
         answered = ap (λ b. if b then done else idle) off;
       }
@@ -110,18 +110,18 @@ module _ (v w : ServiceWorld) (event : Event) where
       → ((outcomes : List Outcome) → effect (script_state v outcomes) ≡ event_effect (script_state v outcomes) event done idle)
       → (if is_idle did then idle else done) ≡ result → writes (flat_map (taken_text None) w.history ++ result)
       → IsEffectDoneBy strict v w effect writes
-  event_done strict did writes acted has effect done idle result is told written = (
+  event_done strict did writes acted has effect done idle result is reported written = (
     record {
-      told = told_of did;
+      reported = reported_of did;
       own = None;
       result = result;
       leads = λ later.
-          subst (λ (e : LineEffect). LeadsTo e w None result later) (sym (is (told_of did ++ later)))
-          (subst (λ text. LeadsTo (event_effect (script_state v (told_of did ++ later)) event done idle) w None text later) told
+          subst (λ (e : LineEffect). LeadsTo e w None result later) (sym (is (reported_of did ++ later)))
+          (subst (λ text. LeadsTo (event_effect (script_state v (reported_of did ++ later)) event done idle) w None text later) reported
           (event_leads did done idle later has));
       written = written;
     },
-    λ strictly. told_acted did (acted strictly),
+    λ strictly. reported_acted did (acted strictly),
   )
 
 -- where it is strict, an event goes on only where no server ran out of memory
@@ -176,7 +176,7 @@ pub settle_done : (strict : Bool) (v w : ServiceWorld) (settled : Settled) (writ
     → writes (flat_map (taken_text None) w.history ++ settled_text settled) → IsEffectDoneBy strict v w settle_effect writes
 settle_done strict v w settled writes (learnt, acted, ends) written = (
   record {
-    told = learnt;
+    reported = learnt;
     own = None;
     result = settled_text settled;
     leads = λ later. record {

@@ -6,12 +6,12 @@ pub mod CallEffects
 pub mod LineDone
 pub mod Acted
 pub mod ScriptLines
-pub mod Kept
+pub mod Cached
 pub mod Cuts
 pub mod Alike
 pub mod FirstEnd
 pub mod Done
-pub mod Tells
+pub mod Reports
 pub mod Progress
 pub mod Stops
 pub mod Runs

@@ -15,7 +15,7 @@ use Rattle.zworld.specs.Steps.{WorldView, world_in}
 use Rattle.zscript.specs.Line.{ServiceWorld, forgotten, script_state, LineEffect, line_fault_text, line_effect}
 use Rattle.zscript.specs.Line.{read_effect, effect_of, taken_text, answer, after}
 use Rattle.zscript.specs.Done.{IsLineDone, world_between}
-use Rattle.zscript.specs.support.Effects.{MayTell, IsEffectDone, IsEffectDoneBy}
+use Rattle.zscript.specs.support.Effects.{MayReport, IsEffectDone, IsEffectDoneBy}
 
 -- one text behind another
 pub writes_more : {A : Type 0} (old mid new : String A) (first more : List ℕ) → Writes old mid first → Writes mid new more
@@ -23,18 +23,18 @@ pub writes_more : {A : Type 0} (old mid new : String A) (first more : List ℕ) 
 writes_more old mid new first more before after = after ∙ ap (λ text. text ++ more) before ∙ append_assoc (string_bytes old) first more
 
 -- a line, done; its outcomes are those of its effect
-abbrev line_told : (old new : Held) (history : History) (line : List ℕ) (wrote writes : List ℕ → Type 0)
+abbrev line_reported : (old new : Held) (history : History) (line : List ℕ) (wrote writes : List ℕ → Type 0)
     → ((text : List ℕ) → wrote text → writes (text ++ 10 ∷ []))
     → IsEffectDone (world_of old []) (world_of new history) (λ s. effect_of s line) wrote
     → IsLineDone (world_between old) line (world_between new) writes
 unfolding answer after
-line_told old new history line wrote writes ends done =
+line_reported old new history line wrote writes ends done =
     let taken = flat_map (taken_text done.own) history in
-    let effect : List Outcome → LineEffect = λ later. effect_of (script_state (world_of old []) (done.told ++ later)) line in
-    let told : (later : List Outcome) → (effect later).did.world.history ≡ history =
+    let effect : List Outcome → LineEffect = λ later. effect_of (script_state (world_of old []) (done.reported ++ later)) line in
+    let reported : (later : List Outcome) → (effect later).did.world.history ≡ history =
     λ later. ap (λ (w : ServiceWorld). w.history) (done.leads later).led in
     record {
-      told = done.told;
+      reported = done.reported;
       text = taken ++ done.result ++ 10 ∷ [];
       written = ends (taken ++ done.result) done.written;
       left = λ later.
@@ -42,20 +42,20 @@ line_told old new history line wrote writes ends done =
           ∙ ap (λ outcomes. script_state (world_between new) outcomes) (done.leads later).left;
       answered = λ later.
           ap (λ own. flat_map (taken_text own) (effect later).did.world.history ++ (effect later).result ++ 10 ∷ []) (done.leads later).owned
-          ∙ ap (λ history. flat_map (taken_text done.own) history ++ (effect later).result ++ 10 ∷ []) (told later)
+          ∙ ap (λ history. flat_map (taken_text done.own) history ++ (effect later).result ++ 10 ∷ []) (reported later)
           ∙ ap (λ result. taken ++ result ++ 10 ∷ []) (done.leads later).answered;
     }
 
--- a line, done on a world that had told nothing since
+-- a line, done on a world that had reported nothing since
 pub line_done : (strict : Bool) (old new : WorldView) (line : List ℕ) (wrote writes : List ℕ → Type 0)
     → ((text : List ℕ) → wrote text → writes (text ++ 10 ∷ []))
     → old.history ≡ [] → IsEffectDoneBy strict (world_in old) (world_in new) (λ s. effect_of s line) wrote
-    → (done : IsLineDone (world_between old.held) line (world_between new.held) writes) × MayTell strict done.told
-unfolding line_told
+    → (done : IsLineDone (world_between old.held) line (world_between new.held) writes) × MayReport strict done.reported
+unfolding line_reported
 line_done strict old new line wrote writes ends none done =
     let bare = subst (λ (before : History). IsEffectDoneBy strict (world_of old.held before) (world_in new) (λ s. effect_of s line) wrote)
     none done in
-    (line_told old.held new.held new.history line wrote writes ends bare.0, bare.1)
+    (line_reported old.held new.held new.history line wrote writes ends bare.0, bare.1)
 
 -- what was read of a line
 pub read_done : (strict : Bool) (v w : ServiceWorld) (line : List ℕ) (asked : Line) (writes : List ℕ → Type 0) → line_of line ≡ Ok asked
@@ -72,7 +72,7 @@ unfolding effect_of
 unread_done strict v line fault writes none is written =
     subst (λ (read : Read Line). IsEffectDoneBy strict v v (λ s. read_effect s read) writes) (sym is) (
       record {
-        told = [];
+        reported = [];
         own = None;
         result = line_fault_text fault;
         leads = λ later. record { led = refl; left = refl; owned = refl; answered = refl };

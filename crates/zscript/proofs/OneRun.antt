@@ -4,8 +4,8 @@ use Rattle.std.proofs.lemmas.List.{append-nil}
 use Rattle.std.specs.Prelude.{Ok, Err, ◌&&◌, nat_lt}
 use Rattle.ztree.specs.Tree.{Tree}
 use Rattle.ztree.specs.declared.limits.TheConstants.{MAX_CLIENTS}
-use Rattle.zcalls.specs.Kept.{KeptState}
-use Rattle.zprotocol.specs.server.Machine.{kept_tree}
+use Rattle.zcalls.specs.Cached.{CachedState}
+use Rattle.zprotocol.specs.server.Machine.{cached_tree}
 use Rattle.zprotocol.specs.declared.world.event.Event.{Event}
 use Rattle.zprotocol.specs.declared.world.event.Event.TheVariants as event
 use Rattle.zprotocol.specs.declared.world.outcome.Outcome.{Outcome}
@@ -27,13 +27,13 @@ use Rattle.zscript.specs.Line.{read_effect, effect_of, after, histories}
 use Rattle.zprotocol.proofs.world_lemmas.Past.{with_past, run_past}
 
 -- the settling's world is where its events lead from a world
-abbrev LeadsFrom : ServiceWorld → Settling (KeptState Tree) → Type 0
-LeadsFrom w s = s.world ≡ run kept_tree w s.events
+abbrev LeadsFrom : ServiceWorld → Settling (CachedState Tree) → Type 0
+LeadsFrom w s = s.world ≡ run cached_tree w s.events
 
 -- runs one after the other
-run_append : (w : ServiceWorld) (events more : List Event) → run kept_tree w (events ++ more) ≡ run kept_tree (run kept_tree w events) more
+run_append : (w : ServiceWorld) (events more : List Event) → run cached_tree w (events ++ more) ≡ run cached_tree (run cached_tree w events) more
 run_append w [] more = refl
-run_append w (event ∷ events) more = run_append (happens kept_tree w event) events more
+run_append w (event ∷ events) more = run_append (happens cached_tree w event) events more
 
 -- a fact of both choices
 of_choice : {A : Type 0} (P : A → Type 0) (b : Bool) (x y : A) → P x → P y → P (if b then x else y)
@@ -45,14 +45,14 @@ tried_leads : (s : ScriptState) (event : Event) → LeadsFrom s.world (after_try
 tried_leads s event =
     let opening = opening_settling s.world 1 s.outcomes in
     of_choice (LeadsFrom s.world) (nat_lt 0 1 && is_enabled s.world event)
-    (with_event kept_tree opening (read kept_tree s.world event (next_outcome s.outcomes))) opening refl refl
+    (with_event cached_tree opening (read cached_tree s.world event (next_outcome s.outcomes))) opening refl refl
 
 -- settling behind events
-settled_leads : (w : ServiceWorld) (before : Settling (KeptState Tree)) → LeadsFrom w before → LeadsFrom w (after_settling before)
+settled_leads : (w : ServiceWorld) (before : Settling (CachedState Tree)) → LeadsFrom w before → LeadsFrom w (after_settling before)
 settled_leads w before leads =
-    let did = settle kept_tree before.world MAX_EVENTS before.outcomes in
-    settling_is_a_run kept_tree before.world MAX_EVENTS before.outcomes
-    ∙ ap (λ v. run kept_tree v did.events) leads
+    let did = settle cached_tree before.world MAX_EVENTS before.outcomes in
+    settling_is_a_run cached_tree before.world MAX_EVENTS before.outcomes
+    ∙ ap (λ v. run cached_tree v did.events) leads
     ∙ sym (run_append w before.events did.events)
 
 -- a call
@@ -87,27 +87,27 @@ effect_leads s line = read_leads s (line_of line)
 forgets : (past : History) (w : ServiceWorld) → with_past past w ≡ with_past (past ++ w.history) (forgotten w)
 forgets past w = ap (λ (h : History). record w { history = h }) (sym (append-nil (past ++ w.history)))
 
--- lines that are played from a world, whatever was told before
+-- lines that are played from a world, whatever was reported before
 runs_from :
     (lines : List (List ℕ)) (s : ScriptState) (past : History) → s.world.history ≡ []
-    → (events : List Event) × ((run kept_tree (with_past past s.world) events).history ≡ past ++ histories s lines)
+    → (events : List Event) × ((run cached_tree (with_past past s.world) events).history ≡ past ++ histories s lines)
 unfolding after
 runs_from [] s past none = ([], ap (λ h. past ++ h) none)
 runs_from (line ∷ lines) s past none =
     let did = (effect_of s line).did in
     let now : History = past ++ did.world.history in
-    let leads : run kept_tree (with_past past s.world) did.events ≡ with_past now (forgotten did.world) =
-    run_past kept_tree past s.world did.events ∙ ap (with_past past) (sym (effect_leads s line)) ∙ forgets past did.world in
+    let leads : run cached_tree (with_past past s.world) did.events ≡ with_past now (forgotten did.world) =
+    run_past cached_tree past s.world did.events ∙ ap (with_past past) (sym (effect_leads s line)) ∙ forgets past did.world in
     let rest = runs_from lines (after s line) now refl in (
       did.events ++ rest.0,
       ap (λ (w : ServiceWorld). w.history) (run_append (with_past past s.world) did.events rest.0)
-          ∙ ap (λ (w : ServiceWorld). (run kept_tree w rest.0).history) leads
+          ∙ ap (λ (w : ServiceWorld). (run cached_tree w rest.0).history) leads
           ∙ rest.1 ∙ append_assoc past did.world.history (histories (after s line) lines),
     )
 
 -- from the opening
-pub lines_tell_one_run :
+pub lines_report_one_run :
     (servers : ℕ) (outcomes : List Outcome) (lines : List (List ℕ))
-    → (events : List Event) × ((run kept_tree (opening_world kept_tree servers MAX_CLIENTS) events).history
+    → (events : List Event) × ((run cached_tree (opening_world cached_tree servers MAX_CLIENTS) events).history
     ≡ histories (opening_script servers outcomes) lines)
-lines_tell_one_run servers outcomes lines = runs_from lines (opening_script servers outcomes) [] refl
+lines_report_one_run servers outcomes lines = runs_from lines (opening_script servers outcomes) [] refl

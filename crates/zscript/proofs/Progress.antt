@@ -5,25 +5,25 @@ use Rattle.zscript.specs.Line.{ServiceWorld}
 use Rattle.zscript.specs.Done.{IsLineDone}
 use Rattle.zdevices.specs.Device.{TookBeginning}
 use Rattle.zscript.specs.support.Lines.{whole_lines_after, line_left, AreLinesDone, IsPart}
-use Rattle.zscript.specs.support.PlayerView.{PlayerView, world_now, Tells}
+use Rattle.zscript.specs.support.PlayerView.{PlayerView, world_now, Reports}
 use Rattle.zscript.specs.Outcome.{IsStopped}
 use Rattle.zscript.proofs.Cuts.{whole_lines_after-line, whole_lines_after-part, line_left-line, line_left-part}
 use Rattle.zscript.proofs.Done.{done-none, done-line, done-append, done-written, done-stopped}
-use Rattle.zscript.proofs.Tells.{tells_grown, tells_begun, tells_cut, tells_again}
+use Rattle.zscript.proofs.Reports.{reports_grown, reports_begun, reports_cut, reports_again}
 
 -- From p to q some lines of the bytes were played, and rest is what follows them.
 pub record Progress (took : List ℕ → Type 0) (p q : PlayerView) (bytes rest : List ℕ) : Type 0 where
   pub lines : List (List ℕ)
   pub whole : whole_lines_after p.line bytes ≡ lines ++ whole_lines_after q.line rest
   pub left : line_left p.line bytes ≡ line_left q.line rest
-  pub done : AreLinesDone (world_now p) lines (world_now q) (λ text. Tells took text q.held)
+  pub done : AreLinesDone (world_now p) lines (world_now q) (λ text. Reports took text q.held)
 
 pub progress-none : (took : List ℕ → Type 0) (p : PlayerView) (bytes : List ℕ) → took [] → p.held ≡ [] → Progress took p p bytes bytes
 progress-none took p bytes none held = record {
   lines = [];
   whole = refl;
   left = refl;
-  done = done-none (world_now p) (λ text. Tells took text p.held) (record { front = []; taken = none; split = sym held });
+  done = done-none (world_now p) (λ text. Reports took text p.held) (record { front = []; taken = none; split = sym held });
 }
 
 -- what the next line is, among the lines
@@ -43,7 +43,7 @@ with_next p q bytes rest end more lines whole part is =
 pub progress-line : (took more_took all_took : List ℕ → Type 0) (p q r : PlayerView) (bytes rest end more : List ℕ)
     → ((a b : List ℕ) → took a → more_took b → all_took (a ++ b)) → Progress took p q bytes rest → IsPart end
     → rest ≡ end ++ 10 ∷ more → r.line ≡ [] → IsLineDone (world_now q) (q.line ++ end) (world_now r)
-    (λ text. Tells more_took (q.held ++ text) r.held) → Progress all_took p r bytes more
+    (λ text. Reports more_took (q.held ++ text) r.held) → Progress all_took p r bytes more
 progress-line took more_took all_took p q r bytes rest end more both h part is line next =
     let now = q.line ++ end in
     record {
@@ -51,10 +51,10 @@ progress-line took more_took all_took p q r bytes rest end more both h part is l
       whole = with_next p q bytes rest end more h.lines h.whole part is ∙ ap (λ l. (h.lines ++ now ∷ []) ++ whole_lines_after l more) (sym line);
       left = h.left ∙ ap (line_left q.line) is ∙ line_left-line end q.line more part ∙ ap (λ l. line_left l more) (sym line);
       done = done-append
-          (λ text. Tells took text q.held) (λ text. Tells more_took (q.held ++ text) r.held) (λ text. Tells all_took text r.held)
+          (λ text. Reports took text q.held) (λ text. Reports more_took (q.held ++ text) r.held) (λ text. Reports all_took text r.held)
           (world_now p) (world_now q) (world_now r) h.lines (now ∷ [])
-          (λ a b told more_told. tells_again took more_took all_took both (a ++ b) (q.held ++ b) r.held (tells_grown took a q.held b told) more_told)
-          h.done (done-line (world_now q) (world_now r) now (λ text. Tells more_took (q.held ++ text) r.held) next);
+          (λ a b reported more_reported. reports_again took more_took all_took both (a ++ b) (q.held ++ b) r.held (reports_grown took a q.held b reported) more_reported)
+          h.done (done-line (world_now q) (world_now r) now (λ text. Reports more_took (q.held ++ text) r.held) next);
     }
 
 -- the sink failed at the next line's reply
@@ -67,9 +67,9 @@ progress-cut took more_took all_took p q new bytes rest end more both h part is 
     done-stopped all_took (world_now p) new (h.lines ++ now ∷ []) (whole_lines_after [] more) (whole_lines_after p.line bytes)
     (with_next p q bytes rest end more h.lines h.whole part is)
     (done-append
-    (λ text. Tells took text q.held) (λ text. TookBeginning more_took (q.held ++ text)) (TookBeginning all_took)
+    (λ text. Reports took text q.held) (λ text. TookBeginning more_took (q.held ++ text)) (TookBeginning all_took)
     (world_now p) (world_now q) new h.lines (now ∷ [])
-    (λ a b told cut. tells_cut took more_took all_took both (a ++ b) (q.held ++ b) (tells_grown took a q.held b told) cut)
+    (λ a b reported cut. reports_cut took more_took all_took both (a ++ b) (q.held ++ b) (reports_grown took a q.held b reported) cut)
     h.done (done-line (world_now q) new now (λ text. TookBeginning more_took (q.held ++ text)) next))
 
 -- memory ran out at the next line
@@ -83,15 +83,15 @@ pub progress-want : (took all_took : List ℕ → Type 0) (p q : PlayerView) (by
 progress-want took all_took p q bytes rest end more all h part is = record {
   stopped = done-stopped all_took (world_now p) (world_now q) h.lines ((q.line ++ end) ∷ whole_lines_after [] more) (whole_lines_after p.line bytes)
       (h.whole ∙ ap (λ t. h.lines ++ t) (next_line q end more rest part is))
-      (done-written (λ text. Tells took text q.held) (TookBeginning all_took) (world_now p) (world_now q) h.lines
-      (λ text told. let begun = tells_begun took text q.held told in (begun.0, begun.1, all begun.0 begun.2))
+      (done-written (λ text. Reports took text q.held) (TookBeginning all_took) (world_now p) (world_now q) h.lines
+      (λ text reported. let begun = reports_begun took text q.held reported in (begun.0, begun.1, all begun.0 begun.2))
       h.done);
   some = omega arith;
 }
 
 -- every line that ends in the bytes is played
 pub progress-whole : (took : List ℕ → Type 0) (p q : PlayerView) (bytes rest : List ℕ) (h : Progress took p q bytes rest)
-    → IsPart rest → AreLinesDone (world_now p) (whole_lines_after p.line bytes) (world_now q) (λ text. Tells took text q.held)
+    → IsPart rest → AreLinesDone (world_now p) (whole_lines_after p.line bytes) (world_now q) (λ text. Reports took text q.held)
 progress-whole took p q bytes rest h part =
     let whole : whole_lines_after p.line bytes ≡ h.lines = h.whole ∙ ap (λ t. h.lines ++ t) (whole_lines_after-part rest q.line part)
     ∙ append-nil h.lines in

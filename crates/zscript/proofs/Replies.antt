@@ -12,7 +12,7 @@ use Rattle.zprotocol.specs.world.History.{History}
 use Rattle.zprotocol.specs.world.Events.{is_enabled}
 use Rattle.zprotocol.specs.world.Settle.{Settling}
 use Rattle.ztree.specs.Tree.{Tree}
-use Rattle.zcalls.specs.Kept.{KeptState}
+use Rattle.zcalls.specs.Cached.{CachedState}
 use Rattle.zscript_text.specs.declared.line.Line.{Line}
 use Rattle.zscript_text.specs.declared.line.Line.TheVariants as asked
 use Rattle.zscript_text.specs.declared.request.Request.{Request}
@@ -58,14 +58,14 @@ either c n history (Some reply) is = inl (reply, found c n history reply is, ref
 either c n history None is = inr (refl, absent c n history is)
 
 -- the same of the call of an effect
-abbrev IsOf : Settling (KeptState Tree) → ℕ → ℕ → ℕ → ℕ → Type 0
+abbrev IsOf : Settling (CachedState Tree) → ℕ → ℕ → ℕ → ℕ → Type 0
 IsOf did c n client number =
     ((reply : Reply) × Among (Answer client number reply) did.world.history
     × (option_map_or reply_text (reply_in (Some (c, n)) did.world.history) (codes "unanswered") ≡ reply_text reply))
     ⊎ ((option_map_or reply_text (reply_in (Some (c, n)) did.world.history) (codes "unanswered") ≡ codes "unanswered")
     × ((reply : Reply) → Among (Answer client number reply) did.world.history → ⊥))
 
-answered : (did : Settling (KeptState Tree)) (c n : ℕ) → IsAnsweredBy (call_answered did (Some (c, n)))
+answered : (did : Settling (CachedState Tree)) (c n : ℕ) → IsAnsweredBy (call_answered did (Some (c, n)))
 answered did c n client number own =
     let same_client : c ≡ client = ap (λ (call : Option (ℕ × ℕ)). option_map_or (λ k. k.0) call 0) own in
     let same_number : n ≡ number = ap (λ (call : Option (ℕ × ℕ)). option_map_or (λ k. k.1) call 0) own in

@@ -1,11 +1,11 @@
--- A run of a player, piece by piece.
+-- A run of a player, chunk by chunk.
 use Rattle.std.proofs.Common.{◌≡◌, ◌<◌, ℕ, List, [], ◌++◌, length, map, refl, sym, ap, ◌∙◌, append_assoc}
 use Rattle.std.proofs.lemmas.List.{append-nil}
 use Rattle.zscript.specs.Line.{ServiceWorld, script_state, answers}
 use Rattle.zscript.specs.support.Lines.{whole_lines_after, line_left, last_line, lines_after, AreLinesDone}
 use Rattle.zscript.specs.support.PlayerView.{PlayerView, world_now, IsFresh, kept_front}
 use Rattle.zscript.specs.Outcome.{IsStopped}
-use Rattle.zscript.proofs.Kept.{kept-append, kept-nil, answers-alike}
+use Rattle.zscript.proofs.Cached.{kept-append, kept-nil, answers-alike}
 use Rattle.zscript.proofs.Cuts.{whole_lines_after-append, line_left-append}
 use Rattle.zscript.proofs.Alike.{whole_lines_after-alike, line_left-alike, last_line-alike, lines_after-alike, splits, some_alike}
 use Rattle.zscript.proofs.Done.{done-none, done-append, done-alike, done-answers}
@@ -63,9 +63,9 @@ stopped_behind : (took more_took all_took : List ℕ → Type 0) (old mid : Serv
     → AreLinesDone old before mid took → (h : IsStopped mid xs more_took) → StoppedLater all_took old lines (length h.rest)
 stopped_behind took more_took all_took old mid before xs ys lines both alike is done h =
     let s = splits h.played h.rest ys (ap (map kept_front) (sym h.split) ∙ alike) in
-    let told = done.told ++ h.outcomes in
+    let reported = done.reported ++ h.outcomes in
     let front = h.taken.0 in
-    let whole : answers (script_state old told) (before ++ s.front) ≡ (done.text ++ front) ++ h.taken.1.0 =
+    let whole : answers (script_state old reported) (before ++ s.front) ≡ (done.text ++ front) ++ h.taken.1.0 =
     done-answers took old mid before s.front h.outcomes done
     ∙ ap (λ t. done.text ++ t) (sym (answers-alike (script_state mid h.outcomes) h.played s.front s.same) ∙ h.taken.1.1)
     ∙ sym (append_assoc done.text front h.taken.1.0) in
@@ -74,7 +74,7 @@ stopped_behind took more_took all_took old mid before xs ys lines both alike is 
         played = before ++ s.front;
         rest = s.back;
         split = is ∙ ap (λ t. before ++ t) s.split ∙ sym (append_assoc before s.front s.back);
-        outcomes = told;
+        outcomes = reported;
         taken = (done.text ++ front, (h.taken.1.0, whole), both done.text front done.written h.taken.2);
       };
       some = λ left. some_alike h.rest s.back s.same_rest left;

@@ -6,14 +6,14 @@ use Rattle.zscript.specs.Done.{IsLineDone}
 use Rattle.zdevices.specs.Device.{TookBeginning}
 use Rattle.zdevices.proofs.Beginnings.{failed_after}
 use Rattle.zscript.specs.support.Lines.{whole_lines_after, line_left, last_line, lines_after, AreLinesDone, IsPart}
-use Rattle.zscript.specs.support.PlayerView.{PlayerView, world_now, Tells}
+use Rattle.zscript.specs.support.PlayerView.{PlayerView, world_now, Reports}
 use Rattle.zscript.specs.Outcome.{IsStopped}
 use Rattle.zscript.specs.support.Stops.{IsStoppedBy, IsLineStoppedBy}
 use Rattle.zscript.specs.declared.fault.PlayFault.{PlayFault}
 use Rattle.zscript.specs.declared.fault.PlayFault.TheVariants.{Read, Write, Memory}
 use Rattle.zscript.proofs.Progress.{Progress, progress-cut, progress-want}
 use Rattle.zscript.proofs.Done.{done-none, done-line, done-written, done-stopped}
-use Rattle.zscript.proofs.Tells.{tells_begun, tells_both, tells_cut}
+use Rattle.zscript.proofs.Reports.{reports_begun, reports_both, reports_cut}
 
 -- a fault at the next line of a block
 pub progress-stopped : (took more_took all_took : List ℕ → Type 0) (failed all_failed : ℕ → Type 0)
@@ -69,55 +69,55 @@ last_line-some [] h = absurd (omega arith)
 last_line-some (x ∷ line) h = refl
 
 -- there is no last line
-pub none-told : (took : List ℕ → Type 0) (world : ServiceWorld) (line : List ℕ) → length line ≡ 0 → took []
+pub none-reported : (took : List ℕ → Type 0) (world : ServiceWorld) (line : List ℕ) → length line ≡ 0 → took []
     → AreLinesDone world (last_line line) world took
-none-told took world [] e none = done-none world took none
-none-told took world (x ∷ line) e none = absurd (omega (arith, e))
+none-reported took world [] e none = done-none world took none
+none-reported took world (x ∷ line) e none = absurd (omega (arith, e))
 
 -- memory ran out at the line that the block leaves
 pub left-stopped : (took : List ℕ → Type 0) (old new : ServiceWorld) (line bytes held : List ℕ) → 0 < length (line_left line bytes)
-    → AreLinesDone old (whole_lines_after line bytes) new (λ text. Tells took text held)
+    → AreLinesDone old (whole_lines_after line bytes) new (λ text. Reports took text held)
     → (stopped : IsStopped old (lines_after line bytes) took) × (0 < length stopped.rest)
 left-stopped took old new line bytes held some done = (
   done-stopped took old new (whole_lines_after line bytes) (last_line (line_left line bytes)) (lines_after line bytes) refl
-      (done-written (λ text. Tells took text held) (TookBeginning took) old new (whole_lines_after line bytes)
-      (λ text. tells_begun took text held) done),
+      (done-written (λ text. Reports took text held) (TookBeginning took) old new (whole_lines_after line bytes)
+      (λ text. reports_begun took text held) done),
   subst (λ lines. 0 < length lines) (sym (last_line-some (line_left line bytes) some)) (omega arith),
 )
 
 module _ (took more_took all_took : List ℕ → Type 0) (both : (a b : List ℕ) → took a → more_took b → all_took (a ++ b)) where
   -- the sink failed at the replies of a block
   pub replies-stopped : (old new : ServiceWorld) (line bytes held : List ℕ)
-      → AreLinesDone old (whole_lines_after line bytes) new (λ text. Tells took text held) → TookBeginning more_took held
+      → AreLinesDone old (whole_lines_after line bytes) new (λ text. Reports took text held) → TookBeginning more_took held
       → IsStopped old (whole_lines_after line bytes) all_took
   replies-stopped old new line bytes held done cut =
       done-stopped all_took old new (whole_lines_after line bytes) [] (whole_lines_after line bytes) (sym (append-nil _))
-      (done-written (λ text. Tells took text held) (TookBeginning all_took) old new (whole_lines_after line bytes)
-      (λ text told. tells_cut took more_took all_took both text held told cut) done)
+      (done-written (λ text. Reports took text held) (TookBeginning all_took) old new (whole_lines_after line bytes)
+      (λ text reported. reports_cut took more_took all_took both text held reported cut) done)
 
   -- or took them all
   pub replies-written : (old new : ServiceWorld) (lines : List (List ℕ)) (held : List ℕ)
-      → AreLinesDone old lines new (λ text. Tells took text held) → more_took held → AreLinesDone old lines new all_took
+      → AreLinesDone old lines new (λ text. Reports took text held) → more_took held → AreLinesDone old lines new all_took
   replies-written old new lines held done rest =
-      done-written (λ text. Tells took text held) all_took old new lines (λ text told. tells_both took more_took all_took
-      both text held told rest) done
+      done-written (λ text. Reports took text held) all_took old new lines (λ text reported. reports_both took more_took all_took
+      both text held reported rest) done
 
   -- the one line that is played, as one of some lines
-  one-told : (old new : ServiceWorld) (held line left : List ℕ) → held ≡ [] → IsLineDone old line new (λ text. Tells took (held ++ text) left)
-      → AreLinesDone old (line ∷ []) new (λ text. Tells took text left)
-  one-told old new held line left none h =
-      done-written (λ text. Tells took (held ++ text) left) (λ text. Tells took text left) old new (line ∷ [])
-      (λ text. subst (λ t. Tells took (t ++ text) left) none)
-      (done-line old new line (λ text. Tells took (held ++ text) left) h)
+  one-reported : (old new : ServiceWorld) (held line left : List ℕ) → held ≡ [] → IsLineDone old line new (λ text. Reports took (held ++ text) left)
+      → AreLinesDone old (line ∷ []) new (λ text. Reports took text left)
+  one-reported old new held line left none h =
+      done-written (λ text. Reports took (held ++ text) left) (λ text. Reports took text left) old new (line ∷ [])
+      (λ text. subst (λ t. Reports took (t ++ text) left) none)
+      (done-line old new line (λ text. Reports took (held ++ text) left) h)
 
-  -- the one line that is played is told in two steps, or the second fails
-  pub line-told : (old new : ServiceWorld) (held line left : List ℕ) → held ≡ []
-      → IsLineDone old line new (λ text. Tells took (held ++ text) left) → more_took left → AreLinesDone old (line ∷ []) new all_took
-  line-told old new held line left none h rest = replies-written old new (line ∷ []) left (one-told old new held line left none h) rest
+  -- the one line that is played is reported in two steps, or the second fails
+  pub line-reported : (old new : ServiceWorld) (held line left : List ℕ) → held ≡ []
+      → IsLineDone old line new (λ text. Reports took (held ++ text) left) → more_took left → AreLinesDone old (line ∷ []) new all_took
+  line-reported old new held line left none h rest = replies-written old new (line ∷ []) left (one-reported old new held line left none h) rest
 
   pub line-cut : (old new : ServiceWorld) (held line left : List ℕ) → held ≡ []
-      → IsLineDone old line new (λ text. Tells took (held ++ text) left) → TookBeginning more_took left → IsStopped old (line ∷ []) all_took
+      → IsLineDone old line new (λ text. Reports took (held ++ text) left) → TookBeginning more_took left → IsStopped old (line ∷ []) all_took
   line-cut old new held line left none h cut =
       done-stopped all_took old new (line ∷ []) [] (line ∷ []) refl
-      (done-written (λ text. Tells took text left) (TookBeginning all_took) old new (line ∷ [])
-      (λ text told. tells_cut took more_took all_took both text left told cut) (one-told old new held line left none h))
+      (done-written (λ text. Reports took text left) (TookBeginning all_took) old new (line ∷ [])
+      (λ text reported. reports_cut took more_took all_took both text left reported cut) (one-reported old new held line left none h))

@@ -1,4 +1,4 @@
--- What of a source that told no end can have been played: its whole lines alone.
+-- What of a source that reported no end can have been played: its whole lines alone.
 use Rattle.std.proofs.Common.{◌≡◌, ℕ, List, [], ◌∷◌, ◌++◌, inl, inr, refl, ◌∙◌, sym}
 use Rattle.zprotocol.specs.declared.world.outcome.Outcome.{Outcome}
 use Rattle.zscript.specs.Line.{opening_script, answers}

@@ -13,11 +13,11 @@ world_between held = world_of held []
 -- a line was executed, and this was written: these outcomes occurred at it, whatever comes after
 -- them
 pub record IsLineDone (old : ServiceWorld) (line : List ℕ) (new : ServiceWorld) (writes : List ℕ → Type 0) : Type 0 where
-  pub told : List Outcome
+  pub reported : List Outcome
   pub text : List ℕ
   pub written : writes text
-  pub left : (later : List Outcome) → after (script_state old (told ++ later)) line ≡ script_state new later
-  pub answered : (later : List Outcome) → answer (script_state old (told ++ later)) line ≡ text
+  pub left : (later : List Outcome) → after (script_state old (reported ++ later)) line ≡ script_state new later
+  pub answered : (later : List Outcome) → answer (script_state old (reported ++ later)) line ≡ text
 
 -- a line was executed on a world, and its answer written
 abbrev pub AnswersLine : {A : Type 0} → List ℕ → WorldView → WorldView → String A → String A → Type 0

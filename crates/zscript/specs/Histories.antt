@@ -3,7 +3,7 @@ use Rattle.std.specs.Prelude.{◌≡◌, ◌⊎◌, ℕ, List, Some, codes}
 use Rattle.ztree.specs.declared.limits.TheConstants.{MAX_CLIENTS}
 use Rattle.zcalls.specs.Lists.{Among}
 use Rattle.zcalls.specs.declared.reply.Reply.{Reply}
-use Rattle.zprotocol.specs.server.Machine.{kept_tree}
+use Rattle.zprotocol.specs.server.Machine.{cached_tree}
 use Rattle.zprotocol.specs.declared.world.event.Event.{Event}
 use Rattle.zprotocol.specs.declared.world.outcome.Outcome.{Outcome}
 use Rattle.zprotocol.specs.declared.world.history.CallEvent.TheVariants.{Answer}
@@ -14,10 +14,10 @@ use Rattle.zscript.specs.Line.{ScriptState, LineEffect, opening_script, effect_o
 
 -- there are events such that the histories of all lines, one after the other, are the history of
 -- their run
-abbrev pub LinesTellOneRun : Type 0
-LinesTellOneRun =
+abbrev pub LinesReportOneRun : Type 0
+LinesReportOneRun =
     (servers : ℕ) (outcomes : List Outcome) (lines : List (List ℕ))
-    → (events : List Event) × ((run kept_tree (opening_world kept_tree servers MAX_CLIENTS) events).history ≡ histories (opening_script servers outcomes) lines)
+    → (events : List Event) × ((run cached_tree (opening_world cached_tree servers MAX_CLIENTS) events).history ≡ histories (opening_script servers outcomes) lines)
 
 -- a call is answered with a reply to it in the history, or with `unanswered` where the history has
 -- none

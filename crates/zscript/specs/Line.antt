@@ -7,9 +7,9 @@ use Rattle.std.specs.List.{flat_map}
 use Rattle.std.specs.Fmt.{decimal}
 use Rattle.ztree.specs.Tree.{Tree}
 use Rattle.ztree.specs.declared.limits.TheConstants.{MAX_CLIENTS}
-use Rattle.zcalls.specs.Kept.{KeptState}
+use Rattle.zcalls.specs.Cached.{CachedState}
 use Rattle.zcalls.specs.declared.reply.Reply.{Reply}
-use Rattle.zprotocol.specs.server.Machine.{kept_tree}
+use Rattle.zprotocol.specs.server.Machine.{cached_tree}
 use Rattle.zprotocol.specs.declared.master.order.Order.{Order}
 use Rattle.zprotocol.specs.declared.master.order_fault.OrderFault.{OrderFault}
 use Rattle.zprotocol.specs.declared.master.order_fault.OrderFault.TheVariants.{Used, NotMember, Joining, NoChain, Lost, Last, Retiring}
@@ -41,7 +41,7 @@ use Rattle.zscript.specs.declared.limits.TheConstants.{MAX_EVENTS}
 
 -- the world of the service
 abbrev pub ServiceWorld : Type 0
-ServiceWorld = World (KeptState Tree)
+ServiceWorld = World (CachedState Tree)
 
 -- the state of a script: the world, and the outcome of each event to come; where none is given, the
 -- event's process acts
@@ -55,7 +55,7 @@ script_state world outcomes = record { world = world; outcomes = outcomes }
 
 -- the initial state of a script with this many servers, and every possible client
 abbrev pub opening_script : ℕ → List Outcome → ScriptState
-opening_script servers outcomes = script_state (opening_world kept_tree servers MAX_CLIENTS) outcomes
+opening_script servers outcomes = script_state (opening_world cached_tree servers MAX_CLIENTS) outcomes
 
 -- what is left of a world between two lines: the history is cleared
 abbrev pub forgotten : ServiceWorld → ServiceWorld
@@ -64,7 +64,7 @@ forgotten w = record w { history = [] }
 -- what a line did: its events with the world that they led to, the call that it invoked and waited
 -- for, and its result
 pub record LineEffect : Type 0 where
-  pub did : Settling (KeptState Tree)
+  pub did : Settling (CachedState Tree)
   pub own : Option (ℕ × ℕ)
   pub result : List ℕ
 
@@ -73,8 +73,8 @@ abbrev pub no_effect : ScriptState → List ℕ → LineEffect
 no_effect s result = record { did = opening_settling s.world 0 s.outcomes; own = None; result = result }
 
 -- one event is done, if it is enabled
-abbrev pub after_try : ScriptState → Event → Settling (KeptState Tree)
-after_try s event = with_try kept_tree (opening_settling s.world 1 s.outcomes) event
+abbrev pub after_try : ScriptState → Event → Settling (CachedState Tree)
+after_try s event = with_try cached_tree (opening_settling s.world 1 s.outcomes) event
 
 -- a line of one event: its result where the event is enabled, and where it isn't
 abbrev pub event_effect : ScriptState → Event → List ℕ → List ℕ → LineEffect
@@ -124,9 +124,9 @@ settled_text Quiet = codes "quiet"
 settled_text Limit = codes "limit"
 
 -- the world settles, after events that were done
-abbrev pub after_settling : Settling (KeptState Tree) → Settling (KeptState Tree)
+abbrev pub after_settling : Settling (CachedState Tree) → Settling (CachedState Tree)
 after_settling before =
-    let did = settle kept_tree before.world MAX_EVENTS before.outcomes in
+    let did = settle cached_tree before.world MAX_EVENTS before.outcomes in
     record did { events = before.events ++ did.events }
 
 -- settle
@@ -151,7 +151,7 @@ abbrev pub own_reply_text : Option (ℕ × ℕ) → History → List ℕ
 own_reply_text call history = option_map_or reply_text (reply_in call history) (codes "unanswered")
 
 -- a call that was invoked and for which the world settled
-abbrev pub call_answered : Settling (KeptState Tree) → Option (ℕ × ℕ) → LineEffect
+abbrev pub call_answered : Settling (CachedState Tree) → Option (ℕ × ℕ) → LineEffect
 call_answered did call = record { did = did; own = call; result = own_reply_text call did.world.history }
 
 -- a client's call: it is invoked and the world settles, or it can't be invoked and nothing is done

@@ -3,7 +3,7 @@
 use Rattle.std.specs.Prelude.{ℕ, List, [], ◌∷◌, ◌==◌, if◌then◌else◌}
 use Rattle.std.specs.List.{onto_first}
 use Rattle.ztree.specs.declared.limits.TheConstants.{MAX_CLIENTS}
-use Rattle.zprotocol.specs.server.Machine.{kept_tree}
+use Rattle.zprotocol.specs.server.Machine.{cached_tree}
 use Rattle.zprotocol.specs.declared.world.outcome.Outcome.{Outcome}
 use Rattle.zprotocol.specs.world.World.{opening_world}
 use Rattle.zscript.specs.Line.{ServiceWorld, opening_script, answers}
@@ -25,7 +25,7 @@ whole_lines_of (b ∷ bs) = if b == 10 then [] ∷ whole_lines_of bs else onto_l
 
 -- The world that a script with this many servers begins in.
 abbrev pub opening_of : ℕ → ServiceWorld
-opening_of servers = opening_world kept_tree servers MAX_CLIENTS
+opening_of servers = opening_world cached_tree servers MAX_CLIENTS
 
 -- The whole answer to a script with this many servers, under the outcomes of its events.
 abbrev pub text_of : ℕ → List Outcome → List ℕ → List ℕ

@@ -1,6 +1,6 @@
 //! Laws of the definitions. Each function's contract is a law; its body does nothing.
 
-ghost use Rattle.zscript.specs.Histories.{LinesTellOneRun, CallsAreAnsweredByTheirReplies};
+ghost use Rattle.zscript.specs.Histories.{LinesReportOneRun, CallsAreAnsweredByTheirReplies};
 ghost use Rattle.zscript.specs.Laws.{UnendedLinesHaveNoAnswer};
 ghost use Rattle.zscript.specs.Promise.{EveryScriptIsExplained};
 
@@ -16,8 +16,8 @@ pub fn every_script_is_explained()
 /// Whatever a script's lines are and whatever becomes of their events, their histories, one after
 /// the other, are the history of one run of the world from its initial state. So all that holds of
 /// every run holds of a script.
-pub fn lines_tell_one_run()
-    ensures { LinesTellOneRun }
+pub fn lines_report_one_run()
+    ensures { LinesReportOneRun }
 {}
 
 /// A call that was invoked is answered with a reply to it that its client received by the end of

@@ -11,7 +11,7 @@ ghost use Rattle.std.specs.Prelude.{◌≡◌, ◌<◌, ◌≤◌, [], ◌++◌,
 ghost use Rattle.zdevices.specs.Device.{Between, TookBeginning, Failed};
 ghost use Rattle.zscript.specs.Script.{opening_of};
 ghost use Rattle.zscript.specs.support.PlayerView.{IsFresh, world_now, kept_front};
-ghost use Rattle.zscript.specs.support.Played.{line_at, PlaysLines, PlaysLastLine, TellsLines, TellsLine};
+ghost use Rattle.zscript.specs.support.Played.{line_at, PlaysLines, PlaysLastLine, ReportsLines, ReportsLine};
 ghost use Rattle.zscript.specs.support.Stops.{StopsInBlock, StopsAtEnd, StopsInLines, StopsInLine};
 
 use crate::fault::PlayFault;
@@ -101,7 +101,7 @@ impl Player {
     ) -> Result<&'a [u8], PlayFault>
         requires { self.old.held ≡ [] }
         ensures done { OnOk result
-            (TellsLines self.old bytes.entry.now self.new K.took sink.old sink.new) }
+            (ReportsLines self.old bytes.entry.now self.new K.took sink.old sink.new) }
         ensures line { IfOk result
             (λ rest. line_at self.old bytes.entry.now ≡ self.new.line ++ rest.now) }
         ensures sound { OnOk result (K.failed sink.old 0 sink.new) }
@@ -119,7 +119,7 @@ impl Player {
     // Ends the line with these bytes, plays it, and writes the held replies once they fill a block.
     // Where nothing of the line is stored, it is not copied.
     fn end_line<K: Sink>(&mut self, sink: &mut K, end: &[u8]) -> Result<(), PlayFault>
-        ensures done { OnOk result (TellsLine self.old end.now self.new K.took sink.old sink.new) }
+        ensures done { OnOk result (ReportsLine self.old end.now self.new K.took sink.old sink.new) }
         ensures line { OnOk result (self.new.line ≡ []) }
         ensures sound { OnOk result (K.failed sink.old 0 sink.new) }
         ensures stopped { IfErr result (StopsInLine self.old end.now K.Sink sink.old sink.new) }

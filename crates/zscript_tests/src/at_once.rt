@@ -26,11 +26,11 @@ impl Source for Watching<'_> {
 
     ghost failed = { λ _ _ _. Unit {0} };
 
-    ghost has_ended = { λ s. IsTrue s.source.told_end × (s.source.left ≡ []) };
+    ghost has_ended = { λ s. IsTrue s.source.reported_end × (s.source.left ≡ []) };
 
     ghost reads_left = { λ s. length s.source.left };
 
-    ghost told = { λ _ _ _ _. Unit {0} };
+    ghost reported = { λ _ _ _ _. Unit {0} };
 
     fn read(&mut self, buffer: &mut [u8]) -> Result<usize, DeviceFault> {
         self.is_late = self.is_late || self.taken.get() != self.owed;
@@ -58,7 +58,7 @@ impl Sink for Counting<'_> {
 
     ghost failed = { λ _ _ _. Unit {0} };
 
-    ghost told = { λ _ _ _ _. Unit {0} };
+    ghost reported = { λ _ _ _ _. Unit {0} };
 
     fn write(&mut self, bytes: &[u8]) -> Result<usize, DeviceFault> {
         self.taken.set(self.taken.get().wrapping_add(bytes.len()));

@@ -16,7 +16,7 @@ mod limits;
 #[cfg(test)]
 mod lines;
 #[cfg(test)]
-mod pieces;
+mod chunks;
 #[cfg(test)]
 mod playing;
 #[cfg(test)]

@@ -1,9 +1,9 @@
 //! The limits of the text and of the service.
 
-use crate::pieces::Piece::{Each, Text, Times};
-use crate::pieces::{Piece, plays_pieces};
+use crate::chunks::Chunk::{Each, Text, Times};
+use crate::chunks::{Chunk, plays_chunks};
 
-const LONGEST_NAME: &[Piece] = &[
+const LONGEST_NAME: &[Chunk] = &[
     Text("1 create /"),
     Times("a", 255),
     Text(" p -\n1 create /"),
@@ -11,7 +11,7 @@ const LONGEST_NAME: &[Piece] = &[
     Text(" p -\n"),
 ];
 
-const ITS_ANSWER: &[Piece] = &[
+const ITS_ANSWER: &[Chunk] = &[
     Text("ok /"),
     Times("a", 255),
     Text("\nbad path NameTooLong\n"),
@@ -19,11 +19,11 @@ const ITS_ANSWER: &[Piece] = &[
 
 #[test]
 fn knows_the_longest_name(rt: HostRuntime) {
-    plays_pieces(&rt, rt.alloc(), LONGEST_NAME, ITS_ANSWER);
+    plays_chunks(&rt, rt.alloc(), LONGEST_NAME, ITS_ANSWER);
 }
 
 // The counter doesn't change where the made name is too long.
-const SEQUENTIAL_NAMES: &[Piece] = &[
+const SEQUENTIAL_NAMES: &[Chunk] = &[
     Text("1 create /"),
     Times("a", 245),
     Text(" ps -\n1 create /"),
@@ -31,7 +31,7 @@ const SEQUENTIAL_NAMES: &[Piece] = &[
     Text(" ps -\n1 create /b ps -\n1 create / ps -\n"),
 ];
 
-const MADE_NAMES: &[Piece] = &[
+const MADE_NAMES: &[Chunk] = &[
     Text("ok /"),
     Times("a", 245),
     Text("0000000000\nno PathLimit\nok /b0000000001\nno NodeExists\n"),
@@ -39,10 +39,10 @@ const MADE_NAMES: &[Piece] = &[
 
 #[test]
 fn knows_the_longest_sequential_name(rt: HostRuntime) {
-    plays_pieces(&rt, rt.alloc(), SEQUENTIAL_NAMES, MADE_NAMES);
+    plays_chunks(&rt, rt.alloc(), SEQUENTIAL_NAMES, MADE_NAMES);
 }
 
-const MOST_DATA: &[Piece] = &[
+const MOST_DATA: &[Chunk] = &[
     Text("1 create /a p "),
     Times("QUFB", 21845),
     Text("QQ==\n1 create /b p "),
@@ -52,10 +52,10 @@ const MOST_DATA: &[Piece] = &[
 
 #[test]
 fn knows_the_most_data(rt: HostRuntime) {
-    plays_pieces(&rt, rt.alloc(), MOST_DATA, &[Text("ok /a\nbad data\n")]);
+    plays_chunks(&rt, rt.alloc(), MOST_DATA, &[Text("ok /a\nbad data\n")]);
 }
 
-const MOST_PARTS: &[Piece] = &[
+const MOST_PARTS: &[Chunk] = &[
     Text("1 multi check / 0"),
     Times(" ; check / 0", 63),
     Text("\n1 multi check / 0"),
@@ -63,7 +63,7 @@ const MOST_PARTS: &[Piece] = &[
     Text("\n"),
 ];
 
-const CHECKED_PARTS: &[Piece] = &[
+const CHECKED_PARTS: &[Chunk] = &[
     Text("ok multi checked"),
     Times(" ; checked", 63),
     Text("\nbad line\n"),
@@ -71,10 +71,10 @@ const CHECKED_PARTS: &[Piece] = &[
 
 #[test]
 fn knows_the_most_parts(rt: HostRuntime) {
-    plays_pieces(&rt, rt.alloc(), MOST_PARTS, CHECKED_PARTS);
+    plays_chunks(&rt, rt.alloc(), MOST_PARTS, CHECKED_PARTS);
 }
 
-const LONG_LINES: &[&[Piece]] = &[
+const LONG_LINES: &[&[Chunk]] = &[
     &[Times("x", 524288), Text("\n1 ls /\n")],
     &[Times("x", 524289), Text("\n1 ls /\n")],
     &[Times("x", 700000), Text("\n1 ls /\n")],
@@ -83,16 +83,16 @@ const LONG_LINES: &[&[Piece]] = &[
 #[test]
 fn answers_long_lines(rt: HostRuntime) {
     for script in LONG_LINES {
-        plays_pieces(&rt, rt.alloc(), script, &[Text("bad line\nok 0\n")]);
+        plays_chunks(&rt, rt.alloc(), script, &[Text("bad line\nok 0\n")]);
     }
 }
 
-const SESSIONS: &[Piece] = &[
+const SESSIONS: &[Chunk] = &[
     Each("ok session ", 1024, " timeout 2\n"),
     Text("no TooManySessions\n"),
 ];
 
 #[test]
 fn opens_1024_sessions(rt: HostRuntime) {
-    plays_pieces(&rt, rt.alloc(), &[Times("1 open 2\n", 1025)], SESSIONS);
+    plays_chunks(&rt, rt.alloc(), &[Times("1 open 2\n", 1025)], SESSIONS);
 }

@@ -79,15 +79,15 @@ fn words_of(rt: &impl Abort, alloc: Global, text: &'static str) -> Vec<&'static 
 }
 
 #[test]
-fn tells_its_faults(rt: HostRuntime) {
+fn reports_its_faults(rt: HostRuntime) {
     for (text, reads, writes, status, line) in TOLD {
         let mut faults = VecSink::new(rt.alloc(), 65536);
         let words = words_of(&rt, rt.alloc(), text);
         let answered = run(rt.alloc(), &words, *reads, *writes, &mut faults);
-        let is_told = faults.bytes() == line.as_bytes();
+        let is_reported = faults.bytes() == line.as_bytes();
         drop(words);
         drop(faults);
-        assert!(rt; answered == *status && is_told, "{line}");
+        assert!(rt; answered == *status && is_reported, "{line}");
     }
 }
 

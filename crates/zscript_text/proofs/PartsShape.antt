@@ -15,7 +15,7 @@ before-one : (done : List PartWords) (part : PartWords) (more : Option (List Par
 before-one done part None = refl
 before-one done part (Some parts) = ap Some (sym (append_assoc done (part ∷ []) parts))
 
--- a test, told by its denial
+-- a test, reported by its denial
 pub flipped : (a b : Bool) → a ≡ not b → b ≡ not a
 flipped a true e = ap not (sym e)
 flipped a false e = ap not (sym e)

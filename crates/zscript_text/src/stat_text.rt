@@ -43,7 +43,7 @@ pub(crate) fn write_stat_behind(front: &str, stat: &Stat, out: &mut String) -> R
 // where they begin.
 fn put_stat(stat: &Stat, place: &mut [u8]) -> usize
     requires { length place.old ≡ ROOM }
-    ensures told { drop result place.new ≡ stat_text stat.now }
+    ensures reported { drop result place.new ≡ stat_text stat.now }
     ensures ascii { IsAscii (drop result place.new) }
     ensures len { length place.new ≡ length place.old }
     ensures room { FRONT_ROOM ≤ result }
@@ -68,7 +68,7 @@ fn put_stat(stat: &Stat, place: &mut [u8]) -> usize
 #[inline(always)]
 fn put_numbers(numbers: &[u64], place: &mut [u8]) -> usize
     requires { NUMBER_ROOM * length numbers.now ≤ length place.old }
-    ensures told { drop result place.new ≡ flat_map spaced_number numbers.now }
+    ensures reported { drop result place.new ≡ flat_map spaced_number numbers.now }
     ensures ascii { IsAscii (drop result place.new) }
     ensures len { length place.new ≡ length place.old }
     ensures room { length place.old ≤ result + NUMBER_ROOM * length numbers.now }
@@ -88,7 +88,7 @@ fn put_numbers(numbers: &[u64], place: &mut [u8]) -> usize
 fn put_number(number: u64, place: &mut [u8], end: usize) -> usize
     requires room { NUMBER_ROOM ≤ end }
     requires within { end ≤ length place.old }
-    ensures told { drop result place.new ≡ spaced_number number ++ drop end place.old }
+    ensures reported { drop result place.new ≡ spaced_number number ++ drop end place.old }
     ensures ascii { IsAscii (spaced_number number) }
     ensures len { length place.new ≡ length place.old }
     ensures room { end ≤ result + NUMBER_ROOM }

@@ -4,10 +4,10 @@ use Rattle.std.proofs.lemmas.Bool.Decides.{nat_tests}
 use Rattle.ztree.specs.Tree.{Tree}
 use Rattle.zcalls.specs.declared.call.Entry.{Entry}
 use Rattle.zcalls.specs.declared.reply.Reply.{Reply}
-use Rattle.zcalls.specs.Kept.{KeptState}
+use Rattle.zcalls.specs.Cached.{CachedState}
 use Rattle.zcalls.proofs.Among.{test}
 use Rattle.zprotocol.specs.declared.limits.TheConstants.{MAX_LOG_NUMBER}
-use Rattle.zprotocol.specs.server.Machine.{kept_tree}
+use Rattle.zprotocol.specs.server.Machine.{cached_tree}
 use Rattle.zprotocol.specs.server.Memory.{grows_by}
 use Rattle.zprotocol.specs.server.View.{Neighbour, Post}
 use Rattle.zprotocol.specs.server.Table.{ack_posts, answer_posts, forward_post, accept_result}
@@ -20,7 +20,7 @@ record IsNext (last n : ℕ) : Type 0 where
   pub number : n ≡ last + 1
 
 module _ (last : ℕ) (sent : List (ℕ × Entry)) (pred : Option Neighbour) where
-  is_next : (machine : Option (KeptState Tree)) (succ : Option Neighbour) (n : ℕ)
+  is_next : (machine : Option (CachedState Tree)) (succ : Option Neighbour) (n : ℕ)
       → next_number (record { machine = machine; last = last; sent = sent; pred = pred; succ = succ }) ≡ Some n → IsNext last n
   unfolding next_number
   is_next None succ n next = let never : ⊥ = cc in absurd never
@@ -39,7 +39,7 @@ pub next_fits : (v : TreeView) (n : ℕ) → next_number v ≡ Some n → v.last
 next_fits v n next = (is_next v.last v.sent v.pred v.machine v.succ n next).room
 
 -- an entry changes the machine and its last number alone
-pred_stays : (last : ℕ) (sent : List (ℕ × Entry)) (pred succ : Option Neighbour) (entry : Entry) (machine : Option (KeptState Tree))
+pred_stays : (last : ℕ) (sent : List (ℕ × Entry)) (pred succ : Option Neighbour) (entry : Entry) (machine : Option (CachedState Tree))
     → (applied_result (record { machine = machine; last = last; sent = sent; pred = pred; succ = succ }) entry).0.pred ≡ pred
 unfolding applied_result
 pred_stays last sent pred succ entry None = refl
@@ -49,11 +49,11 @@ pub applied_pred : (v w : TreeView) (entry : Entry) (reply : Option Reply) → (
 applied_pred v w entry reply did = ap (λ (r : TreeView × Option Reply). r.0.pred) did ∙ pred_stays v.last v.sent v.pred v.succ entry v.machine
 
 -- messages that are put one list after the other
-pub puts_both : (old room mid new front back : List (Post (KeptState Tree))) → room ≡ old → mid ≡ room ++ front → new ≡ mid ++ back → new ≡ old ++ (front ++ back)
-puts_both old room mid new front back same first then = then ∙ ap (λ (posts : List (Post (KeptState Tree))). posts ++ back) (first ∙ ap (λ (posts : List (Post (KeptState Tree))). posts ++ front) same) ∙ append_assoc old front back
+pub puts_both : (old room mid new front back : List (Post (CachedState Tree))) → room ≡ old → mid ≡ room ++ front → new ≡ mid ++ back → new ≡ old ++ (front ++ back)
+puts_both old room mid new front back same first then = then ∙ ap (λ (posts : List (Post (CachedState Tree))). posts ++ back) (first ∙ ap (λ (posts : List (Post (CachedState Tree))). posts ++ front) same) ∙ append_assoc old front back
 
 module _ (last n : ℕ) (sent : List (ℕ × Entry)) (pred : Option Neighbour) (entry : Entry) (w : TreeView) (reply : Option Reply) where
-  forwards : (machine : Option (KeptState Tree)) (succ : Option Neighbour)
+  forwards : (machine : Option (CachedState Tree)) (succ : Option Neighbour)
       → next_number (record { machine = machine; last = last; sent = sent; pred = pred; succ = succ }) ≡ Some n → is_some succ ≡ true
       → (w, reply) ≡ applied_result (record { machine = machine; last = last; sent = sent ++ (n, entry) ∷ []; pred = pred; succ = succ }) entry
       → w ≡ (accept_row (record { machine = machine; last = last; sent = sent; pred = pred; succ = succ }) n entry).0
@@ -62,9 +62,9 @@ module _ (last n : ℕ) (sent : List (ℕ × Entry)) (pred : Option Neighbour) (
   forwards (Some m) None next has did = let never : ⊥ = cc in absurd never
   forwards (Some m) (Some t) next has did =
       let number = (is_next last sent pred (Some m) (Some t) n next).number in
-      ap (λ (r : TreeView × Option Reply). r.0) did ∙ ap (λ k. record { machine = Some (kept_tree.apply m entry).0; last = k; sent = sent ++ (n, entry) ∷ []; pred = pred; succ = Some t }) (sym number)
+      ap (λ (r : TreeView × Option Reply). r.0) did ∙ ap (λ k. record { machine = Some (cached_tree.apply m entry).0; last = k; sent = sent ++ (n, entry) ∷ []; pred = pred; succ = Some t }) (sym number)
 
-  processes : (machine : Option (KeptState Tree))
+  processes : (machine : Option (CachedState Tree))
       → next_number (record { machine = machine; last = last; sent = sent; pred = pred; succ = None }) ≡ Some n
       → (w, reply) ≡ applied_result (record { machine = machine; last = last; sent = sent; pred = pred; succ = None }) entry
       → (w, answer_posts entry reply ++ ack_posts pred n) ≡ accept_row (record { machine = machine; last = last; sent = sent; pred = pred; succ = None }) n entry
@@ -73,7 +73,7 @@ module _ (last n : ℕ) (sent : List (ℕ × Entry)) (pred : Option Neighbour) (
   processes (Some m) next did =
       let number = (is_next last sent pred (Some m) None n next).number in
       ap (λ (r : TreeView × Option Reply). (r.0, answer_posts entry r.1 ++ ack_posts pred n)) did
-      ∙ ap (λ k. (record { machine = Some (kept_tree.apply m entry).0; last = k; sent = sent; pred = pred; succ = None }, answer_posts entry (kept_tree.apply m entry).1 ++ ack_posts pred n)) (sym number)
+      ∙ ap (λ k. (record { machine = Some (cached_tree.apply m entry).0; last = k; sent = sent; pred = pred; succ = None }, answer_posts entry (cached_tree.apply m entry).1 ++ ack_posts pred n)) (sym number)
 
 -- a server with a successor keeps the entry
 pub forward_view : (v v1 w : TreeView) (n : ℕ) (entry applied : Entry) (reply : Option Reply) → next_number v ≡ Some n → is_some v.succ ≡ true
@@ -83,7 +83,7 @@ forward_view v v1 w n entry applied reply next has kept same did =
     forwards v.last n v.sent v.pred entry w reply v.machine v.succ next has (did ∙ ap (λ e. applied_result v1 e) same ∙ ap (λ k. applied_result k entry) kept)
 
 -- and keeps its neighbours
-accepted_stays : (last n : ℕ) (sent : List (ℕ × Entry)) (pred : Option Neighbour) (entry : Entry) (machine : Option (KeptState Tree)) (succ : Option Neighbour)
+accepted_stays : (last n : ℕ) (sent : List (ℕ × Entry)) (pred : Option Neighbour) (entry : Entry) (machine : Option (CachedState Tree)) (succ : Option Neighbour)
     → (accept_row (record { machine = machine; last = last; sent = sent; pred = pred; succ = succ }) n entry).0.succ ≡ succ
 unfolding accept_row accept_result
 accepted_stays last n sent pred entry None succ = refl
@@ -94,8 +94,8 @@ pub accepted_succ : (v : TreeView) (n : ℕ) (entry : Entry) → (accept_row v n
 accepted_succ v n entry = accepted_stays v.last n v.sent v.pred entry v.machine v.succ
 
 -- and puts it to that
-puts_forward : (last n : ℕ) (sent : List (ℕ × Entry)) (pred : Option Neighbour) (entry : Entry) (old new : List (Post (KeptState Tree)))
-    → (machine : Option (KeptState Tree)) (succ : Option Neighbour)
+puts_forward : (last n : ℕ) (sent : List (ℕ × Entry)) (pred : Option Neighbour) (entry : Entry) (old new : List (Post (CachedState Tree)))
+    → (machine : Option (CachedState Tree)) (succ : Option Neighbour)
     → next_number (record { machine = machine; last = last; sent = sent; pred = pred; succ = succ }) ≡ Some n → is_some succ ≡ true
     → ((t : Neighbour) → succ ≡ Some t → new ≡ old ++ forward_post t (n, entry) ∷ [])
     → new ≡ old ++ (accept_row (record { machine = machine; last = last; sent = sent; pred = pred; succ = succ }) n entry).1
@@ -104,7 +104,7 @@ puts_forward last n sent pred entry old new None succ next has put = let never :
 puts_forward last n sent pred entry old new (Some m) None next has put = let never : ⊥ = cc in absurd never
 puts_forward last n sent pred entry old new (Some m) (Some t) next has put = put t refl
 
-pub forward_puts : (v : TreeView) (n : ℕ) (entry : Entry) (old new : List (Post (KeptState Tree))) → next_number v ≡ Some n → is_some v.succ ≡ true
+pub forward_puts : (v : TreeView) (n : ℕ) (entry : Entry) (old new : List (Post (CachedState Tree))) → next_number v ≡ Some n → is_some v.succ ≡ true
     → ((t : Neighbour) → v.succ ≡ Some t → new ≡ old ++ forward_post t (n, entry) ∷ []) → new ≡ old ++ (accept_row v n entry).1
 forward_puts v n entry old new next has put = puts_forward v.last n v.sent v.pred entry old new v.machine v.succ next has put
 
@@ -117,7 +117,7 @@ process_row v w n entry reply next none did =
     ∙ ap (λ k. accept_row k n entry) (sym same)
 
 -- the next entry makes the log longer
-longer : (last n : ℕ) (sent : List (ℕ × Entry)) (pred : Option Neighbour) (entry : Entry) (machine : Option (KeptState Tree)) (succ : Option Neighbour)
+longer : (last n : ℕ) (sent : List (ℕ × Entry)) (pred : Option Neighbour) (entry : Entry) (machine : Option (CachedState Tree)) (succ : Option Neighbour)
     → next_number (record { machine = machine; last = last; sent = sent; pred = pred; succ = succ }) ≡ Some n
     → grows_by (record { machine = machine; last = last; sent = sent; pred = pred; succ = succ }) (accept_row (record { machine = machine; last = last; sent = sent; pred = pred; succ = succ }) n entry) ≡ true
 unfolding next_number accept_row accept_result

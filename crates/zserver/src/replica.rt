@@ -117,7 +117,7 @@ pub(crate) fn acknowledge(
 ) -> Result<(), Memory>
     ensures puts { OnOk result (Puts out.old out.new (ack_posts pred.now n)) }
     ensures silent { OnErr result (out.new.posts ≡ out.old.posts) }
-    ensures told { OnErr result (is_some pred.now ≡ true) }
+    ensures reported { OnErr result (is_some pred.now ≡ true) }
 {
     if let Some(pred) = pred {
         out.reserve(1)?;

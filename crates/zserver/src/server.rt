@@ -2,7 +2,7 @@
 
 ghost use Rattle.std.specs.Prelude.{◌≡◌, ◌≤◌, ◌+◌, ◌-◌, ◌==◌, false, None, Some, Err};
 ghost use Rattle.std.specs.Prelude.{IfOk, IfErr, OnErr, OnOk, if◌then◌else◌};
-ghost use Rattle.zprotocol.specs.server.Machine.{kept_tree, kept_tree_from};
+ghost use Rattle.zprotocol.specs.server.Machine.{cached_tree, cached_tree_from};
 ghost use Rattle.zprotocol.specs.server.Table.{is_retirement};
 ghost use Rattle.zprotocol.specs.server.View.{opening_server, spare};
 ghost use Rattle.zserver.specs.declared.stopped.Stopped.{Stopped};
@@ -58,7 +58,7 @@ impl Server {
     /// Returns the server with this id in its initial state, where the chain is the servers up to
     /// `last`: a member with an empty machine, or a spare one.
     pub fn opening(alloc: Global, id: ServerId, last: ServerId) -> Result<Server, Memory>
-        ensures { IfOk result (λ server. server ≡ running (opening_server kept_tree last id)) }
+        ensures { IfOk result (λ server. server ≡ running (opening_server cached_tree last id)) }
     {
         if id.number() > last.number() {
             return Ok(Server::spare(alloc));
@@ -77,7 +77,7 @@ impl Server {
     ) -> Result<Server, Memory>
         requires { IsFresh snapshot.now }
         ensures { IfOk result (λ server. server
-            ≡ running (opening_server (kept_tree_from snapshot.now.machine.plain) last id)) }
+            ≡ running (opening_server (cached_tree_from snapshot.now.machine.plain) last id)) }
     {
         if id.number() > last.number() {
             return Ok(Server::spare(alloc));
@@ -155,7 +155,7 @@ impl Server {
     #[inline(never)]
     fn stop(&mut self, why: Stopped) -> Stopped
         ensures stopped { self.new.stopped ≡ Some why }
-        ensures told { result ≡ why }
+        ensures reported { result ≡ why }
     {
         drop(replace(&mut self.replica, Err(why)));
         why

@@ -25,12 +25,12 @@ pub struct Snapshot {
 impl Model for Snapshot {
     ghost use Rattle.std.specs.Prelude.{◌≡◌, false};
     ghost use Rattle.ztree.specs.Tree.{Tree};
-    ghost use Rattle.zcalls.specs.Kept.{KeptState};
+    ghost use Rattle.zcalls.specs.Cached.{CachedState};
     ghost use Rattle.zprotocol.specs.server.View.{Transfer};
     ghost use Rattle.zserver.specs.support.Codes.{coded_transfer};
     ghost use Rattle.zserver.specs.support.Replicas.{transfer_of};
 
-    ghost Value = { Transfer (KeptState Tree) };
+    ghost Value = { Transfer (CachedState Tree) };
 
     ghost coded = { coded_transfer };
 

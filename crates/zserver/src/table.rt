@@ -7,7 +7,7 @@
 //! server, at the start of the function that may make it.
 
 ghost use Rattle.std.specs.Prelude.{◌≡◌, true, IfOk, OnErr};
-ghost use Rattle.zprotocol.specs.server.Machine.{kept_tree};
+ghost use Rattle.zprotocol.specs.server.Machine.{cached_tree};
 ghost use Rattle.zprotocol.specs.server.Memory.{may_stop};
 ghost use Rattle.zserver.specs.Server.{BecomesAt, PutsAt, IsHeardOr, MayBeUnheard};
 
@@ -32,7 +32,7 @@ impl Replica {
         ensures puts { IfOk result (PutsAt out.old out.new self.old from message) }
         ensures unheard { IfOk result (IsHeardOr (MayBeUnheard self.old from message)) }
         ensures silent { OnErr result (out.new.posts ≡ out.old.posts) }
-        ensures grows { OnErr result (may_stop kept_tree self.old from message ≡ true) }
+        ensures grows { OnErr result (may_stop cached_tree self.old from message ≡ true) }
     {
         let is_order = from == Process::Master;
         match message {

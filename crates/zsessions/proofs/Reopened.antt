@@ -29,13 +29,13 @@ module _ (ids : IdEntries) (rows : Rows) where
   pub record Left (copy : Sessions) (left : IdEntries) : Type 0 where
     pub part : (n : ℕ) (id : Id) → id_at left n ≡ Some id → id_at ids n ≡ Some id
     pub apart : IsDistinct nat_eq (keys_of left)
-    pub told : (n : ℕ) → get copy n ≡ cond (is_some (id_at left n)) None (get (sessions_of ids rows) n)
+    pub reported : (n : ℕ) → get copy n ≡ cond (is_some (id_at left n)) None (get (sessions_of ids rows) n)
 
   pub left-all : IsDistinct nat_eq (keys_of ids) → (copy : Sessions) → copy ≡ finite.empty → Left copy ids
   left-all apart copy empty = record {
     part = λ n id e. e;
     apart = apart;
-    told = λ n. ap (λ (m : Sessions). get m n) empty ∙ get-empty nat_cmp n ∙ none n (id_at ids n) refl;
+    reported = λ n. ap (λ (m : Sessions). get m n) empty ∙ get-empty nat_cmp n ∙ none n (id_at ids n) refl;
   }
     where
       none : (n : ℕ) (o : Option Id) → id_at ids n ≡ o → None ≡ cond (is_some o) None (get (sessions_of ids rows) n)
@@ -43,7 +43,7 @@ module _ (ids : IdEntries) (rows : Rows) where
       none n (Some id) e = refl
 
   pub left-none : (copy : Sessions) → Left copy [] → copy ≡ sessions_of ids rows
-  left-none copy is = same_sessions copy (sessions_of ids rows) (λ n. is.told n)
+  left-none copy is = same_sessions copy (sessions_of ids rows) (λ n. is.reported n)
 
   module _ (copy : Sessions) (n : ℕ) (id : Id) (left : IdEntries) (is : Left copy ((n, id) ∷ left)) where
     gone : id_at left n ≡ None
@@ -65,10 +65,10 @@ module _ (ids : IdEntries) (rows : Rows) where
     under = is.part n id (here n id left)
 
     pub not_open : get copy n ≡ None
-    not_open = is.told n ∙ ap (λ o. cond (is_some o) None (get (sessions_of ids rows) n)) (here n id left)
+    not_open = is.reported n ∙ ap (λ o. cond (is_some o) None (get (sessions_of ids rows) n)) (here n id left)
 
     told-away : (q : ℕ) → q ≢ n → get copy q ≡ cond (is_some (id_at left q)) None (get (sessions_of ids rows) q)
-    told-away q away = is.told q ∙ ap (λ o. cond (is_some o) None (get (sessions_of ids rows) q)) (elsewhere n q id left away)
+    told-away q away = is.reported q ∙ ap (λ o. cond (is_some o) None (get (sessions_of ids rows) q)) (elsewhere n q id left away)
 
     told-here : (q : ℕ) → q ≡ n → cond (is_some (id_at left q)) None (get (sessions_of ids rows) q) ≡ session_at rows id
     told-here q same =
@@ -78,14 +78,14 @@ module _ (ids : IdEntries) (rows : Rows) where
 
     -- an entry without a row is left out
     pub left-skipped : session_at rows id ≡ None → Left copy left
-    left-skipped none = record { part = part-left; apart = apart-left; told = λ q. by q (same_number q n) }
+    left-skipped none = record { part = part-left; apart = apart-left; reported = λ q. by q (same_number q n) }
       where
         by : (q : ℕ) → (q ≡ n) ⊎ (q ≢ n) → get copy q ≡ cond (is_some (id_at left q)) None (get (sessions_of ids rows) q)
         by q (inl same) = ap (get copy) same ∙ not_open ∙ sym (told-here q same ∙ none)
         by q (inr away) = told-away q away
 
     pub left-opened : (s : Session) (more : Sessions) → session_at rows id ≡ Some s → more ≡ insert copy n s → Left more left
-    left-opened s more has made = record { part = part-left; apart = apart-left; told = λ q. ap (λ (m : Sessions). get m q) made ∙ by q (same_number q n) }
+    left-opened s more has made = record { part = part-left; apart = apart-left; reported = λ q. ap (λ (m : Sessions). get m q) made ∙ by q (same_number q n) }
       where
         by : (q : ℕ) → (q ≡ n) ⊎ (q ≢ n) → get (insert copy n s) q ≡ cond (is_some (id_at left q)) None (get (sessions_of ids rows) q)
         by q (inl same) =

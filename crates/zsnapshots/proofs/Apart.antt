@@ -1,4 +1,4 @@
--- The bytes of a state tell which it is: the header tells how many rows of each kind follow.
+-- The bytes of a state tell which it is: the header reports how many rows of each kind follow.
 use Rattle.std.proofs.Common.{◌≡◌, ℕ, ◌<◌, true, false, List, [], ◌∷◌, ◌++◌, length, map, take, drop, append_assoc}
 use Rattle.std.proofs.Common.{append-nil, refl, sym, ap, subst, ◌∙◌, arith}
 use Rattle.std.proofs.lemmas.Bool.{le-ltb}
@@ -17,18 +17,18 @@ use Rattle.zsnapshots.specs.Rows.{header_text, session_text, node_text, reply_te
 use Rattle.zsnapshots.specs.States.{StateRow, Fits, spelled, head_of, sessions_of, nodes_of, below_of, replies_of}
 use Rattle.zsnapshots.specs.States.{body_of, rows_of, IsReadable, wants_session, wants_node, wants_reply}
 use Rattle.zsnapshots.specs.States.StateRow.{OfHeader, OfSession, OfNode, OfReply}
-use Rattle.zsnapshots.specs.Laws.{RowsTellApart, OneStateInFront, OneStateInFrontOfText, NoneIsMissing}
+use Rattle.zsnapshots.specs.Laws.{RowsAreDistinct, OneStateInFront, OneStateInFrontOfText, NoneIsMissing}
 use Rattle.zsnapshots.proofs.RowForms.{is_header, is_session_text, is_node_text, is_reply_text}
 use Rattle.zsnapshots.proofs.Written.{nodes_some}
 use Rattle.zsnapshots.proofs.Next.{of_kind, session_in, node_in, reply_in, body-sessions, body-nodes, body-replies, same_header, same_body}
-use Rattle.zsnapshots.proofs.Told.{framed_is}
+use Rattle.zsnapshots.proofs.Reported.{framed_is}
 use Rattle.zsnapshots.proofs.WholeStates.{same_state}
 
 all_behind : {X : Type 0} (P : X → Type 0) (xs ys : List X) → AllByRecursion P (xs ++ ys) → AllByRecursion P ys
 all_behind P [] ys all = all
 all_behind P (x ∷ xs) ys all = all_behind P xs ys all.1
 
--- ---- rows of one kind, as many as the header tells
+-- ---- rows of one kind, as many as the header reports
 
 module _ {A : Type 0} (c : Form A) (is : IsForm c) (kind : A → StateRow) (spells : (a : A) → spelled (kind a) ≡ (row c).spell a)
     (fit : (a : A) → Fits (kind a) → (row c).Fits a) where
@@ -139,7 +139,7 @@ in_front s w rest more readable also same =
     ∙ joined-behind (rows_of w) more) in
     (one.0, append_cancel_left (map spelled (rows_of s)) rest more (same ∙ ap (λ (v : MachineState). map spelled (rows_of v) ++ more) (sym one.0)))
 
-pub rows_apart : RowsTellApart
+pub rows_apart : RowsAreDistinct
 rows_apart s w readable also same =
     (in_front s w [] [] readable also (ap (λ (rows : List (List ℕ)). rows ++ []) same)).0
 

@@ -19,12 +19,12 @@ use Rattle.zsnapshots.specs.States.{StateRow, ReadingView, Fits, spelled, head_o
 use Rattle.zsnapshots.specs.States.{IsReadable, IsTaken, IsRootTaken, NeverRefuses}
 use Rattle.zsnapshots.specs.States.StateRow.{OfHeader, OfSession, OfNode, OfReply}
 use Rattle.zsnapshots.specs.Loading.{LoadingView, rows_from, rows_loaded, IsLoaded, IsFollowed, NeverRefusesAlone, AreOfNone}
-use Rattle.zsnapshots.specs.support.Loading.{AreLoaded, TellTheState, NeverRefusesNext}
+use Rattle.zsnapshots.specs.support.Loading.{AreLoaded, ReportTheState, NeverRefusesNext}
 use Rattle.zsnapshots.specs.support.Faults.{of_frame}
 use Rattle.zsnapshots.proofs.RowForms.{is_header}
 use Rattle.zsnapshots.proofs.Written.{nodes_some}
 use Rattle.zsnapshots.proofs.Next.{of_kind, node_in, body-nodes, same_body}
-use Rattle.zsnapshots.proofs.Told.{one_row, frame_memory, all_at}
+use Rattle.zsnapshots.proofs.Reported.{one_row, frame_memory, all_at}
 use Rattle.zsnapshots.proofs.WholeStates.{all-push}
 
 -- ---- whether a row is followed
@@ -125,9 +125,9 @@ header_never_taken_wrong h bytes more fits front s x rest readable rows text =
 
 pub header_never_refused : (bytes : List ℕ) (after : List StateRow) (fault : FrameFault) → IsFaultOf header_text bytes fault
     → NeverRefusesNext [] after (Err (of_frame fault)) bytes
-header_never_refused bytes after fault told s x rest readable rows text =
+header_never_refused bytes after fault reported s x rest readable rows text =
     let here = text ∙ ap spelled (first_is s x rest rows) ∙ sym (append-nil (spelled (OfHeader (head_of s)))) in
-    (tt, ap of_frame (frame_memory header_text is_header (head_of s) [] bytes readable.fit.0 here fault told))
+    (tt, ap of_frame (frame_memory header_text is_header (head_of s) [] bytes readable.fit.0 here fault reported))
 
 -- it isn't followed
 pub never_followed : (before after : List StateRow) (fault : RowFault) (bytes : List ℕ) → IsFollowed bytes
@@ -156,23 +156,23 @@ first_spelled (x ∷ more) bytes rest is = (
       ≡ rest = cc in same,
 )
 
-pub tell_at_first : TellTheState []
-tell_at_first s rest readable is = (rows_of s, refl, is)
+pub report_at_first : ReportTheState []
+report_at_first s rest readable is = (rows_of s, refl, is)
 
-tell_next : (before after : List StateRow) (bytes : List ℕ) → TellTheState before → IsLoaded before after bytes
-    → NeverRefusesNext before after (Ok tt) bytes → TellTheState after
-tell_next before after bytes tell loaded only s rest readable is =
+report_next : (before after : List StateRow) (bytes : List ℕ) → ReportTheState before → IsLoaded before after bytes
+    → NeverRefusesNext before after (Ok tt) bytes → ReportTheState after
+report_next before after bytes tell loaded only s rest readable is =
     let split = is ∙ ap (λ (rows : List (List ℕ)). rows ++ rest) (bytes_behind before after bytes loaded)
     ∙ append_assoc (map spelled before) (bytes ∷ []) rest in
-    let told = tell s (bytes ∷ rest) readable split in
-    let first = first_spelled told.0 bytes rest told.2 in
-    let rows : rows_of s ≡ before ++ first.0 ∷ first.1 = told.1 ∙ ap (λ (more : List StateRow). before ++ more) first.2 in
+    let reported = tell s (bytes ∷ rest) readable split in
+    let first = first_spelled reported.0 bytes rest reported.2 in
+    let rows : rows_of s ≡ before ++ first.0 ∷ first.1 = reported.1 ∙ ap (λ (more : List StateRow). before ++ more) first.2 in
     let here = (only s first.0 first.1 readable rows first.3).0 in
     (first.1, rows ∙ sym (append_assoc before (first.0 ∷ []) first.1) ∙ ap (λ (rows : List StateRow). rows ++ first.1) (sym here), first.4)
 
 pub loaded_next : (before after : List StateRow) (bytes : List ℕ) → AreLoaded before → IsLoaded before after bytes
     → NeverRefusesNext before after (Ok tt) bytes → AreLoaded after
-loaded_next before after bytes are loaded only = (all_loaded before after bytes are.0 loaded, tell_next before after bytes are.1 loaded only)
+loaded_next before after bytes are loaded only = (all_loaded before after bytes are.0 loaded, report_next before after bytes are.1 loaded only)
 
 -- the same, or where it was refused
 pub loaded_or_same : (old new : ReadingView) (bytes : List ℕ) (r : Result (Unit {0}) RowFault) → AreLoaded (rows_so_far old)
@@ -184,9 +184,9 @@ loaded_or_same old new bytes (Err fault) are loaded only err = subst (λ (r : Re
 pub never_refused_by_bytes : (before after : List StateRow) (bytes : List ℕ) (r : Result (Unit {0}) RowFault)
     → AreLoaded before → NeverRefusesNext before after r bytes → NeverRefusesAlone (map spelled before) r bytes
 never_refused_by_bytes before after bytes r are only s rest readable is =
-    let told = are.1 s (bytes ∷ rest) readable is in
-    let first = first_spelled told.0 bytes rest told.2 in
-    (only s first.0 first.1 readable (told.1 ∙ ap (λ (more : List StateRow). before ++ more) first.2) first.3).1
+    let reported = are.1 s (bytes ∷ rest) readable is in
+    let first = first_spelled reported.0 bytes rest reported.2 in
+    (only s first.0 first.1 readable (reported.1 ∙ ap (λ (more : List StateRow). before ++ more) first.2) first.3).1
 
 -- ---- the end
 
@@ -201,8 +201,8 @@ nothing_spelled (x ∷ rows) none = absurd (let bad : spelled x ∷ map spelled 
 -- the state with these bytes has these rows
 rows_are : (rows : List StateRow) → AreLoaded rows → (s : MachineState) → IsReadable s → map spelled (rows_of s) ≡ map spelled rows → rows_of s ≡ rows
 rows_are rows are s readable is =
-    let told = are.1 s [] readable (is ∙ sym (append-nil (map spelled rows))) in
-    told.1 ∙ ap (λ (more : List StateRow). rows ++ more) (nothing_spelled told.0 told.2) ∙ append-nil rows
+    let reported = are.1 s [] readable (is ∙ sym (append-nil (map spelled rows))) in
+    reported.1 ∙ ap (λ (more : List StateRow). rows ++ more) (nothing_spelled reported.0 reported.2) ∙ append-nil rows
 
 pub of_none : (rows : List StateRow) → AreLoaded rows → ((s : MachineState) → rows_of s ≡ rows → ⊥) → AreOfNone (map spelled rows)
 of_none rows are none s readable is = none s (rows_are rows are s readable is)

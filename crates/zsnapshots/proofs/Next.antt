@@ -14,7 +14,7 @@ use Rattle.ztree.specs.declared.node.Node.{Node}
 use Rattle.ztree.specs.declared.session.Session.{Session}
 use Rattle.ztree.specs.Tree.{Path, has_node}
 use Rattle.ztree.proofs.Sorted.{paths_total, same_path}
-use Rattle.zcalls.specs.Kept.{Kept}
+use Rattle.zcalls.specs.Cached.{Cached}
 use Rattle.zstore.proofs.Left.{left_at}
 use Rattle.zops.specs.Machine.{MachineState}
 use Rattle.zops.specs.Restored.{CanPutGranted, CanPutNode}
@@ -39,7 +39,7 @@ node_in (OfSession e) = None
 node_in (OfNode e) = Some e
 node_in (OfReply e) = None
 
-abbrev pub reply_in : StateRow → Option (ℕ × Kept)
+abbrev pub reply_in : StateRow → Option (ℕ × Cached)
 reply_in (OfHeader h) = None
 reply_in (OfSession e) = None
 reply_in (OfNode e) = None
@@ -255,7 +255,7 @@ module _ (w s : MachineState) (x : StateRow) (after : List StateRow) (body : bod
   -- a kept reply comes next
   pub next_reply : length (sessions_of s) ≡ length (sessions_of w) → length (below_of s) ≡ length (below_of w)
       → length (replies_of s) < length (replies_of w) →
-      (e : ℕ × Kept) × (more : List (ℕ × Kept)) × (replies_of w ≡ replies_of s ++ e ∷ more) × (x ≡ OfReply e)
+      (e : ℕ × Cached) × (more : List (ℕ × Cached)) × (replies_of w ≡ replies_of s ++ e ∷ more) × (x ≡ OfReply e)
   next_reply same same_nodes less =
       let is = replies_left w s (x ∷ after) body in
       let f = first_of OfReply (of_kind reply_in (x ∷ after)) [] after x (some_left (replies_of w) (replies_of s)
@@ -286,7 +286,7 @@ module _ (w s : MachineState) (readable : IsReadable w) where
             (left_at paths_total same_path w.service.plain.nodes s.service.plain.nodes (e ∷ more) is),
       )
 
-  pub reply_next : (e : ℕ × Kept) (more : List (ℕ × Kept)) → replies_of w ≡ replies_of s ++ e ∷ more → IsAbove nat_cmp (replies_of s) e.0
+  pub reply_next : (e : ℕ × Cached) (more : List (ℕ × Cached)) → replies_of w ≡ replies_of s ++ e ∷ more → IsAbove nat_cmp (replies_of s) e.0
   reply_next e more is = next_above nat_cmp (replies_of s) more e (subst (λ es. T (is_sorted nat_cmp es)) is (entries_sorted w.service.kept))
 
 -- the rows behind the header, and the header

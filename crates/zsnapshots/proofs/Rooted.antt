@@ -23,9 +23,9 @@ use Rattle.zsnapshots.specs.States.StateRow.{OfHeader, OfSession, OfNode, OfRepl
 use Rattle.zsnapshots.specs.support.Reading.{IsReading, last_key}
 use Rattle.zsnapshots.proofs.RowForms.{is_node_text}
 use Rattle.zsnapshots.proofs.Keys.{entries-empty}
-use Rattle.zsnapshots.proofs.Kept.{view}
+use Rattle.zsnapshots.proofs.Cached.{view}
 use Rattle.zsnapshots.proofs.Next.{same_header, same_body}
-use Rattle.zsnapshots.proofs.Told.{one_row, only_memory, all_at}
+use Rattle.zsnapshots.proofs.Reported.{one_row, only_memory, all_at}
 
 module _ (h : Header) (root : Node) where
   abbrev begun : MachineState
@@ -96,7 +96,7 @@ module _ (h : Header) (w : MachineState) (x : StateRow) (after : List StateRow) 
       IfOk r (λ v. IsRootTaken h (new v) bytes (of v)) → IfErr r (IsRootFault h bytes) →
       IfOk r (λ v. ◌≡◌ {A = List StateRow × List ℕ} (rows_so_far (new v), of v) ((OfHeader h ∷ []) ++ x ∷ [], rest))
       × IfErr r (λ fault. fault ≡ Memory)
-  root_outcome bytes rest front of new (Ok v) taken told =
+  root_outcome bytes rest front of new (Ok v) taken reported =
       let fits = all_at (OfHeader h ∷ []) x after (rows_of w) readable.fit rows in
       let x_front = front ∙ ap (λ (t : StateRow). spelled t ++ rest) x_is in
       let one = one_row node_text is_node_text ([], taken.root) ([], own_root) (of v) rest bytes taken.fits
@@ -104,13 +104,13 @@ module _ (h : Header) (w : MachineState) (x : StateRow) (after : List StateRow) 
       let same = ap (λ (e : Path × Node). OfNode e) one.0 ∙ sym x_is in
       let new_rows = taken.rows ∙ ap (λ (y : StateRow). OfHeader h ∷ (y ∷ [])) same in
       ((λ i. (new_rows i, one.1 i)), tt)
-  root_outcome bytes rest front of new (Err fault) taken told =
+  root_outcome bytes rest front of new (Err fault) taken reported =
       let fits = all_at (OfHeader h ∷ []) x after (rows_of w) readable.fit rows in
       let x_front = front ∙ ap (λ (t : StateRow). spelled t ++ rest) x_is in
-      (tt, only_memory node_text is_node_text _ _ bytes ([], own_root) rest (subst Fits x_is fits) x_front refl able fault told)
+      (tt, only_memory node_text is_node_text _ _ bytes ([], own_root) rest (subst Fits x_is fits) x_front refl able fault reported)
 
 pub root_never_refuses : {V : Type 0} (h : Header) (bytes : List ℕ) (of : V → List ℕ) (new : V → ReadingView) (r : Result V RowFault) →
     IfOk r (λ v. IsRootTaken h (new v) bytes (of v)) → IfErr r (IsRootFault h bytes)
     → NeverRefuses (OfHeader h ∷ []) (λ v. (rows_so_far (new v), of v)) r bytes
-root_never_refuses h bytes of new r taken told w x after rest readable rows front = root_outcome h w x after readable
-    rows bytes rest front of new r taken told
+root_never_refuses h bytes of new r taken reported w x after rest readable rows front = root_outcome h w x after readable
+    rows bytes rest front of new r taken reported

@@ -57,15 +57,15 @@ pub are_rows : {A : Type 0} (c : Form A) → IsForm c → AreRows c
 are_rows c is = record {
   form = is_framed MAX_FRAME c (omega arith) is;
   cut = λ x front back fits split some. beginning_is_cut c is x front back fits split some;
-  stays = λ bytes more fault other told. faults_stay c bytes more fault other told;
+  stays = λ bytes more fault other reported. faults_stay c bytes more fault other reported;
 }
 
 pub read_as_row : {A V : Type 0} (c : Form A) → IsForm c → (of : V → A × List ℕ) (bytes : List ℕ) (r : Result V FrameFault) → IsBytes bytes
     → IfOk r (λ v. (row c).read bytes ≡ Ok (of v)) → IfErr r (IsFaultOf c bytes) → IsReadAs c of r bytes
-read_as_row c is of bytes r are read told = record {
+read_as_row c is of bytes r are read reported = record {
   found = found_in c is of bytes r are read;
-  only = only_in c is of bytes r read told;
-  fault = told;
+  only = only_in c is of bytes r read reported;
+  fault = reported;
 }
 
 -- what holds anyway

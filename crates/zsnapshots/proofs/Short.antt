@@ -12,8 +12,8 @@ use Rattle.zcalls.specs.declared.refusal.Refusal.TheVariants.{PathLimit, RootFix
 use Rattle.zcalls.specs.declared.reply.PartReply.{PartReply}
 use Rattle.zcalls.specs.declared.reply.PartReply.TheVariants as part
 use Rattle.zcalls.specs.declared.reply.Reply.{Reply}
-use Rattle.zcalls.specs.declared.reply.Reply.TheVariants as told
-use Rattle.zcalls.specs.Kept.{Kept}
+use Rattle.zcalls.specs.declared.reply.Reply.TheVariants as reported
+use Rattle.zcalls.specs.Cached.{Cached}
 use Rattle.zops.specs.Restored.{IsOfUpdate}
 use Rattle.zwire.specs.records.Fields.{path, content}
 use Rattle.zwire.specs.Fields.{call_number, log_number, client, stat, refusal}
@@ -80,21 +80,21 @@ refusal-short Exhausted = omega arith
 
 told-short : (r : Reply) → reply.Fits r → IsOfUpdate r → length (reply.spell r) ≤ 66000
 unfolding reply replies
-told-short (told.Created p) fits of_update = let short = path-short p fits.1 in omega (arith, short)
-told-short told.Deleted fits of_update = omega arith
-told-short (told.Set s) fits of_update = let short = stat-short s in omega (arith, short)
-told-short (told.Multi rs) fits of_update = let short = parts-short rs fits.1.1.1 in omega (arith, short, of_update)
-told-short (told.Opened id timeout) fits of_update = omega arith
-told-short told.Pinged fits of_update = omega arith
-told-short told.Closed fits of_update = omega arith
-told-short (told.Ticked tick ended removed) fits of_update = omega arith
-told-short (told.Data bytes s) fits of_update = absurd of_update
-told-short (told.Exists s) fits of_update = absurd of_update
-told-short (told.Children ns) fits of_update = absurd of_update
-told-short (told.Refused r) fits of_update = let short = refusal-short r in omega (arith, short)
-told-short (told.MultiRefused n r) fits of_update = let short = refusal-short r in omega (arith, short)
+told-short (reported.Created p) fits of_update = let short = path-short p fits.1 in omega (arith, short)
+told-short reported.Deleted fits of_update = omega arith
+told-short (reported.Set s) fits of_update = let short = stat-short s in omega (arith, short)
+told-short (reported.Multi rs) fits of_update = let short = parts-short rs fits.1.1.1 in omega (arith, short, of_update)
+told-short (reported.Opened id timeout) fits of_update = omega arith
+told-short reported.Pinged fits of_update = omega arith
+told-short reported.Closed fits of_update = omega arith
+told-short (reported.Ticked tick ended removed) fits of_update = omega arith
+told-short (reported.Data bytes s) fits of_update = absurd of_update
+told-short (reported.Exists s) fits of_update = absurd of_update
+told-short (reported.Children ns) fits of_update = absurd of_update
+told-short (reported.Refused r) fits of_update = let short = refusal-short r in omega (arith, short)
+told-short (reported.MultiRefused n r) fits of_update = let short = refusal-short r in omega (arith, short)
 
-pub reply-short : (e : ℕ × Kept) → reply_text.Fits e → IsOfUpdate e.1.reply → length (reply_text.spell e) ≤ MAX_ROW
+pub reply-short : (e : ℕ × Cached) → reply_text.Fits e → IsOfUpdate e.1.reply → length (reply_text.spell e) ≤ MAX_ROW
 unfolding reply_text kept client call_number
 reply-short e fits of_update = let short = told-short e.1.reply fits.1.1 of_update in omega (arith, short)
 

@@ -11,7 +11,7 @@ use Rattle.ztree.specs.declared.session.Session.{Session}
 use Rattle.ztree.specs.Tree.{Tree, Path}
 use Rattle.ztree.specs.Lawful.{IsLawful}
 use Rattle.ztree.proofs.Maps.{none_some}
-use Rattle.zcalls.specs.Kept.{Kept}
+use Rattle.zcalls.specs.Cached.{Cached}
 use Rattle.zops.specs.Machine.{MachineState}
 use Rattle.zops.specs.declared.limits.TheConstants.{MAX_APPLIED}
 use Rattle.zsnapshots.specs.States.{StateRow, Fits, spelled, head_of, sessions_of, nodes_of, replies_of, below_of, body_of, rows_of, written_of}
@@ -79,7 +79,7 @@ module _ (s : MachineState) where
       (at_left (map OfNode (below_of s)) (map OfReply (replies_of s)) i (OfNode e) (omega (arith, within, long))
       (at_map OfNode (below_of s) i e (at_below (nodes_of s) i e at)))
 
-  pub reply_place : (i n : ℕ) (e : ℕ × Kept) → 0 < length (nodes_of s) → n ≡ length (sessions_of s) + (length (below_of s) + i) + 2
+  pub reply_place : (i n : ℕ) (e : ℕ × Cached) → 0 < length (nodes_of s) → n ≡ length (sessions_of s) + (length (below_of s) + i) + 2
       → At (replies_of s) i e → At (rows_of s) n (OfReply e)
   reply_place i n e some is at =
       let long = length-map (below_of s) OfNode in
@@ -116,7 +116,7 @@ none_there (Some x) no_one = cc
 -- where a kept reply is written, all are
 pub kept_is : (is_alone : Bool) (s : MachineState) (i : ℕ) → i < length (replies_of (written_of is_alone s))
     → (written_of is_alone s).service.kept ≡ s.service.kept
-kept_is true s i within = let none = ap length (entries-empty {X = Kept} nat_cmp) in absurd (omega (arith, within, none))
+kept_is true s i within = let none = ap length (entries-empty {X = Cached} nat_cmp) in absurd (omega (arith, within, none))
 kept_is false s i within = refl
 
 -- no more entries are counted than were applied

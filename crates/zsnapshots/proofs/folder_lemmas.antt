@@ -5,4 +5,4 @@ pub mod ReadSoFar
 pub mod Texts
 pub mod Apart
 pub mod Starts
-pub mod Pieces
+pub mod Chunks

@@ -28,8 +28,8 @@ abbrev pub RowsAreOfOneState : Type 0
 RowsAreOfOneState = (s w : MachineState) → rows_of s ≡ rows_of w → s ≡ w
 
 -- two readable states whose rows have the same bytes are one
-abbrev pub RowsTellApart : Type 0
-RowsTellApart =
+abbrev pub RowsAreDistinct : Type 0
+RowsAreDistinct =
     (s w : MachineState) → IsReadable s → IsReadable w →
     map spelled (rows_of s) ≡ map spelled (rows_of w) → s ≡ w
 

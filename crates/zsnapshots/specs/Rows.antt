@@ -7,7 +7,7 @@ use Rattle.zjute.specs.Shapes.{fields}
 use Rattle.ztree.specs.declared.node.Node.{Node}
 use Rattle.ztree.specs.declared.session.Session.{Session}
 use Rattle.ztree.specs.Tree.{Path}
-use Rattle.zcalls.specs.Kept.{Kept}
+use Rattle.zcalls.specs.Cached.{Cached}
 use Rattle.zcalls.specs.declared.reply.Reply.{Reply}
 use Rattle.zwire.specs.records.Fields.{path, content, long}
 use Rattle.zwire.specs.declared.limits.TheConstants.{MAX_FRAME}
@@ -94,15 +94,15 @@ session = fields (both client (both long long)) (λ s. (s.client, (s.timeout, s.
 unfoldable pub session_text : Form (ℕ × Session)
 session_text = both long session
 
-abbrev pub kept_of : ℕ → Reply → Kept
+abbrev pub kept_of : ℕ → Reply → Cached
 kept_of number reply = record { number = number; reply = reply }
 
-unfoldable pub kept : Form Kept
+unfoldable pub kept : Form Cached
 kept = fields (both call_number reply) (λ k. (k.number, k.reply))
     (λ f. kept_of f.0 f.1)
 
 -- a cached reply with its client
-unfoldable pub reply_text : Form (ℕ × Kept)
+unfoldable pub reply_text : Form (ℕ × Cached)
 reply_text = both client kept
 
 -- ---- rows

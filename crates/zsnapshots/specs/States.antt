@@ -12,7 +12,7 @@ use Rattle.zpath.specs.Grammar.{path_cmp}
 use Rattle.ztree.specs.declared.node.Node.{Node}
 use Rattle.ztree.specs.declared.session.Session.{Session}
 use Rattle.ztree.specs.Tree.{Path}
-use Rattle.zcalls.specs.Kept.{Kept, nothing_kept}
+use Rattle.zcalls.specs.Cached.{Cached, nothing_cached}
 use Rattle.zops.specs.declared.limits.TheConstants.{MAX_APPLIED}
 use Rattle.zops.specs.Machine.{MachineState}
 use Rattle.zops.specs.Restored.{IsOfUpdate, CanBegin, CanPutGranted, CanPutNode}
@@ -35,7 +35,7 @@ abbrev pub nodes_of : MachineState → List (Path × Node)
 nodes_of s = entries s.service.plain.nodes
 
 -- the cached replies with their clients, in order
-abbrev pub replies_of : MachineState → List (ℕ × Kept)
+abbrev pub replies_of : MachineState → List (ℕ × Cached)
 replies_of s = entries s.service.kept
 
 -- the nodes below the root
@@ -58,7 +58,7 @@ pub data StateRow : Type 0 where
   OfHeader : Header → StateRow
   OfSession : ℕ × Session → StateRow
   OfNode : Path × Node → StateRow
-  OfReply : ℕ × Kept → StateRow
+  OfReply : ℕ × Cached → StateRow
 
 -- the rows after the header
 abbrev pub body_of : MachineState → List StateRow
@@ -98,7 +98,7 @@ pub record IsReadable (s : MachineState) : Type 0 where
 
 -- the tree of a state alone: no reply is cached, and no entry was applied
 abbrev pub tree_alone : MachineState → MachineState
-tree_alone s = record { service = nothing_kept s.service.plain; applied = 0 }
+tree_alone s = record { service = nothing_cached s.service.plain; applied = 0 }
 
 -- what is written of a state: its tree alone, or all of it
 abbrev pub written_of : Bool → MachineState → MachineState

@@ -1,7 +1,7 @@
 pub mod Entries
 pub mod States
 pub mod Texts
-pub mod Shortening
+pub mod Compaction
 pub mod Faults
 pub mod Laws
 pub mod support

@@ -1,15 +1,15 @@
 //! The state of a data folder as text: a tree.
 //!
 //! A tree changes by entries, and an entry is an update. Its text is lines of records: a snapshot
-//! or none, and entries after it. `read` reads the tree that a text represents. `Shortening` writes
+//! or none, and entries after it. `read` reads the tree that a text represents. `Compaction` writes
 //! a snapshot, chunk by chunk.
 //!
 //! ```text
 //! let Found { mut tree, .. } = read(alloc, text)?;
 //! let (reply, update) = tree.apply(update)?;
 //! add_entry(&mut records, update)?;
-//! let mut shortening = Shortening::new(alloc, &tree)?;
-//! while let Some(piece) = shortening.next_piece()? { .. }
+//! let mut compaction = Compaction::new(alloc, &tree)?;
+//! while let Some(chunk) = compaction.next_chunk()? { .. }
 //! ```
 //!
 //! A text represents one tree, and what is written is read back (`laws`). Passwords of sessions
@@ -29,10 +29,10 @@ mod front_reading;
 pub mod laws;
 mod reading;
 mod rows;
-mod shortening;
+mod compaction;
 
 pub use entries::add_entry;
 pub use fault::ReadFault;
 pub use found::Found;
 pub use reading::read;
-pub use shortening::Shortening;
+pub use compaction::Compaction;

@@ -1,6 +1,6 @@
 //! Laws of the definitions. Each function's contract is a law; its body is empty.
 
-ghost use Rattle.zsnapshots.specs.Laws.{AreRows, RowsAreShort, RowsAreOfOneState, RowsTellApart};
+ghost use Rattle.zsnapshots.specs.Laws.{AreRows, RowsAreShort, RowsAreOfOneState, RowsAreDistinct};
 ghost use Rattle.zsnapshots.specs.Laws.{OneStateInFront, OneStateInFrontOfText, NoneIsMissing};
 ghost use Rattle.zsnapshots.specs.Rows.{header_text, session_text, node_text, reply_text};
 
@@ -18,14 +18,14 @@ pub fn rows_are_short()
 {}
 
 /// The bytes of rows alone show which state they are of, whatever follows them.
-pub fn rows_tell_apart()
+pub fn rows_are_distinct()
     ensures one { RowsAreOfOneState }
-    ensures rows { RowsTellApart }
+    ensures rows { RowsAreDistinct }
     ensures front { OneStateInFront }
     ensures text { OneStateInFrontOfText }
 {}
 
 /// A header says how many rows a state has.
-pub fn headers_tell_the_end()
+pub fn headers_report_the_end()
     ensures { NoneIsMissing }
 {}

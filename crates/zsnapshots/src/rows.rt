@@ -60,7 +60,7 @@ pub fn frames_are_followed()
 {}
 
 /// Bytes that don't begin with a row.
-pub fn faults_are_told()
+pub fn faults_are_reported()
     ensures none { IsFaultOf node_text [] Cut }
     ensures part { IsFaultOf reply_text (0 ∷ 0 ∷ 0 ∷ 10 ∷ 2 ∷ 0 ∷ 0 ∷ 0 ∷ 0 ∷ []) Cut }
     ensures too_long { IsFaultOf node_text (0 ∷ 128 ∷ 0 ∷ 1 ∷ []) TooLong }

@@ -18,7 +18,7 @@ use Rattle.ztree.proofs.Maps.{none_some, same_some, is_there, get-insert-here}
 use Rattle.zstore.specs.Restored.{with_rows, with_session_rows, CanBeRoot, CanPut, CanPutAll, CanPutSession, CanPutSessions}
 use Rattle.zstore.specs.RestoredLaws.{IsRebuilt, RefusedRootsAreNowhere, RefusedSessionsAreNowhere, RefusedNodesAreNowhere}
 use Rattle.zstore.proofs.Left.{Left, left_at, left_all, left_done, left_is, left_free, left_before, left_fewer, left_next}
-use Rattle.zstore.proofs.parts.Kept.{has-inserted}
+use Rattle.zstore.proofs.parts.Cached.{has-inserted}
 
 -- a path is above that of its parent
 parent_before : (path : Path) → path ≢ [] → path_cmp (parent_of path) path ≡ Less

@@ -1,7 +1,7 @@
 -- The parts of a store that its changes change, and what undoes these.
 pub mod Maps
 pub mod Undone
-pub mod Kept
+pub mod Cached
 pub mod Noted
 pub mod Steps
 pub mod Noting

@@ -22,7 +22,7 @@ fn opens_sessions(rt: HostRuntime) {
 const DUE: &[Step] = &[Open(1), Open(5), Open(1), Is(Due(1, 3))];
 
 #[test]
-fn tells_the_sessions_that_are_due(rt: HostRuntime) {
+fn reports_the_sessions_that_are_due(rt: HostRuntime) {
     plays_row(&rt, rt.alloc(), DUE);
 }
 

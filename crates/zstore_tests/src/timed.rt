@@ -22,7 +22,7 @@ const STALE: &[Step] = &[
 ];
 
 #[test]
-fn tells_the_nodes_that_a_tick_removes(rt: HostRuntime) {
+fn reports_the_nodes_that_a_tick_removes(rt: HostRuntime) {
     plays_row(&rt, rt.alloc(), STALE);
 }
 

@@ -4,8 +4,8 @@
 
 mod ended;
 mod numbers;
-mod telling;
+mod reporting;
 
 pub use ended::Ended;
 pub use numbers::{call_number, client, epoch, log_number, server};
-pub use telling::{tell, tell_end};
+pub use reporting::{tell, report_end};

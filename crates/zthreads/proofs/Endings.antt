@@ -1,13 +1,13 @@
--- What a desk leaves, where nothing waits on it.
+-- What a endpoint leaves, where nothing waits on it.
 use Rattle.std.proofs.Common.{◌≡◌, Bool, true, false, ◌||◌, List, [], ◌++◌, Option, Some, None, IfNone, is_some, refl}
 use Rattle.std.proofs.Common.{sym, ap, ◌∙◌, append-nil, true≢false}
 use Rattle.zprotocol.specs.world.Links.{messages_to}
 use Rattle.zprotocol.specs.traces.Deeds.{stamped}
 use Rattle.zprotocol.specs.Places.{process_at}
 use Rattle.zchannels.specs.Rings.{put_of}
-use Rattle.zthreads.specs.declared.desk.Desk.{Desk}
-use Rattle.zthreads.specs.declared.desk.Ending.{Ending}
-use Rattle.zthreads.specs.Desks.{TreeDeed, TreeStanding, TreeTaken, TreePost, Accounts, Self, self_of, books_of, took_from, SameDesk}
+use Rattle.zthreads.specs.declared.endpoint.Endpoint.{Endpoint}
+use Rattle.zthreads.specs.declared.endpoint.Ending.{Ending}
+use Rattle.zthreads.specs.Endpoints.{TreeDeed, TreeStanding, TreeTaken, TreePost, Accounts, Self, self_of, books_of, took_from, SameEndpoint}
 use Rattle.zthreads.specs.Endings.{AccountsAtEnd}
 
 pub neither : (a b : Bool) → (a || b) ≡ false → (a ≡ false) × (b ≡ false)
@@ -18,22 +18,22 @@ pub if_none : {A : Type 0} {P : Type 0} (o : Option A) → IfNone o P → is_som
 if_none None p is = p
 if_none (Some x) p is = absurd (true≢false is)
 
-pub same_self_of : (a b : Desk) → SameDesk a b → self_of b ≡ self_of a
+pub same_self_of : (a b : Endpoint) → SameEndpoint a b → self_of b ≡ self_of a
 same_self_of a b same = rw (same.me, same.last, same.clients) refl
 
 -- what isn't cut at the end isn't lost
-pub kept_at_end : (d : Desk) (waits : Bool) → (d.is_cut || waits) ≡ false → (d.is_lost || waits) ≡ false
+pub kept_at_end : (d : Endpoint) (waits : Bool) → (d.is_cut || waits) ≡ false → (d.is_lost || waits) ≡ false
 kept_at_end d waits whole = let two = neither d.is_cut waits whole in rw (d.kept two.0) two.1
 
--- deeds that account for a desk on which nothing waits account for what it leaves
-pub ended : (who : Self) (d : Desk) (e : Ending) (s : TreeStanding) (t : TreeTaken) (waits : List TreePost) (deeds : List TreeDeed)
+-- deeds that account for a endpoint on which nothing waits account for what it leaves
+pub ended : (who : Self) (d : Endpoint) (e : Ending) (s : TreeStanding) (t : TreeTaken) (waits : List TreePost) (deeds : List TreeDeed)
     → (e.ins ≡ d.ins) × (e.outs ≡ d.outs) × (e.trace.events ≡ d.trace) × (e.seen ≡ d.seen) → (e.trace.is_cut ≡ false → d.is_cut ≡ false) → waits ≡ []
     → Accounts who (books_of d) s t waits deeds → AccountsAtEnd who e deeds
 ended who d e s t waits deeds same uncut none a =
     record {
       goes = a.goes;
       traced = λ whole. a.traced (uncut whole) ∙ ap (λ v. v.items) (sym same.2);
-      told = λ whole. a.told (uncut whole) ∙ ap (λ v. v.items) (sym same.3);
+      reported = λ whole. a.reported (uncut whole) ∙ ap (λ v. v.items) (sym same.3);
       taken = λ i r at. (took_from (process_at i) t, a.taken i r (rw (sym same.0) at));
       others = λ p outside. (a.others p (rw (sym same.0) outside)).0;
       put = λ i x at.

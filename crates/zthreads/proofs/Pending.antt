@@ -1,20 +1,20 @@
--- What waits on a desk, and the stamp that is next.
+-- What waits on a endpoint, and the stamp that is next.
 use Rattle.std.proofs.Common.{◌≡◌, ◌<◌, ℕ, ◌+◌, [], ◌++◌, None, if◌then◌else◌, nat_lt, inl, inr, ap, ◌∙◌, max, arith}
 use Rattle.std.specs.Prelude.{option_to_list}
 use Rattle.zcalls.proofs.Among.{test}
 use Rattle.zprotocol.specs.declared.traces.stamp.TheConstants.{MAX_STAMP}
 use Rattle.zprotocol.specs.traces.Stamps.{next_stamp}
-use Rattle.zthreads.specs.declared.desk.Desk.{Desk}
-use Rattle.zthreads.specs.Desks.{IsSettled, pending}
+use Rattle.zthreads.specs.declared.endpoint.Endpoint.{Endpoint}
+use Rattle.zthreads.specs.Endpoints.{IsSettled, pending}
 
-pub pending_same : (a b : Desk) → b.held ≡ a.held → b.out ≡ a.out → pending b ≡ pending a
+pub pending_same : (a b : Endpoint) → b.held ≡ a.held → b.out ≡ a.out → pending b ≡ pending a
 pending_same a b h o = ap (λ x. option_to_list x ++ b.out.posts) h ∙ ap (λ x. option_to_list a.held ++ x.posts) o
 
-pub pending_none : (d : Desk) → d.held ≡ None → pending d ≡ d.out.posts
+pub pending_none : (d : Endpoint) → d.held ≡ None → pending d ≡ d.out.posts
 pending_none d h = ap (λ x. option_to_list x ++ d.out.posts) h
 
--- nothing waits on a desk that is settled
-pub nothing_waits : (d : Desk) → IsSettled d → pending d ≡ []
+-- nothing waits on a endpoint that is settled
+pub nothing_waits : (d : Endpoint) → IsSettled d → pending d ≡ []
 nothing_waits d is = pending_none d is.0 ∙ is.1
 
 -- a stamp below the last one is one more than those before it

@@ -11,7 +11,7 @@ use Rattle.zprotocol.specs.client.Table.{client_step}
 use Rattle.zprotocol.specs.declared.world.history.CallEvent.TheVariants as call_event
 use Rattle.zprotocol.specs.declared.world.outcome.Outcome.TheVariants as outcome
 use Rattle.zprotocol.specs.world.History.{History}
-use Rattle.zprotocol.specs.world.Does.{AtMaster, AtServer, AtClient, Out, answer_told}
+use Rattle.zprotocol.specs.world.Does.{AtMaster, AtServer, AtClient, Out, answer_reported}
 use Rattle.zprotocol.specs.declared.traces.trace.Act.TheVariants as act
 use Rattle.zactor.specs.declared.input.Input.{Input}
 use Rattle.zactor.specs.declared.input.Input.TheVariants.{Hear, Begin}
@@ -19,9 +19,9 @@ use Rattle.zserver.specs.Server.{TreeMessage}
 use Rattle.zactor.specs.declared.handed.Handed.TheVariants.{Nothing}
 use Rattle.zactor.specs.declared.done.Done.{Done}
 use Rattle.zactor.specs.declared.done.Done.TheVariants.{Acted, Unheard, Stopped, Left, Began, Answered}
-use Rattle.zactor.specs.Acting.{can_stand, handed_by, HasActed, reply_handed, reply_in, told_by, with_reply}
-use Rattle.zthreads.specs.declared.desk.Desk.{Desk}
-use Rattle.zthreads.specs.Desks.{IsAt, IsEntered, pending, process_of, stamp_of_desk, Stands, TreeStamped, TreeStanding, TreeTaken}
+use Rattle.zactor.specs.Acting.{can_stand, handed_by, HasActed, reply_handed, reply_in, reported_by, with_reply}
+use Rattle.zthreads.specs.declared.endpoint.Endpoint.{Endpoint}
+use Rattle.zthreads.specs.Endpoints.{IsAt, IsEntered, pending, process_of, stamp_of_endpoint, Stands, TreeStamped, TreeStanding, TreeTaken}
 use Rattle.zthreads.specs.Hosting.{act_noted, ActsAt, EntersDone, IsHosted, note_of, only}
 use Rattle.zthreads.specs.Standings.{client_known, master_known, reply_heard}
 use Rattle.zthreads.specs.Steps.{Begins, Heard}
@@ -30,11 +30,11 @@ use Rattle.zthreads.proofs.CallerRows.{begin_number}
 use Rattle.zthreads.proofs.Results.{none_if}
 
 -- a process of that number, which was given this input
-abbrev ActsAs : Process → TreeStanding → Desk → TreeStanding → Input → Done → Type 0
+abbrev ActsAs : Process → TreeStanding → Endpoint → TreeStanding → Input → Done → Type 0
 ActsAs p s b s' input done = HasActed p s s' input (only []) (only (pending b)) done
 
-abbrev EntersAs : Process → Desk → Desk → Input → Done → Type 0
-EntersAs p a b input done = IsEntered a b (stamp_of_desk b) (act_noted (note_of p input) done) (told_by p input done)
+abbrev EntersAs : Process → Endpoint → Endpoint → Input → Done → Type 0
+EntersAs p a b input done = IsEntered a b (stamp_of_endpoint b) (act_noted (note_of p input) done) (reported_by p input done)
 
 -- where the master stands
 at_master : (s : TreeStanding) → can_stand Master s ≡ true → s ≡ AtMaster (master_known s)
@@ -44,7 +44,7 @@ at_master (AtServer v) fits = never fits
 at_master Out fits = never fits
 
 -- the master stands at its view, where it holds no message
-pub master_stood : (d : Desk) (s : TreeStanding) (learnt : ℕ) (front : TreeTaken) → process_of d ≡ Master → IsHosted d s learnt front
+pub master_stood : (d : Endpoint) (s : TreeStanding) (learnt : ℕ) (front : TreeTaken) → process_of d ≡ Master → IsHosted d s learnt front
     → is_some front ≡ false
     → IsAt d (AtMaster (master_known s))
 master_stood d s learnt front is h none =
@@ -52,12 +52,12 @@ master_stood d s learnt front is h none =
     (subst (λ (t : TreeTaken). Stands d s t (pending d)) (none_if front none) h.at)
 
 -- what a client hands out is what callers see
-no_answer : (c : ℕ) (o : Option (ℕ × Reply)) → answer_told c o ≡ [] → None ≡ option_map (λ g. g.1) o
+no_answer : (c : ℕ) (o : Option (ℕ × Reply)) → answer_reported c o ≡ [] → None ≡ option_map (λ g. g.1) o
 no_answer c None e = refl
 no_answer c (Some g) e = absurd (cc e)
 
 one_answer : (c number : ℕ) (brought : Option Reply) (o : Option (ℕ × Reply)) → is_some brought ≡ true
-    → answer_told c o ≡ option_to_list (option_map (λ r. call_event.Answer c number r) brought)
+    → answer_reported c o ≡ option_to_list (option_map (λ r. call_event.Answer c number r) brought)
     → brought ≡ option_map (λ g. g.1) o
 one_answer c number None o some e = never some
 one_answer c number (Some reply) None some e = absurd (cc e)
@@ -76,23 +76,23 @@ reply_in_place from m Unheard = refl
 reply_in_place from m Stopped = refl
 reply_in_place from m Left = refl
 
-module _ (c : ℕ) (a b : Desk) where
+module _ (c : ℕ) (a b : Endpoint) where
   hears : (s s' : TreeStanding) (from : Process) (m : TreeStamped) (done : Done) → can_stand (Client c) s ≡ true
       → ActsAs (Client c) s b s' (Hear from m.1) done → EntersAs (Client c) a b (Hear from m.1) done
       → Heard c a (client_known s) b (client_known s') from m (reply_heard m.1 done)
   hears (AtClient v) s' from m Acted fits acts entered =
       record {
         view = ap client_known acts.left;
-        given = no_answer c (client_step v from m.1).2 acts.told;
+        given = no_answer c (client_step v from m.1).2 acts.reported;
         posts = acts.puts;
-        entered = subst (λ (l : History). IsEntered a b (stamp_of_desk b) (act.Took from outcome.Acted) l) (sym acts.told) entered;
+        entered = subst (λ (l : History). IsEntered a b (stamp_of_endpoint b) (act.Took from outcome.Acted) l) (sym acts.reported) entered;
       }
   hears (AtClient v) s' from m (Answered number) fits acts entered =
       record {
         view = ap client_known acts.left;
-        given = one_answer c number (reply_in m.1) (client_step v from m.1).2 acts.comes acts.told;
+        given = one_answer c number (reply_in m.1) (client_step v from m.1).2 acts.comes acts.reported;
         posts = acts.puts;
-        entered = subst (λ (l : History). IsEntered a b (stamp_of_desk b) (act.Took from outcome.Acted) l) (sym acts.told) entered;
+        entered = subst (λ (l : History). IsEntered a b (stamp_of_endpoint b) (act.Took from outcome.Acted) l) (sym acts.reported) entered;
       }
   hears (AtClient v) s' from m Unheard fits acts entered = never acts.comes
   hears (AtClient v) s' from m Stopped fits acts entered = never acts.comes
@@ -106,14 +106,14 @@ module _ (c : ℕ) (a b : Desk) where
       → ActsAs (Client c) s b s' (Begin call) (Began number) → EntersAs (Client c) a b (Begin call) (Began number)
       → Begins c a (client_known s) b (client_known s') call number
   begins (AtClient v) s' call number fits acts entered =
-      let same : (client.begin_step v call).0.number ≡ number = cc acts.told in
+      let same : (client.begin_step v call).0.number ≡ number = cc acts.reported in
       record { numbered = sym same ∙ begin_number v call; view = ap client_known acts.left; posts = acts.puts; entered = entered }
   begins (AtMaster v) s' call number fits acts entered = never fits
   begins (AtServer v) s' call number fits acts entered = never fits
   begins Out s' call number fits acts entered = never fits
 
--- of a desk that is a client's
-module _ (c : ℕ) (a b : Desk) (s s' : TreeStanding) (is : process_of a ≡ Client c) (fits : can_stand (process_of a) s ≡ true) where
+-- of a endpoint that is a client's
+module _ (c : ℕ) (a b : Endpoint) (s s' : TreeStanding) (is : process_of a ≡ Client c) (fits : can_stand (process_of a) s ≡ true) where
   fits_client : can_stand (Client c) s ≡ true
   fits_client = subst (λ (p : Process). can_stand p s ≡ true) is fits
 

@@ -17,9 +17,9 @@ use Rattle.zchannels.specs.declared.rings.Rx.{Rx}
 use Rattle.zchannels.specs.Rings.{put_of, taken_of}
 use Rattle.zprotocol.specs.traces.Deeds.{takes, puts, stamped}
 use Rattle.zprotocol.specs.Places.{process_at}
-use Rattle.zthreads.specs.Desks.{TreeDeed, TreeStanding, TreeStamped, TreeTaken, TreePost, Each, Self, Books, Accounts}
-use Rattle.zthreads.specs.Desks.{took_from, IsOutside, SameBooks, SameDesk}
-use Rattle.zthreads.specs.declared.desk.Desk.{Desk}
+use Rattle.zthreads.specs.Endpoints.{TreeDeed, TreeStanding, TreeStamped, TreeTaken, TreePost, Each, Self, Books, Accounts}
+use Rattle.zthreads.specs.Endpoints.{took_from, IsOutside, SameBooks, SameEndpoint}
+use Rattle.zthreads.specs.declared.endpoint.Endpoint.{Endpoint}
 
 module _ {A B : Type 0} (f : A → B) where
   pub map_same : (xs : List A) (i : ℕ) (x y : A) → i < length xs → x ≡ get_or xs i x → f y ≡ f x → map f (set xs i y) ≡ map f xs
@@ -32,8 +32,8 @@ pub each_set : {X : Type 0} (P Q : ℕ → X → Type 0) (xs : List X) (i : ℕ)
 each_set {X} P Q xs i y each mine other j x at =
     ⊎_elim (λ h. subst (λ (p : ℕ × X). Q p.0 p.1) (λ k. (sym h.0 k, h.1 k)) mine) (λ h. other j x h.0 (each j x h.1)) (at_set xs i j y x at)
 
-pub same_desk : (a b c : Desk) → SameDesk a b → SameDesk b c → SameDesk a c
-same_desk a b c x y = record {
+pub same_endpoint : (a b c : Endpoint) → SameEndpoint a b → SameEndpoint b c → SameEndpoint a c
+same_endpoint a b c x y = record {
   me = y.me ∙ x.me;
   last = y.last ∙ x.last;
   clients = y.clients ∙ x.clients;
@@ -44,10 +44,10 @@ same_desk a b c x y = record {
   outs = y.outs ∙ x.outs;
 }
 
-pub same_books : (a b c : Desk) → SameBooks a b → SameBooks b c → SameBooks a c
+pub same_books : (a b c : Endpoint) → SameBooks a b → SameBooks b c → SameBooks a c
 same_books a b c x y = record {
   trace = y.trace ∙ x.trace;
-  told = y.told ∙ x.told;
+  reported = y.reported ∙ x.reported;
   stamp = y.stamp ∙ x.stamp;
   is_cut = y.is_cut
       ∙ x.is_cut;
@@ -98,7 +98,7 @@ module _ (who : Self) (b : Books) (s : TreeStanding) (deeds : List TreeDeed) whe
         left = a.left;
         last = a.last;
         traced = a.traced;
-        told = a.told;
+        reported = a.reported;
         taken = a.taken;
         others = a.others;
         put = each_set (λ i y. put_of y ++ stamped b.stamp (messages_to (process_at i) w) ≡ puts (process_at i) deeds)
@@ -138,7 +138,7 @@ module _ (who : Self) (b : Books) (s : TreeStanding) (deeds : List TreeDeed) whe
         left = a.left;
         last = a.last;
         traced = a.traced;
-        told = a.told;
+        reported = a.reported;
         taken = a.taken;
         others = a.others;
         put = λ i y at.
@@ -158,7 +158,7 @@ module _ (who : Self) (b : Books) (s : TreeStanding) (deeds : List TreeDeed) whe
         left = a.left;
         last = a.last;
         traced = a.traced;
-        told = a.told;
+        reported = a.reported;
         taken = each_set P P b.ins k r' a.taken (e ∙ a.taken k r at) (λ j y ne h. h);
         others = λ p out. a.others p (λ i lt. out i (let n = length-set b.ins k r' in omega arith));
         put = a.put;
@@ -174,7 +174,7 @@ module _ (who : Self) (b : Books) (s : TreeStanding) (deeds : List TreeDeed) whe
         left = a.left;
         last = a.last;
         traced = a.traced;
-        told = a.told;
+        reported = a.reported;
         taken = each_set P P b.ins k r' a.taken (e ∙ append-nil (taken_of r) ∙ a.taken k r at) (λ j y ne h. h);
         others = λ p out. a.others p (λ i lt. out i (let n = length-set b.ins k r' in omega arith));
         put = a.put;
@@ -193,7 +193,7 @@ module _ (who : Self) (b : Books) (s : TreeStanding) (deeds : List TreeDeed) whe
         left = a.left;
         last = a.last;
         traced = a.traced;
-        told = a.told;
+        reported = a.reported;
         taken = each_set P Q b.ins k r' a.taken
             (e ∙ ap (λ l. l ++ m ∷ []) (a.taken k r at ∙ append-nil (T k)) ∙ ap (λ x. T k ++ (if x then m ∷ [] else []))
             (sym (same_itself (process_at k))))

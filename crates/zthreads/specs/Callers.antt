@@ -8,10 +8,10 @@ use Rattle.zprotocol.specs.client.Table.{begin_fault}
 use Rattle.zprotocol.specs.client.View.{ClientView}
 use Rattle.zprotocol.specs.declared.process.Process.{Process}
 use Rattle.zprotocol.specs.traces.Stamps.{next_stamp}
-use Rattle.zthreads.specs.declared.desk.Desk.{Desk}
-use Rattle.zthreads.specs.Desks.{IsCutForNeed, IsLostForNeed, SameBooks, TreeStamped, is_cut_of, stamp_of_desk}
+use Rattle.zthreads.specs.declared.endpoint.Endpoint.{Endpoint}
+use Rattle.zthreads.specs.Endpoints.{IsCutForNeed, IsLostForNeed, SameBooks, TreeStamped, is_cut_of, stamp_of_endpoint}
 use Rattle.zthreads.specs.Steps.{Begins, Heard, HeardNothing, SendsAgain}
-use Rattle.zthreads.specs.Hosts.{host_desk, host_learnt, host_stamp, host_standing}
+use Rattle.zthreads.specs.Hosts.{host_endpoint, host_learnt, host_stamp, host_standing}
 use Rattle.zthreads.specs.Standings.{client_known}
 use Rattle.zthreads.specs.declared.caller.Caller.{Caller}
 
@@ -19,8 +19,8 @@ use Rattle.zthreads.specs.declared.caller.Caller.{Caller}
 abbrev pub caller_id : Caller → ℕ
 caller_id c = c.id
 
-abbrev pub caller_desk : Caller → Desk
-caller_desk c = host_desk c.host
+abbrev pub caller_endpoint : Caller → Endpoint
+caller_endpoint c = host_endpoint c.host
 
 abbrev pub caller_view : Caller → ClientView
 caller_view c = client_known (host_standing c.host)
@@ -38,15 +38,15 @@ SameLearnt a b = learnt_of b ≡ learnt_of a
 
 -- nothing was done
 abbrev pub SameCaller : Caller → Caller → Type 0
-SameCaller a b = SameBooks (caller_desk a) (caller_desk b) × (caller_view b ≡ caller_view a)
+SameCaller a b = SameBooks (caller_endpoint a) (caller_endpoint b) × (caller_view b ≡ caller_view a)
 
 -- the event is later than all that it knew, unless the trace is cut
 abbrev pub IsLater : Caller → Caller → Type 0
-IsLater a b = is_cut_of (caller_desk b) ≡ false → caller_stamp a < stamp_of_desk (caller_desk b)
+IsLater a b = is_cut_of (caller_endpoint b) ≡ false → caller_stamp a < stamp_of_endpoint (caller_endpoint b)
 
 -- the event has the timestamp after all that it knew
 abbrev pub IsNext : Caller → Caller → Type 0
-IsNext a b = stamp_of_desk (caller_desk b) ≡ next_stamp (caller_stamp a)
+IsNext a b = stamp_of_endpoint (caller_endpoint b) ≡ next_stamp (caller_stamp a)
 
 -- why a call isn't invoked, by the first test that holds; or out of memory, where no call is
 -- outstanding
@@ -56,25 +56,25 @@ MayRefuse v fault = begin_fault v ≡ Some fault
 
 -- it invoked the call with that number
 abbrev pub Began : Caller → Caller → Call → ℕ → Type 0
-Began a b call number = Begins a.id (caller_desk a) (caller_view a) (caller_desk b) (caller_view b) call number × IsNext a b × IsLater a b
+Began a b call number = Begins a.id (caller_endpoint a) (caller_view a) (caller_endpoint b) (caller_view b) call number × IsNext a b × IsLater a b
 
 -- it sent its call once more, or had none to send
 abbrev pub Retried : Caller → Caller → Bool → Type 0
-Retried a b true = SendsAgain (caller_desk a) (caller_view a) (caller_desk b) (caller_view b) × IsNext a b × IsLater a b
+Retried a b true = SendsAgain (caller_endpoint a) (caller_view a) (caller_endpoint b) (caller_view b) × IsNext a b × IsLater a b
 Retried a b false = (is_some (caller_view a).outstanding ≡ false) × SameCaller a b
 
 -- one `turn`: it heard a message, with the timestamp after that of the message and all that it
 -- knew, or it heard nothing
 abbrev pub Turned : Caller → Caller → Option Reply → Type 0
 Turned a b reply =
-    HeardNothing (caller_desk a) (caller_view a) (caller_desk b) (caller_view b) reply
-    ⊎ ((from : Process) × (m : TreeStamped) × Heard a.id (caller_desk a) (caller_view a) (caller_desk b) (caller_view b) from m reply
-    × (stamp_of_desk (caller_desk b) ≡ next_stamp (max (stamp_of_desk (caller_desk a)) (max (learnt_of a) m.0))))
+    HeardNothing (caller_endpoint a) (caller_view a) (caller_endpoint b) (caller_view b) reply
+    ⊎ ((from : Process) × (m : TreeStamped) × Heard a.id (caller_endpoint a) (caller_view a) (caller_endpoint b) (caller_view b) from m reply
+    × (stamp_of_endpoint (caller_endpoint b) ≡ next_stamp (max (stamp_of_endpoint (caller_endpoint a)) (max (learnt_of a) m.0))))
 
 -- its trace isn't cut without need
 abbrev pub IsUncut : Caller → Caller → Type 0
-IsUncut a b = IsCutForNeed (caller_desk a) (caller_desk b) (stamp_of_desk (caller_desk b))
+IsUncut a b = IsCutForNeed (caller_endpoint a) (caller_endpoint b) (stamp_of_endpoint (caller_endpoint b))
 
 -- what it does isn't lost before the last timestamp
 abbrev pub IsUnlost : Caller → Caller → Type 0
-IsUnlost a b = IsLostForNeed (caller_desk a) (caller_desk b) (stamp_of_desk (caller_desk b))
+IsUnlost a b = IsLostForNeed (caller_endpoint a) (caller_endpoint b) (stamp_of_endpoint (caller_endpoint b))

@@ -11,14 +11,14 @@ use Rattle.zactor.specs.declared.input.Input.TheVariants.{Hear}
 use Rattle.zactor.specs.declared.done.Done.{Done}
 use Rattle.zactor.specs.declared.handed.Handed.{Handed}
 use Rattle.zactor.specs.Acting.{handed_by}
-use Rattle.zthreads.specs.declared.desk.Desk.{Desk}
+use Rattle.zthreads.specs.declared.endpoint.Endpoint.{Endpoint}
 use Rattle.zthreads.specs.declared.host.Host.{Host}
-use Rattle.zthreads.specs.Desks.{IsEntered, process_of, SameBooks, stamp_of_desk, TreeStamped, TreeStanding, TreeTaken}
+use Rattle.zthreads.specs.Endpoints.{IsEntered, process_of, SameBooks, stamp_of_endpoint, TreeStamped, TreeStanding, TreeTaken}
 use Rattle.zthreads.specs.Hosting.{Did, IsUndone}
 
 -- its endpoint, its state, and the last timestamp that it learned
-abbrev pub host_desk : Host → Desk
-host_desk h = h.desk
+abbrev pub host_endpoint : Host → Endpoint
+host_endpoint h = h.endpoint
 
 abbrev pub host_standing : Host → TreeStanding
 host_standing h = h.actor
@@ -32,28 +32,28 @@ host_front h = h.front
 
 -- the last timestamp that it knows
 abbrev pub host_stamp : Host → ℕ
-host_stamp h = max (stamp_of_desk h.desk) h.learnt
+host_stamp h = max (stamp_of_endpoint h.endpoint) h.learnt
 
 -- it is a client
 abbrev pub IsClientHost : Host → Type 0
-IsClientHost h = (c : ℕ) × (process_of h.desk ≡ Client c)
+IsClientHost h = (c : ℕ) × (process_of h.endpoint ≡ Client c)
 
 -- nothing was done: its state, trace, record and timestamps are as they were
 pub record DidIdle (a b : Host) : Type 0 where
-  pub books : SameBooks a.desk b.desk
+  pub books : SameBooks a.endpoint b.endpoint
   pub stands : b.actor ≡ a.actor
   pub learnt : b.learnt ≡ a.learnt
 
 -- it was given an input, and the event has that timestamp
 pub record Acted (a b : Host) (input : Input) (stamp : ℕ) (done : Done) : Type 0 where
-  pub did : Did a.desk a.actor b.desk b.actor input stamp done
+  pub did : Did a.endpoint a.actor b.endpoint b.actor input stamp done
   pub learnt : b.learnt ≡ a.learnt
 
 -- it received a message: its event comes after that of the message, and all that it knew; what it
 -- returns is in `handed`
 abbrev pub Received : Host → Host → Handed → Handed → Done → Type 0
 Received a b before after done =
-    (from : Process) × (m : TreeStamped) × Acted a b (Hear from m.1) (next_stamp (max (stamp_of_desk a.desk) (max a.learnt m.0))) done
+    (from : Process) × (m : TreeStamped) × Acted a b (Hear from m.1) (next_stamp (max (stamp_of_endpoint a.endpoint) (max a.learnt m.0))) done
     × (after ≡ handed_by (Hear from m.1) (Ok done) before)
 
 -- it was given an input from outside: its event comes after all that it knew
@@ -67,4 +67,4 @@ GaveUp a b input fault = DidIdle a b × IsUndone a.actor input fault
 -- the master refused an order, which is an event of its trace
 pub record RefusesOrder (a b : Host) (order : Order) : Type 0 where
   pub stands : b.actor ≡ a.actor
-  pub entered : IsEntered a.desk b.desk (stamp_of_desk b.desk) (Ordered order) []
+  pub entered : IsEntered a.endpoint b.endpoint (stamp_of_endpoint b.endpoint) (Ordered order) []

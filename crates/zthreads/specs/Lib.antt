@@ -1,4 +1,4 @@
-pub mod Desks
+pub mod Endpoints
 pub mod Endings
 pub mod Waiting
 pub mod Untraced
@@ -10,7 +10,7 @@ pub mod Said
 pub mod Rounds
 pub mod Callers
 pub mod Steps
-pub mod Told
+pub mod Reported
 pub mod Hosting
 pub mod Hosts
 pub mod Standings

@@ -5,8 +5,8 @@ use Rattle.zprotocol.specs.declared.process.Process.TheVariants.{Server}
 use Rattle.zprotocol.specs.declared.master.order.Order.{Order}
 use Rattle.zchannels.specs.declared.looks.Look.{Look}
 use Rattle.zchannels.specs.HaltSeats.{Found}
-use Rattle.zthreads.specs.declared.desk.Desk.{Desk}
-use Rattle.zthreads.specs.Desks.{SameDesk}
+use Rattle.zthreads.specs.declared.endpoint.Endpoint.{Endpoint}
+use Rattle.zthreads.specs.Endpoints.{SameEndpoint}
 use Rattle.zthreads.specs.Acts.{HasFollowed}
 use Rattle.zthreads.specs.Said.{GoesOn}
 
@@ -20,7 +20,7 @@ abbrev pub LetsTake : Look → Option ℕ → Type 0
 LetsTake look bit = (Found look 0 → ⊥) × IfSome bit (λ s. Found look s → ⊥)
 
 -- the same endpoint, and its trace continues, unless it is cut; no order was followed meanwhile
-pub record WentOn (a b : Desk) : Type 0 where
-  pub same : SameDesk a b
+pub record WentOn (a b : Endpoint) : Type 0 where
+  pub same : SameEndpoint a b
   pub goes : GoesOn a b
   pub orders : (received : List Order) (waiting : Option Order) → HasFollowed a received waiting → HasFollowed b received waiting

@@ -13,7 +13,7 @@ use Rattle.zactor.specs.declared.act_fault.ActFault.TheVariants.{Refused}
 use Rattle.zactor.specs.declared.refusal.Refusal.TheVariants as refusal
 use Rattle.zactor.specs.Acting.{reply_in}
 use Rattle.zserver.specs.Server.{TreeMessage}
-use Rattle.zthreads.specs.Desks.{TreeStanding}
+use Rattle.zthreads.specs.Endpoints.{TreeStanding}
 
 -- what the master knows; of another process this says nothing
 abbrev pub master_known : TreeStanding → MasterView

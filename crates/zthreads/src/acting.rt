@@ -5,14 +5,14 @@ ghost use Rattle.std.specs.Prelude.{IfSome, OnErr, OnOk};
 ghost use Rattle.zactor.specs.declared.act_fault.ActFault.TheVariants.{Memory};
 ghost use Rattle.zactor.specs.declared.input.Input.TheVariants.{Hear};
 ghost use Rattle.zactor.specs.Acting.{handed_by, has_stopped};
-ghost use Rattle.zthreads.specs.Desks.{HasRoom, IsCutForNeed, IsLostForNeed, IsSettled};
-ghost use Rattle.zthreads.specs.Desks.{is_traced_of, Keeps, pending, SameBooks, SameDesk};
-ghost use Rattle.zthreads.specs.Desks.{stamp_of_desk, Stands};
+ghost use Rattle.zthreads.specs.Endpoints.{HasRoom, IsCutForNeed, IsLostForNeed, IsSettled};
+ghost use Rattle.zthreads.specs.Endpoints.{is_traced_of, Keeps, pending, SameBooks, SameEndpoint};
+ghost use Rattle.zthreads.specs.Endpoints.{stamp_of_endpoint, Stands};
 ghost use Rattle.zthreads.specs.Hosting.{ActsAt, CanBeStamped, Did, DidNot, EntersDone, Fits};
 ghost use Rattle.zthreads.specs.Hosting.{GoesTo, IsUndone, unsent};
 
 use crate::note::Note;
-use crate::{Desk, Stamped};
+use crate::{Endpoint, Stamped};
 use std::mem::replace;
 use zactor::{ActFault, Actor, Done, Handed, Input};
 use zprotocol::{Message, Process};
@@ -22,30 +22,30 @@ use zprotocol::traces::Stamp;
 /// Gives an input to the process of an endpoint. What it did is entered, if it has a trace. What it
 /// sends waits in the endpoint, and the failure notice of a server that stops is on its channel.
 pub(crate) fn act(
-    desk: &mut Desk,
+    endpoint: &mut Endpoint,
     actor: &mut Actor,
     input: Input,
     stamp: Stamp,
     next: Stamp,
     handed: &mut Handed,
 ) -> Result<Done, ActFault>
-    requires fits { Fits desk.old actor.old }
-    requires settled { IsSettled desk.old }
-    requires next { CanBeStamped desk.old input stamp next }
-    ensures fits { Fits desk.new actor.new }
+    requires fits { Fits endpoint.old actor.old }
+    requires settled { IsSettled endpoint.old }
+    requires next { CanBeStamped endpoint.old input stamp next }
+    ensures fits { Fits endpoint.new actor.new }
     ensures handed { handed.new ≡ handed_by input result handed.old }
     ensures goes { OnOk result
-        (GoesTo desk.old actor.old desk.new actor.new input stamp (pending desk.new)) }
-    ensures did { IfOk result (Did desk.old actor.old desk.new actor.new input next) }
-    ensures undone { IfErr result (DidNot desk.old actor.old desk.new actor.new input) }
-    ensures same { SameDesk desk.old desk.new }
+        (GoesTo endpoint.old actor.old endpoint.new actor.new input stamp (pending endpoint.new)) }
+    ensures did { IfOk result (Did endpoint.old actor.old endpoint.new actor.new input next) }
+    ensures undone { IfErr result (DidNot endpoint.old actor.old endpoint.new actor.new input) }
+    ensures same { SameEndpoint endpoint.old endpoint.new }
 {
-    match enter(desk, actor, input, stamp, next, handed) {
+    match enter(endpoint, actor, input, stamp, next, handed) {
         Ok(done) => {
             if !done.is_end() {
                 return Ok(done);
             }
-            desk.put_gone();
+            endpoint.put_gone();
             Ok(done)
         }
         Err(fault) => Err(fault),
@@ -54,43 +54,43 @@ pub(crate) fn act(
 
 // Does the same, but the failure notice of a server that stops is on no channel yet.
 fn enter(
-    desk: &mut Desk,
+    endpoint: &mut Endpoint,
     actor: &mut Actor,
     input: Input,
     stamp: Stamp,
     next: Stamp,
     handed: &mut Handed,
 ) -> Result<Done, ActFault>
-    requires fits { Fits desk.old actor.old }
-    requires settled { IsSettled desk.old }
-    requires next { CanBeStamped desk.old input stamp next }
+    requires fits { Fits endpoint.old actor.old }
+    requires settled { IsSettled endpoint.old }
+    requires next { CanBeStamped endpoint.old input stamp next }
     ensures handed { handed.new ≡ handed_by input result handed.old }
     ensures goes { IfOk result (λ done.
-        GoesTo desk.old actor.old desk.new actor.new input stamp (unsent desk.new done)) }
-    ensures acted { IfOk result (ActsAt desk.old actor.old desk.new actor.new input) }
-    ensures entered { IfOk result (EntersDone desk.old desk.new input) }
-    ensures stamp { OnOk result (stamp_of_desk desk.new ≡ next) }
-    ensures whole { OnOk result (HasRoom desk.old → IsCutForNeed desk.old desk.new next) }
-    ensures unlost { OnOk result (IsLostForNeed desk.old desk.new next) }
+        GoesTo endpoint.old actor.old endpoint.new actor.new input stamp (unsent endpoint.new done)) }
+    ensures acted { IfOk result (ActsAt endpoint.old actor.old endpoint.new actor.new input) }
+    ensures entered { IfOk result (EntersDone endpoint.old endpoint.new input) }
+    ensures stamp { OnOk result (stamp_of_endpoint endpoint.new ≡ next) }
+    ensures whole { OnOk result (HasRoom endpoint.old → IsCutForNeed endpoint.old endpoint.new next) }
+    ensures unlost { OnOk result (IsLostForNeed endpoint.old endpoint.new next) }
     ensures fault { IfErr result (IsUndone actor.old input) }
     ensures kept { OnErr result (actor.new ≡ actor.old) }
-    ensures keeps { OnErr result (Keeps desk.old desk.new) }
-    ensures books { OnErr result (SameBooks desk.old desk.new) }
-    ensures pending { OnErr result (pending desk.new ≡ []) }
-    ensures same { SameDesk desk.old desk.new }
+    ensures keeps { OnErr result (Keeps endpoint.old endpoint.new) }
+    ensures books { OnErr result (SameBooks endpoint.old endpoint.new) }
+    ensures pending { OnErr result (pending endpoint.new ≡ []) }
+    ensures same { SameEndpoint endpoint.old endpoint.new }
 {
-    if !desk.is_traced() {
-        return enter_untraced(desk, actor, input, stamp, next, handed);
+    if !endpoint.is_traced() {
+        return enter_untraced(endpoint, actor, input, stamp, next, handed);
     }
-    let me = desk.me;
-    let Ok(note) = Note::new(desk.alloc, &me, &input) else {
+    let me = endpoint.me;
+    let Ok(note) = Note::new(endpoint.alloc, &me, &input) else {
         hand_back(input, handed);
         return Err(ActFault::Memory);
     };
-    match actor.act(input, &mut desk.out, handed) {
+    match actor.act(input, &mut endpoint.out, handed) {
         Ok(done) => {
-            let (did, told) = note.entry(&me, &done);
-            desk.enter(did, next, told);
+            let (did, reported) = note.entry(&me, &done);
+            endpoint.enter(did, next, reported);
             Ok(done)
         }
         Err(fault) => {
@@ -102,36 +102,36 @@ fn enter(
 
 // Does the same for a process that isn't traced. Nothing is copied for a trace and a record.
 fn enter_untraced(
-    desk: &mut Desk,
+    endpoint: &mut Endpoint,
     actor: &mut Actor,
     input: Input,
     stamp: Stamp,
     next: Stamp,
     handed: &mut Handed,
 ) -> Result<Done, ActFault>
-    requires untraced { is_traced_of desk.old ≡ false }
-    requires fits { Fits desk.old actor.old }
-    requires settled { IsSettled desk.old }
-    requires next { CanBeStamped desk.old input stamp next }
+    requires untraced { is_traced_of endpoint.old ≡ false }
+    requires fits { Fits endpoint.old actor.old }
+    requires settled { IsSettled endpoint.old }
+    requires next { CanBeStamped endpoint.old input stamp next }
     ensures handed { handed.new ≡ handed_by input result handed.old }
     ensures goes { IfOk result (λ done.
-        GoesTo desk.old actor.old desk.new actor.new input stamp (unsent desk.new done)) }
-    ensures acted { IfOk result (ActsAt desk.old actor.old desk.new actor.new input) }
-    ensures entered { IfOk result (EntersDone desk.old desk.new input) }
-    ensures stamp { OnOk result (stamp_of_desk desk.new ≡ next) }
-    ensures whole { OnOk result (IsCutForNeed desk.old desk.new next) }
-    ensures unlost { OnOk result (IsLostForNeed desk.old desk.new next) }
+        GoesTo endpoint.old actor.old endpoint.new actor.new input stamp (unsent endpoint.new done)) }
+    ensures acted { IfOk result (ActsAt endpoint.old actor.old endpoint.new actor.new input) }
+    ensures entered { IfOk result (EntersDone endpoint.old endpoint.new input) }
+    ensures stamp { OnOk result (stamp_of_endpoint endpoint.new ≡ next) }
+    ensures whole { OnOk result (IsCutForNeed endpoint.old endpoint.new next) }
+    ensures unlost { OnOk result (IsLostForNeed endpoint.old endpoint.new next) }
     ensures fault { IfErr result (IsUndone actor.old input) }
     ensures kept { OnErr result (actor.new ≡ actor.old) }
-    ensures keeps { OnErr result (Keeps desk.old desk.new) }
-    ensures books { OnErr result (SameBooks desk.old desk.new) }
-    ensures pending { OnErr result (pending desk.new ≡ []) }
-    ensures same { SameDesk desk.old desk.new }
+    ensures keeps { OnErr result (Keeps endpoint.old endpoint.new) }
+    ensures books { OnErr result (SameBooks endpoint.old endpoint.new) }
+    ensures pending { OnErr result (pending endpoint.new ≡ []) }
+    ensures same { SameEndpoint endpoint.old endpoint.new }
 {
     let _ = stamp;
-    match actor.act(input, &mut desk.out, handed) {
+    match actor.act(input, &mut endpoint.out, handed) {
         Ok(done) => {
-            desk.enter_untraced(next);
+            endpoint.enter_untraced(next);
             Ok(done)
         }
         Err(fault) => Err(fault),
@@ -152,7 +152,7 @@ fn hand_back(input: Input, handed: &mut Handed)
 /// Gives a received message to a process that hasn't stopped. If there is no memory for the
 /// message, it remains here, and counts as still in its ring.
 pub(crate) fn hear(
-    desk: &mut Desk,
+    endpoint: &mut Endpoint,
     actor: &mut Actor,
     front: &mut Option<(Process, Stamped)>,
     from: Process,
@@ -161,24 +161,24 @@ pub(crate) fn hear(
     next: Stamp,
     handed: &mut Handed,
 ) -> Option<Done>
-    requires fits { Fits desk.old actor.old }
+    requires fits { Fits endpoint.old actor.old }
     requires goes_on { has_stopped actor.old ≡ false }
-    requires settled { IsSettled desk.old }
-    requires next { CanBeStamped desk.old (Hear from message) stamp next }
+    requires settled { IsSettled endpoint.old }
+    requires next { CanBeStamped endpoint.old (Hear from message) stamp next }
     requires front { front.old ≡ None }
-    ensures fits { Fits desk.new actor.new }
-    ensures stands { Stands desk.old actor.old (Some (from, (stamp, message))) []
-        → Stands desk.new actor.new front.new (pending desk.new) }
+    ensures fits { Fits endpoint.new actor.new }
+    ensures stands { Stands endpoint.old actor.old (Some (from, (stamp, message))) []
+        → Stands endpoint.new actor.new front.new (pending endpoint.new) }
     ensures did { IfSome result
-        (λ done. Did desk.old actor.old desk.new actor.new (Hear from message) next done
+        (λ done. Did endpoint.old actor.old endpoint.new actor.new (Hear from message) next done
         × (handed.new ≡ handed_by (Hear from message) (Ok done) handed.old)) }
     ensures kept { IfNone result (actor.new ≡ actor.old) }
-    ensures books { IfNone result (SameBooks desk.old desk.new) }
-    ensures same { SameDesk desk.old desk.new }
+    ensures books { IfNone result (SameBooks endpoint.old endpoint.new) }
+    ensures same { SameEndpoint endpoint.old endpoint.new }
 {
     let sender = from;
     match act(
-        desk,
+        endpoint,
         actor,
         Input::Hear(sender, message),
         stamp,

@@ -8,17 +8,17 @@
 ghost use Rattle.std.specs.Prelude.{◌≡◌, IfErr, IfOk, OnErr, OnOk, max, true, false};
 ghost use Rattle.zprotocol.specs.declared.process.Process.TheVariants.{Client};
 ghost use Rattle.zprotocol.specs.world.Does.{AtClient};
-ghost use Rattle.zthreads.specs.Desks.{is_cut_of, is_traced_of, IsAt, process_of, SameDesk};
-ghost use Rattle.zthreads.specs.Desks.{seen_of, self_of, stamp_of_desk, trace_of};
+ghost use Rattle.zthreads.specs.Endpoints.{is_cut_of, is_traced_of, IsAt, process_of, SameEndpoint};
+ghost use Rattle.zthreads.specs.Endpoints.{seen_of, self_of, stamp_of_endpoint, trace_of};
 ghost use Rattle.zthreads.specs.Endings.{HasEnded, IsCutAsBefore, IsLostAsBefore};
 ghost use Rattle.zthreads.specs.Endings.{LeavesNothing, SameWires};
-ghost use Rattle.zthreads.specs.Hosts.{host_desk};
+ghost use Rattle.zthreads.specs.Hosts.{host_endpoint};
 
 use crate::asking::{begin_fault_of, number_of};
 use crate::gate::Open;
 use crate::hearing::next_link;
 use crate::host::Host;
-use crate::{Desk, Ending};
+use crate::{Endpoint, Ending};
 use zactor::{Actor, Handed, Input};
 use zalloc::Memory;
 use zcalls::{Call, CallNumber, ClientId, Reply};
@@ -34,24 +34,24 @@ pub struct Caller {
     pub(crate) id: ClientId,
     // the link that it received from last
     pub(crate) link: usize,
-    ghost is_client: { process_of (host_desk host) ≡ Client id },
+    ghost is_client: { process_of (host_endpoint host) ≡ Client id },
 }
 
 impl Caller {
     ghost use Rattle.zthreads.specs.Callers.{Began, IsUncut, IsUnlost, Retried, SameCaller, Turned};
-    ghost use Rattle.zthreads.specs.Callers.{caller_desk, caller_id, caller_stamp, caller_view};
+    ghost use Rattle.zthreads.specs.Callers.{caller_endpoint, caller_id, caller_stamp, caller_view};
     ghost use Rattle.zthreads.specs.Callers.{learnt_of, MayRefuse, SameLearnt};
 
     /// Returns the client with an endpoint that has done nothing.
-    pub fn new(id: ClientId, desk: Desk, core: ClientCore) -> Caller
-        requires me { process_of desk ≡ Client id }
-        requires at { IsAt desk (AtClient core) }
-        ensures desk { caller_desk result ≡ desk }
+    pub fn new(id: ClientId, endpoint: Endpoint, core: ClientCore) -> Caller
+        requires me { process_of endpoint ≡ Client id }
+        requires at { IsAt endpoint (AtClient core) }
+        ensures endpoint { caller_endpoint result ≡ endpoint }
         ensures view { caller_view result ≡ core }
-        ensures stamp { caller_stamp result ≡ max (stamp_of_desk desk) 0 }
+        ensures stamp { caller_stamp result ≡ max (stamp_of_endpoint endpoint) 0 }
     {
         Caller {
-            host: Host::new(desk, Actor::client(core)),
+            host: Host::new(endpoint, Actor::client(core)),
             id,
             link: 0,
         }
@@ -91,7 +91,7 @@ impl Caller {
         ensures stamp { caller_stamp self.new ≡ max (caller_stamp self.old) stamp }
         ensures learnt { learnt_of self.new ≡ max (learnt_of self.old) stamp }
         ensures same { SameCaller self.old self.new }
-        ensures desk { caller_desk self.new ≡ caller_desk self.old }
+        ensures endpoint { caller_endpoint self.new ≡ caller_endpoint self.old }
     {
         self.host.learn(stamp);
     }
@@ -100,7 +100,7 @@ impl Caller {
     /// `Exhausted` where no numbers are left, and `Memory` out of memory: then nothing is invoked.
     #[tactic(auto, unfolding(zprotocol::specs::client::Table::begin_fault))]
     pub fn begin(&mut self, call: Call) -> Result<CallNumber, BeginFault>
-        ensures same { SameDesk (caller_desk self.old) (caller_desk self.new) }
+        ensures same { SameEndpoint (caller_endpoint self.old) (caller_endpoint self.new) }
         ensures began { IfOk result (Began self.old self.new call) }
         ensures fault { IfErr result (MayRefuse (caller_view self.old)) }
         ensures refused { OnErr result (SameCaller self.old self.new) }
@@ -124,7 +124,7 @@ impl Caller {
 
     /// Sends the outstanding call once more. Returns false where there is none.
     pub fn retry(&mut self) -> Result<bool, Memory>
-        ensures same { SameDesk (caller_desk self.old) (caller_desk self.new) }
+        ensures same { SameEndpoint (caller_endpoint self.old) (caller_endpoint self.new) }
         ensures retried { IfOk result (Retried self.old self.new) }
         ensures refused { OnErr result (SameCaller self.old self.new) }
         ensures whole { OnOk result (IsUncut self.old self.new) }
@@ -153,7 +153,7 @@ impl Caller {
     /// outstanding call, if the message brings it. A message for which there is no memory counts as
     /// still in its ring, and comes first at the next `turn`.
     pub fn turn(&mut self) -> Option<Reply>
-        ensures same { SameDesk (caller_desk self.old) (caller_desk self.new) }
+        ensures same { SameEndpoint (caller_endpoint self.old) (caller_endpoint self.new) }
         ensures turned { Turned self.old self.new result }
         ensures whole { IsUncut self.old self.new }
         ensures unlost { IsUnlost self.old self.new }
@@ -178,14 +178,14 @@ impl Caller {
     /// Returns what it leaves, with its number.
     pub fn into_ending(self) -> (ClientId, Ending)
         ensures id { result.0 ≡ caller_id self }
-        ensures ended { HasEnded (self_of (caller_desk self)) result.1 }
-        ensures wires { SameWires (caller_desk self) result.1 }
-        ensures trace { result.1.trace.events.items ≡ trace_of (caller_desk self) }
-        ensures seen { result.1.seen.items ≡ seen_of (caller_desk self) }
-        ensures cut { is_cut_of (caller_desk self) ≡ true → result.1.trace.is_cut ≡ true }
-        ensures whole { IsCutAsBefore (caller_desk self) result.1 }
-        ensures kept { IsLostAsBefore (caller_desk self) result.1 }
-        ensures untraced { is_traced_of (caller_desk self) ≡ false → LeavesNothing result.1 }
+        ensures ended { HasEnded (self_of (caller_endpoint self)) result.1 }
+        ensures wires { SameWires (caller_endpoint self) result.1 }
+        ensures trace { result.1.trace.events.items ≡ trace_of (caller_endpoint self) }
+        ensures seen { result.1.seen.items ≡ seen_of (caller_endpoint self) }
+        ensures cut { is_cut_of (caller_endpoint self) ≡ true → result.1.trace.is_cut ≡ true }
+        ensures whole { IsCutAsBefore (caller_endpoint self) result.1 }
+        ensures kept { IsLostAsBefore (caller_endpoint self) result.1 }
+        ensures untraced { is_traced_of (caller_endpoint self) ≡ false → LeavesNothing result.1 }
     {
         let Caller { host, id, .. } = self;
         (id, host.into_ending())

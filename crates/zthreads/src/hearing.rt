@@ -6,11 +6,11 @@
 //! servers. With 31 clients these are 17 rings instead of 49.
 
 ghost use Rattle.std.specs.Prelude.{◌≡◌, ◌+◌, ◌<◌, None};
-ghost use Rattle.zthreads.specs.Desks.{HasTaken, SameDesk, SameRest};
-ghost use Rattle.zthreads.specs.Hosts.{DidIdle, host_desk};
+ghost use Rattle.zthreads.specs.Endpoints.{HasTaken, SameEndpoint, SameRest};
+ghost use Rattle.zthreads.specs.Hosts.{DidIdle, host_endpoint};
 
 use crate::host::Host;
-use crate::{Desk, Stamped};
+use crate::{Endpoint, Stamped};
 use zprotocol::{MAX_SERVERS, Process};
 
 // How many links are from the master and the servers. They come first.
@@ -18,21 +18,21 @@ const SENDERS: usize = MAX_SERVERS as usize + 1;
 
 // Returns the message that counts as still in its ring, or else the next message of a link.
 pub(crate) fn front_of(
-    desk: &mut Desk,
+    endpoint: &mut Endpoint,
     front: &mut Option<(Process, Stamped)>,
     link: usize,
 ) -> Option<(Process, Stamped)>
-    ensures taken { HasTaken desk.old desk.new front.old result }
+    ensures taken { HasTaken endpoint.old endpoint.new front.old result }
     ensures front { front.new ≡ None }
-    ensures same { SameRest desk.old desk.new }
+    ensures same { SameRest endpoint.old endpoint.new }
 {
     if front.is_some() {
         return front.take();
     }
-    if link >= desk.links() {
+    if link >= endpoint.links() {
         return None;
     }
-    desk.take(link)
+    endpoint.take(link)
 }
 
 // Returns the link that a client receives from next: the first one with a message after the one
@@ -40,7 +40,7 @@ pub(crate) fn front_of(
 // message costs one look.
 pub(crate) fn next_link(host: &mut Host, last: usize) -> usize
     ensures idle { DidIdle host.old host.new }
-    ensures same { SameDesk (host_desk host.old) (host_desk host.new) }
+    ensures same { SameEndpoint (host_endpoint host.old) (host_endpoint host.new) }
 {
     if host.has_front() {
         return last;
@@ -71,7 +71,7 @@ fn behind(link: usize, links: usize) -> usize
 // Returns whether that link exists and has a message.
 fn has_message(host: &mut Host, link: usize) -> bool
     ensures idle { DidIdle host.old host.new }
-    ensures same { SameDesk (host_desk host.old) (host_desk host.new) }
+    ensures same { SameEndpoint (host_endpoint host.old) (host_endpoint host.new) }
 {
     if link >= host.links() {
         return false;

@@ -1,7 +1,7 @@
 //! A process in a thread of its own: its endpoint, the loops of the servers' threads and of the
 //! master's, and a client that its caller's thread owns.
 //!
-//! The endpoint (`Desk`) has channels, trace, timestamp, and the messages that aren't on their
+//! The endpoint (`Endpoint`) has channels, trace, timestamp, and the messages that aren't on their
 //! channels yet. It has one invariant: the process followed its table from the initial state
 //! through its trace. What was received from each channel, and sent on it, is what the process's
 //! steps received and sent.
@@ -22,7 +22,7 @@
 mod acting;
 mod asking;
 mod caller;
-mod desk;
+mod endpoint;
 mod events;
 mod gate;
 mod hearing;
@@ -42,7 +42,7 @@ mod serving;
 mod worked;
 
 pub use caller::Caller;
-pub use desk::{Desk, Ending, Stamped};
+pub use endpoint::{Endpoint, Ending, Stamped};
 pub use gate::{Gate, Open};
 pub use limits::{MAX_EVENTS, limits_are_numbers};
 pub use master_thread::MasterThread;

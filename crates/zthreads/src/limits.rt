@@ -1,7 +1,7 @@
 //! The limits of an endpoint.
 
 ghost use Rattle.std.specs.Prelude.{◌≡◌};
-ghost use Rattle.zthreads.specs.Desks.{AreKeptBelow, AreWholeBelow};
+ghost use Rattle.zthreads.specs.Endpoints.{AreKeptBelow, AreWholeBelow};
 ghost use Rattle.zthreads.specs.declared.limits.TheConstants.{MAX_EVENTS};
 
 /// The maximum number of events of a trace.

@@ -6,13 +6,13 @@
 //! at each `turn`.
 
 ghost use Rattle.std.specs.Prelude.{◌≡◌, ◌<◌, IsFalse, IsTrue, None, true};
-ghost use Rattle.zthreads.specs.Desks.{HasTaken, Keeps, SameRest, link_count, wires_of};
+ghost use Rattle.zthreads.specs.Endpoints.{HasTaken, Keeps, SameRest, link_count, wires_of};
 ghost use Rattle.zthreads.specs.Waiting.{AreFlushed, NothingWaits, SeesNothing, SeesSome};
 
-use crate::desk::{Desk, Stamped};
+use crate::endpoint::{Endpoint, Stamped};
 use zprotocol::Process;
 
-impl Desk {
+impl Endpoint {
     /// Returns how many channels it receives from.
     pub fn links(&self) -> usize
         ensures { result ≡ link_count self.now }

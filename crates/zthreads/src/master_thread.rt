@@ -4,16 +4,16 @@ ghost use Rattle.std.specs.Prelude.{◌≡◌, IfNone, IfSome, OnSome, true, fal
 ghost use Rattle.zprotocol.specs.declared.process.Process.TheVariants as process;
 ghost use Rattle.zprotocol.specs.world.Does.{AtMaster};
 ghost use Rattle.zprotocol.specs.declared.traces.trace.Act.TheVariants.{Ordered};
-ghost use Rattle.zthreads.specs.Desks.{is_cut_of, is_traced_of, IsAt, process_of, SameBooks, SameDesk};
-ghost use Rattle.zthreads.specs.Desks.{self_of, trace_of};
+ghost use Rattle.zthreads.specs.Endpoints.{is_cut_of, is_traced_of, IsAt, process_of, SameBooks, SameEndpoint};
+ghost use Rattle.zthreads.specs.Endpoints.{self_of, trace_of};
 ghost use Rattle.zthreads.specs.Endings.{HasEnded, IsCutAsBefore, IsLostAsBefore};
 ghost use Rattle.zthreads.specs.Endings.{LeavesNothing, SameWires};
-ghost use Rattle.zthreads.specs.Hosts.{host_desk};
+ghost use Rattle.zthreads.specs.Hosts.{host_endpoint};
 ghost use Rattle.zthreads.specs.Acts.{DidNext};
 ghost use Rattle.zthreads.specs.Outcomes.{outcome_at};
 
 use crate::host::Host;
-use crate::{Desk, Ending};
+use crate::{Endpoint, Ending};
 use zactor::{ActFault, Actor, Input, Refusal};
 use zmaster::Master;
 use zprotocol::Order;
@@ -24,20 +24,20 @@ use zchannels::outcome::OrderOutcome;
 #[derive(Drop)]
 pub struct MasterThread {
     pub(crate) host: Host,
-    ghost is_master: { process_of (host_desk host) ≡ process.Master },
+    ghost is_master: { process_of (host_endpoint host) ≡ process.Master },
 }
 
 impl MasterThread {
-    ghost use Rattle.zthreads.specs.Owned.{master_desk, master_view};
+    ghost use Rattle.zthreads.specs.Owned.{master_endpoint, master_view};
 
     /// Returns the master with an endpoint that has done nothing.
-    pub fn new(desk: Desk, master: Master) -> MasterThread
-        requires me { process_of desk ≡ process.Master }
-        requires at { IsAt desk (AtMaster master) }
-        ensures same { master_desk result ≡ desk }
+    pub fn new(endpoint: Endpoint, master: Master) -> MasterThread
+        requires me { process_of endpoint ≡ process.Master }
+        requires at { IsAt endpoint (AtMaster master) }
+        ensures same { master_endpoint result ≡ endpoint }
     {
         MasterThread {
-            host: Host::new(desk, Actor::master(master)),
+            host: Host::new(endpoint, Actor::master(master)),
         }
     }
 
@@ -45,14 +45,14 @@ impl MasterThread {
     /// has to be tried again, for memory.
     pub fn follow(&mut self, order: &Order) -> Option<OrderOutcome>
         ensures idle { IfNone result
-            (SameBooks (master_desk self.old) (master_desk self.new)) }
+            (SameBooks (master_endpoint self.old) (master_endpoint self.new)) }
         ensures done { OnSome result
-            (DidNext (master_desk self.old) (master_desk self.new) (Ordered order.now)) }
+            (DidNext (master_endpoint self.old) (master_endpoint self.new) (Ordered order.now)) }
         ensures said { IfSome result (λ said.
             said ≡ outcome_at (master_view self.old) order.now) }
         ensures stood { OnSome result
-            (IsAt (master_desk self.old) (AtMaster (master_view self.old))) }
-        ensures same { SameDesk (master_desk self.old) (master_desk self.new) }
+            (IsAt (master_endpoint self.old) (AtMaster (master_view self.old))) }
+        ensures same { SameEndpoint (master_endpoint self.old) (master_endpoint self.new) }
     {
         // A message without memory comes first.
         if self.host.has_front() {
@@ -78,13 +78,13 @@ impl MasterThread {
 
     /// Returns what it leaves, once its thread has ended.
     pub fn into_ending(self) -> Ending
-        ensures ended { HasEnded (self_of (master_desk self)) result }
-        ensures wires { SameWires (master_desk self) result }
-        ensures trace { result.trace.events.items ≡ trace_of (master_desk self) }
-        ensures cut { is_cut_of (master_desk self) ≡ true → result.trace.is_cut ≡ true }
-        ensures whole { IsCutAsBefore (master_desk self) result }
-        ensures kept { IsLostAsBefore (master_desk self) result }
-        ensures untraced { is_traced_of (master_desk self) ≡ false → LeavesNothing result }
+        ensures ended { HasEnded (self_of (master_endpoint self)) result }
+        ensures wires { SameWires (master_endpoint self) result }
+        ensures trace { result.trace.events.items ≡ trace_of (master_endpoint self) }
+        ensures cut { is_cut_of (master_endpoint self) ≡ true → result.trace.is_cut ≡ true }
+        ensures whole { IsCutAsBefore (master_endpoint self) result }
+        ensures kept { IsLostAsBefore (master_endpoint self) result }
+        ensures untraced { is_traced_of (master_endpoint self) ≡ false → LeavesNothing result }
     {
         let MasterThread { host } = self;
         host.into_ending()

@@ -2,7 +2,7 @@
 
 ghost use Rattle.std.specs.Prelude.{◌≡◌, IfOk};
 ghost use Rattle.zthreads.specs.Steps.{answer_event};
-ghost use Rattle.zthreads.specs.Told.{act_heard, told_at, told_begun, told_heard};
+ghost use Rattle.zthreads.specs.Reported.{act_heard, reported_at, reported_begun, reported_heard};
 
 use std::alloc::Global;
 use zactor::{Done, Input};
@@ -30,7 +30,7 @@ pub(crate) enum Note {
 }
 
 impl Note {
-    ghost use Rattle.zthreads.specs.Hosting.{act_noted, note_of, told_noted};
+    ghost use Rattle.zthreads.specs.Hosting.{act_noted, note_of, reported_noted};
 
     /// Notes an input that this process is to be given.
     pub(crate) fn new(alloc: Global, me: &Process, input: &Input) -> Result<Note, Memory>
@@ -38,16 +38,16 @@ impl Note {
     {
         match input {
             Input::Hear(from, message) => {
-                let told = told_of(alloc, me, message)?;
-                Ok(Note::Heard(*from, told))
+                let reported = reported_of(alloc, me, message)?;
+                Ok(Note::Heard(*from, reported))
             }
             Input::Begin(call) => {
                 let traced = call.copied(alloc)?;
-                let Ok(told) = call.copied(alloc) else {
+                let Ok(reported) = call.copied(alloc) else {
                     drop(traced);
                     return Err(Memory);
                 };
-                Ok(Note::Begun(traced, told))
+                Ok(Note::Begun(traced, reported))
             }
             Input::Retry => Ok(Note::Retried),
             Input::Obey(order) => Ok(Note::Ordered(*order)),
@@ -58,10 +58,10 @@ impl Note {
     /// Returns what is entered, by what became of the input.
     pub(crate) fn entry(self, me: &Process, done: &Done) -> (Act, Option<CallEvent>)
         ensures act { result.0 ≡ act_noted self done.now }
-        ensures told { result.1 ≡ told_noted me.now self done.now }
+        ensures reported { result.1 ≡ reported_noted me.now self done.now }
     {
         match self {
-            Note::Heard(from, told) => heard(from, told, done),
+            Note::Heard(from, reported) => heard(from, reported, done),
             Note::Begun(traced, copy) => (Act::Began(traced), begun(me, done, copy)),
             Note::Retried => (Act::Retried, None),
             Note::Ordered(order) => (Act::Ordered(order), None),
@@ -71,12 +71,12 @@ impl Note {
 }
 
 // Returns what the caller may see of a message that a process receives.
-fn told_of(
+fn reported_of(
     alloc: Global,
     me: &Process,
     message: &Message<Snapshot>,
 ) -> Result<Option<CallEvent>, Memory>
-    ensures { IfOk result (λ told. told ≡ told_at me.now message.now) }
+    ensures { IfOk result (λ reported. reported ≡ reported_at me.now message.now) }
 {
     match me {
         Process::Client(id) => answer_of(alloc, *id, message),
@@ -90,7 +90,7 @@ fn answer_of(
     id: ClientId,
     message: &Message<Snapshot>,
 ) -> Result<Option<CallEvent>, Memory>
-    ensures { IfOk result (λ told. told ≡ answer_event id message.now) }
+    ensures { IfOk result (λ reported. reported ≡ answer_event id message.now) }
 {
     match message {
         Message::Answer(number, reply) => {
@@ -102,26 +102,26 @@ fn answer_of(
 }
 
 // Returns what is entered of a message.
-fn heard(from: Process, told: Option<CallEvent>, done: &Done) -> (Act, Option<CallEvent>)
+fn heard(from: Process, reported: Option<CallEvent>, done: &Done) -> (Act, Option<CallEvent>)
     ensures act { result.0 ≡ act_heard from done.now }
-    ensures told { result.1 ≡ told_heard told done.now }
+    ensures reported { result.1 ≡ reported_heard reported done.now }
 {
     match done {
-        Done::Answered(_) => (Act::Took(from, Outcome::Acted), told),
+        Done::Answered(_) => (Act::Took(from, Outcome::Acted), reported),
         Done::Acted | Done::Began(_) => {
-            drop(told);
+            drop(reported);
             (Act::Took(from, Outcome::Acted), None)
         }
         Done::Unheard => {
-            drop(told);
+            drop(reported);
             (Act::Took(from, Outcome::Unheard), None)
         }
         Done::Stopped => {
-            drop(told);
+            drop(reported);
             (Act::Took(from, Outcome::Stopped), None)
         }
         Done::Left => {
-            drop(told);
+            drop(reported);
             (Act::Left, None)
         }
     }
@@ -129,7 +129,7 @@ fn heard(from: Process, told: Option<CallEvent>, done: &Done) -> (Act, Option<Ca
 
 // Returns what the caller sees of a call that was invoked.
 fn begun(me: &Process, done: &Done, copy: Call) -> Option<CallEvent>
-    ensures { result ≡ told_begun me.now copy done.now }
+    ensures { result ≡ reported_begun me.now copy done.now }
 {
     if let (Process::Client(id), Done::Began(number)) = (me, done) {
         return Some(CallEvent::Begin(*id, *number, copy));

@@ -2,21 +2,21 @@
 
 ghost use Rattle.std.specs.Prelude.{◌≡◌, ◌∷◌, [], false, None, IfNone, IfSome, IsTrue};
 ghost use Rattle.zprotocol.specs.world.Does.{last_post};
-ghost use Rattle.zthreads.specs.Desks.{HasPut, is_cut_of, IsSettled, Keeps, pending, SameBooks};
-ghost use Rattle.zthreads.specs.Desks.{SameDesk, stamp_of_desk};
+ghost use Rattle.zthreads.specs.Endpoints.{HasPut, is_cut_of, IsSettled, Keeps, pending, SameBooks};
+ghost use Rattle.zthreads.specs.Endpoints.{SameEndpoint, stamp_of_endpoint};
 
-use crate::desk::Desk;
+use crate::endpoint::Endpoint;
 use zprotocol::{Message, Process};
 use zserver::Snapshot;
 
-impl Desk {
+impl Endpoint {
     /// Sends the last event's messages. Returns false if there was no memory for all of them: the
     /// rest waits.
     pub fn settle(&mut self) -> bool
         ensures stands { HasPut self.old self.new (pending self.old) (pending self.new) }
         ensures all { IsTrue result → IsSettled self.new }
         ensures settled { IsSettled self.old → IsSettled self.new }
-        ensures same { SameDesk self.old self.new }
+        ensures same { SameEndpoint self.old self.new }
         ensures books { SameBooks self.old self.new }
     {
         while let Some((to, message)) = self.next_post() {
@@ -33,7 +33,7 @@ impl Desk {
         ensures some { IfSome result (λ post. pending self.old ≡ post ∷ self.new.out.posts) }
         ensures held { self.new.held ≡ None }
         ensures keeps { Keeps self.old self.new }
-        ensures same { SameDesk self.old self.new }
+        ensures same { SameEndpoint self.old self.new }
         ensures books { SameBooks self.old self.new }
     {
         if self.held.is_none() {
@@ -50,7 +50,7 @@ impl Desk {
             ((to, message) ∷ self.old.out.posts) (pending self.new) }
         ensures held { IsTrue result → self.new.held ≡ None }
         ensures out { self.new.out ≡ self.old.out }
-        ensures same { SameDesk self.old self.new }
+        ensures same { SameEndpoint self.old self.new }
         ensures books { SameBooks self.old self.new }
     {
         let place = to.place();
@@ -78,8 +78,8 @@ impl Desk {
         ensures stands { HasPut self.old self.new last_post [] }
         ensures books { is_cut_of self.new ≡ false → SameBooks self.old self.new }
         ensures rest { (self.new.held ≡ self.old.held) × (self.new.out ≡ self.old.out) }
-        ensures stamp { stamp_of_desk self.new ≡ stamp_of_desk self.old }
-        ensures same { SameDesk self.old self.new }
+        ensures stamp { stamp_of_endpoint self.new ≡ stamp_of_endpoint self.old }
+        ensures same { SameEndpoint self.old self.new }
     {
         self.waits = true;
         if self.outs.len() == 0 {

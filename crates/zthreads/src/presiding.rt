@@ -13,11 +13,11 @@ ghost use Rattle.zchannels.specs.Console.{IsSameInbox, said, taken_of};
 ghost use Rattle.zchannels.specs.Outcomes.{AreSaid, order_of};
 ghost use Rattle.zprotocol.specs.declared.master.order.Order.{Order};
 ghost use Rattle.zchannels.specs.declared.outcome.OrderOutcome.{OrderOutcome};
-ghost use Rattle.zthreads.specs.Desks.{SameDesk};
+ghost use Rattle.zthreads.specs.Endpoints.{SameEndpoint};
 ghost use Rattle.zthreads.specs.Acts.{HasFollowed};
 ghost use Rattle.zthreads.specs.Outcomes.{unfollowed, unsaid};
 ghost use Rattle.zthreads.specs.Said.{spoken, WereSaid};
-ghost use Rattle.zthreads.specs.Owned.{master_desk};
+ghost use Rattle.zthreads.specs.Owned.{master_endpoint};
 
 use crate::gate::Open;
 use crate::idle::Idle;
@@ -41,16 +41,16 @@ pub fn preside<R: Wait>(
     mut seat: HaltSeat,
 ) -> (MasterThread, Inbox)
     requires own { IsSeatOf halt.now seat }
-    ensures desk { SameDesk (master_desk chief) (master_desk result.0) }
+    ensures endpoint { SameEndpoint (master_endpoint chief) (master_endpoint result.0) }
     ensures inbox { IsSameInbox inbox result.1 }
-    ensures orders { HasFollowed (master_desk chief) (taken_of inbox) None
+    ensures orders { HasFollowed (master_endpoint chief) (taken_of inbox) None
         → (waiting : Option Order)
-        × HasFollowed (master_desk result.0) (taken_of result.1) waiting }
+        × HasFollowed (master_endpoint result.0) (taken_of result.1) waiting }
     ensures outcomes { AreSaid inbox []
         → (unsaid : List Order) × (length unsaid ≤ 1) × AreSaid result.1 unsaid }
-    ensures said { HasFollowed (master_desk chief) (taken_of inbox) None → AreSaid inbox []
-        → WereSaid (master_desk chief) [] (said inbox)
-        → WereSaid (master_desk result.0) [] (said result.1) }
+    ensures said { HasFollowed (master_endpoint chief) (taken_of inbox) None → AreSaid inbox []
+        → WereSaid (master_endpoint chief) [] (said inbox)
+        → WereSaid (master_endpoint result.0) [] (said result.1) }
 {
     let mut idle = Idle::new();
     let mut owed = Owed::Nothing;
@@ -90,15 +90,15 @@ fn next_order<R: Wait>(rt: &R, inbox: &mut Inbox, owed: Owed) -> Owed
 
 // Follows the order that waits. Out of memory, it still waits.
 fn obey(chief: &mut MasterThread, owed: Owed) -> Owed
-    ensures same { SameDesk (master_desk chief.old) (master_desk chief.new) }
+    ensures same { SameEndpoint (master_endpoint chief.old) (master_endpoint chief.new) }
     ensures followed { (received : List Order)
-        → HasFollowed (master_desk chief.old) received (unfollowed owed)
-        → HasFollowed (master_desk chief.new) received (unfollowed result) }
+        → HasFollowed (master_endpoint chief.old) received (unfollowed owed)
+        → HasFollowed (master_endpoint chief.new) received (unfollowed result) }
     ensures unsaid { unsaid result ≡ unsaid owed }
     ensures said { (before : List OrderOutcome)
-        → HasFollowed (master_desk chief.old) (map order_of before ++ unsaid owed) (unfollowed owed)
-        → WereSaid (master_desk chief.old) [] (spoken before owed)
-        → WereSaid (master_desk chief.new) [] (spoken before result) }
+        → HasFollowed (master_endpoint chief.old) (map order_of before ++ unsaid owed) (unfollowed owed)
+        → WereSaid (master_endpoint chief.old) [] (spoken before owed)
+        → WereSaid (master_endpoint chief.new) [] (spoken before result) }
 {
     let Owed::Deed(order) = owed else {
         return owed;

@@ -16,23 +16,23 @@ impl Host {
     /// Marks the thread as about to sleep: from now on a sender of a message to the process wakes
     /// it. It has to look once more for work before it sleeps.
     pub fn lie_down(&self) {
-        self.desk.bells.lie_down(self.desk.me.place());
+        self.endpoint.bells.lie_down(self.endpoint.me.place());
     }
 
     /// Marks the thread as awake: from now on no one wakes it.
     pub fn get_up(&self) {
-        self.desk.bells.get_up(self.desk.me.place());
+        self.endpoint.bells.get_up(self.endpoint.me.place());
     }
 
     /// Sleeps until it is woken, or for a time: a short one if a message waits, before a ring or
     /// for memory. It returns at once if it was woken since `lie_down`.
     pub fn sleep<R: Wait>(&self, rt: &R) {
-        let place = self.desk.me.place();
-        if self.desk.waits | self.desk.held.is_some() | self.front.is_some() {
+        let place = self.endpoint.me.place();
+        if self.endpoint.waits | self.endpoint.held.is_some() | self.front.is_some() {
             let soon = Duration::from_micros(WAITING_MICROS);
-            self.desk.bells.nap(rt, place, soon);
+            self.endpoint.bells.nap(rt, place, soon);
         } else {
-            self.desk.bells.sleep(rt, place);
+            self.endpoint.bells.sleep(rt, place);
         }
     }
 }

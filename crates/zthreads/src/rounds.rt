@@ -8,8 +8,8 @@ ghost use Rattle.zactor.specs.Acting.{has_stopped};
 ghost use Rattle.zactor.specs.declared.done.Done.{Done};
 ghost use Rattle.zactor.specs.declared.handed.Handed.{Handed};
 ghost use Rattle.zactor.specs.declared.handed.Handed.TheVariants.{Nothing};
-ghost use Rattle.zthreads.specs.Desks.{process_of};
-ghost use Rattle.zthreads.specs.Hosts.{DidIdle, host_desk, host_standing, Received};
+ghost use Rattle.zthreads.specs.Endpoints.{process_of};
+ghost use Rattle.zthreads.specs.Hosts.{DidIdle, host_endpoint, host_standing, Received};
 ghost use Rattle.zthreads.specs.Acts.{DidNext};
 ghost use Rattle.zthreads.specs.Rounds.{bit_of, LetsTake, WentOn};
 
@@ -30,10 +30,10 @@ pub(crate) fn go_round<G: Gate>(
     bit: Option<u32>,
 ) -> Option<bool>
     requires seat { IsSeatOf halt.now seat.old }
-    requires bit { bit ≡ bit_of (process_of (host_desk host.old)) }
+    requires bit { bit ≡ bit_of (process_of (host_endpoint host.old)) }
     requires small { IfSome bit (λ s. s ≤ LAST_BIT) }
     ensures seat { IsSeatOf halt.now seat.new }
-    ensures went { WentOn (host_desk host.old) (host_desk host.new) }
+    ensures went { WentOn (host_endpoint host.old) (host_endpoint host.new) }
 {
     let _ = watch(host, halt, seat, bit)?;
     let links = host.links();
@@ -62,7 +62,7 @@ fn watch(
     requires small { IfSome bit (λ s. s ≤ LAST_BIT) }
     ensures seat { IsSeatOf halt.now seat.new }
     ensures look { IfSome result (λ sight. IfSome sight (λ look. LetsTake look bit)) }
-    ensures went { WentOn (host_desk host.old) (host_desk host.new) }
+    ensures went { WentOn (host_endpoint host.old) (host_endpoint host.new) }
 {
     host.flush();
     let look = halt.look(seat);
@@ -92,12 +92,12 @@ fn is_halted(look: &Look, bit: Option<u32>) -> bool
 // false where nothing was received, as by a process that has stopped. It consumes a look, which
 // found neither the run ended nor this process halted.
 fn receive<G: Gate>(host: &mut Host, link: usize, gate: &mut G, look: Look) -> bool
-    requires look { LetsTake look (bit_of (process_of (host_desk host.old))) }
+    requires look { LetsTake look (bit_of (process_of (host_endpoint host.old))) }
     ensures idle { IsFalse result → DidIdle host.old host.new }
     ensures runs { IsTrue result → has_stopped (host_standing host.old) ≡ false }
     ensures received { IsTrue result
         → (done : Done) × (handed : Handed) × Received host.old host.new Nothing handed done }
-    ensures went { WentOn (host_desk host.old) (host_desk host.new) }
+    ensures went { WentOn (host_endpoint host.old) (host_endpoint host.new) }
 {
     drop(look);
     let mut handed = Handed::Nothing;
@@ -117,8 +117,8 @@ fn stop(host: &mut Host) -> bool
     ensures over { IsTrue result → has_stopped (host_standing host.new) ≡ true }
     ensures once { has_stopped (host_standing host.old) ≡ true → DidIdle host.old host.new }
     ensures halted { IsTrue result → has_stopped (host_standing host.old) ≡ false
-        → DidNext (host_desk host.old) (host_desk host.new) Halted }
-    ensures went { WentOn (host_desk host.old) (host_desk host.new) }
+        → DidNext (host_endpoint host.old) (host_endpoint host.new) Halted }
+    ensures went { WentOn (host_endpoint host.old) (host_endpoint host.new) }
 {
     if host.has_stopped() {
         return true;

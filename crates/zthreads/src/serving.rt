@@ -1,8 +1,8 @@
 //! The loop of a server's thread.
 
 ghost use Rattle.zchannels.specs.HaltSeats.{IsSeatOf};
-ghost use Rattle.zthreads.specs.Desks.{SameDesk};
-ghost use Rattle.zthreads.specs.Owned.{server_desk};
+ghost use Rattle.zthreads.specs.Endpoints.{SameEndpoint};
+ghost use Rattle.zthreads.specs.Owned.{server_endpoint};
 
 use crate::gate::Gate;
 use crate::idle::Idle;
@@ -22,7 +22,7 @@ pub fn serve<G: Gate, R: Wait>(
     mut seat: HaltSeat,
 ) -> ServerThread
     requires own { IsSeatOf halt.now seat }
-    ensures { SameDesk (server_desk member) (server_desk result) }
+    ensures { SameEndpoint (server_endpoint member) (server_endpoint result) }
 {
     let mut idle = Idle::new();
     for _ in rt.forever() {

@@ -9,7 +9,7 @@ use Rattle.ztree.proofs.Maps.{get-insert-here, none_some, same_some}
 use Rattle.zcalls.specs.declared.call.Entry.{Entry}
 use Rattle.zcalls.specs.declared.call.Update.{Update}
 use Rattle.zcalls.specs.declared.reply.Reply.{Reply}
-use Rattle.zcalls.specs.Kept.{entry_step, last_of}
+use Rattle.zcalls.specs.Cached.{entry_step, last_of}
 use Rattle.zcalls.specs.Step.{step}
 use Rattle.zops.specs.Machine.{MachineState, MachineView, entry_result}
 use Rattle.ztree_service.specs.Machines.{IsBare, machine_of}
@@ -40,23 +40,23 @@ module _ (s : MachineState) (update : Update) (counted : last_of (get s.service.
       let last : last_of (get next_state.service.kept 0) ≡ s.applied + 1 = ap last_of here in
       omega (arith, last)
 
-  module _ (client number : ℕ) (first : client ≡ 0) (above : number ≡ s.applied + 1) (new : MachineState) (told : Option Reply)
-      (is : ◌≡◌ {A = MachineState × Option Reply} (new, told) (entry_result s (record { client = client; number = number; update = update }))) where
-    same : ◌≡◌ {A = MachineState × Option Reply} (new, told) (next_state, Some did.1)
+  module _ (client number : ℕ) (first : client ≡ 0) (above : number ≡ s.applied + 1) (new : MachineState) (reported : Option Reply)
+      (is : ◌≡◌ {A = MachineState × Option Reply} (new, reported) (entry_result s (record { client = client; number = number; update = update }))) where
+    same : ◌≡◌ {A = MachineState × Option Reply} (new, reported) (next_state, Some did.1)
     same = is ∙ (λ i. entry_result s (record { client = first i; number = above i; update = update })) ∙ acts
 
     state_is : new ≡ next_state
     state_is = ap (λ (p : MachineState × Option Reply). p.0) same
 
-    told_is : told ≡ Some did.1
-    told_is = ap (λ (p : MachineState × Option Reply). p.1) same
+    reported_is : reported ≡ Some did.1
+    reported_is = ap (λ (p : MachineState × Option Reply). p.1) same
 
-    pub answers : told ≡ None → ⊥
-    answers none = none_some did.1 (sym none ∙ told_is)
+    pub answers : reported ≡ None → ⊥
+    answers none = none_some did.1 (sym none ∙ reported_is)
 
-    pub served : (reply : Reply) → told ≡ Some reply → ◌≡◌ {A = Tree × Reply} (new.service.plain, reply) (step s.service.plain 0 update)
+    pub served : (reply : Reply) → reported ≡ Some reply → ◌≡◌ {A = Tree × Reply} (new.service.plain, reply) (step s.service.plain 0 update)
     served reply some =
-        let one = same_some reply did.1 (sym some ∙ told_is) in
+        let one = same_some reply did.1 (sym some ∙ reported_is) in
         λ i. ((state_is i).service.plain, one i)
 
     pub counted_on : last_of (get new.service.kept 0) ≤ new.applied

@@ -1,2 +1,2 @@
 pub mod Logs
-pub mod Lives
+pub mod Incarnations

@@ -3,6 +3,6 @@ pub mod Order
 pub mod Sets
 pub mod Places
 pub mod Insertion
-pub mod Telling
+pub mod Reporting
 pub mod Listing
 pub mod Worked

@@ -21,7 +21,7 @@ use Rattle.zwatches.specs.support.Listing.{is_there, is_next, listed}
 use Rattle.zwatches.specs.Samples.{at_a, some_rows, some_table}
 use Rattle.zwatches.proofs.Order.{places_total, same_place}
 use Rattle.zwatches.proofs.Sets.{same_list}
-use Rattle.zwatches.proofs.Telling.{any_map, any_retained}
+use Rattle.zwatches.proofs.Reporting.{any_map, any_retained}
 
 -- the places of nodes, of rows behind one at this place
 abbrev pub behind : Option Place → List Watch → List Place

@@ -12,12 +12,12 @@ use Rattle.std.proofs.lemmas.Map.Views.{Contains-from_any, list_any-from_Contain
 use Rattle.zjute.specs.declared.event.EventKind.{EventKind}
 use Rattle.zwatches.specs.declared.watch.Watch.{Watch}
 use Rattle.zwatches.specs.Watches.{Path, Watches, watch_cmp, place_of}
-use Rattle.zwatches.specs.Events.{fires, fired_at, told, unfired}
+use Rattle.zwatches.specs.Events.{fires, fired_at, reported, unfired}
 use Rattle.zwatches.specs.Places.{is_of_node}
-use Rattle.zwatches.specs.Laws.{TellsWhoWaits, FiresOnce, HasEachNode}
-use Rattle.zwatches.specs.support.Groups.{set_of, told_by}
+use Rattle.zwatches.specs.Laws.{ReportsWhoWaits, FiresOnce, HasEachNode}
+use Rattle.zwatches.specs.support.Groups.{set_of, reported_by}
 use Rattle.zwatches.proofs.Order.{places_total, watches_total, same_place, same_watch}
-use Rattle.zwatches.proofs.Telling.{told_is, any_map}
+use Rattle.zwatches.proofs.Reporting.{reported_is, any_map}
 
 both_true : (a b : Bool) → (a && b) ≡ true → (a ≡ true) × (b ≡ true)
 both_true true true e = (refl, refl)
@@ -56,8 +56,8 @@ module _ {K : Type 0} {R : K → K → Ordering} (o : IsTotalOrder R) (same : Is
           ∙ list_any-from_Any (λ (w : Watch). eq_by_cmp R x (f w)) (items (retain table test))
           (at.0, w, at.1, at.2, rw fired.1.2 ((eq_by_cmp_equiv o).refl x))
 
-pub tells_who_waits : TellsWhoWaits
-tells_who_waits table event path connection = kept_images nat_cmp_total nat_cmp-IsAntisymmetric (λ w. w.connection) table (fires event path) connection
+pub reports_who_waits : ReportsWhoWaits
+reports_who_waits table event path connection = kept_images nat_cmp_total nat_cmp-IsAntisymmetric (λ w. w.connection) table (fires event path) connection
 
 pub has_each_node : HasEachNode
 has_each_node table at = kept_images places_total same_place place_of table (λ w. is_of_node w.kind) at
@@ -78,10 +78,10 @@ fires_once table event path w = (there, back)
     back both = contains-kept table (λ w. not (fires event path w)) w ∙ rw (both.0, both.1) refl
 
 -- of a table of rows
-pub told_here : (rows : List Watch) (event : EventKind) (path : Path) (connection : ℕ) (answer : Bool)
-    → list_any (eq_by_cmp nat_cmp connection) (told_by rows (fired_at event path)) ≡ answer → contains (told (set_of rows) event path) connection ≡ answer
-told_here rows event path connection answer is =
-    ap (λ set. contains set connection) (sym (told_is rows event path)) ∙ contains-from_list nat_cmp_total (told_by rows (fired_at event path)) connection ∙ is
+pub reported_here : (rows : List Watch) (event : EventKind) (path : Path) (connection : ℕ) (answer : Bool)
+    → list_any (eq_by_cmp nat_cmp connection) (reported_by rows (fired_at event path)) ≡ answer → contains (reported (set_of rows) event path) connection ≡ answer
+reported_here rows event path connection answer is =
+    ap (λ set. contains set connection) (sym (reported_is rows event path)) ∙ contains-from_list nat_cmp_total (reported_by rows (fired_at event path)) connection ∙ is
 
 pub kept_here : (rows : List Watch) (test : Watch → Bool) (w : Watch) (answer : Bool)
     → (list_any (eq_by_cmp watch_cmp w) rows && test w) ≡ answer → contains (retain (set_of rows) test) w ≡ answer

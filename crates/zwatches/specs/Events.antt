@@ -38,8 +38,8 @@ abbrev pub connections : List Watch → FinSet nat_cmp
 connections ws = from_list (map (λ w. w.connection) ws)
 
 -- the connections to notify
-abbrev pub told : Watches → EventKind → Path → FinSet nat_cmp
-told table event path = connections (items (retain table (fires event path)))
+abbrev pub reported : Watches → EventKind → Path → FinSet nat_cmp
+reported table event path = connections (items (retain table (fires event path)))
 
 -- the list has the elements of the set, each once, in rising order
 pub record Lists {K : Type 0} {R : K → K → Ordering} (list : List K) (set : FinSet R) : Type 0 where

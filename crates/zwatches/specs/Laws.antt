@@ -5,7 +5,7 @@ use Rattle.zjute.specs.declared.event.EventKind.{EventKind}
 use Rattle.zwatches.specs.declared.place.Place.{Place}
 use Rattle.zwatches.specs.declared.watch.Watch.{Watch}
 use Rattle.zwatches.specs.Watches.{Path, Watches, place_of}
-use Rattle.zwatches.specs.Events.{fires, told, unfired}
+use Rattle.zwatches.specs.Events.{fires, reported, unfired}
 use Rattle.zwatches.specs.Places.{is_of_node, node_places}
 
 -- this watch of the table fires, and belongs to the connection
@@ -14,10 +14,10 @@ IsFired table event path connection w =
     (contains table w ≡ true) × (fires event path w ≡ true) × (w.connection ≡ connection)
 
 -- a connection is notified if and only if one of its watches fires
-abbrev pub TellsWhoWaits : Type 0
-TellsWhoWaits =
+abbrev pub ReportsWhoWaits : Type 0
+ReportsWhoWaits =
     (table : Watches) (event : EventKind) (path : Path) (connection : ℕ) →
-    (contains (told table event path) connection ≡ true)
+    (contains (reported table event path) connection ≡ true)
     ↔ ((w : Watch) × IsFired table event path connection w)
 
 -- a watch remains if and only if it doesn't fire

@@ -5,8 +5,8 @@ ghost use Rattle.std.specs.List.{filter, remove_range};
 ghost use Rattle.std.specs.FinSet.{from_list};
 ghost use Rattle.std.specs.Ordering.{nat_cmp};
 ghost use Rattle.zwatches.specs.Watches.{place};
-ghost use Rattle.zwatches.specs.Events.{is_at, fired_at, told, unfired, without, Lists};
-ghost use Rattle.zwatches.specs.support.Groups.{AreRows, set_of, told_by, kept};
+ghost use Rattle.zwatches.specs.Events.{is_at, fired_at, reported, unfired, without, Lists};
+ghost use Rattle.zwatches.specs.support.Groups.{AreRows, set_of, reported_by, kept};
 
 use crate::kind::Kind;
 use crate::search::rows_at;
@@ -17,36 +17,36 @@ use zjute::EventKind;
 use zpath::Name;
 
 // Adds the connections of the rows at a position.
-fn tell_at(rows: &[Watch], told: &mut Vec<u32>, names: &[Name], kind: Kind) -> Result<(), Memory>
+fn report_at(rows: &[Watch], reported: &mut Vec<u32>, names: &[Name], kind: Kind) -> Result<(), Memory>
     requires { AreRows rows.now }
-    ensures { OnOk result (told.new.items ≡ told.old.items
+    ensures { OnOk result (reported.new.items ≡ reported.old.items
         ++ map (λ row. row.connection) (filter (is_at (place names.now kind)) rows.now)) }
 {
     let (first, end) = rows_at(rows, names, kind);
     for row in &rows[first..end] {
-        told.push(row.connection)?;
+        reported.push(row.connection)?;
     }
     Ok(())
 }
 
 // Adds the connections of the rows that an event fires.
 #[tactic(auto, using(std::proofs::Common::append_assoc))]
-fn tell(rows: &[Watch], told: &mut Vec<u32>, event: EventKind, names: &[Name]) -> Result<(), Memory>
+fn tell(rows: &[Watch], reported: &mut Vec<u32>, event: EventKind, names: &[Name]) -> Result<(), Memory>
     requires { AreRows rows.now }
-    ensures { OnOk result (told.new.items ≡ told.old.items
-        ++ told_by rows.now (fired_at event names.now)) }
+    ensures { OnOk result (reported.new.items ≡ reported.old.items
+        ++ reported_by rows.now (fired_at event names.now)) }
 {
     match event {
         EventKind::NodeCreated => {
-            tell_at(rows, told, names, Kind::Data)?;
-            tell_at(rows, told, names, Kind::Missing)
+            report_at(rows, reported, names, Kind::Data)?;
+            report_at(rows, reported, names, Kind::Missing)
         }
-        EventKind::NodeDataChanged => tell_at(rows, told, names, Kind::Data),
+        EventKind::NodeDataChanged => report_at(rows, reported, names, Kind::Data),
         EventKind::NodeDeleted => {
-            tell_at(rows, told, names, Kind::Data)?;
-            tell_at(rows, told, names, Kind::Children)
+            report_at(rows, reported, names, Kind::Data)?;
+            report_at(rows, reported, names, Kind::Children)
         }
-        EventKind::NodeChildrenChanged => tell_at(rows, told, names, Kind::Children),
+        EventKind::NodeChildrenChanged => report_at(rows, reported, names, Kind::Children),
         _ => Ok(()),
     }
 }
@@ -60,7 +60,7 @@ fn make_rising(numbers: &mut Vec<u32>)
 }
 
 // Returns the connections that an event notifies.
-pub(crate) fn told_of(
+pub(crate) fn reported_of(
     alloc: Global,
     rows: &[Watch],
     event: EventKind,
@@ -68,12 +68,12 @@ pub(crate) fn told_of(
 ) -> Result<Vec<u32>, Memory>
     requires { AreRows rows.now }
     ensures { IfOk result (λ numbers. Lists numbers.items
-        (told (set_of rows.now) event names.now)) }
+        (reported (set_of rows.now) event names.now)) }
 {
-    let mut told = Vec::new(alloc);
-    tell(rows, &mut told, event, names)?;
-    make_rising(&mut told);
-    Ok(told)
+    let mut reported = Vec::new(alloc);
+    tell(rows, &mut reported, event, names)?;
+    make_rising(&mut reported);
+    Ok(reported)
 }
 
 // Removes the rows from the first index up to the second.

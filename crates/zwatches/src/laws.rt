@@ -1,10 +1,10 @@
 //! Laws of the definitions. Each function's contract is a law; its body does nothing.
 
-ghost use Rattle.zwatches.specs.Laws.{TellsWhoWaits, FiresOnce, HasEachNode};
+ghost use Rattle.zwatches.specs.Laws.{ReportsWhoWaits, FiresOnce, HasEachNode};
 
 /// An event notifies exactly the connections of the watches that it fires.
-pub fn who_waits_is_told()
-    ensures { TellsWhoWaits }
+pub fn who_waits_is_reported()
+    ensures { ReportsWhoWaits }
 {}
 
 /// An event leaves exactly the watches that it doesn't fire. So a watch fires once.

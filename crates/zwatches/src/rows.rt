@@ -10,7 +10,7 @@ ghost use Rattle.zjute.specs.declared.event.EventKind.TheVariants.{NodeCreated, 
 ghost use Rattle.zwatches.specs.declared.kind.Kind.TheVariants.{Data, Missing, Children};
 ghost use Rattle.zwatches.specs.declared.limits.TheConstants.{MAX_WATCHES};
 ghost use Rattle.zwatches.specs.Watches.{place, watch, watch_cmp, IsSetFault};
-ghost use Rattle.zwatches.specs.Events.{fired_at, fires, told, unfired, without, Lists};
+ghost use Rattle.zwatches.specs.Events.{fired_at, fires, reported, unfired, without, Lists};
 ghost use Rattle.zwatches.specs.Places.{node_places};
 ghost use Rattle.zwatches.specs.Samples.{at_a, at_a_b, some_table};
 
@@ -66,11 +66,11 @@ pub fn other_events()
 
 /// The connections that an event notifies, and the watches that remain.
 pub fn one_event()
-    ensures told_of_both { contains (told some_table NodeDeleted at_a) 1 ≡ true }
-    ensures told_of_one { contains (told some_table NodeDeleted at_a) 2 ≡ true }
-    ensures above { contains (told some_table NodeDeleted at_a) 3 ≡ false }
-    ensures missing { contains (told some_table NodeCreated at_a_b) 4 ≡ true }
-    ensures not_told { contains (told some_table NodeDataChanged at_a) 2 ≡ false }
+    ensures reported_of_both { contains (reported some_table NodeDeleted at_a) 1 ≡ true }
+    ensures reported_of_one { contains (reported some_table NodeDeleted at_a) 2 ≡ true }
+    ensures above { contains (reported some_table NodeDeleted at_a) 3 ≡ false }
+    ensures missing { contains (reported some_table NodeCreated at_a_b) 4 ≡ true }
+    ensures not_reported { contains (reported some_table NodeDataChanged at_a) 2 ≡ false }
     ensures gone { contains (unfired some_table NodeDataChanged at_a) (watch at_a Data 1) ≡ false }
     ensures stays { contains (unfired some_table NodeDataChanged at_a) (watch at_a Children 1)
         ≡ true }

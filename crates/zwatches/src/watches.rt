@@ -4,11 +4,11 @@ ghost use Rattle.std.specs.Prelude.{◌≡◌, true, false, IsOk, IfOk, OnOk, On
 ghost use Rattle.std.specs.FinSet as sets;
 ghost use Rattle.std.specs.FinSet.{contains, insert, len};
 ghost use Rattle.zwatches.specs.Watches.{watch, is_full, IsSetFault};
-ghost use Rattle.zwatches.specs.Events.{told, unfired, without, Lists};
+ghost use Rattle.zwatches.specs.Events.{reported, unfired, without, Lists};
 ghost use Rattle.zwatches.specs.Places.{node_places};
 
 use crate::fault::WatchFault;
-use crate::groups::{remove_all, remove_fired, told_of};
+use crate::groups::{remove_all, remove_fired, reported_of};
 use crate::kind::Kind;
 use crate::nodes::places_in;
 use crate::place::Place;
@@ -78,12 +78,12 @@ impl Watches {
     /// once, in rising order. The parent's event is a separate call. After `Memory` nothing has
     /// changed.
     pub fn changed(&mut self, event: EventKind, path: &Path) -> Result<Vec<u32>, Memory>
-        ensures told { IfOk result (λ connections. Lists connections.items
-            (told self.old event path.now)) }
+        ensures reported { IfOk result (λ connections. Lists connections.items
+            (reported self.old event path.now)) }
         ensures gone { OnOk result (self.new ≡ unfired self.old event path.now) }
         ensures err { OnErr result (self.new ≡ self.old) }
     {
-        let connections = told_of(self.alloc, &self.rows, event, path.names())?;
+        let connections = reported_of(self.alloc, &self.rows, event, path.names())?;
         remove_fired(&mut self.rows, event, path.names());
         Ok(connections)
     }

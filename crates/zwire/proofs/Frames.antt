@@ -18,7 +18,7 @@ use Rattle.zwire.specs.declared.fault.FrameFault.TheVariants.{Cut, TooLong, Cont
 use Rattle.zwire.specs.Fields.{process}
 use Rattle.zwire.specs.Messages.{any_message}
 use Rattle.zwire.specs.Frames.{contents, framed, frame, IsFaultOf}
-use Rattle.zwire.specs.Laws.{IsReadAgain, WasSpelled, AreToldApart, BeginningsAreCut}
+use Rattle.zwire.specs.Laws.{IsReadAgain, WasSpelled, AreDistinct, BeginningsAreCut}
 use Rattle.zwire.proofs.Fields.{is_process}
 use Rattle.zwire.proofs.Messages.{is_message}
 use Rattle.zwire.proofs.Steady.{Stays, steady_sized}
@@ -56,8 +56,8 @@ read_again f rest fits = is_frame.again f rest fits
 pub was_spelled : WasSpelled
 was_spelled bytes x are e = is_frame.takes bytes x are e
 
-pub told_apart : AreToldApart
-told_apart f g x y fits also same = one_value frame is_frame f g x y fits also same
+pub distinct : AreDistinct
+distinct f g x y fits also same = one_value frame is_frame f g x y fits also same
 
 -- ---- faults
 
@@ -70,18 +70,18 @@ module _ {A : Type 0} (c : Form A) (is : IsForm c) where
       ≡ Ok (c.spell x, rest)
   frame_sized x rest fits = (is_sized MAX_FRAME (omega arith)).again (c.spell x) rest (fits.1, refl)
 
-  -- where a frame stands, no fault but a want of memory is told
+  -- where a frame stands, no fault but a want of memory is reported
   only_memory : (bytes : List ℕ) (fault : FrameFault) (x : A) (rest : List ℕ) → (framed MAX_FRAME c).Fits x
       → bytes ≡ (framed MAX_FRAME c).spell x ++ rest → IsFaultOf c bytes fault → fault ≡ Memory
-  only_memory bytes Cut x rest fits same told = absurd (apart (c.spell x, rest) Short (sym (frame_sized x rest fits)
-      ∙ ap (sized MAX_FRAME).read (sym same) ∙ told))
-  only_memory bytes TooLong x rest fits same told = absurd (apart (c.spell x, rest) Long (sym (frame_sized x rest fits)
-      ∙ ap (sized MAX_FRAME).read (sym same) ∙ told))
-  only_memory bytes (Contents fault) x rest fits same told =
-      let both = ok_is (c.spell x, rest) (told.0, told.1) (sym (frame_sized x rest fits) ∙ ap (sized MAX_FRAME).read (sym same) ∙ told.2) in
-      let text : c.spell x ≡ told.0 = ap (λ (p : List ℕ × List ℕ). p.0) both in
-      absurd (apart x fault (sym (whole_again c is x fits.0) ∙ ap (whole c) text ∙ told.3))
-  only_memory bytes Memory x rest fits same told = refl
+  only_memory bytes Cut x rest fits same reported = absurd (apart (c.spell x, rest) Short (sym (frame_sized x rest fits)
+      ∙ ap (sized MAX_FRAME).read (sym same) ∙ reported))
+  only_memory bytes TooLong x rest fits same reported = absurd (apart (c.spell x, rest) Long (sym (frame_sized x rest fits)
+      ∙ ap (sized MAX_FRAME).read (sym same) ∙ reported))
+  only_memory bytes (Contents fault) x rest fits same reported =
+      let both = ok_is (c.spell x, rest) (reported.0, reported.1) (sym (frame_sized x rest fits) ∙ ap (sized MAX_FRAME).read (sym same) ∙ reported.2) in
+      let text : c.spell x ≡ reported.0 = ap (λ (p : List ℕ × List ℕ). p.0) both in
+      absurd (apart x fault (sym (whole_again c is x fits.0) ∙ ap (whole c) text ∙ reported.3))
+  only_memory bytes Memory x rest fits same reported = refl
 
   -- what was read stands in front
   pub found_in : {V : Type 0} (of : V → A × List ℕ) (bytes : List ℕ) (r : Result V FrameFault) → IsBytes bytes
@@ -95,10 +95,10 @@ module _ {A : Type 0} (c : Form A) (is : IsForm c) where
       → IfOk r (λ v. (framed MAX_FRAME c).read bytes ≡ Ok (of v)) → IfErr r (IsFaultOf c bytes)
       → (x : A) (rest : List ℕ) → (framed MAX_FRAME c).Fits x → bytes ≡ (framed MAX_FRAME c).spell x ++ rest
       → IfOk r (λ v. ((of v).0 ≡ x) × ((of v).1 ≡ rest)) × IfErr r (λ fault. fault ≡ Memory)
-  only_in of bytes (Ok v) read told x rest fits same =
+  only_in of bytes (Ok v) read reported x rest fits same =
       let both = ok_is (of v) (x, rest) (sym read ∙ ap (framed MAX_FRAME c).read same ∙ (is_framed MAX_FRAME c (omega arith) is).again x rest fits) in
       ((ap (λ (p : A × List ℕ). p.0) both, ap (λ (p : A × List ℕ). p.1) both), tt)
-  only_in of bytes (Err fault) read told x rest fits same = (tt, only_memory bytes fault x rest fits same told)
+  only_in of bytes (Err fault) read reported x rest fits same = (tt, only_memory bytes fault x rest fits same reported)
 
 -- ---- more bytes
 

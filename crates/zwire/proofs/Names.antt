@@ -161,10 +161,10 @@ path_below : (text bytes : List ℕ) → bytes ≡ below text → name_from text
 path_below text bytes same = name_below text ∙ ap (λ (b : List ℕ). path_from b >>= second_from) (sym same)
 
 pub below_fails : (text bytes : List ℕ) (error : ReadError) → bytes ≡ below text → Fails error (path_from bytes) → Fails error (name_from text)
-below_fails text bytes errors.Memory same told = tt
-below_fails text bytes (errors.Fault fault) same told = path_below text bytes same ∙ ap (λ (r : Result Path Fault). r >>= second_from) told
+below_fails text bytes errors.Memory same reported = tt
+below_fails text bytes (errors.Fault fault) same reported = path_below text bytes same ∙ ap (λ (r : Result Path Fault). r >>= second_from) reported
 
 pub below_gives : (text bytes : List ℕ) (p : Path) (result : Result (List ℕ) ReadError) → bytes ≡ below text → path_from bytes ≡ Ok p
     → Gives (λ it. it) result (second_from p) → Gives (λ it. it) result (name_from text)
-below_gives text bytes p result same read told =
-    subst (Gives (λ it. it) result) (sym (path_below text bytes same ∙ ap (λ (r : Result Path Fault). r >>= second_from) read)) told
+below_gives text bytes p result same read reported =
+    subst (Gives (λ it. it) result) (sym (path_below text bytes same ∙ ap (λ (r : Result Path Fault). r >>= second_from) read)) reported

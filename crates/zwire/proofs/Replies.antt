@@ -12,7 +12,7 @@ use Rattle.zcalls.specs.declared.call.Query.TheVariants as ask
 use Rattle.zcalls.specs.declared.reply.PartReply.{PartReply}
 use Rattle.zcalls.specs.declared.reply.PartReply.TheVariants as part
 use Rattle.zcalls.specs.declared.reply.Reply.{Reply}
-use Rattle.zcalls.specs.declared.reply.Reply.TheVariants as told
+use Rattle.zcalls.specs.declared.reply.Reply.TheVariants as reported
 use Rattle.zwire.specs.records.Fields.{path, content, long}
 use Rattle.zwire.proofs.records_lemmas.Sums.{Takes, none_take, one_takes}
 use Rattle.zwire.proofs.records_lemmas.Fields.{is_path, is_content}
@@ -86,44 +86,44 @@ is_refused_part = is_both long refusal is_u64 is_refusal
 reply_again : (r : Reply) (rest : List ℕ) → Anything rest → (reply_spelled r).fits
     → reply_at (reply_spelled r).tag ((reply_spelled r).text ++ rest) ≡ Ok (r, rest)
 unfolding reply_at other_reply_at
-reply_again (told.Created p) rest any fits = again_as Anything path (λ p. told.Created p) (before Anything path is_path) p rest any fits
-reply_again told.Deleted rest any fits = refl
-reply_again (told.Set s) rest any fits = again_as Anything stat (λ s. told.Set s) (before Anything stat is_stat) s rest any fits
-reply_again (told.Multi rs) rest any fits = again_as Anything replies (λ rs. told.Multi rs) (before Anything replies is_replies) rs rest any fits
-reply_again (told.Opened id timeout) rest any fits = again_as Anything opened (λ o. told.Opened o.0 o.1)
+reply_again (reported.Created p) rest any fits = again_as Anything path (λ p. reported.Created p) (before Anything path is_path) p rest any fits
+reply_again reported.Deleted rest any fits = refl
+reply_again (reported.Set s) rest any fits = again_as Anything stat (λ s. reported.Set s) (before Anything stat is_stat) s rest any fits
+reply_again (reported.Multi rs) rest any fits = again_as Anything replies (λ rs. reported.Multi rs) (before Anything replies is_replies) rs rest any fits
+reply_again (reported.Opened id timeout) rest any fits = again_as Anything opened (λ o. reported.Opened o.0 o.1)
     (before Anything opened is_opened) (id, timeout) rest any fits
-reply_again told.Pinged rest any fits = refl
-reply_again told.Closed rest any fits = refl
-reply_again (told.Ticked tick ended removed) rest any fits = again_as Anything ticked (λ t. told.Ticked t.0 t.1.0 t.1.1)
+reply_again reported.Pinged rest any fits = refl
+reply_again reported.Closed rest any fits = refl
+reply_again (reported.Ticked tick ended removed) rest any fits = again_as Anything ticked (λ t. reported.Ticked t.0 t.1.0 t.1.1)
     (before Anything ticked is_ticked) (tick, (ended, removed)) rest any fits
-reply_again (told.Data bytes s) rest any fits = again_as Anything data_stat (λ d. told.Data d.0 d.1)
+reply_again (reported.Data bytes s) rest any fits = again_as Anything data_stat (λ d. reported.Data d.0 d.1)
     (before Anything data_stat is_data_stat) (bytes, s) rest any fits
-reply_again (told.Exists s) rest any fits = again_as Anything stat (λ s. told.Exists s) (before Anything stat is_stat) s rest any fits
-reply_again (told.Children ns) rest any fits = again_as Anything names (λ ns. told.Children ns) (before Anything names is_names) ns rest any fits
-reply_again (told.Refused r) rest any fits = again_as Anything refusal (λ r. told.Refused r) (before Anything refusal is_refusal) r rest any fits
-reply_again (told.MultiRefused n r) rest any fits = again_as Anything refused_part (λ r. told.MultiRefused r.0 r.1)
+reply_again (reported.Exists s) rest any fits = again_as Anything stat (λ s. reported.Exists s) (before Anything stat is_stat) s rest any fits
+reply_again (reported.Children ns) rest any fits = again_as Anything names (λ ns. reported.Children ns) (before Anything names is_names) ns rest any fits
+reply_again (reported.Refused r) rest any fits = again_as Anything refusal (λ r. reported.Refused r) (before Anything refusal is_refusal) r rest any fits
+reply_again (reported.MultiRefused n r) rest any fits = again_as Anything refused_part (λ r. reported.MultiRefused r.0 r.1)
     (before Anything refused_part is_refused_part) (n, r) rest any fits
 
 others_take : Takes reply_spelled other_reply_at
 unfolding other_reply_at
 others_take =
-    one_takes reply_spelled 8 data_stat (λ d. told.Data d.0 d.1) _ is_data_stat (λ x. refl) (λ x. refl) (λ x fits. fits)
-    (one_takes reply_spelled 9 stat (λ s. told.Exists s) _ is_stat (λ x. refl) (λ x. refl) (λ x fits. fits)
-    (one_takes reply_spelled 10 names (λ ns. told.Children ns) _ is_names (λ x. refl) (λ x. refl) (λ x fits. fits)
-    (one_takes reply_spelled 11 refusal (λ r. told.Refused r) _ is_refusal (λ x. refl) (λ x. refl) (λ x fits. fits)
-    (one_takes reply_spelled 12 refused_part (λ r. told.MultiRefused r.0 r.1) _ is_refused_part (λ x. refl) (λ x. refl) (λ x fits. fits)
+    one_takes reply_spelled 8 data_stat (λ d. reported.Data d.0 d.1) _ is_data_stat (λ x. refl) (λ x. refl) (λ x fits. fits)
+    (one_takes reply_spelled 9 stat (λ s. reported.Exists s) _ is_stat (λ x. refl) (λ x. refl) (λ x fits. fits)
+    (one_takes reply_spelled 10 names (λ ns. reported.Children ns) _ is_names (λ x. refl) (λ x. refl) (λ x fits. fits)
+    (one_takes reply_spelled 11 refusal (λ r. reported.Refused r) _ is_refusal (λ x. refl) (λ x. refl) (λ x fits. fits)
+    (one_takes reply_spelled 12 refused_part (λ r. reported.MultiRefused r.0 r.1) _ is_refused_part (λ x. refl) (λ x. refl) (λ x fits. fits)
     (none_take reply_spelled)))))
 
 pub is_reply : IsForm reply
 unfolding reply reply_at
 is_reply = is_form reply (is_by_tag Anything (number w8) reply_at reply_spelled is_u8
-    (one_takes reply_spelled 0 path (λ p. told.Created p) _ is_path (λ x. refl) (λ x. refl) (λ x fits. fits)
-    (one_takes reply_spelled 1 empty (λ _. told.Deleted) _ is_empty (λ x. refl) (λ x. refl) (λ x fits. fits)
-    (one_takes reply_spelled 2 stat (λ s. told.Set s) _ is_stat (λ x. refl) (λ x. refl) (λ x fits. fits)
-    (one_takes reply_spelled 3 replies (λ rs. told.Multi rs) _ is_replies (λ x. refl) (λ x. refl) (λ x fits. fits)
-    (one_takes reply_spelled 4 opened (λ o. told.Opened o.0 o.1) _ is_opened (λ x. refl) (λ x. refl) (λ x fits. fits)
-    (one_takes reply_spelled 5 empty (λ _. told.Pinged) _ is_empty (λ x. refl) (λ x. refl) (λ x fits. fits)
-    (one_takes reply_spelled 6 empty (λ _. told.Closed) _ is_empty (λ x. refl) (λ x. refl) (λ x fits. fits)
-    (one_takes reply_spelled 7 ticked (λ t. told.Ticked t.0 t.1.0 t.1.1) _ is_ticked (λ x. refl) (λ x. refl) (λ x fits. fits)
+    (one_takes reply_spelled 0 path (λ p. reported.Created p) _ is_path (λ x. refl) (λ x. refl) (λ x fits. fits)
+    (one_takes reply_spelled 1 empty (λ _. reported.Deleted) _ is_empty (λ x. refl) (λ x. refl) (λ x fits. fits)
+    (one_takes reply_spelled 2 stat (λ s. reported.Set s) _ is_stat (λ x. refl) (λ x. refl) (λ x fits. fits)
+    (one_takes reply_spelled 3 replies (λ rs. reported.Multi rs) _ is_replies (λ x. refl) (λ x. refl) (λ x fits. fits)
+    (one_takes reply_spelled 4 opened (λ o. reported.Opened o.0 o.1) _ is_opened (λ x. refl) (λ x. refl) (λ x fits. fits)
+    (one_takes reply_spelled 5 empty (λ _. reported.Pinged) _ is_empty (λ x. refl) (λ x. refl) (λ x fits. fits)
+    (one_takes reply_spelled 6 empty (λ _. reported.Closed) _ is_empty (λ x. refl) (λ x. refl) (λ x fits. fits)
+    (one_takes reply_spelled 7 ticked (λ t. reported.Ticked t.0 t.1.0 t.1.1) _ is_ticked (λ x. refl) (λ x. refl) (λ x fits. fits)
     others_take))))))))
     reply_again)

@@ -18,8 +18,8 @@ WasSpelled =
     (bytes ≡ frame.spell x.0 ++ x.1) × frame.Fits x.0
 
 -- no stream begins with two different frames
-abbrev pub AreToldApart : Type 0
-AreToldApart =
+abbrev pub AreDistinct : Type 0
+AreDistinct =
     (f g : Frame) (x y : List ℕ) → frame.Fits f → frame.Fits g →
     frame.spell f ++ x ≡ frame.spell g ++ y → (f ≡ g) × (x ≡ y)
 

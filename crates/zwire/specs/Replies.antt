@@ -11,7 +11,7 @@ use Rattle.zcalls.specs.declared.refusal.Refusal.{Refusal}
 use Rattle.zcalls.specs.declared.reply.PartReply.{PartReply}
 use Rattle.zcalls.specs.declared.reply.PartReply.TheVariants as part
 use Rattle.zcalls.specs.declared.reply.Reply.{Reply}
-use Rattle.zcalls.specs.declared.reply.Reply.TheVariants as told
+use Rattle.zcalls.specs.declared.reply.Reply.TheVariants as reported
 use Rattle.zwire.specs.records.Sums.{at_tag, no_tag}
 use Rattle.zwire.specs.records.Fields.{path, content, long}
 use Rattle.zwire.specs.Fields.{stat, refusal, name, counted}
@@ -77,38 +77,38 @@ refused_part = both long refusal
 -- after the tags of answers to queries, and of refusals
 unfoldable pub other_reply_at : ℕ → List ℕ → Result (Reply × List ℕ) Fault
 other_reply_at =
-    at_tag 8 (read_as data_stat (λ d. told.Data d.0 d.1))
-    (at_tag 9 (read_as stat (λ s. told.Exists s))
-    (at_tag 10 (read_as names (λ ns. told.Children ns))
-    (at_tag 11 (read_as refusal (λ r. told.Refused r))
-    (at_tag 12 (read_as refused_part (λ r. told.MultiRefused r.0 r.1)) no_tag))))
+    at_tag 8 (read_as data_stat (λ d. reported.Data d.0 d.1))
+    (at_tag 9 (read_as stat (λ s. reported.Exists s))
+    (at_tag 10 (read_as names (λ ns. reported.Children ns))
+    (at_tag 11 (read_as refusal (λ r. reported.Refused r))
+    (at_tag 12 (read_as refused_part (λ r. reported.MultiRefused r.0 r.1)) no_tag))))
 
 -- after any tag
 unfoldable pub reply_at : ℕ → List ℕ → Result (Reply × List ℕ) Fault
 reply_at =
-    at_tag 0 (read_as path (λ p. told.Created p))
-    (at_tag 1 (read_as empty (λ _. told.Deleted))
-    (at_tag 2 (read_as stat (λ s. told.Set s))
-    (at_tag 3 (read_as replies (λ rs. told.Multi rs))
-    (at_tag 4 (read_as opened (λ o. told.Opened o.0 o.1))
-    (at_tag 5 (read_as empty (λ _. told.Pinged))
-    (at_tag 6 (read_as empty (λ _. told.Closed))
-    (at_tag 7 (read_as ticked (λ t. told.Ticked t.0 t.1.0 t.1.1)) other_reply_at)))))))
+    at_tag 0 (read_as path (λ p. reported.Created p))
+    (at_tag 1 (read_as empty (λ _. reported.Deleted))
+    (at_tag 2 (read_as stat (λ s. reported.Set s))
+    (at_tag 3 (read_as replies (λ rs. reported.Multi rs))
+    (at_tag 4 (read_as opened (λ o. reported.Opened o.0 o.1))
+    (at_tag 5 (read_as empty (λ _. reported.Pinged))
+    (at_tag 6 (read_as empty (λ _. reported.Closed))
+    (at_tag 7 (read_as ticked (λ t. reported.Ticked t.0 t.1.0 t.1.1)) other_reply_at)))))))
 
 abbrev pub reply_spelled : Reply → Spelled ℕ
-reply_spelled (told.Created p) = behind 0 path p
-reply_spelled told.Deleted = behind 1 empty tt
-reply_spelled (told.Set s) = behind 2 stat s
-reply_spelled (told.Multi rs) = behind 3 replies rs
-reply_spelled (told.Opened id timeout) = behind 4 opened (id, timeout)
-reply_spelled told.Pinged = behind 5 empty tt
-reply_spelled told.Closed = behind 6 empty tt
-reply_spelled (told.Ticked tick ended removed) = behind 7 ticked (tick, (ended, removed))
-reply_spelled (told.Data bytes s) = behind 8 data_stat (bytes, s)
-reply_spelled (told.Exists s) = behind 9 stat s
-reply_spelled (told.Children ns) = behind 10 names ns
-reply_spelled (told.Refused r) = behind 11 refusal r
-reply_spelled (told.MultiRefused n r) = behind 12 refused_part (n, r)
+reply_spelled (reported.Created p) = behind 0 path p
+reply_spelled reported.Deleted = behind 1 empty tt
+reply_spelled (reported.Set s) = behind 2 stat s
+reply_spelled (reported.Multi rs) = behind 3 replies rs
+reply_spelled (reported.Opened id timeout) = behind 4 opened (id, timeout)
+reply_spelled reported.Pinged = behind 5 empty tt
+reply_spelled reported.Closed = behind 6 empty tt
+reply_spelled (reported.Ticked tick ended removed) = behind 7 ticked (tick, (ended, removed))
+reply_spelled (reported.Data bytes s) = behind 8 data_stat (bytes, s)
+reply_spelled (reported.Exists s) = behind 9 stat s
+reply_spelled (reported.Children ns) = behind 10 names ns
+reply_spelled (reported.Refused r) = behind 11 refusal r
+reply_spelled (reported.MultiRefused n r) = behind 12 refused_part (n, r)
 
 unfoldable pub reply : Form Reply
 reply = by_tag (number w8) reply_at reply_spelled

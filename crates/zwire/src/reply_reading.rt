@@ -1,7 +1,7 @@
 //! Queries and replies, read from the front of bytes with what follows them.
 
 ghost use Rattle.zcodec.specs.Readers.{Gives};
-ghost use Rattle.zcalls.specs.declared.reply.Reply.TheVariants as told;
+ghost use Rattle.zcalls.specs.declared.reply.Reply.TheVariants as reported;
 ghost use Rattle.zjute.specs.Shapes.{read_as};
 ghost use Rattle.zwire.specs.Replies.{query_at, query, opened, ticked, data_stat, refused_part};
 ghost use Rattle.zwire.specs.Replies.{reply_at, other_reply_at, reply};
@@ -100,7 +100,7 @@ fn other_reply_behind(alloc: Global, tag: u8, bytes: &[u8]) -> Result<(Reply, &[
 // Reads a session's id and its timeout.
 fn opened_of(bytes: &[u8]) -> Result<(Reply, &[u8]), ReadError>
     ensures { Gives (λ x. (x.0, x.1.now)) result
-        (read_as opened (λ o. told.Opened o.0 o.1) bytes.now) }
+        (read_as opened (λ o. reported.Opened o.0 o.1) bytes.now) }
 {
     let (id, rest) = u64_at(bytes)?;
     let (timeout, rest) = u64_at(rest)?;
@@ -110,7 +110,7 @@ fn opened_of(bytes: &[u8]) -> Result<(Reply, &[u8]), ReadError>
 // Reads a tick, the number of sessions that it ended, and that of the nodes that it removed.
 fn ticked_of(bytes: &[u8]) -> Result<(Reply, &[u8]), ReadError>
     ensures { Gives (λ x. (x.0, x.1.now)) result
-        (read_as ticked (λ t. told.Ticked t.0 t.1.0 t.1.1) bytes.now) }
+        (read_as ticked (λ t. reported.Ticked t.0 t.1.0 t.1.1) bytes.now) }
 {
     let (tick, rest) = u64_at(bytes)?;
     let (ended, rest) = u64_at(rest)?;
@@ -121,7 +121,7 @@ fn ticked_of(bytes: &[u8]) -> Result<(Reply, &[u8]), ReadError>
 // Reads data and a stat.
 fn data_of(alloc: Global, bytes: &[u8]) -> Result<(Reply, &[u8]), ReadError>
     ensures { Gives (λ x. (x.0, x.1.now)) result
-        (read_as data_stat (λ d. told.Data d.0 d.1) bytes.now) }
+        (read_as data_stat (λ d. reported.Data d.0 d.1) bytes.now) }
 {
     let (content, rest) = content_of(alloc, bytes)?;
     match stat_at(rest) {
@@ -133,7 +133,7 @@ fn data_of(alloc: Global, bytes: &[u8]) -> Result<(Reply, &[u8]), ReadError>
 // Reads the number of a part, and why it was refused.
 fn refused_part_of(bytes: &[u8]) -> Result<(Reply, &[u8]), ReadError>
     ensures { Gives (λ x. (x.0, x.1.now)) result
-        (read_as refused_part (λ r. told.MultiRefused r.0 r.1) bytes.now) }
+        (read_as refused_part (λ r. reported.MultiRefused r.0 r.1) bytes.now) }
 {
     let (number, rest) = u64_at(bytes)?;
     match refusal_in(rest) {

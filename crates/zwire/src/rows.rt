@@ -4,7 +4,7 @@ ghost use Rattle.std.specs.Prelude.{◌≡◌, [], ◌∷◌, Ok};
 ghost use Rattle.zcodec.specs.declared.fault.Fault.TheVariants.{Short, Invalid, Trailing};
 ghost use Rattle.zcalls.specs.declared.refusal.Refusal.TheVariants.{BadVersion, Exhausted};
 ghost use Rattle.zcalls.specs.declared.reply.PartReply.TheVariants as part;
-ghost use Rattle.zcalls.specs.declared.reply.Reply.TheVariants as told;
+ghost use Rattle.zcalls.specs.declared.reply.Reply.TheVariants as reported;
 ghost use Rattle.zprotocol.specs.declared.process.Process.TheVariants.{Master, Server, Client};
 ghost use Rattle.zwire.specs.declared.fault.FrameFault.TheVariants.{Cut, TooLong, Contents};
 ghost use Rattle.zwire.specs.Replies.{reply};
@@ -67,39 +67,39 @@ pub fn the_master_has_frames()
 
 /// The bytes of replies.
 pub fn replies_have_bytes()
-    ensures created { reply.spell (told.Created a) ≡ 0 ∷ 0 ∷ 0 ∷ 0 ∷ 2 ∷ 47 ∷ 97 ∷ [] }
-    ensures deleted { reply.spell told.Deleted ≡ 1 ∷ [] }
-    ensures set { reply.spell (told.Set some_stat)
+    ensures created { reply.spell (reported.Created a) ≡ 0 ∷ 0 ∷ 0 ∷ 0 ∷ 2 ∷ 47 ∷ 97 ∷ [] }
+    ensures deleted { reply.spell reported.Deleted ≡ 1 ∷ [] }
+    ensures set { reply.spell (reported.Set some_stat)
         ≡ 2 ∷ 0 ∷ 0 ∷ 0 ∷ 0 ∷ 0 ∷ 0 ∷ 0 ∷ 1 ∷ 0 ∷ 0 ∷ 0 ∷ 0 ∷ 0 ∷ 0 ∷ 0 ∷ 2 ∷ 0 ∷ 0 ∷ 0 ∷ 0 ∷ 0
         ∷ 0 ∷ 0 ∷ 3 ∷ 0 ∷ 0 ∷ 0 ∷ 0 ∷ 0 ∷ 0 ∷ 0 ∷ 4 ∷ 0 ∷ 0 ∷ 0 ∷ 0 ∷ 0 ∷ 0 ∷ 0 ∷ 5 ∷ 0 ∷ 0 ∷ 0
         ∷ 0 ∷ 0 ∷ 0 ∷ 0 ∷ 6 ∷ 0 ∷ 0 ∷ 0 ∷ 0 ∷ 0 ∷ 0 ∷ 0 ∷ 7 ∷ 0 ∷ 0 ∷ 0 ∷ 0 ∷ 0 ∷ 0 ∷ 0 ∷ 8 ∷ 0
         ∷ 0 ∷ 0 ∷ 0 ∷ 0 ∷ 0 ∷ 0 ∷ 9 ∷ 0 ∷ 0 ∷ 0 ∷ 0 ∷ 0 ∷ 0 ∷ 0 ∷ 10 ∷ [] }
-    ensures multi { reply.spell (told.Multi (part.Checked ∷ part.Deleted ∷ []))
+    ensures multi { reply.spell (reported.Multi (part.Checked ∷ part.Deleted ∷ []))
         ≡ 3 ∷ 0 ∷ 0 ∷ 0 ∷ 0 ∷ 0 ∷ 0 ∷ 0 ∷ 2 ∷ 3 ∷ 1 ∷ [] }
-    ensures created_part { reply.spell (told.Multi (part.Created a ∷ []))
+    ensures created_part { reply.spell (reported.Multi (part.Created a ∷ []))
         ≡ 3 ∷ 0 ∷ 0 ∷ 0 ∷ 0 ∷ 0 ∷ 0 ∷ 0 ∷ 1 ∷ 0 ∷ 0 ∷ 0 ∷ 0 ∷ 2 ∷ 47 ∷ 97 ∷ [] }
-    ensures opened { reply.spell (told.Opened 5 10)
+    ensures opened { reply.spell (reported.Opened 5 10)
         ≡ 4 ∷ 0 ∷ 0 ∷ 0 ∷ 0 ∷ 0 ∷ 0 ∷ 0 ∷ 5 ∷ 0 ∷ 0 ∷ 0 ∷ 0 ∷ 0 ∷ 0 ∷ 0 ∷ 10 ∷ [] }
-    ensures pinged { reply.spell told.Pinged ≡ 5 ∷ [] }
-    ensures closed { reply.spell told.Closed ≡ 6 ∷ [] }
-    ensures ticked { reply.spell (told.Ticked 9 1 2)
+    ensures pinged { reply.spell reported.Pinged ≡ 5 ∷ [] }
+    ensures closed { reply.spell reported.Closed ≡ 6 ∷ [] }
+    ensures ticked { reply.spell (reported.Ticked 9 1 2)
         ≡ 7 ∷ 0 ∷ 0 ∷ 0 ∷ 0 ∷ 0 ∷ 0 ∷ 0 ∷ 9 ∷ 0 ∷ 0 ∷ 0 ∷ 0 ∷ 0 ∷ 0 ∷ 0 ∷ 1 ∷ 0 ∷ 0 ∷ 0 ∷ 0 ∷ 0
         ∷ 0 ∷ 0 ∷ 2 ∷ [] }
-    ensures content { reply.spell (told.Data (104 ∷ 105 ∷ []) some_stat)
+    ensures content { reply.spell (reported.Data (104 ∷ 105 ∷ []) some_stat)
         ≡ 8 ∷ 0 ∷ 0 ∷ 0 ∷ 2 ∷ 104 ∷ 105 ∷ 0 ∷ 0 ∷ 0 ∷ 0 ∷ 0 ∷ 0 ∷ 0 ∷ 1 ∷ 0 ∷ 0 ∷ 0 ∷ 0 ∷ 0 ∷ 0
         ∷ 0 ∷ 2 ∷ 0 ∷ 0 ∷ 0 ∷ 0 ∷ 0 ∷ 0 ∷ 0 ∷ 3 ∷ 0 ∷ 0 ∷ 0 ∷ 0 ∷ 0 ∷ 0 ∷ 0 ∷ 4 ∷ 0 ∷ 0 ∷ 0 ∷ 0
         ∷ 0 ∷ 0 ∷ 0 ∷ 5 ∷ 0 ∷ 0 ∷ 0 ∷ 0 ∷ 0 ∷ 0 ∷ 0 ∷ 6 ∷ 0 ∷ 0 ∷ 0 ∷ 0 ∷ 0 ∷ 0 ∷ 0 ∷ 7 ∷ 0 ∷ 0
         ∷ 0 ∷ 0 ∷ 0 ∷ 0 ∷ 0 ∷ 8 ∷ 0 ∷ 0 ∷ 0 ∷ 0 ∷ 0 ∷ 0 ∷ 0 ∷ 9 ∷ 0 ∷ 0 ∷ 0 ∷ 0 ∷ 0 ∷ 0 ∷ 0 ∷ 10
         ∷ [] }
-    ensures exists { reply.spell (told.Exists some_stat)
+    ensures exists { reply.spell (reported.Exists some_stat)
         ≡ 9 ∷ 0 ∷ 0 ∷ 0 ∷ 0 ∷ 0 ∷ 0 ∷ 0 ∷ 1 ∷ 0 ∷ 0 ∷ 0 ∷ 0 ∷ 0 ∷ 0 ∷ 0 ∷ 2 ∷ 0 ∷ 0 ∷ 0 ∷ 0 ∷ 0
         ∷ 0 ∷ 0 ∷ 3 ∷ 0 ∷ 0 ∷ 0 ∷ 0 ∷ 0 ∷ 0 ∷ 0 ∷ 4 ∷ 0 ∷ 0 ∷ 0 ∷ 0 ∷ 0 ∷ 0 ∷ 0 ∷ 5 ∷ 0 ∷ 0 ∷ 0
         ∷ 0 ∷ 0 ∷ 0 ∷ 0 ∷ 6 ∷ 0 ∷ 0 ∷ 0 ∷ 0 ∷ 0 ∷ 0 ∷ 0 ∷ 7 ∷ 0 ∷ 0 ∷ 0 ∷ 0 ∷ 0 ∷ 0 ∷ 0 ∷ 8 ∷ 0
         ∷ 0 ∷ 0 ∷ 0 ∷ 0 ∷ 0 ∷ 0 ∷ 9 ∷ 0 ∷ 0 ∷ 0 ∷ 0 ∷ 0 ∷ 0 ∷ 0 ∷ 10 ∷ [] }
-    ensures children { reply.spell (told.Children ((97 ∷ []) ∷ (98 ∷ 99 ∷ []) ∷ []))
+    ensures children { reply.spell (reported.Children ((97 ∷ []) ∷ (98 ∷ 99 ∷ []) ∷ []))
         ≡ 10 ∷ 0 ∷ 0 ∷ 0 ∷ 0 ∷ 0 ∷ 0 ∷ 0 ∷ 2 ∷ 0 ∷ 0 ∷ 0 ∷ 1 ∷ 97 ∷ 0 ∷ 0 ∷ 0 ∷ 2 ∷ 98 ∷ 99 ∷ [] }
-    ensures refused { reply.spell (told.Refused Exhausted) ≡ 11 ∷ 11 ∷ [] }
-    ensures multi_refused { reply.spell (told.MultiRefused 3 BadVersion)
+    ensures refused { reply.spell (reported.Refused Exhausted) ≡ 11 ∷ 11 ∷ [] }
+    ensures multi_refused { reply.spell (reported.MultiRefused 3 BadVersion)
         ≡ 12 ∷ 0 ∷ 0 ∷ 0 ∷ 0 ∷ 0 ∷ 0 ∷ 0 ∷ 3 ∷ 3 ∷ [] }
 {}
 
@@ -110,7 +110,7 @@ pub fn frames_are_read()
 {}
 
 /// Bytes that don't begin with a frame. With more bytes, those that are cut may become one.
-pub fn faults_are_told()
+pub fn faults_are_reported()
     ensures none { IsFaultOf contents [] Cut }
     ensures part_of_a_length { IsFaultOf contents (0 ∷ 0 ∷ 0 ∷ []) Cut }
     ensures part_of_a_frame { IsFaultOf contents (0 ∷ 0 ∷ 0 ∷ 4 ∷ 0 ∷ 1 ∷ 2 ∷ []) Cut }

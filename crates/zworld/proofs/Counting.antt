@@ -5,7 +5,7 @@ use Rattle.std.specs.Prelude.{◌==◌, is_none, is_some, nat_lt, not, option_to
 use Rattle.std.specs.Option.{option_map}
 use mathlib.Core.Bool.{true≢false}
 use Rattle.ztree.specs.Tree.{Tree}
-use Rattle.zcalls.specs.Kept.{KeptState}
+use Rattle.zcalls.specs.Cached.{CachedState}
 use Rattle.zcalls.specs.declared.call.Call.{Call}
 use Rattle.zcalls.specs.declared.reply.Reply.{Reply}
 use Rattle.zcalls.specs.declared.limits.TheConstants.{MAX_CALL_NUMBER}
@@ -27,7 +27,7 @@ use Rattle.zactor.specs.declared.done.Done.TheVariants as done
 use Rattle.zactor.specs.declared.input.Input.{Input}
 use Rattle.zactor.specs.declared.input.Input.TheVariants as input
 use Rattle.zprotocol.specs.declared.world.history.CallEvent.TheVariants as call_event
-use Rattle.zprotocol.specs.world.Does.{AtMaster, AtServer, AtClient, Out, answer_told}
+use Rattle.zprotocol.specs.world.Does.{AtMaster, AtServer, AtClient, Out, answer_reported}
 use Rattle.zworld.specs.links.support.Counts.{share, passing}
 use Rattle.zworld.proofs.links_lemmas.Counts.{passing-set, passing_at, passing_le}
 use Rattle.zworld.specs.Held.{bystander, standing_at}
@@ -85,13 +85,13 @@ answered end = 0
 abbrev IsQuiet : Done → Type 0
 IsQuiet end = (began end ≡ 0) × (answered end ≡ 0)
 
--- what is told of an answer says whether there is one
-unanswered : (c : ℕ) (handed : Option (ℕ × Reply)) → answer_told c handed ≡ [] → share (is_some handed) ≡ 0
+-- what is reported of an answer says whether there is one
+unanswered : (c : ℕ) (handed : Option (ℕ × Reply)) → answer_reported c handed ≡ [] → share (is_some handed) ≡ 0
 unanswered c None is = refl
 unanswered c (Some given) is = cc
 
 some_answer : (c : ℕ) (handed : Option (ℕ × Reply)) (number : ℕ) (brought : Option Reply) → is_some brought ≡ true
-    → answer_told c handed ≡ option_to_list (option_map (λ reply. call_event.Answer c number reply) brought) → share (is_some handed) ≡ 1
+    → answer_reported c handed ≡ option_to_list (option_map (λ reply. call_event.Answer c number reply) brought) → share (is_some handed) ≡ 1
 some_answer c None number (Some reply) some is = cc
 some_answer c None number None some is = absurd (true≢false (sym some))
 some_answer c (Some given) number brought some is = refl
@@ -102,7 +102,7 @@ IsBegun standing given = (v : ClientView) × (call : Call) × (standing ≡ AtCl
 
 abbrev IsHeard : TreeStanding → Input → Type 0
 IsHeard standing given =
-    (v : ClientView) × (from : Process) × (m : Message (Transfer (KeptState Tree))) × (standing ≡ AtClient v) × (given ≡ input.Hear from m)
+    (v : ClientView) × (from : Process) × (m : Message (Transfer (CachedState Tree))) × (standing ≡ AtClient v) × (given ≡ input.Hear from m)
 
 begins : (standing : TreeStanding) (given : Input) (number : ℕ) → can_come standing given (done.Began number) ≡ true → IsBegun standing given
 begins (AtMaster v) (input.Hear from message) number comes = absurd (true≢false (sym comes))
@@ -187,7 +187,7 @@ module _ (c : ℕ) (v : ClientView) (new : TreeStanding) (before after : TreeOut
   began_shares : (call : Call) (number : ℕ) → Did (input.Begin call) (done.Began number) → HasShares (AtClient v) new (done.Began number)
   began_shares call number did =
       let free = free_to_begin v (none_if (begin_fault v) did.accepted) in
-      let waits_now : waits new ≡ true = ap waits did.left ∙ waits_then (Transfer (KeptState Tree)) v call in
+      let waits_now : waits new ≡ true = ap waits did.left ∙ waits_then (Transfer (CachedState Tree)) v call in
       omega (arith, ap share free, ap share waits_now)
     where
       none_if : {X : Type 0} (o : Option X) → is_none o ≡ true → o ≡ None
@@ -196,20 +196,20 @@ module _ (c : ℕ) (v : ClientView) (new : TreeStanding) (before after : TreeOut
 
   acted_shares : (given : Input) → Did given done.Acted → HasShares (AtClient v) new done.Acted
   acted_shares (input.Hear from message) did =
-      let lets = lets_go {T = Transfer (KeptState Tree)} v from message in
-      let none = unanswered c (client_step {T = Transfer (KeptState Tree)} v from message).2 did.told in
+      let lets = lets_go {T = Transfer (CachedState Tree)} v from message in
+      let none = unanswered c (client_step {T = Transfer (CachedState Tree)} v from message).2 did.reported in
       omega (arith, lets, none, ap (λ (standing : TreeStanding). share (waits standing)) did.left)
   acted_shares input.Retry did = omega (arith, ap (λ (standing : TreeStanding). share (waits standing)) did.left)
   acted_shares (input.Begin call) did = absurd (true≢false (sym did.comes))
   acted_shares (input.Obey order) did = absurd (true≢false (sym did.comes))
   acted_shares input.Stop did = absurd (true≢false (sym did.comes))
 
-  answered_shares : (from : Process) (m : Message (Transfer (KeptState Tree))) (number : ℕ)
+  answered_shares : (from : Process) (m : Message (Transfer (CachedState Tree))) (number : ℕ)
       → Did (input.Hear from m) (done.Answered number)
       → HasShares (AtClient v) new (done.Answered number)
   answered_shares from m number did =
-      let lets = lets_go {T = Transfer (KeptState Tree)} v from m in
-      let some = some_answer c (client_step {T = Transfer (KeptState Tree)} v from m).2 number (reply_in m) did.comes did.told in
+      let lets = lets_go {T = Transfer (CachedState Tree)} v from m in
+      let some = some_answer c (client_step {T = Transfer (CachedState Tree)} v from m).2 number (reply_in m) did.comes did.reported in
       omega (arith, lets, some, ap (λ (standing : TreeStanding). share (waits standing)) did.left)
 
 -- who is of another kind is no client

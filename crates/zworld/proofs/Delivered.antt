@@ -6,12 +6,12 @@ use Rattle.std.specs.Option.{option_map}
 use mathlib.Core.Bool.{true≢false}
 use Rattle.ztree.specs.Tree.{Tree}
 use Rattle.zcalls.specs.declared.reply.Reply.{Reply}
-use Rattle.zcalls.specs.Kept.{KeptState}
+use Rattle.zcalls.specs.Cached.{CachedState}
 use Rattle.zcalls.proofs.Among.{test}
 use Rattle.zprotocol.specs.declared.message.Message.TheVariants as message
 use Rattle.zprotocol.specs.declared.process.Process.{Process}
 use Rattle.zprotocol.specs.declared.process.Process.TheVariants.{Master, Server, Client}
-use Rattle.zprotocol.specs.server.Machine.{kept_tree}
+use Rattle.zprotocol.specs.server.Machine.{cached_tree}
 use Rattle.zprotocol.specs.server.Memory.{is_query, may_be_unheard, may_stop}
 use Rattle.zprotocol.specs.server.View.{MessageOf}
 use Rattle.zprotocol.specs.declared.world.event.Event.TheVariants as event
@@ -29,7 +29,7 @@ use Rattle.zprotocol.proofs.world_lemmas.Alike.{alike_itself, alike_through}
 use Rattle.zprotocol.proofs.world_lemmas.Tests.{both}
 use Rattle.zworld.specs.declared.did.Did.TheVariants as became
 use Rattle.zworld.specs.declared.did.IdleCause.TheVariants as cause
-use Rattle.zactor.specs.Acting.{handed_by, has_stopped, reply_handed, reply_in, told_by, with_reply}
+use Rattle.zactor.specs.Acting.{handed_by, has_stopped, reply_handed, reply_in, reported_by, with_reply}
 use Rattle.zactor.specs.declared.done.Done.{Done}
 use Rattle.zactor.specs.declared.done.Done.TheVariants as done
 use Rattle.zactor.specs.declared.handed.Handed.TheVariants as handed
@@ -38,22 +38,22 @@ use Rattle.zworld.specs.declared.did.Did.{Did}
 use Rattle.zworld.specs.Held.{Held, standing_at, kept_world}
 use Rattle.zworld.specs.support.Stepped.{HasStepped}
 use Rattle.zworld.specs.support.Posting.{is_lost}
-use Rattle.zworld.specs.support.Giving.{IsGiven, IsToldOf, told_with}
+use Rattle.zworld.specs.support.Giving.{IsGiven, IsReportedOf, reported_with}
 use Rattle.zworld.proofs.Alike.{alike_by}
 use Rattle.zworld.proofs.Standing.{lost_is}
 use Rattle.zworld.proofs.Steps.{can_fail, idle_stepped, done_stepped, happens_so, gone_too, is_one}
 
 -- a world without the front of a channel
-abbrev pub without : World (KeptState Tree) → Process → Process → World (KeptState Tree)
+abbrev pub without : World (CachedState Tree) → Process → Process → World (CachedState Tree)
 without w from to = record w { links = without_front w.links from to }
 
 -- the taker acted on a message, and the history goes on with this
-abbrev Hears : Held → Process → Process → MessageOf (KeptState Tree) → History → Held → Type 0
-Hears old from to message told new =
-    (history : History) → IsAlike (does_in kept_tree (kept_world old history) to (Hear from message)) (kept_world new (history ++ told))
+abbrev Hears : Held → Process → Process → MessageOf (CachedState Tree) → History → Held → Type 0
+Hears old from to message reported new =
+    (history : History) → IsAlike (does_in cached_tree (kept_world old history) to (Hear from message)) (kept_world new (history ++ reported))
 
 -- a delivery with this front, to one that has not failed
-module _ (old : Held) (from to : Process) (front : MessageOf (KeptState Tree)) (rest : List (MessageOf (KeptState Tree)))
+module _ (old : Held) (from to : Process) (front : MessageOf (CachedState Tree)) (rest : List (MessageOf (CachedState Tree)))
     (there : (kept_world old []).links from to ≡ front ∷ rest) (alive : is_lost old.actors to ≡ false) where
   not_failed : (history : History) → has_failed (kept_world old history) to ≡ false
   not_failed history = lost_is old history to ∙ alive
@@ -63,20 +63,20 @@ module _ (old : Held) (from to : Process) (front : MessageOf (KeptState Tree)) (
   delivery_enabled = rw (there, not_failed []) refl
 
   -- the taker acted
-  pub taken : (mid new : Held) (told : History) → ((history : History) → kept_world mid history ≡ without (kept_world old history) from to)
-      → Hears mid from to front told new → HasStepped old new (event.Take from to) became.Done told
-  taken mid new told popped given =
-      done_stepped old new (event.Take from to) told delivery_enabled
+  pub taken : (mid new : Held) (reported : History) → ((history : History) → kept_world mid history ≡ without (kept_world old history) from to)
+      → Hears mid from to front reported new → HasStepped old new (event.Take from to) became.Done reported
+  taken mid new reported popped given =
+      done_stepped old new (event.Take from to) reported delivery_enabled
       (λ history.
-      subst (λ link. IsAlike (front_step kept_tree (kept_world old history) from to link) (kept_world new (history ++ told))) (sym there)
-      (subst (λ w. IsAlike (does_in kept_tree w to (Hear from front)) (kept_world new (history ++ told))) (popped history) (given history)))
+      subst (λ link. IsAlike (front_step cached_tree (kept_world old history) from to link) (kept_world new (history ++ reported))) (sym there)
+      (subst (λ w. IsAlike (does_in cached_tree w to (Hear from front)) (kept_world new (history ++ reported))) (popped history) (given history)))
 
 -- what is enabled isn't idle
 not_idle : (b : Bool) → b ≡ true → false ≡ not b
 not_idle true is = refl
 not_idle false is = absurd (true≢false (sym is))
 
-query_is_request : (m : MessageOf (KeptState Tree)) → is_query m ≡ true → is_request m ≡ true
+query_is_request : (m : MessageOf (CachedState Tree)) → is_query m ≡ true → is_request m ≡ true
 query_is_request (message.Query number query) is = refl
 query_is_request (message.Submit number update) is = refl
 query_is_request (message.Answer number reply) is = absurd (true≢false (sym is))
@@ -93,20 +93,20 @@ query_is_request (message.Joined epoch) is = absurd (true≢false (sym is))
 query_is_request message.Gone is = absurd (true≢false (sym is))
 query_is_request (message.Config epoch head tail) is = absurd (true≢false (sym is))
 
-module _ (old : Held) (from : Process) (s : ℕ) (front : MessageOf (KeptState Tree)) (rest : List (MessageOf (KeptState Tree)))
+module _ (old : Held) (from : Process) (s : ℕ) (front : MessageOf (CachedState Tree)) (rest : List (MessageOf (CachedState Tree)))
     (there : (kept_world old []).links from (Server s) ≡ front ∷ rest) (alive : has_stopped (standing_at old.actors (Server s)) ≡ false) where
   enabled : is_enabled (kept_world old []) (event.Take from (Server s)) ≡ true
   enabled = delivery_enabled old from (Server s) front rest there alive
 
   -- the server didn't hear the query
   pub unheard : (mid new : Held) → ((history : History) → kept_world mid history ≡ without (kept_world old history) from (Server s))
-      → may_be_unheard kept_tree ((kept_world old []).servers s) from front ≡ true
+      → may_be_unheard cached_tree ((kept_world old []).servers s) from front ≡ true
       → ((history : History) → IsAlike (kept_world mid history) (kept_world new (history ++ [])))
       → HasStepped old new (event.Take from (Server s)) became.Unheard []
   unheard mid new popped wants given =
       let w = kept_world old [] in
-      let fits : is_fitting kept_tree w (event.Take from (Server s)) outcome.Unheard ≡ true = rw (enabled, there) wants in
-      let reads : read kept_tree w (event.Take from (Server s)) outcome.Unheard ≡ event.Ignore from (Server s) =
+      let fits : is_fitting cached_tree w (event.Take from (Server s)) outcome.Unheard ≡ true = rw (enabled, there) wants in
+      let reads : read cached_tree w (event.Take from (Server s)) outcome.Unheard ≡ event.Ignore from (Server s) =
       ap (λ b. if b then event.Ignore from (Server s) else event.Take from (Server s)) fits in
       let query : is_query front ≡ true = (both _ _ wants).0 in
       let request : is_enabled w (event.Ignore from (Server s)) ≡ true = rw (there, query_is_request front query, alive) refl in
@@ -116,19 +116,19 @@ module _ (old : Held) (from : Process) (s : ℕ) (front : MessageOf (KeptState T
         caused = λ why is. let never : ⊥ = cc in absurd never;
         fits = fits;
         leads = λ history.
-            subst (λ e. IsAlike (happens kept_tree (kept_world old history) e) (kept_world new (history ++ []))) (sym reads)
+            subst (λ e. IsAlike (happens cached_tree (kept_world old history) e) (kept_world new (history ++ []))) (sym reads)
             (subst (λ v. IsAlike v (kept_world new (history ++ [])))
             (sym (happens_so (kept_world old history) (event.Ignore from (Server s)) request))
             (gone_too _ _ (subst (λ v. IsAlike v (kept_world new (history ++ []))) (popped history) (given history))));
       }
 
   -- the front that goes with the server makes no difference
-  lost_front : (w : World (KeptState Tree)) → IsAlike (acts kept_tree w (event.Fail s)) (acts kept_tree (without w from (Server s)) (event.Fail s))
+  lost_front : (w : World (CachedState Tree)) → IsAlike (acts cached_tree w (event.Fail s)) (acts cached_tree (without w from (Server s)) (event.Fail s))
   lost_front w =
-      let v = acts kept_tree w (event.Fail s) in let u = acts kept_tree (without w from (Server s)) (event.Fail s) in
+      let v = acts cached_tree w (event.Fail s) in let u = acts cached_tree (without w from (Server s)) (event.Fail s) in
       alike_by v u refl refl (λ c. refl) (λ t. refl) (λ t lives. refl) links
     where
-      on_it : (to : Process) → has_failed (acts kept_tree w (event.Fail s)) to ≡ false → is_same to (Server s) ≡ false
+      on_it : (to : Process) → has_failed (acts cached_tree w (event.Fail s)) to ≡ false → is_same to (Server s) ≡ false
       on_it Master lives = refl
       on_it (Client c) lives = refl
       on_it (Server t) lives = elim (test (t == s)) [
@@ -140,8 +140,8 @@ module _ (old : Held) (from : Process) (s : ℕ) (front : MessageOf (KeptState T
       and_false true = refl
       and_false false = refl
 
-      links : (p q : Process) → has_failed (acts kept_tree w (event.Fail s)) q ≡ false
-          → (acts kept_tree w (event.Fail s)).links p q ≡ (acts kept_tree (without w from (Server s)) (event.Fail s)).links p q
+      links : (p q : Process) → has_failed (acts cached_tree w (event.Fail s)) q ≡ false
+          → (acts cached_tree w (event.Fail s)).links p q ≡ (acts cached_tree (without w from (Server s)) (event.Fail s)).links p q
       links p q lives =
           let same : without_front w.links from (Server s) p q ≡ w.links p q =
           ap (λ b. if is_same p from && b then drop 1 (w.links p q) else w.links p q) (on_it q lives)
@@ -151,13 +151,13 @@ module _ (old : Held) (from : Process) (s : ℕ) (front : MessageOf (KeptState T
   -- the server stopped at it
   pub stopped : (mid new : Held) → is_server s ≡ true
       → ((history : History) → kept_world mid history ≡ without (kept_world old history) from (Server s))
-      → may_stop kept_tree ((kept_world old []).servers s) from front ≡ true
-      → ((history : History) → IsAlike (acts kept_tree (kept_world mid history) (event.Fail s)) (kept_world new (history ++ [])))
+      → may_stop cached_tree ((kept_world old []).servers s) from front ≡ true
+      → ((history : History) → IsAlike (acts cached_tree (kept_world mid history) (event.Fail s)) (kept_world new (history ++ [])))
       → HasStepped old new (event.Take from (Server s)) became.Stopped []
   stopped mid new one popped wants given =
       let w = kept_world old [] in
-      let fits : is_fitting kept_tree w (event.Take from (Server s)) outcome.Stopped ≡ true = rw (enabled, there) wants in
-      let reads : read kept_tree w (event.Take from (Server s)) outcome.Stopped ≡ event.Fail s =
+      let fits : is_fitting cached_tree w (event.Take from (Server s)) outcome.Stopped ≡ true = rw (enabled, there) wants in
+      let reads : read cached_tree w (event.Take from (Server s)) outcome.Stopped ≡ event.Fail s =
       ap (λ b. if b then event.Fail s else event.Take from (Server s)) fits in
       let fails : is_enabled w (event.Fail s) ≡ true = can_fail old s one alive in
       record {
@@ -166,12 +166,12 @@ module _ (old : Held) (from : Process) (s : ℕ) (front : MessageOf (KeptState T
         caused = λ why is. let never : ⊥ = cc in absurd never;
         fits = fits;
         leads = λ history.
-            subst (λ e. IsAlike (happens kept_tree (kept_world old history) e) (kept_world new (history ++ []))) (sym reads)
+            subst (λ e. IsAlike (happens cached_tree (kept_world old history) e) (kept_world new (history ++ []))) (sym reads)
             (subst (λ v. IsAlike v (kept_world new (history ++ []))) (sym (happens_so (kept_world old history) (event.Fail s) fails))
-            (gone_too _ _ (alike_through (acts kept_tree (kept_world old history) (event.Fail s))
-            (acts kept_tree (without (kept_world old history) from (Server s)) (event.Fail s)) (kept_world new (history ++ []))
+            (gone_too _ _ (alike_through (acts cached_tree (kept_world old history) (event.Fail s))
+            (acts cached_tree (without (kept_world old history) from (Server s)) (event.Fail s)) (kept_world new (history ++ []))
             (lost_front (kept_world old history))
-            (subst (λ v. IsAlike (acts kept_tree v (event.Fail s)) (kept_world new (history ++ []))) (popped history) (given history)))));
+            (subst (λ v. IsAlike (acts cached_tree v (event.Fail s)) (kept_world new (history ++ []))) (popped history) (given history)))));
       }
 
 -- nothing can be taken
@@ -201,7 +201,7 @@ request_lost old new from to request alive popped =
     (alike_itself (without (kept_world old history) from to))))
 
 -- a server that didn't hear stands where it stood
-unheard_alike : (w u : World (KeptState Tree)) (s : ℕ) → IsAlike (did_in w (Server s) (idle_effect (AtServer (w.servers s)))) u → IsAlike w u
+unheard_alike : (w u : World (CachedState Tree)) (s : ℕ) → IsAlike (did_in w (Server s) (idle_effect (AtServer (w.servers s)))) u → IsAlike w u
 unheard_alike w u s = alike_through w (did_in w (Server s) (idle_effect (AtServer (w.servers s)))) u
     (alike_by w (did_in w (Server s) (idle_effect (AtServer (w.servers s)))) refl refl (λ c. refl) (λ t. refl) (λ t alive. stays t) links)
   where
@@ -220,42 +220,42 @@ unheard_alike w u s = alike_through w (did_in w (Server s) (idle_effect (AtServe
 -- what a delivery says, with what callers saw before and after
 abbrev pub Says : Held → Held → Process → Process → History → History → Did → Type 0
 Says old new from to before after did =
-    (told : History) × (after ≡ before ++ told) × HasStepped old new (event.Take from to) did told
+    (reported : History) × (after ≡ before ++ reported) × HasStepped old new (event.Take from to) did reported
 
 -- the same, once it is known what became of it
-told_so : (old new : Held) (from to : Process) (before after told : History) (did so : Did) → after ≡ before ++ told → did ≡ so
-    → HasStepped old new (event.Take from to) so told → Says old new from to before after did
-told_so old new from to before after told did so more is stepped =
-    subst (λ (d : Did). Says old new from to before after d) (sym is) (told, more, stepped)
+reported_so : (old new : Held) (from to : Process) (before after reported : History) (did so : Did) → after ≡ before ++ reported → did ≡ so
+    → HasStepped old new (event.Take from to) so reported → Says old new from to before after did
+reported_so old new from to before after reported did so more is stepped =
+    subst (λ (d : Did). Says old new from to before after d) (sym is) (reported, more, stepped)
 
 -- callers see the reply that was handed over
-brought : (c number : ℕ) (reply : Option Reply) → told_with (Client c) (done.Answered number) (reply_handed (with_reply reply handed.Nothing))
+brought : (c number : ℕ) (reply : Option Reply) → reported_with (Client c) (done.Answered number) (reply_handed (with_reply reply handed.Nothing))
     ≡ option_to_list (option_map (λ r. call_event.Answer c number r) reply)
 brought c number (Some reply) = refl
 brought c number None = refl
 
 -- and see nothing else of a delivery
-pub told_as_handed : (to from : Process) (m : MessageOf (KeptState Tree)) (end : Done)
-    → told_with to end (reply_handed (handed_by (input.Hear from m) (Ok end) handed.Nothing)) ≡ told_by to (input.Hear from m) end
-told_as_handed (Client c) from m (done.Answered number) = brought c number (reply_in m)
-told_as_handed (Client c) from m (done.Began number) = refl
-told_as_handed (Client c) from m done.Acted = refl
-told_as_handed (Client c) from m done.Unheard = refl
-told_as_handed (Client c) from m done.Stopped = refl
-told_as_handed (Client c) from m done.Left = refl
-told_as_handed (Server s) from m end = refl
-told_as_handed Master from m end = refl
+pub reported_as_handed : (to from : Process) (m : MessageOf (CachedState Tree)) (end : Done)
+    → reported_with to end (reply_handed (handed_by (input.Hear from m) (Ok end) handed.Nothing)) ≡ reported_by to (input.Hear from m) end
+reported_as_handed (Client c) from m (done.Answered number) = brought c number (reply_in m)
+reported_as_handed (Client c) from m (done.Began number) = refl
+reported_as_handed (Client c) from m done.Acted = refl
+reported_as_handed (Client c) from m done.Unheard = refl
+reported_as_handed (Client c) from m done.Stopped = refl
+reported_as_handed (Client c) from m done.Left = refl
+reported_as_handed (Server s) from m end = refl
+reported_as_handed Master from m end = refl
 
 -- a message was delivered, by what became of it
-module _ (old mid new : Held) (from : Process) (front : MessageOf (KeptState Tree)) (rest : List (MessageOf (KeptState Tree)))
+module _ (old mid new : Held) (from : Process) (front : MessageOf (CachedState Tree)) (rest : List (MessageOf (CachedState Tree)))
     (before after : History) (did : Did) where
   abbrev Popped : Process → Type 0
   Popped to = (history : History) → kept_world mid history ≡ without (kept_world old history) from to
 
   pub delivered : (to : Process) (end : Done) → (kept_world old []).links from to ≡ front ∷ rest → is_lost old.actors to ≡ false → Popped to
-      → IsGiven mid new to (input.Hear from front) end → IsToldOf (told_by to (input.Hear from front) end) end before after did → Says old new from to before after did
+      → IsGiven mid new to (input.Hear from front) end → IsReportedOf (reported_by to (input.Hear from front) end) end before after did → Says old new from to before after did
   delivered Master done.Acted there alive popped given said =
-      told_so old new from Master before after [] did became.Done said.0 said.1
+      reported_so old new from Master before after [] did became.Done said.0 said.1
       (taken old from Master front rest there alive mid new [] popped given.leads)
   delivered Master done.Unheard there alive popped given said = absurd (true≢false (sym given.comes))
   delivered Master done.Stopped there alive popped given said = absurd (true≢false (sym given.comes))
@@ -263,31 +263,31 @@ module _ (old mid new : Held) (from : Process) (front : MessageOf (KeptState Tre
   delivered Master (done.Began number) there alive popped given said = absurd (true≢false (sym given.comes))
   delivered Master (done.Answered number) there alive popped given said = absurd (true≢false (sym given.comes))
   delivered (Server s) done.Acted there alive popped given said =
-      told_so old new from (Server s) before after [] did became.Done said.0 said.1
+      reported_so old new from (Server s) before after [] did became.Done said.0 said.1
       (taken old from (Server s) front rest there alive mid new [] popped given.leads)
   delivered (Server s) done.Left there alive popped given said =
-      told_so old new from (Server s) before after [] did became.Done said.0 said.1
+      reported_so old new from (Server s) before after [] did became.Done said.0 said.1
       (taken old from (Server s) front rest there alive mid new [] popped given.leads)
   delivered (Server s) done.Unheard there alive popped given said =
-      let can : may_be_unheard kept_tree ((kept_world old []).servers s) from front ≡ true =
-      subst (λ (w : World (KeptState Tree)). may_be_unheard kept_tree (w.servers s) from front ≡ true) (popped []) given.comes in
-      told_so old new from (Server s) before after [] did became.Unheard said.0 said.1
+      let can : may_be_unheard cached_tree ((kept_world old []).servers s) from front ≡ true =
+      subst (λ (w : World (CachedState Tree)). may_be_unheard cached_tree (w.servers s) from front ≡ true) (popped []) given.comes in
+      reported_so old new from (Server s) before after [] did became.Unheard said.0 said.1
       (unheard old from s front rest there alive mid new popped can
       (λ history. unheard_alike (kept_world mid history) (kept_world new (history ++ [])) s (given.leads history)))
   delivered (Server s) done.Stopped there alive popped given said =
-      let can : may_stop kept_tree ((kept_world old []).servers s) from front ≡ true =
-      subst (λ (w : World (KeptState Tree)). may_stop kept_tree (w.servers s) from front ≡ true) (popped []) given.comes in
-      told_so old new from (Server s) before after [] did became.Stopped said.0 said.1
+      let can : may_stop cached_tree ((kept_world old []).servers s) from front ≡ true =
+      subst (λ (w : World (CachedState Tree)). may_stop cached_tree (w.servers s) from front ≡ true) (popped []) given.comes in
+      reported_so old new from (Server s) before after [] did became.Stopped said.0 said.1
       (stopped old from s front rest there alive mid new (is_one s given.inside) popped can given.leads)
   delivered (Server s) (done.Began number) there alive popped given said = absurd (true≢false (sym given.comes))
   delivered (Server s) (done.Answered number) there alive popped given said = absurd (true≢false (sym given.comes))
   delivered (Client c) done.Acted there alive popped given said =
-      told_so old new from (Client c) before after [] did became.Done said.0 said.1
+      reported_so old new from (Client c) before after [] did became.Done said.0 said.1
       (taken old from (Client c) front rest there alive mid new [] popped given.leads)
   delivered (Client c) (done.Answered number) there alive popped given said =
-      let told : History = told_by (Client c) (input.Hear from front) (done.Answered number) in
-      told_so old new from (Client c) before after told did became.Done said.0 said.1
-      (taken old from (Client c) front rest there alive mid new told popped given.leads)
+      let reported : History = reported_by (Client c) (input.Hear from front) (done.Answered number) in
+      reported_so old new from (Client c) before after reported did became.Done said.0 said.1
+      (taken old from (Client c) front rest there alive mid new reported popped given.leads)
   delivered (Client c) done.Unheard there alive popped given said = absurd (true≢false (sym given.comes))
   delivered (Client c) done.Stopped there alive popped given said = absurd (true≢false (sym given.comes))
   delivered (Client c) done.Left there alive popped given said = absurd (true≢false (sym given.comes))

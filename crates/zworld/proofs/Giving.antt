@@ -3,7 +3,7 @@ use Rattle.std.proofs.Common.{◌≡◌, ℕ, ◌<◌, true, false, List, [], �
 use mathlib.Core.Bool.{true≢false}
 use Rattle.std.proofs.lemmas.List.{get_or_default}
 use Rattle.ztree.specs.Tree.{Tree}
-use Rattle.zcalls.specs.Kept.{KeptState}
+use Rattle.zcalls.specs.Cached.{CachedState}
 use Rattle.zprotocol.specs.declared.limits.TheConstants.{PROCESSES}
 use Rattle.zprotocol.specs.declared.process.Process.{Process}
 use Rattle.zprotocol.specs.declared.process.Process.TheVariants.{Master, Server, Client}
@@ -12,7 +12,7 @@ use Rattle.zprotocol.specs.client.View.{ClientView}
 use Rattle.zprotocol.specs.master.View.{MasterView}
 use Rattle.zserver.specs.Server.{TreeOut, TreeView}
 use Rattle.zactor.specs.Acting.{Acts, TreeStanding, TreeInput, TreeEffect, TreePost, HasActed, can_come}
-use Rattle.zactor.specs.Acting.{can_stand, effect_of, has_stopped, is_end, put_by, read, told_by}
+use Rattle.zactor.specs.Acting.{can_stand, effect_of, has_stopped, is_end, put_by, read, reported_by}
 use Rattle.zactor.specs.declared.done.Done.{Done}
 use Rattle.zactor.specs.declared.done.Done.TheVariants as done
 use Rattle.zactor.specs.declared.input.Input.{Input}
@@ -30,7 +30,7 @@ use Rattle.zworld.specs.support.Giving.{IsGiven}
 use Rattle.zworld.proofs.Standing.{Stands, IsMaster, IsServer, HasLeft, IsClient, stands, standing_set, standing_is, did_alike, ended_sent}
 
 -- a server that has stopped accepts nothing
-out_refuses : (s : ℕ) (input : TreeInput) → accepts {M = KeptState Tree} (Server s) input Out ≡ false
+out_refuses : (s : ℕ) (input : TreeInput) → accepts {M = CachedState Tree} (Server s) input Out ≡ false
 out_refuses s (given.Hear from message) = refl
 out_refuses s (given.Begin call) = refl
 out_refuses s given.Retry = refl
@@ -157,11 +157,11 @@ module _ (held : Held) (process : Process) (input : Input) (end : Done) (new : T
     lives = lived;
     leads = λ history.
         subst (λ standing. IsAlike (did_in (kept_world held history) process (effect_of process standing input end))
-        (kept_world now (history ++ told_by process input end))) (sym (stood []))
-        (subst (λ (told : History). IsAlike (did_in (kept_world held history) process effect) (kept_world now (history ++ told))) acted.told
+        (kept_world now (history ++ reported_by process input end))) (sym (stood []))
+        (subst (λ (reported : History). IsAlike (did_in (kept_world held history) process effect) (kept_world now (history ++ reported))) acted.reported
         (subst (λ (standing : TreeStanding). IsAlike (did_in (kept_world held history) process effect)
-        (kept_world (record { actors = set held.actors (place_of process) standing; links = channels }) (history ++ effect.told))) (sym acted.left)
-        (did_alike held channels effect.posts effect.told history all process effect.left
+        (kept_world (record { actors = set held.actors (place_of process) standing; links = channels }) (history ++ effect.reported))) (sym acted.left)
+        (did_alike held channels effect.posts effect.reported history all process effect.left
         (stands process effect.left (ap (can_stand process) (sym acted.left) ∙ acted.stands)) inside lived
         (λ from to alive. sent from to (ap (λ (standing : TreeStanding). is_lost (set held.actors (place_of process) standing) to) acted.left
         ∙ alive)))));

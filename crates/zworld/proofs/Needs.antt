@@ -4,7 +4,7 @@ use Rattle.zworld.specs.declared.did.Did.TheVariants as became
 use Rattle.std.proofs.Common.{◌≡◌, ◌<◌, ◌-◌, ℕ, Bool, true, false, not, if◌then◌else◌, List, [], ◌∷◌, ◌++◌, inl, inr}
 use Rattle.std.proofs.Common.{refl, sym, ap, ◌∙◌, subst, true≢false}
 use Rattle.ztree.specs.Tree.{Tree}
-use Rattle.zcalls.specs.Kept.{KeptState}
+use Rattle.zcalls.specs.Cached.{CachedState}
 use Rattle.zprotocol.specs.declared.world.event.Event.{Event}
 use Rattle.zprotocol.specs.declared.world.event.Event.TheVariants.{Begin, Retry, Take, Ignore, Fail, Order}
 use Rattle.zprotocol.specs.world.History.{History}
@@ -20,7 +20,7 @@ use Rattle.zworld.specs.support.Stepped.{HasStepped}
 use Rattle.zworld.proofs.Going.{has_run, can_anyway}
 
 -- events of which some were done, and the next can want memory
-pub has_run_out : (v w : World (KeptState Tree)) (events front back : List Event) (event : Event) (history : History) → LeadRead v front w
+pub has_run_out : (v w : World (CachedState Tree)) (events front back : List Event) (event : Event) (history : History) → LeadRead v front w
     → events ≡ front ++ event ∷ back → history ≡ w.history → can_want_memory w event ≡ true → HasRunOut v events history
 has_run_out v w events front back event history leads cut same can =
     let ran = has_run v w front leads in (
@@ -30,12 +30,12 @@ has_run_out v w events front back event history leads cut same can =
       cut,
       ran.0,
       ran.1,
-      ap (λ (x : World (KeptState Tree)). x.history) ran.2 ∙ sym same,
+      ap (λ (x : World (CachedState Tree)). x.history) ran.2 ∙ sym same,
       ap (λ x. can_want_memory x event) ran.2 ∙ can,
     )
 
 -- an enabled event of settling can want memory
-enabled_can : (w : World (KeptState Tree)) (event : Event) → is_of_settling event ≡ true → is_enabled w event ≡ true → can_want_memory w event ≡ true
+enabled_can : (w : World (CachedState Tree)) (event : Event) → is_of_settling event ≡ true → is_enabled w event ≡ true → can_want_memory w event ≡ true
 enabled_can w (Retry c) is on = on
 enabled_can w (Take from to) is on = on
 enabled_can w (Begin c call) is on = absurd (true≢false (sym is))
@@ -61,9 +61,9 @@ still_or_could old mid new left less more (inl first) (inl second) = inl (second
 still_or_could old mid new left less more (inl first) (inr can) = inr (could_at_first old mid left less (inl first) can)
 
 -- an event that is tried changes nothing, or was enabled
-pub tried_or_could : (old new : Held) (event : Event) (did : Did) (told : History) (left more : ℕ) → HasStepped old new event did told → 0 < left
+pub tried_or_could : (old new : Held) (event : Event) (did : Did) (reported : History) (left more : ℕ) → HasStepped old new event did reported → 0 < left
     → is_of_settling event ≡ true → more ≡ (if is_idle did then left else left - 1) → StillOrCould old new left more
-tried_or_could old new event did told left more stepped some is rest = by_idle (is_idle did) refl
+tried_or_could old new event did reported left more stepped some is rest = by_idle (is_idle did) refl
   where
     not-false : (b : Bool) → false ≡ not b → b ≡ true
     not-false true e = refl
@@ -79,10 +79,10 @@ pub can_run_out_anyway : (held : Held) (history : History) (left : ℕ) → CanR
 can_run_out_anyway held history left (some, event, is, can) = (some, event, is, can_anyway held history event ∙ can)
 
 -- an event at which a server ran out of memory, and none may, was enabled
-pub short_is_enabled : (old new : Held) (event : Event) (did : Did) (told : History) (strict : Bool)
-    → HasStepped old new event did told → (strict && is_short did) ≡ true
+pub short_is_enabled : (old new : Held) (event : Event) (did : Did) (reported : History) (strict : Bool)
+    → HasStepped old new event did reported → (strict && is_short did) ≡ true
     → is_enabled (kept_world old []) event ≡ true
-short_is_enabled old new event did told strict stepped short = not_idle (is_enabled (kept_world old []) event)
+short_is_enabled old new event did reported strict stepped short = not_idle (is_enabled (kept_world old []) event)
     (sym (active did (second strict short)) ∙ stepped.idle)
   where
     second : (strict : Bool) → (strict && is_short did) ≡ true → is_short did ≡ true

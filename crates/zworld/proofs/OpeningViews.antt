@@ -11,7 +11,7 @@ use mathlib.Core.Bool.{true≢false}
 use mathlib.Core.Path.{fun_ext}
 use Rattle.ztree.specs.Tree.{Tree}
 use Rattle.ztree.specs.declared.limits.TheConstants.{MAX_CLIENTS}
-use Rattle.zcalls.specs.Kept.{KeptState}
+use Rattle.zcalls.specs.Cached.{CachedState}
 use Rattle.zcalls.proofs.Among.{test}
 use Rattle.zprotocol.specs.declared.limits.TheConstants.{MAX_SERVERS, PROCESSES}
 use Rattle.zprotocol.specs.declared.process.Process.{Process}
@@ -35,7 +35,7 @@ use Rattle.zworld.specs.support.Standing.{waits, IsFull}
 few_behind : {limit : ℕ} (n m : ℕ) → n ≤ limit → limit ≤ m → n ≤ m
 few_behind n m few behind = omega (arith, few, behind)
 
-module _ (machine : Does (KeptState Tree)) (last clients : ℕ) (few : last ≤ MAX_SERVERS) (few_clients : clients ≤ MAX_CLIENTS) where
+module _ (machine : Does (CachedState Tree)) (last clients : ℕ) (few : last ≤ MAX_SERVERS) (few_clients : clients ≤ MAX_CLIENTS) where
   abbrev at : Process → TreeStanding
   at p = opening_actor machine last clients p
 

@@ -3,7 +3,7 @@ use Rattle.std.proofs.Common.{◌≡◌, ℕ, Bool, false, if◌then◌else◌, 
 use Rattle.std.specs.Prelude.{◌&&◌}
 use mathlib.Core.Path.{fun_ext}
 use Rattle.ztree.specs.Tree.{Tree}
-use Rattle.zcalls.specs.Kept.{KeptState}
+use Rattle.zcalls.specs.Cached.{CachedState}
 use Rattle.zcalls.proofs.Among.{test}
 use Rattle.zprotocol.specs.declared.message.Message.TheVariants.{Gone}
 use Rattle.zprotocol.specs.declared.process.Process.{Process}
@@ -34,7 +34,7 @@ lost_read held old actors p b asked same read is so =
     ap (λ (h : Held). is_lost h.actors p) (sym same) ∙ ap (λ (xs : List TreeStanding). is_lost xs p) (sym read) ∙ sym is ∙ so
 
 -- a message that is put comes first
-pub rest_put : (links new : Links (KeptState Tree)) (from to : Process) (m : MessageOf (KeptState Tree)) (rest : List (Post (KeptState Tree)))
+pub rest_put : (links new : Links (CachedState Tree)) (from to : Process) (m : MessageOf (CachedState Tree)) (rest : List (Post (CachedState Tree)))
     → ((p q : Process) → new p q ≡ with_link links from to (links from to ++ m ∷ []) p q)
     → (p q : Process) → put new from rest p q ≡ put links from ((to, m) ∷ rest) p q
 rest_put links new from to m rest is p q = elim (test (is_same p from)) [
@@ -58,7 +58,7 @@ rest_put links new from to m rest is p q = elim (test (is_same p from)) [
 ]
 
 -- a channel without its first message is one without its front
-first_is_front : (links : Links (KeptState Tree)) (from to p q : Process) → without_first links from to p q ≡ without_front links from to p q
+first_is_front : (links : Links (CachedState Tree)) (from to p q : Process) → without_first links from to p q ≡ without_front links from to p q
 first_is_front links from to p q = elim (test (is_same p from && is_same q to)) [
   | inl same ↦
       let tests = both (is_same p from) (is_same q to) same in
@@ -71,15 +71,15 @@ pub popped_world : (old held : Held) (channels : HeldChannels) (from to : Proces
     → Keeps channels (without_first (links_of held.links) from to)
     → (history : History) → kept_world (record held { links = channels }) history ≡ without (kept_world old history) from to
 popped_world old held channels from to same keeps history =
-    let links : ◌≡◌ {A = Links (KeptState Tree)} (links_of channels) (without_front (links_of held.links) from to) =
+    let links : ◌≡◌ {A = Links (CachedState Tree)} (links_of channels) (without_front (links_of held.links) from to) =
     fun_ext (λ p. fun_ext (λ q. keeps p q ∙ first_is_front (links_of held.links) from to p q)) in
-    ap (λ (ls : Links (KeptState Tree)). record (kept_world held history) { links = ls }) links
+    ap (λ (ls : Links (CachedState Tree)). record (kept_world held history) { links = ls }) links
     ∙ ap (λ (o : Held). without (kept_world o history) from to) same
 
 -- a server sent its failure notice, and what was on channels to it was dropped
 pub has_ended : (old mid new : HeldChannels) (p : Process) → Keeps mid (with_last (links_of old) p Master Gone) → Notes mid (with_notice old p)
     → Keeps new (without_receiver (links_of mid) p) → Notes new (notices_left mid (links_of new)) → HasEnded old new p
 has_ended old mid new p put notes cleared left = record {
-  links = λ from to. cleared from to ∙ ap (λ (ms : List (MessageOf (KeptState Tree))). if is_same to p then [] else ms) (put from to);
+  links = λ from to. cleared from to ∙ ap (λ (ms : List (MessageOf (CachedState Tree))). if is_same to p then [] else ms) (put from to);
   notices = λ q is. sym (notes q) ∙ (both (has_notice mid q) (holds (links_of new q Master)) (sym (left q) ∙ is)).0;
 }

@@ -2,8 +2,8 @@
 use Rattle.std.proofs.Common.{◌≡◌, ℕ, Bool, false, List, [], ◌++◌, inl, inr, refl, sym, ap, subst, ◌∙◌, append_assoc}
 use Rattle.std.specs.List.{list_any}
 use Rattle.ztree.specs.Tree.{Tree}
-use Rattle.zcalls.specs.Kept.{KeptState}
-use Rattle.zprotocol.specs.server.Machine.{kept_tree}
+use Rattle.zcalls.specs.Cached.{CachedState}
+use Rattle.zprotocol.specs.server.Machine.{cached_tree}
 use Rattle.zprotocol.specs.declared.world.event.Event.TheVariants.{Take}
 use Rattle.zprotocol.specs.declared.world.settled.Settled.{Settled}
 use Rattle.zprotocol.specs.declared.world.settled.Settled.TheVariants.{Quiet}
@@ -27,30 +27,30 @@ use Rattle.zworld.proofs.Going.{goes_on, stands_later, leads_on, enabled_of}
 settles_behind : (strict : Bool) (past : History) (old new : Held) (limit : ℕ) (before after : History) (settled : Settled)
     → Settles strict old new limit before after settled
     → Settles strict old new limit (past ++ before) (past ++ after) settled
-settles_behind strict past old new limit before after settled (learnt, told, is, settles, acted) =
-    (learnt, told, ap (λ xs. past ++ xs) is ∙ sym (append_assoc past before told), settles, acted)
+settles_behind strict past old new limit before after settled (learnt, reported, is, settles, acted) =
+    (learnt, reported, ap (λ xs. past ++ xs) is ∙ sym (append_assoc past before reported), settles, acted)
 
 -- what settling leads to has let go of what failed servers held
 settled_gone : (held : Held) (history : History) (limit : ℕ) (outcomes : List Outcome)
-    → let s = settle kept_tree (world_of held history) limit outcomes in let_go s.world ≡ s.world
+    → let s = settle cached_tree (world_of held history) limit outcomes in let_go s.world ≡ s.world
 settled_gone held history limit outcomes =
     let kept = kept_world held history in
-    let s = settle kept_tree (let_go kept) limit outcomes in
-    let ran : s.world ≡ let_go (run_keeping kept_tree kept s.events) = settling_is_a_run kept_tree (let_go kept) limit outcomes
-    ∙ keeping_runs kept_tree kept s.events in
-    ap let_go ran ∙ let_go_twice (run_keeping kept_tree kept s.events) ∙ sym ran
+    let s = settle cached_tree (let_go kept) limit outcomes in
+    let ran : s.world ≡ let_go (run_keeping cached_tree kept s.events) = settling_is_a_run cached_tree (let_go kept) limit outcomes
+    ∙ keeping_runs cached_tree kept s.events in
+    ap let_go ran ∙ let_go_twice (run_keeping cached_tree kept s.events) ∙ sym ran
 
 -- the processes settled as the world of the definition does
 pub settled_as_defined : (strict : Bool) (old new : Held) (limit : ℕ) (before after : History) (settled : Settled)
     → Settles strict old new limit before after settled
     → HasSettledBy strict (world_of old before) limit settled (world_of new after)
-settled_as_defined strict old new limit before after settled (learnt, told, is, settles, acted) = (
+settled_as_defined strict old new limit before after settled (learnt, reported, is, settles, acted) = (
   learnt,
   acted,
   λ later. (
     settles.ended before later,
     settles.left before later,
-    leads_on (settle kept_tree (world_of old before) limit (learnt ++ later)).world new (before ++ told)
+    leads_on (settle cached_tree (world_of old before) limit (learnt ++ later)).world new (before ++ reported)
         (settled_gone old before limit (learnt ++ later)) (settles.leads before later)
         ∙ ap (world_of new) (sym is),
   ),
@@ -65,8 +65,8 @@ past_settles strict restored forgotten old new limit before after settled had se
     let (learnt, acted, ends) =
     settled_as_defined strict old new limit (had.past ++ before) (had.past ++ after) settled
     (settles_behind strict had.past old new limit before after settled settles) in
-    goes_on restored forgotten old new before after (settle kept_tree v limit (learnt ++ [])).events had
-    (sym (settling_is_a_run kept_tree v limit (learnt ++ [])) ∙ (ends []).2)
+    goes_on restored forgotten old new before after (settle cached_tree v limit (learnt ++ [])).events had
+    (sym (settling_is_a_run cached_tree v limit (learnt ++ [])) ∙ (ends []).2)
 
 -- where settling ended quiet, no message can be taken
 pub quiet_is_rest : (strict : Bool) (restored forgotten : Bool) (old new : Held) (limit : ℕ) (before after : History)
@@ -79,15 +79,15 @@ quiet_is_rest strict restored forgotten old new limit before after had settles f
     settled_as_defined strict old new limit (had.past ++ before) (had.past ++ after)
     Quiet (settles_behind strict had.past old new limit before after Quiet settles) in
     let (ended, taken, leads) = ends [] in
-    let done = settle kept_tree v limit (learnt ++ []) in
-    let ran = sym (settling_is_a_run kept_tree v limit (learnt ++ [])) ∙ leads in
+    let done = settle cached_tree v limit (learnt ++ []) in
+    let ran = sym (settling_is_a_run cached_tree v limit (learnt ++ [])) ∙ leads in
     let here = stands_later restored forgotten old new before (had.past ++ after) done.events had ran in
     let counted : (kept_world old []).master.clients ≡ had.clients =
-    ap (λ (u : World (KeptState Tree)). u.master.clients) (sym (had.stands refl))
+    ap (λ (u : World (CachedState Tree)). u.master.clients) (sym (had.stands refl))
     ∙ (after_within_from had.tree had.servers had.clients had.events had.opens).counted in
     let none : list_any (is_enabled done.world) (deliveries had.clients) ≡ false =
     subst (λ n. list_any (is_enabled done.world) (deliveries n) ≡ false) counted
-    (quiet_has_nothing_to_take kept_tree v limit (learnt ++ []) (sym ended)) in
+    (quiet_has_nothing_to_take cached_tree v limit (learnt ++ []) (sym ended)) in
     let rest : is_enabled w (Take from to) ≡ false =
     elim (links_are_visited_from had.tree had.servers had.clients (had.events ++ done.events) from to had.opens) [
       | inl empty ↦

@@ -13,7 +13,7 @@ use Rattle.zprotocol.specs.declared.process.Process.{Process}
 use Rattle.zprotocol.specs.declared.process.Process.TheVariants.{Client}
 use Rattle.zprotocol.specs.Places.{place_of, process_at}
 use Rattle.zprotocol.proofs.Places.{place_of-process_at}
-use Rattle.zprotocol.specs.server.Machine.{kept_tree}
+use Rattle.zprotocol.specs.server.Machine.{cached_tree}
 use Rattle.zprotocol.specs.declared.world.event.Event.TheVariants.{Retry}
 use Rattle.zprotocol.specs.declared.world.outcome.Outcome.{Outcome}
 use Rattle.zprotocol.specs.world.Events.{is_enabled}
@@ -53,16 +53,16 @@ waits_not (AtClient v) not = not
 waits_not Out not = refl
 
 pub no_retries : (n : ℕ) (held : Held) (history : History) (left : ℕ) (outcomes : List Outcome) (s : TreeSettling)
-    → passing waits held.actors ≡ 0 → StandsAt held history left outcomes s → with_tries kept_tree s (retry_events n) ≡ s
+    → passing waits held.actors ≡ 0 → StandsAt held history left outcomes s → with_tries cached_tree s (retry_events n) ≡ s
 no_retries n held history left outcomes s none stands =
-    none_is_done kept_tree s (retry_events n) (none_waits n)
+    none_is_done cached_tree s (retry_events n) (none_waits n)
   where
     none_waits : (m : ℕ) → list_any (is_enabled s.world) (retry_events m) ≡ false
     none_waits zero = refl
     none_waits (suc m) =
         let next : m + 1 ≡ suc m = omega arith in
         let idle : is_enabled s.world (Retry m) ≡ false =
-        have_the_same_enabled kept_tree s.world (kept_world held history) (Retry m) stands.alike
+        have_the_same_enabled cached_tree s.world (kept_world held history) (Retry m) stands.alike
         ∙ waits_not (standing_at held.actors (Client m)) (fails_at waits held.actors (place_of (Client m)) (bystander (Client m)) refl none) in
         subst (λ k. list_any (is_enabled s.world) (retry_events k) ≡ false) next
         (ap (list_any (is_enabled s.world)) (map-range_with_len_more Retry 0 m m (omega arith))

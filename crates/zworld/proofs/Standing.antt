@@ -4,7 +4,7 @@ use Rattle.std.proofs.Common.{set, refl, sym, ap, ◌∙◌, inl, inr, append-ni
 use Rattle.std.specs.Prelude.{◌==◌}
 use mathlib.Core.Bool.{true≢false}
 use Rattle.ztree.specs.Tree.{Tree}
-use Rattle.zcalls.specs.Kept.{KeptState}
+use Rattle.zcalls.specs.Cached.{CachedState}
 use Rattle.zcalls.proofs.Among.{test}
 use Rattle.zprotocol.specs.client.View.{ClientView}
 use Rattle.zprotocol.specs.master.View.{MasterView}
@@ -63,7 +63,7 @@ standing_set actors p q standing inside all = elim (test (is_same q p)) [
 ]
 
 -- a history goes on with what callers saw
-goes_on_all : (history told : History) → history ++ told ≡ goes_on history told
+goes_on_all : (history reported : History) → history ++ reported ≡ goes_on history reported
 goes_on_all history [] = append-nil history
 goes_on_all history (seen ∷ more) = refl
 
@@ -81,14 +81,14 @@ lost_if true other = refl
 lost_if false other = refl
 
 -- who hasn't failed then hasn't stopped
-alive_then : (actors : List TreeStanding) (w : World (KeptState Tree)) → ((s : ℕ) → has_stopped (standing_at actors (Server s)) ≡ w.failed s)
+alive_then : (actors : List TreeStanding) (w : World (CachedState Tree)) → ((s : ℕ) → has_stopped (standing_at actors (Server s)) ≡ w.failed s)
     → (to : Process) → has_failed w to ≡ false → is_lost actors to ≡ false
 alive_then actors w failed Master alive = refl
 alive_then actors w failed (Server s) alive = failed s ∙ alive
 alive_then actors w failed (Client c) alive = refl
 
 -- what a process did leads to the world in which it stands there, if the channels are these
-module _ (held : Held) (channels : HeldChannels) (posts : List TreePost) (told history : History) (all : length held.actors ≡ PROCESSES) where
+module _ (held : Held) (channels : HeldChannels) (posts : List TreePost) (reported history : History) (all : length held.actors ≡ PROCESSES) where
   abbrev later : Process → TreeStanding → Held
   later p standing = record { actors = set held.actors (place_of p) standing; links = channels }
 
@@ -99,18 +99,18 @@ module _ (held : Held) (channels : HeldChannels) (posts : List TreePost) (told h
   abbrev had_stopped : ℕ → Bool
   had_stopped t = has_stopped (standing_at held.actors (Server t))
 
-  abbrev reached : Process → TreeStanding → World (KeptState Tree)
-  reached p standing = did_in (kept_world held history) p (record { left = standing; posts = posts; told = told })
+  abbrev reached : Process → TreeStanding → World (CachedState Tree)
+  reached p standing = did_in (kept_world held history) p (record { left = standing; posts = posts; reported = reported })
 
   abbrev Leads : Process → TreeStanding → Type 0
-  Leads p standing = IsAlike (reached p standing) (kept_world (later p standing) (history ++ told))
+  Leads p standing = IsAlike (reached p standing) (kept_world (later p standing) (history ++ reported))
 
   pub did_alike : (p : Process) (standing : TreeStanding) → Stands p standing → place_of p < length held.actors
       → has_stopped (standing_at held.actors p) ≡ false → IsSent p standing → Leads p standing
   did_alike p standing (IsMaster v) inside lives sent =
       let now = λ (q : Process). standing_set held.actors Master q (AtMaster v) inside all in
       let failed = λ (s : ℕ). ap has_stopped (now (Server s)) in
-      alike_by _ _ (ap master_of (now Master)) (goes_on_all history told) (λ c. ap client_of (now (Client c)))
+      alike_by _ _ (ap master_of (now Master)) (goes_on_all history reported) (λ c. ap client_of (now (Client c)))
       failed (λ s alive. sym (ap view_of (now (Server s))))
       (λ from to alive. sent from to (alive_then (later Master (AtMaster v)).actors (reached Master (AtMaster v)) failed to alive))
   did_alike p standing (IsServer s v) inside lives sent =
@@ -122,14 +122,14 @@ module _ (held : Held) (channels : HeldChannels) (posts : List TreePost) (told h
             ∙ sym (ap (λ n. has_stopped (standing_at held.actors (Server n))) (eqb-true t s same) ∙ lives)
         | inr other ↦ ap (λ b. has_stopped (if b then AtServer v else standing_at held.actors (Server t))) other
       ] in
-      alike_by _ _ (ap master_of (now Master)) (goes_on_all history told) (λ c. ap client_of (now (Client c)))
+      alike_by _ _ (ap master_of (now Master)) (goes_on_all history reported) (λ c. ap client_of (now (Client c)))
       failed (λ t alive. sym (ap view_of (now (Server t)) ∙ view_if (t == s) v (standing_at held.actors (Server t))))
       (λ from to alive. sent from to (alive_then (later (Server s) (AtServer v)).actors (reached (Server s) (AtServer v)) failed to alive))
   did_alike p standing (HasLeft s) inside lives sent =
       let now = λ (q : Process). standing_set held.actors (Server s) q Out inside all in
       let failed : (t : ℕ) → has_stopped (standing_at (later (Server s) Out).actors (Server t)) ≡ (if t == s then true else had_stopped t) =
       λ t. ap has_stopped (now (Server t)) ∙ lost_if (t == s) (standing_at held.actors (Server t)) in
-      alike_by _ _ (ap master_of (now Master)) (goes_on_all history told) (λ c. ap client_of (now (Client c))) failed
+      alike_by _ _ (ap master_of (now Master)) (goes_on_all history reported) (λ c. ap client_of (now (Client c))) failed
       (λ t alive. elim (test (t == s)) [
         | inl same ↦ absurd (true≢false (sym (ap (λ b. if b then true else had_stopped t) same) ∙ alive))
         | inr other ↦ sym (ap view_of (now (Server t)) ∙ ap (λ b. view_of (if b then Out else standing_at held.actors (Server t))) other)
@@ -138,7 +138,7 @@ module _ (held : Held) (channels : HeldChannels) (posts : List TreePost) (told h
   did_alike p standing (IsClient c v) inside lives sent =
       let now = λ (q : Process). standing_set held.actors (Client c) q (AtClient v) inside all in
       let failed = λ (s : ℕ). ap has_stopped (now (Server s)) in
-      alike_by _ _ (ap master_of (now Master)) (goes_on_all history told)
+      alike_by _ _ (ap master_of (now Master)) (goes_on_all history reported)
       (λ d. ap client_of (now (Client d)) ∙ client_if (d == c) v (standing_at held.actors (Client d)))
       failed (λ s alive. sym (ap view_of (now (Server s))))
       (λ from to alive. sent from to (alive_then (later (Client c) (AtClient v)).actors (reached (Client c) (AtClient v)) failed to alive))

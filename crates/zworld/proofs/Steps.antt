@@ -3,12 +3,12 @@ use Rattle.std.proofs.Common.{◌≡◌, ◌<◌, ℕ, inl, inr, arith, true, fa
 use Rattle.std.specs.Prelude.{◌&&◌, not}
 use mathlib.Core.Bool.{true≢false}
 use Rattle.ztree.specs.Tree.{Tree}
-use Rattle.zcalls.specs.Kept.{KeptState}
+use Rattle.zcalls.specs.Cached.{CachedState}
 use Rattle.zcalls.proofs.Among.{test}
 use Rattle.zprotocol.specs.declared.limits.TheConstants.{PROCESSES}
 use Rattle.zprotocol.specs.Places.{is_server, place_of}
 use Rattle.zprotocol.specs.declared.process.Process.TheVariants.{Master, Server, Client}
-use Rattle.zprotocol.specs.server.Machine.{kept_tree}
+use Rattle.zprotocol.specs.server.Machine.{cached_tree}
 use Rattle.zprotocol.specs.declared.world.event.Event.{Event}
 use Rattle.zprotocol.specs.declared.world.event.Event.TheVariants.{Begin, Retry, Take, Ignore, Fail, Order}
 use Rattle.zprotocol.specs.declared.world.outcome.Outcome.{Outcome}
@@ -50,7 +50,7 @@ enabled_anyway held history (Fail s) = refl
 enabled_anyway held history (Order order) = refl
 
 -- an event at which the taker acted reads as itself
-pub read_acted : (w : World (KeptState Tree)) (event : Event) → read kept_tree w event Acted ≡ event
+pub read_acted : (w : World (CachedState Tree)) (event : Event) → read cached_tree w event Acted ≡ event
 read_acted w (Begin c call) = refl
 read_acted w (Retry c) = refl
 read_acted w (Take from Master) = refl
@@ -62,7 +62,7 @@ read_acted w (Order order) = refl
 
 -- what outcomes an event can have doesn't hang on the history either
 pub fitting_anyway : (held : Held) (history : History) (event : Event) (outcome : Outcome)
-    → is_fitting kept_tree (kept_world held history) event outcome ≡ is_fitting kept_tree (kept_world held []) event outcome
+    → is_fitting cached_tree (kept_world held history) event outcome ≡ is_fitting cached_tree (kept_world held []) event outcome
 fitting_anyway held history event Acted = refl
 fitting_anyway held history (Begin c call) Stopped = refl
 fitting_anyway held history (Retry c) Stopped = refl
@@ -83,20 +83,20 @@ fitting_anyway held history (Order order) Unheard = refl
 
 -- nor does how it reads
 pub read_anyway : (held : Held) (history : History) (event : Event) (outcome : Outcome)
-    → read kept_tree (kept_world held history) event outcome ≡ read kept_tree (kept_world held []) event outcome
+    → read cached_tree (kept_world held history) event outcome ≡ read cached_tree (kept_world held []) event outcome
 read_anyway held history event outcome =
     ap (λ b. if b then reading_by event outcome else event) (fitting_anyway held history event outcome)
 
 -- an event that isn't enabled, or is
-pub happens_not : (w : World (KeptState Tree)) (event : Event) → is_enabled w event ≡ false → happens kept_tree w event ≡ w
-happens_not w event off = ap (λ b. if b then let_go (acts kept_tree w event) else w) off
+pub happens_not : (w : World (CachedState Tree)) (event : Event) → is_enabled w event ≡ false → happens cached_tree w event ≡ w
+happens_not w event off = ap (λ b. if b then let_go (acts cached_tree w event) else w) off
 
-pub happens_so : (w : World (KeptState Tree)) (event : Event) → is_enabled w event ≡ true
-    → happens kept_tree w event ≡ let_go (acts kept_tree w event)
-happens_so w event on = ap (λ b. if b then let_go (acts kept_tree w event) else w) on
+pub happens_so : (w : World (CachedState Tree)) (event : Event) → is_enabled w event ≡ true
+    → happens cached_tree w event ≡ let_go (acts cached_tree w event)
+happens_so w event on = ap (λ b. if b then let_go (acts cached_tree w event) else w) on
 
 -- what let go is alike to what the other is alike to
-pub gone_too : (v w : World (KeptState Tree)) → IsAlike v w → IsAlike (let_go v) w
+pub gone_too : (v w : World (CachedState Tree)) → IsAlike v w → IsAlike (let_go v) w
 gone_too v w alike = subst (λ u. IsAlike u w) (sym (alike_let_go v w alike)) (alike_back w)
 
 -- an event that isn't enabled
@@ -108,7 +108,7 @@ idle_stepped held event why off caused = record {
   caused = λ other is. subst (λ c. IsCause held event c) (same_cause why other is) caused;
   fits = refl;
   leads = λ history.
-      subst (λ e. IsAlike (happens kept_tree (kept_world held history) e) (kept_world held (history ++ [])))
+      subst (λ e. IsAlike (happens cached_tree (kept_world held history) e) (kept_world held (history ++ [])))
       (sym (read_acted (kept_world held []) event))
       (subst (λ w. IsAlike w (kept_world held (history ++ [])))
       (sym (happens_not (kept_world held history) event (enabled_anyway held history event ∙ off)))
@@ -119,18 +119,18 @@ idle_stepped held event why off caused = record {
     same_cause a b is = ap (λ (d : Did). elim d [ did.Done ↦ a | did.Idle c ↦ c | did.Unheard ↦ a | did.Stopped ↦ a ]) is
 
 -- an event that happened
-pub done_stepped : (old new : Held) (event : Event) (told : History) → is_enabled (kept_world old []) event ≡ true
-    → ((history : History) → IsAlike (acts kept_tree (kept_world old history) event) (kept_world new (history ++ told)))
-    → HasStepped old new event did.Done told
-done_stepped old new event told on alike = record {
+pub done_stepped : (old new : Held) (event : Event) (reported : History) → is_enabled (kept_world old []) event ≡ true
+    → ((history : History) → IsAlike (acts cached_tree (kept_world old history) event) (kept_world new (history ++ reported)))
+    → HasStepped old new event did.Done reported
+done_stepped old new event reported on alike = record {
   idle = ap not (sym on);
   same = λ idle. absurd (true≢false (sym idle));
   caused = λ why is. let never : ⊥ = cc in absurd never;
   fits = refl;
   leads = λ history.
-      subst (λ e. IsAlike (happens kept_tree (kept_world old history) e) (kept_world new (history ++ told)))
+      subst (λ e. IsAlike (happens cached_tree (kept_world old history) e) (kept_world new (history ++ reported)))
       (sym (read_acted (kept_world old []) event))
-      (subst (λ w. IsAlike w (kept_world new (history ++ told)))
+      (subst (λ w. IsAlike w (kept_world new (history ++ reported)))
       (sym (happens_so (kept_world old history) event (enabled_anyway old history event ∙ on)))
       (gone_too _ _ (alike history)));
 }

@@ -10,7 +10,7 @@ use Rattle.std.proofs.lemmas.List.{map-append, take-append-drop}
 use Rattle.std.proofs.lemmas.Grind.{flat_map-append}
 use mathlib.Core.Bool.{true≢false}
 use Rattle.zprotocol.specs.declared.process.Process.{Process}
-use Rattle.zprotocol.specs.server.Machine.{kept_tree}
+use Rattle.zprotocol.specs.server.Machine.{cached_tree}
 use Rattle.zprotocol.specs.declared.world.event.Event.{Event}
 use Rattle.zprotocol.specs.declared.world.event.Event.TheVariants.{Retry, Take}
 use Rattle.zprotocol.specs.declared.world.outcome.Outcome.{Outcome}
@@ -31,15 +31,15 @@ use Rattle.zworld.specs.support.Stepped.{HasStepped}
 use Rattle.zworld.specs.support.Settling.{TreeSettling, StandsAt, Point, GoesOn, Does, Tries, GoOn, takes_from, takes}
 use Rattle.zworld.proofs.Steps.{enabled_anyway, read_anyway, read_acted, happens_not}
 
--- the same settling, where no history is told
+-- the same settling, where no history is reported
 still : (p : Point) (history : History) (outcomes : List Outcome) (s : TreeSettling) → StandsAt p.held history p.left outcomes s
     → StandsAt p.held (history ++ []) p.left outcomes s
 still p history outcomes s stands = subst (λ h. StandsAt p.held h p.left outcomes s) (sym (append-nil history)) stands
 
 -- outcomes of which no server ran out of memory, and more of them
-acted_more : (told more : List Outcome) → AreActed told → AreActed more → AreActed (told ++ more)
+acted_more : (reported more : List Outcome) → AreActed reported → AreActed more → AreActed (reported ++ more)
 acted_more [] more first rest = rest
-acted_more (outcome ∷ told) more first rest = (first.0, acted_more told more first.1 rest)
+acted_more (outcome ∷ reported) more first rest = (first.0, acted_more reported more first.1 rest)
 
 -- no server ran out of memory at an event
 pub acted_at : (did : Did) → is_short did ≡ false → outcome_of did ≡ Acted
@@ -49,10 +49,10 @@ acted_at became.Unheard whole = absurd (true≢false whole)
 acted_at became.Stopped whole = absurd (true≢false whole)
 
 -- tries of events and of more
-tries_both : (s : TreeSettling) (events more : List Event) → with_tries kept_tree s (events ++ more)
-    ≡ with_tries kept_tree (with_tries kept_tree s events) more
+tries_both : (s : TreeSettling) (events more : List Event) → with_tries cached_tree s (events ++ more)
+    ≡ with_tries cached_tree (with_tries cached_tree s events) more
 tries_both s [] more = refl
-tries_both s (event ∷ events) more = tries_both (with_try kept_tree s event) events more
+tries_both s (event ∷ events) more = tries_both (with_try cached_tree s event) events more
 
 -- one more of a list
 taken_more : {X : Type 0} (xs : List X) (i : ℕ) (x : X) → i < length xs → x ≡ get_or xs i x → take (i + 1) xs ≡ take i xs ++ x ∷ []
@@ -69,24 +69,24 @@ module _ (strict : Bool) where
   -- one way after another
   pub goes_on_with : (whole middle last : TreeSettling → TreeSettling) (a b c : Point) → GoesOn strict whole middle a b
       → GoesOn strict middle last b c → GoesOn strict whole last a c
-  goes_on_with whole middle last a b c (told, given, more, leads, acted) (told_next, given_next, more_next, leads_next, acted_next) = (
-    told ++ told_next,
+  goes_on_with whole middle last a b c (reported, given, more, leads, acted) (reported_next, given_next, more_next, leads_next, acted_next) = (
+    reported ++ reported_next,
     given ++ given_next,
     more_next ∙ ap (λ xs. xs ++ given_next) more ∙ append_assoc a.seen given given_next,
     λ history outcomes s stands.
-        let first = leads history (told_next ++ outcomes) s (subst (λ os. StandsAt a.held history a.left os s)
-        (append_assoc told told_next outcomes) stands) in
+        let first = leads history (reported_next ++ outcomes) s (subst (λ os. StandsAt a.held history a.left os s)
+        (append_assoc reported reported_next outcomes) stands) in
         let second = leads_next (history ++ given) outcomes first.0 first.1 in
         let both : (history ++ given) ++ given_next ≡ history ++ (given ++ given_next) = append_assoc history given given_next in
         (second.0, subst (λ h. StandsAt c.held h c.left outcomes second.0) both second.1, first.2 ∙ second.2),
-    λ strictly. acted_more told told_next (acted strictly) (acted_next strictly),
+    λ strictly. acted_more reported reported_next (acted strictly) (acted_next strictly),
   )
 
   -- a way that is the first of a longer one
   pub under : (whole done rest : TreeSettling → TreeSettling) (a b : Point) → ((s : TreeSettling) → whole s ≡ rest (done s))
       → Does strict done a b → GoesOn strict whole rest a b
-  under whole done rest a b is (told, given, more, leads, acted) = (
-    told,
+  under whole done rest a b is (reported, given, more, leads, acted) = (
+    reported,
     given,
     more,
     λ history outcomes s stands. let after = leads history outcomes s stands in (after.0, after.1, is s ∙ ap rest after.2),
@@ -95,8 +95,8 @@ module _ (strict : Bool) where
 
   tries_then : (events more : List Event) (a b c : Point) → Tries strict events a b → Tries strict more b c → Tries strict (events ++ more) a c
   tries_then events more a b c first second =
-      goes_on_with (λ s. with_tries kept_tree s (events ++ more)) (λ s. with_tries kept_tree s more) (λ s. s) a b c
-      (under (λ s. with_tries kept_tree s (events ++ more)) (λ s. with_tries kept_tree s events) (λ s. with_tries kept_tree s more)
+      goes_on_with (λ s. with_tries cached_tree s (events ++ more)) (λ s. with_tries cached_tree s more) (λ s. s) a b c
+      (under (λ s. with_tries cached_tree s (events ++ more)) (λ s. with_tries cached_tree s events) (λ s. with_tries cached_tree s more)
       a b (λ s. tries_both s events more) first) second
 
   -- so tries of deliveries to one more process, from one more process, and of one more retry
@@ -128,7 +128,7 @@ module _ (strict : Bool) where
   -- tries that change no settling
   tries_nothing : (events : List Event) (p : Point)
       → ((history : History) (outcomes : List Outcome) (s : TreeSettling) → StandsAt p.held history p.left outcomes s
-      → with_tries kept_tree s events ≡ s) → Tries strict events p p
+      → with_tries cached_tree s events ≡ s) → Tries strict events p p
   tries_nothing events p nothing = (
     [],
     [],
@@ -139,7 +139,7 @@ module _ (strict : Bool) where
 
   -- where no more may be done, nothing is
   pub spent_tries : (events : List Event) (p : Point) → p.left ≡ 0 → Tries strict events p p
-  spent_tries events p none = tries_nothing events p (λ history outcomes s stands. none_may_be_done kept_tree s events (stands.remaining ∙ none))
+  spent_tries events p none = tries_nothing events p (λ history outcomes s stands. none_may_be_done cached_tree s events (stands.remaining ∙ none))
 
   -- so where no more may be done, the rest of a pass does nothing: neither the receivers behind so many, nor the senders
   spent_rest : (events more all : List Event) (a b : Point) → events ++ more ≡ all → b.left ≡ 0 → Tries strict events a b → Tries strict all a b
@@ -172,8 +172,8 @@ module _ (strict : Bool) where
       → Tries strict (takes_from receivers from) p p
   silent_tries from receivers p silent =
       tries_nothing (takes_from receivers from) p (λ history outcomes s stands.
-      none_is_done kept_tree s (takes_from receivers from) (none_taken receivers s (λ to.
-      have_the_same_enabled kept_tree s.world (kept_world p.held history) (Take from to) stands.alike ∙ rw (silent to) refl)))
+      none_is_done cached_tree s (takes_from receivers from) (none_taken receivers s (λ to.
+      have_the_same_enabled cached_tree s.world (kept_world p.held history) (Take from to) stands.alike ∙ rw (silent to) refl)))
     where
       none_taken : (receivers : List Process) (s : TreeSettling) → ((to : Process) → is_enabled s.world (Take from to) ≡ false)
           → list_any (is_enabled s.world) (takes_from receivers from) ≡ false
@@ -186,8 +186,8 @@ module _ (strict : Bool) where
   empty_try from to p empty =
       tries_nothing (Take from to ∷ []) p (λ history outcomes s stands.
       let off : is_enabled (kept_world p.held history) (Take from to) ≡ false = rw empty refl in
-      none_is_done kept_tree s (Take from to ∷ []) (ap (λ b. b || false)
-      (have_the_same_enabled kept_tree s.world (kept_world p.held history) (Take from to) stands.alike ∙ off)))
+      none_is_done cached_tree s (Take from to ∷ []) (ap (λ b. b || false)
+      (have_the_same_enabled cached_tree s.world (kept_world p.held history) (Take from to) stands.alike ∙ off)))
 
   -- an event that was tried
   module _ (old new : Held) (event : Event) (did : Did) (given : History) (stepped : HasStepped old new event did given) where
@@ -195,7 +195,7 @@ module _ (strict : Bool) where
     enabled_at : (history : History) (more : ℕ) (outcomes : List Outcome) (s : TreeSettling) → StandsAt old history more outcomes s
         → is_enabled s.world event ≡ not (is_idle did)
     enabled_at history more outcomes s stands =
-        have_the_same_enabled kept_tree s.world (kept_world old history) event stands.alike ∙ enabled_anyway old history event
+        have_the_same_enabled cached_tree s.world (kept_world old history) event stands.alike ∙ enabled_anyway old history event
         ∙ twice_not (is_enabled (kept_world old []) event) ∙ ap not (sym stepped.idle)
       where
         twice_not : (b : Bool) → b ≡ not (not b)
@@ -218,33 +218,33 @@ module _ (strict : Bool) where
         let off : is_enabled (kept_world old history) event ≡ false =
         enabled_at history 0 [] (opening_settling (kept_world old history) 0 [])
         (record { alike = alike_itself (kept_world old history); remaining = refl; coming = refl }) ∙ ap not idle in
-        let reads : read kept_tree (kept_world old []) event (outcome_of did)
-        ≡ event = ap (read kept_tree (kept_world old []) event) (idle_acted idle) ∙ read_acted (kept_world old []) event in
+        let reads : read cached_tree (kept_world old []) event (outcome_of did)
+        ≡ event = ap (read cached_tree (kept_world old []) event) (idle_acted idle) ∙ read_acted (kept_world old []) event in
         subst (λ w. IsAlike w later) (happens_not (kept_world old history) event off)
-        (subst (λ e. IsAlike (happens kept_tree (kept_world old history) e) later) reads (stepped.leads history))
+        (subst (λ e. IsAlike (happens cached_tree (kept_world old history) e) later) reads (stepped.leads history))
 
     -- and one that was done
     goes : (history : History) (more : ℕ) (outcomes : List Outcome) (s : TreeSettling) → is_idle did ≡ false → 0 < more
         → StandsAt old history more (outcome_of did ∷ outcomes) s
-        → (t : TreeSettling) × StandsAt new (history ++ given) (more - 1) outcomes t × (with_try kept_tree s event ≡ t)
+        → (t : TreeSettling) × StandsAt new (history ++ given) (more - 1) outcomes t × (with_try cached_tree s event ≡ t)
     goes history more outcomes s active some stands =
         let outcome = outcome_of did in
         let now = kept_world old history in
         let on : is_enabled s.world event ≡ true = enabled_at history more (outcome ∷ outcomes) s stands ∙ ap not active in
         let may : nat_lt 0 s.left ≡ true = ap (nat_lt 0) stands.remaining ∙ lt-ltb 0 more some in
-        let reads : read kept_tree s.world event outcome ≡ read kept_tree (kept_world old []) event outcome = read_alike
-        kept_tree s.world now event outcome stands.alike ∙ read_anyway old history event outcome in
-        let next : TreeSettling = with_event kept_tree s (read kept_tree s.world event outcome) in (
+        let reads : read cached_tree s.world event outcome ≡ read cached_tree (kept_world old []) event outcome = read_alike
+        cached_tree s.world now event outcome stands.alike ∙ read_anyway old history event outcome in
+        let next : TreeSettling = with_event cached_tree s (read cached_tree s.world event outcome) in (
           next,
           record {
-            alike = alike_through _ _ _ (stay_alike kept_tree s.world now (read kept_tree s.world event outcome ∷ []) stands.alike)
-                (subst (λ e. IsAlike (happens kept_tree now e) (kept_world new (history ++ given))) (sym reads) (stepped.leads history));
+            alike = alike_through _ _ _ (stay_alike cached_tree s.world now (read cached_tree s.world event outcome ∷ []) stands.alike)
+                (subst (λ e. IsAlike (happens cached_tree now e) (kept_world new (history ++ given))) (sym reads) (stepped.leads history));
             remaining = ap (λ n. n - 1) stands.remaining;
             coming = ap (drop 1) stands.coming;
           },
-          ap (λ b. if b && is_enabled s.world event then with_event kept_tree s (read kept_tree s.world event (next_outcome s.outcomes)) else s) may
-              ∙ ap (λ b. if b then with_event kept_tree s (read kept_tree s.world event (next_outcome s.outcomes)) else s) on
-              ∙ ap (λ os. with_event kept_tree s (read kept_tree s.world event (next_outcome os))) stands.coming,
+          ap (λ b. if b && is_enabled s.world event then with_event cached_tree s (read cached_tree s.world event (next_outcome s.outcomes)) else s) may
+              ∙ ap (λ b. if b then with_event cached_tree s (read cached_tree s.world event (next_outcome s.outcomes)) else s) on
+              ∙ ap (λ os. with_event cached_tree s (read cached_tree s.world event (next_outcome os))) stands.coming,
         )
 
     pub stepped_tries : (left after : ℕ) (before seen : History) → 0 < left → after ≡ (if is_idle did then left else left - 1)
@@ -266,7 +266,7 @@ module _ (strict : Bool) where
                   remaining = stands.remaining ∙ sym same;
                   coming = stands.coming;
                 },
-                none_is_done kept_tree s (event ∷ []) (ap (λ b. b || false) (enabled_at history left outcomes s stands ∙ ap not idle)),
+                none_is_done cached_tree s (event ∷ []) (ap (λ b. b || false) (enabled_at history left outcomes s stands ∙ ap not idle)),
               ),
               λ strictly. tt,
             )
@@ -288,10 +288,10 @@ acted_where false did strictly whole = absurd (true≢false (sym strictly))
 
 -- strict tries are tries
 pub strict_tries : (strict : Bool) (events : List Event) (a b : Point) → Tries true events a b → Tries strict events a b
-strict_tries strict events a b (told, given, more, leads, acted) = (told, given, more, leads, λ strictly. acted refl)
+strict_tries strict events a b (reported, given, more, leads, acted) = (reported, given, more, leads, λ strictly. acted refl)
 
 -- no server takes part where a client sends its call once more
-pub retried_acted : (held : Held) (client : ℕ) (did : Did) → is_fitting kept_tree (kept_world held []) (Retry client) (outcome_of did) ≡ true
+pub retried_acted : (held : Held) (client : ℕ) (did : Did) → is_fitting cached_tree (kept_world held []) (Retry client) (outcome_of did) ≡ true
     → outcome_of did ≡ Acted
 retried_acted held client (became.Idle cause) fits = refl
 retried_acted held client became.Done fits = refl

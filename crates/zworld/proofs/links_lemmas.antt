@@ -5,6 +5,6 @@ pub mod Order
 pub mod Sorted
 pub mod Noted
 pub mod Flags
-pub mod Kept
+pub mod Cached
 pub mod Calls
 pub mod Searches

@@ -1,7 +1,7 @@
 -- What the program holds of a world, and the world that it represents.
 use Rattle.std.specs.Prelude.{◌≡◌, None, List, [], get_or}
 use Rattle.ztree.specs.Tree.{Tree}
-use Rattle.zcalls.specs.Kept.{KeptState}
+use Rattle.zcalls.specs.Cached.{CachedState}
 use Rattle.zprotocol.specs.declared.process.Process.{Process}
 use Rattle.zprotocol.specs.declared.process.Process.TheVariants.{Master, Server, Client}
 use Rattle.zprotocol.specs.Places.{place_of}
@@ -17,7 +17,7 @@ use Rattle.zprotocol.specs.world.Events.{let_go}
 
 -- the channels as they are stored
 abbrev pub HeldChannels : Type 0
-HeldChannels = Channels (Transfer (KeptState Tree))
+HeldChannels = Channels (Transfer (CachedState Tree))
 
 -- the standing of each process, by its position, and the messages in flight
 pub record Held : Type 0 where
@@ -43,7 +43,7 @@ abbrev pub master_of : TreeStanding → MasterView
 master_of (AtMaster v) = v
 master_of standing = opening_master 1 0
 
-abbrev pub view_of : TreeStanding → ServerView (KeptState Tree)
+abbrev pub view_of : TreeStanding → ServerView (CachedState Tree)
 view_of (AtServer v) = v
 view_of standing = spare
 
@@ -52,7 +52,7 @@ client_of (AtClient v) = v
 client_of standing = nobody
 
 -- the world that is held, with this history, and with whatever is on channels into failed servers
-abbrev pub kept_world : Held → History → World (KeptState Tree)
+abbrev pub kept_world : Held → History → World (CachedState Tree)
 kept_world held history = record {
   servers = λ s. view_of (standing_at held.actors (Server s));
   clients = λ c. client_of (standing_at held.actors (Client c));
@@ -63,9 +63,9 @@ kept_world held history = record {
 }
 
 -- the world that it represents: what failed servers held is dropped there
-abbrev pub world_of : Held → History → World (KeptState Tree)
+abbrev pub world_of : Held → History → World (CachedState Tree)
 world_of held history = let_go (kept_world held history)
 
 -- no message that the process sent is still in flight
-abbrev pub SendsNothing : World (KeptState Tree) → Process → Type 0
+abbrev pub SendsNothing : World (CachedState Tree) → Process → Type 0
 SendsNothing w from = (to : Process) → w.links from to ≡ []

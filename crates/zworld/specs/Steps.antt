@@ -2,8 +2,8 @@
 -- since processes can run out of memory.
 use Rattle.std.specs.Prelude.{◌≡◌, ◌<◌, ℕ, Bool, true, false, not, List, [], ◌∷◌, ◌++◌}
 use Rattle.ztree.specs.Tree.{Tree}
-use Rattle.zcalls.specs.Kept.{KeptState}
-use Rattle.zprotocol.specs.server.Machine.{kept_tree}
+use Rattle.zcalls.specs.Cached.{CachedState}
+use Rattle.zprotocol.specs.server.Machine.{cached_tree}
 use Rattle.zprotocol.specs.declared.process.Process.{Process}
 use Rattle.zprotocol.specs.declared.world.event.Event.{Event}
 use Rattle.zprotocol.specs.declared.world.event.Event.TheVariants.{Retry, Take, Ignore, Fail}
@@ -36,7 +36,7 @@ abbrev pub IsSound : WorldView → Type 0
 IsSound w = w.is_broken ≡ false
 
 -- the world of the definition that it represents
-abbrev pub world_in : WorldView → World (KeptState Tree)
+abbrev pub world_in : WorldView → World (CachedState Tree)
 world_in w = world_of w.held w.history
 
 -- all that callers saw is linearizable: a past that was forgotten, and then the history. Where
@@ -53,13 +53,13 @@ IsExplainedFromStart w =
     × ((t : Tree) × (past : History) × CanStart t × IsExplainedFrom t (past ++ w.history))
 
 -- an event led from one world to another
-pub record HasHappened (v : World (KeptState Tree)) (event : Event) (did : Did) (w : World (KeptState Tree)) : Type 0 where
+pub record HasHappened (v : World (CachedState Tree)) (event : Event) (did : Did) (w : World (CachedState Tree)) : Type 0 where
   -- it is idle exactly where it wasn't enabled
   pub idle : is_idle did ≡ not (is_enabled v event)
   -- the outcome that is returned fits the event
-  pub fits : is_fitting kept_tree v event (outcome_of did) ≡ true
+  pub fits : is_fitting cached_tree v event (outcome_of did) ≡ true
   -- it is the event of the definition, resolved by that outcome
-  pub leads : happens kept_tree v (read kept_tree v event (outcome_of did)) ≡ w
+  pub leads : happens cached_tree v (read cached_tree v event (outcome_of did)) ≡ w
 
 -- a world did an event, and this became of it
 abbrev pub HasDone : WorldView → WorldView → Event → Did → Type 0
@@ -67,7 +67,7 @@ HasDone old new event did = HasHappened (world_in old) event did (world_in new)
 
 -- an event can run out of memory: it is enabled, and it is neither a failure nor the loss of a
 -- request
-abbrev pub can_want_memory : World (KeptState Tree) → Event → Bool
+abbrev pub can_want_memory : World (CachedState Tree) → Event → Bool
 can_want_memory w (Fail s) = false
 can_want_memory w (Ignore from to) = false
 can_want_memory w event = is_enabled w event
@@ -84,36 +84,36 @@ is_of_settling event = false
 
 -- settling with this limit can run out of memory: it may do an event, and a delivery or a retry can
 -- run out of memory
-abbrev pub CanWantMemoryToSettle : World (KeptState Tree) → ℕ → Type 0
+abbrev pub CanWantMemoryToSettle : World (CachedState Tree) → ℕ → Type 0
 CanWantMemoryToSettle w limit = (0 < limit) × (event : Event) × (is_of_settling event ≡ true) × (can_want_memory w event ≡ true)
 
 -- events led from one world to another, resolved by some outcomes
-abbrev pub HasRun : World (KeptState Tree) → List Event → World (KeptState Tree) → Type 0
-HasRun v events w = (readings : List Event) × IsReading kept_tree v events readings × (run kept_tree v readings ≡ w)
+abbrev pub HasRun : World (CachedState Tree) → List Event → World (CachedState Tree) → Type 0
+HasRun v events w = (readings : List Event) × IsReading cached_tree v events readings × (run cached_tree v readings ≡ w)
 
 -- some of the events, from the first on, were done, resolved by some outcomes, and this is the
 -- history
-abbrev pub HasBegunToRun : World (KeptState Tree) → List Event → History → Type 0
+abbrev pub HasBegunToRun : World (CachedState Tree) → List Event → History → Type 0
 HasBegunToRun v events history =
     (front back : List Event) × (events ≡ front ++ back)
-    × (readings : List Event) × IsReading kept_tree v front readings × ((run kept_tree v readings).history ≡ history)
+    × (readings : List Event) × IsReading cached_tree v front readings × ((run cached_tree v readings).history ≡ history)
 
 -- the same, and the next of the events can run out of memory in the world that they led to
-abbrev pub HasRunOut : World (KeptState Tree) → List Event → History → Type 0
+abbrev pub HasRunOut : World (CachedState Tree) → List Event → History → Type 0
 HasRunOut v events history =
     (front back : List Event) × (event : Event) × (events ≡ front ++ event ∷ back)
-    × (readings : List Event) × IsReading kept_tree v front readings × ((run kept_tree v readings).history ≡ history)
-    × (can_want_memory (run kept_tree v readings) event ≡ true)
+    × (readings : List Event) × IsReading cached_tree v front readings × ((run cached_tree v readings).history ≡ history)
+    × (can_want_memory (run cached_tree v readings) event ≡ true)
 
 -- a settling ended this way, used up all outcomes but these, and led to this world
-abbrev pub Ends : Settling (KeptState Tree) → Settled → List Outcome → World (KeptState Tree) → Type 0
+abbrev pub Ends : Settling (CachedState Tree) → Settled → List Outcome → World (CachedState Tree) → Type 0
 Ends did settled later w = (settled ≡ settling_end did) × (did.outcomes ≡ later) × (did.world ≡ w)
 
 -- settling led from one world to another, and ended this way. It is that of the definition, by some
 -- outcomes of its events: it used up all of those, and would use no further ones
-abbrev pub HasSettled : World (KeptState Tree) → ℕ → Settled → World (KeptState Tree) → Type 0
+abbrev pub HasSettled : World (CachedState Tree) → ℕ → Settled → World (CachedState Tree) → Type 0
 HasSettled v limit settled w =
-    (outcomes : List Outcome) × ((later : List Outcome) → Ends (settle kept_tree v limit (outcomes ++ later)) settled later w)
+    (outcomes : List Outcome) × ((later : List Outcome) → Ends (settle cached_tree v limit (outcomes ++ later)) settled later w)
 
 -- no server ran out of memory at any of these events
 abbrev pub AreActed : List Outcome → Type 0
@@ -121,9 +121,9 @@ AreActed [] = Unit {0}
 AreActed (outcome ∷ outcomes) = (outcome ≡ Acted) × AreActed outcomes
 
 -- the same, and no server ran out of memory meanwhile
-abbrev pub HasSettledActing : World (KeptState Tree) → ℕ → Settled → World (KeptState Tree) → Type 0
+abbrev pub HasSettledActing : World (CachedState Tree) → ℕ → Settled → World (CachedState Tree) → Type 0
 HasSettledActing v limit settled w =
-    (outcomes : List Outcome) × AreActed outcomes × ((later : List Outcome) → Ends (settle kept_tree v limit (outcomes ++ later)) settled later w)
+    (outcomes : List Outcome) × AreActed outcomes × ((later : List Outcome) → Ends (settle cached_tree v limit (outcomes ++ later)) settled later w)
 
 -- a world settled, with at most this many events, and ended this way
 abbrev pub IsSettled : WorldView → WorldView → ℕ → Settled → Type 0
@@ -134,5 +134,5 @@ abbrev pub IsSettledActing : WorldView → WorldView → ℕ → Settled → Typ
 IsSettledActing old new limit settled = HasSettledActing (world_in old) limit settled (world_in new)
 
 -- no message can be delivered on any channel
-abbrev pub IsAtRest : World (KeptState Tree) → Type 0
+abbrev pub IsAtRest : World (CachedState Tree) → Type 0
 IsAtRest w = (from to : Process) → is_enabled w (Take from to) ≡ false

@@ -36,7 +36,7 @@ impl Processes {
             drop(call);
             return Err(Memory);
         };
-        let Ok(told) = call.copied(self.alloc) else {
+        let Ok(reported) = call.copied(self.alloc) else {
             drop(call);
             return Err(Memory);
         };
@@ -47,7 +47,7 @@ impl Processes {
             Ok(done) => done,
             Err(fault) => {
                 drop(fault);
-                drop(told);
+                drop(reported);
                 return Err(Memory);
             }
         };
@@ -55,7 +55,7 @@ impl Processes {
         let Some(number) = begun_number(done) else {
             unreachable!();
         };
-        seen.push_reserved(CallEvent::Begin(client, number, told));
+        seen.push_reserved(CallEvent::Begin(client, number, reported));
         Ok(Did::Done)
     }
 

@@ -8,7 +8,7 @@ ghost use Rattle.zprotocol.specs.declared.world.event.Event.TheVariants.{Take, I
 ghost use Rattle.zworld.specs.support.Stepped.{CanHappen, Goes, HasStepped};
 ghost use Rattle.zprotocol.specs.world.Events.{front_is, is_request};
 ghost use Rattle.zworld.specs.Held.{kept_world};
-ghost use Rattle.zworld.specs.support.Giving.{did_of, IsToldOf, told_with};
+ghost use Rattle.zworld.specs.support.Giving.{did_of, IsReportedOf, reported_with};
 
 use crate::did::{Did, IdleCause};
 use crate::post::is_lost;
@@ -41,7 +41,7 @@ impl Processes {
         let mut handed = Handed::Nothing;
         match self.give(&to, Input::Hear(from, message), &mut handed) {
             Ok(done) => {
-                let did = told_of(&to, done, &mut handed, seen);
+                let did = reported_of(&to, done, &mut handed, seen);
                 drop(handed);
                 did
             }
@@ -79,13 +79,13 @@ impl Processes {
 // Appends what callers see of a delivery, the answer that a client returned, and returns what
 // became of it.
 #[inline(always)]
-fn told_of(
+fn reported_of(
     to: &Process,
     done: Done,
     handed: &mut Handed,
     seen: &mut Vec<CallEvent>,
 ) -> Result<Did, Memory>
-    ensures told { IfOk result (IsToldOf (told_with to.now done (reply_handed handed.old)) done
+    ensures reported { IfOk result (IsReportedOf (reported_with to.now done (reply_handed handed.old)) done
         seen.old.items seen.new.items) }
     ensures silent { OnErr result (seen.new.items ≡ seen.old.items) }
 {
@@ -104,8 +104,8 @@ fn tell(
     handed: &mut Handed,
     seen: &mut Vec<CallEvent>,
 ) -> Result<(), Memory>
-    ensures told { OnOk result (seen.new.items ≡ seen.old.items
-        ++ told_with (Client client) (Answered number) (reply_handed handed.old)) }
+    ensures reported { OnOk result (seen.new.items ≡ seen.old.items
+        ++ reported_with (Client client) (Answered number) (reply_handed handed.old)) }
     ensures silent { OnErr result (seen.new.items ≡ seen.old.items) }
 {
     seen.reserve(1)?;

@@ -2,7 +2,7 @@
 
 ghost use Rattle.std.specs.Prelude.{◌≡◌, ◌≤◌, [], IfOk};
 ghost use Rattle.ztree.specs.declared.limits.TheConstants.{MAX_CLIENTS};
-ghost use Rattle.zprotocol.specs.server.Machine.{kept_tree, kept_tree_from};
+ghost use Rattle.zprotocol.specs.server.Machine.{cached_tree, cached_tree_from};
 ghost use Rattle.zserver.specs.Server.{IsFresh};
 ghost use Rattle.zprotocol.specs.world.World.{opening_world};
 ghost use Rattle.zprotocol.specs.world.FromTree.{opening_world_from};
@@ -25,7 +25,7 @@ impl Processes {
     /// clients.
     pub(crate) fn new(alloc: Global, last: ServerId, clients: u8) -> Result<Processes, Memory>
         requires { clients ≤ MAX_CLIENTS }
-        ensures { IfOk result (λ a. kept_world a [] ≡ opening_world kept_tree last clients) }
+        ensures { IfOk result (λ a. kept_world a [] ≡ opening_world cached_tree last clients) }
     {
         last.keeps_in_range();
         Ok(Processes {
@@ -84,7 +84,7 @@ fn opening_actor(
     clients: u8,
 ) -> Result<Actor, Memory>
     requires { clients ≤ MAX_CLIENTS }
-    ensures { IfOk result (λ actor. actor ≡ opening_actor kept_tree last clients process) }
+    ensures { IfOk result (λ actor. actor ≡ opening_actor cached_tree last clients process) }
 {
     match process {
         Process::Master => Ok(Actor::master(Master::new(last, clients))),
@@ -126,7 +126,7 @@ fn restored_actor(
     requires few { clients ≤ MAX_CLIENTS }
     requires fresh { IsFresh snapshot.now }
     ensures { IfOk result (λ actor. actor
-        ≡ opening_actor (kept_tree_from snapshot.now.machine.plain) last clients process) }
+        ≡ opening_actor (cached_tree_from snapshot.now.machine.plain) last clients process) }
 {
     match process {
         Process::Master => Ok(Actor::master(Master::new(last, clients))),

@@ -14,7 +14,7 @@
 
 ghost use Rattle.std.specs.Prelude.{◌≡◌, ◌≤◌, [], true, false, IfOk, IsErr, OnErr, OnOk};
 ghost use Rattle.ztree.specs.declared.limits.TheConstants.{MAX_CLIENTS};
-ghost use Rattle.zprotocol.specs.server.Machine.{kept_tree};
+ghost use Rattle.zprotocol.specs.server.Machine.{cached_tree};
 ghost use Rattle.zprotocol.specs.world.PlainTree.{IsExplained};
 ghost use Rattle.zserver.specs.Server.{IsFresh};
 ghost use Rattle.zprotocol.specs.world.FromTree.{CanStart, opening_world_from};
@@ -78,7 +78,7 @@ impl World {
     /// There are `clients` clients, numbered from 0, and the history is empty.
     pub fn new(alloc: Global, last: ServerId, clients: u8) -> Result<World, Memory>
         requires { clients ≤ MAX_CLIENTS }
-        ensures world { IfOk result (λ w. world_in w ≡ opening_world kept_tree last clients) }
+        ensures world { IfOk result (λ w. world_in w ≡ opening_world cached_tree last clients) }
         ensures whole { IfOk result (λ w. w.has_forgotten ≡ false) }
         ensures initial { IfOk result (λ w. w.is_restored ≡ false) }
         ensures sound { IfOk result IsSound }
@@ -258,11 +258,11 @@ impl World {
         if self.is_broken {
             return Err(Memory);
         }
-        let told = self.history.len();
+        let reported = self.history.len();
         match self.processes.settle(limit, strict, &mut self.history) {
             Ok(settled) => Ok(settled),
             Err(memory) => {
-                self.history.truncate(told);
+                self.history.truncate(reported);
                 self.is_broken = true;
                 Err(memory)
             }

@@ -15,9 +15,9 @@ const CALLS: usize = 2_000;
 /// Runs the list over a chain of two, and answers how many events the history has.
 pub fn long(alloc: Global) -> Result<usize, Trouble> {
     let mut world = World::new(alloc, server(2)?, 2)?;
-    let told = run_in(&mut world, alloc);
+    let reported = run_in(&mut world, alloc);
     drop(world);
-    told
+    reported
 }
 
 // The run in this world.

@@ -30,7 +30,7 @@ fn main(rt: HostRuntime) -> io::Result<()> {
         Err(trouble) => println!(rt; "{trouble}")?,
     }
     match long(rt.alloc()) {
-        Ok(told) => println!(rt; "{told} events in the history of a long list"),
+        Ok(reported) => println!(rt; "{told} events in the history of a long list"),
         Err(trouble) => println!(rt; "{trouble}"),
     }
 }

@@ -3,7 +3,7 @@ use Rattle.std.specs.Prelude.{ℕ, None, Some}
 use Rattle.zcalls.specs.declared.reply.Reply.TheVariants.{Deleted}
 use Rattle.zprotocol.specs.declared.message.Message.TheVariants as message
 use Rattle.zprotocol.specs.declared.process.Process.TheVariants.{Master, Server, Client}
-use Rattle.zprotocol.specs.server.Machine.{kept_tree}
+use Rattle.zprotocol.specs.server.Machine.{cached_tree}
 use Rattle.zprotocol.specs.server.View.{member, spare}
 use Rattle.zprotocol.specs.client.support.Rows.{query, update}
 use Rattle.zprotocol.specs.world.Does.{AtServer}
@@ -16,7 +16,7 @@ abbrev pub outside : TreeStanding
 outside = AtServer spare
 
 abbrev pub alone : TreeStanding
-alone = AtServer (member kept_tree None None)
+alone = AtServer (member cached_tree None None)
 
 -- the master's order to leave, and the same message from another process
 abbrev pub retire : Input

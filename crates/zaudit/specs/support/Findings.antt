@@ -5,7 +5,7 @@ use Rattle.zprotocol.specs.world.History.{History}
 use Rattle.zprotocol.specs.declared.traces.trace.Trace.{Trace}
 use Rattle.zprotocol.specs.declared.traces.trace.ClientTrace.{ClientTrace}
 use Rattle.zprotocol.specs.declared.traces.trace.Traces.{Traces}
-use Rattle.zprotocol.specs.traces.Traces.{told_of, record_of, client_count}
+use Rattle.zprotocol.specs.traces.Traces.{reported_of, record_of, client_count}
 
 -- the trace of a server is cut
 abbrev pub is_any_server_cut : Traces → Bool
@@ -18,4 +18,4 @@ is_any_client_cut t = list_any (λ (client : ClientTrace). client.trace.is_cut) 
 -- a client's record differs from the client's events in the history
 abbrev pub DiffersFromRecord : Traces → History → Type 0
 DiffersFromRecord t history =
-    (c : ℕ) × (nat_lt c (client_count t) ≡ true) × (told_of c history ≡ record_of t c → ⊥)
+    (c : ℕ) × (nat_lt c (client_count t) ≡ true) × (reported_of c history ≡ record_of t c → ⊥)

@@ -2,7 +2,7 @@
 -- traces.
 use Rattle.std.specs.Prelude.{◌≡◌, ◌<◌, ℕ, true, false, List}
 use Rattle.zprotocol.specs.declared.process.Process.{Process}
-use Rattle.zprotocol.specs.server.Machine.{kept_tree}
+use Rattle.zprotocol.specs.server.Machine.{cached_tree}
 use Rattle.zprotocol.specs.declared.world.event.Event.{Event}
 use Rattle.zprotocol.specs.world.Events.{happens}
 use Rattle.zworld.specs.Steps.{WorldView, world_in}
@@ -14,7 +14,7 @@ use Rattle.zprotocol.specs.traces.support.Places.{place_count, unread, HasReplay
 -- an event is enabled at its position, and happens
 abbrev pub HappensInPlace : WorldView → Event → WorldView → Type 0
 HappensInPlace old event new =
-    (is_in_place (world_in old) event ≡ true) × (happens kept_tree (world_in old) event ≡ world_in new)
+    (is_in_place (world_in old) event ≡ true) × (happens cached_tree (world_in old) event ≡ world_in new)
 
 -- it isn't enabled there
 abbrev pub CannotHappen : WorldView → Event → Type 0
@@ -24,7 +24,7 @@ CannotHappen world event = is_in_place (world_in world) event ≡ false
 abbrev pub ActsInPlace : WorldView → Process → Act → WorldView → Type 0
 ActsInPlace old process act new =
     (is_step_in_place (world_in old) (event_of process act) ≡ true)
-    × (step_happens kept_tree (world_in old) (event_of process act) ≡ world_in new)
+    × (step_happens cached_tree (world_in old) (event_of process act) ≡ world_in new)
 
 -- the step represents no event, or one that isn't enabled there
 abbrev pub CannotAct : WorldView → Process → Act → Type 0

@@ -72,7 +72,7 @@ delete_a t version = delete_step t (record { path = at_a; version = Exactly vers
 abbrev pub set_a : Tree → ℕ → Result (Tree × ChangeReply) Refusal
 set_a t version = set_step t (record { path = at_a; bytes = a; version = Exactly version })
 
--- its bytes, and what is told of it where it has no children
+-- its bytes, and what is reported of it where it has no children
 abbrev pub sevens : List ℕ
 sevens = 7 ∷ 7 ∷ []
 
@@ -101,6 +101,6 @@ only_a = at_a ∷ []
 abbrev pub ticked : Tree → ℕ → ℕ → Reply
 ticked t ended gone = reply.Ticked (t.time + 1) ended gone
 
--- what a tick leaves and tells that ended so many sessions and took so many nodes, which left the second tree of the first
+-- what a tick leaves and reports that ended so many sessions and took so many nodes, which left the second tree of the first
 abbrev pub leaves : Tree → Tree → ℕ → ℕ → Tree × Reply
 leaves t u ended gone = (with_next_zxid (with_next_tick u), ticked t ended gone)

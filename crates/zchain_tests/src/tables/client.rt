@@ -37,7 +37,7 @@ fn hands_out_the_reply(rt: HostRuntime) {
     let mut client = ClientCore::new(rt.alloc(), server(&rt, 1));
     let mut out: Outbox = Out::new(rt.alloc());
     begins_tick(&rt, &mut client, &mut out);
-    assert!(rt; tick_told(&rt, &mut client, &mut out) == Some(1));
+    assert!(rt; tick_reported(&rt, &mut client, &mut out) == Some(1));
     assert!(rt; !retries(&rt, &mut client, &mut out));
     drop(client);
     drop(out);
@@ -63,22 +63,22 @@ fn retries(rt: &impl Abort, client: &mut ClientCore, out: &mut Outbox) -> bool {
 fn hears_of_tail(rt: &impl Abort, client: &mut ClientCore, tail: u8, out: &mut Outbox) {
     let epoch = Epoch::new(1).expect(rt, "there is such an epoch");
     let config = Message::Config(epoch, ServerId::new(2), ServerId::new(tail));
-    let told = client.take(Process::Master, config, out);
-    let is_taken = matches!(&told, Ok(None));
-    drop(told);
+    let reported = client.take(Process::Master, config, out);
+    let is_taken = matches!(&reported, Ok(None));
+    drop(reported);
     assert!(rt; is_taken);
 }
 
 // Returns the time that the client receives, where its first call was a tick.
-fn tick_told(rt: &impl Abort, client: &mut ClientCore, out: &mut Outbox) -> Option<u64> {
+fn tick_reported(rt: &impl Abort, client: &mut ClientCore, out: &mut Outbox) -> Option<u64> {
     let first = CallNumber::new(1).expect(rt, "there is such a number");
     let answer = Message::Answer(first, Reply::Ticked(1, 0, 0));
-    let told = client.take(Process::Server(server(rt, 1)), answer, out);
-    let time = match &told {
+    let reported = client.take(Process::Server(server(rt, 1)), answer, out);
+    let time = match &reported {
         Ok(Some(Reply::Ticked(now, _, _))) => Some(*now),
         _ => None,
     };
-    drop(told);
+    drop(reported);
     time
 }
 

@@ -31,9 +31,9 @@ const STAYS: [(u8, [Act; 2], u8, RetireFault); 5] = [
 
 #[test]
 fn mends_a_chain(rt: HostRuntime) {
-    for (gone, told, tail) in [(1, 2, 3), (2, 3, 3), (3, 2, 2)] {
+    for (gone, reported, tail) in [(1, 2, 3), (2, 3, 3), (3, 2, 2)] {
         let posts = posts_of_repair(&rt, rt.alloc(), gone);
-        assert!(rt; posts == (Some(told), Some((1, tail))));
+        assert!(rt; posts == (Some(reported), Some((1, tail))));
     }
 }
 
@@ -53,8 +53,8 @@ fn refuses_by_the_first_fault(rt: HostRuntime) {
 
 #[test]
 fn orders_a_member_to_leave(rt: HostRuntime) {
-    let told = posts_of_retirement(&rt, rt.alloc());
-    assert!(rt; told == Some(2));
+    let reported = posts_of_retirement(&rt, rt.alloc());
+    assert!(rt; reported == Some(2));
 }
 
 #[test]
@@ -133,9 +133,9 @@ fn posts_of_retirement(rt: &impl Abort, alloc: Global) -> Option<u8> {
     let mut master = Master::new(server(rt, 3), 1);
     let mut out: Outbox = Out::new(alloc);
     act_on(rt, &mut master, Retire(2), &mut out);
-    let told = next_server(&mut out);
+    let reported = next_server(&mut out);
     drop(out);
-    told
+    reported
 }
 
 // Returns what the master sends where this one of three servers fails.
@@ -153,11 +153,11 @@ fn posts_of_join(rt: &impl Abort, alloc: Global) -> Posts {
     let mut master = Master::new(server(rt, 2), 1);
     let mut out: Outbox = Out::new(alloc);
     act_on(rt, &mut master, Join(3), &mut out);
-    let told = next_server(&mut out);
+    let reported = next_server(&mut out);
     has_joined(rt, &mut master, 3, &mut out);
     let tail = next_config(&mut out);
     drop(out);
-    (told, tail)
+    (reported, tail)
 }
 
 // The master learns that a server has joined in epoch 1.

@@ -9,23 +9,23 @@ pub(crate) type Outbox = Out<()>;
 /// Returns the server to which the first message goes.
 pub(crate) fn next_server(out: &mut Outbox) -> Option<u8> {
     let post = out.next();
-    let told = match &post {
+    let reported = match &post {
         Some(post) => server_of(&post.0),
         None => None,
     };
     drop(post);
-    told
+    reported
 }
 
 /// Returns the epoch and the tail in the first message.
 pub(crate) fn next_config(out: &mut Outbox) -> Option<(u64, u8)> {
     let post = out.next();
-    let told = match &post {
+    let reported = match &post {
         Some(post) => config_of(&post.1),
         None => None,
     };
     drop(post);
-    told
+    reported
 }
 
 fn server_of(receiver: &Process) -> Option<u8> {

@@ -3,16 +3,16 @@ use Rattle.std.specs.Prelude.{ℕ, Bool, List, [], ◌∷◌, Option, None, Some
 use Rattle.std.specs.List.{filter}
 
 -- bytes to be sent on a connection, which may be its last
-pub record PieceView : Type 0 where
+pub record ChunkView : Type 0 where
   pub connection : ℕ
   pub bytes : List ℕ
   pub is_last : Bool
 
 -- the chunk to be sent first
-abbrev pub first_of : List PieceView → Option PieceView
+abbrev pub first_of : List ChunkView → Option ChunkView
 first_of [] = None
-first_of (piece ∷ pieces) = Some piece
+first_of (chunk ∷ chunks) = Some chunk
 
 -- the chunks without those of a connection
-abbrev pub without : List PieceView → ℕ → List PieceView
-without pieces connection = filter (λ p. not (nat_eq p.connection connection)) pieces
+abbrev pub without : List ChunkView → ℕ → List ChunkView
+without chunks connection = filter (λ p. not (nat_eq p.connection connection)) chunks

@@ -5,7 +5,7 @@ ghost use Rattle.std.specs.Ordering.{nat_cmp};
 ghost use Rattle.std.specs.BTreeMap.{IsOrdered, keys};
 ghost use Rattle.zconnections.specs.attachments.support.Entries.{touched_among};
 
-use crate::attachments::sitting::Sitting;
+use crate::attachments::attachment::Attachment;
 use std::alloc::Global;
 use std::collections::BTreeMap;
 use zalloc::Memory;
@@ -14,14 +14,14 @@ use ztree::SessionId;
 /// Returns the ids of the touched entries, in order; or `Memory`.
 pub(crate) fn touched_among(
     alloc: Global,
-    table: &BTreeMap<u64, Sitting>,
+    table: &BTreeMap<u64, Attachment>,
 ) -> Result<Vec<SessionId>, Memory>
     ensures { IfOk result (λ ids. IsOrdered nat_cmp table.now
         × (ids.items ≡ touched_among table.now.entries)) }
 {
     let mut ids = Vec::new(alloc);
-    for (id, sitting) in table {
-        if sitting.is_touched {
+    for (id, attachment) in table {
+        if attachment.is_touched {
             ids.push(SessionId::new(*id))?;
         }
     }
@@ -31,7 +31,7 @@ pub(crate) fn touched_among(
 /// Returns the ids of all entries, in order; or `Memory`.
 pub(crate) fn all_among(
     alloc: Global,
-    table: &BTreeMap<u64, Sitting>,
+    table: &BTreeMap<u64, Attachment>,
 ) -> Result<Vec<SessionId>, Memory>
     ensures { IfOk result (λ ids. IsOrdered nat_cmp table.now
         × (ids.items ≡ keys table.now)) }

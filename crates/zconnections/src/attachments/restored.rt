@@ -1,15 +1,15 @@
 //! The attachment of a session that was opened earlier.
 
 ghost use Rattle.std.specs.Prelude.{◌≡◌};
-ghost use Rattle.zconnections.specs.attachments.Sittings.{restored_sitting};
+ghost use Rattle.zconnections.specs.attachments.Attachments.{restored_attachment};
 
-use crate::attachments::sitting::Sitting;
+use crate::attachments::attachment::Attachment;
 
 /// Returns the attachment of a session without a connection.
-pub(crate) fn restored() -> Sitting
-    ensures { result ≡ restored_sitting }
+pub(crate) fn restored() -> Attachment
+    ensures { result ≡ restored_attachment }
 {
-    Sitting {
+    Attachment {
         connection: None,
         is_touched: false,
         made_ephemeral: true,

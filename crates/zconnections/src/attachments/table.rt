@@ -2,10 +2,10 @@
 
 ghost use Rattle.std.specs.Prelude.{◌≡◌, IfOk, OnErr, OnOk};
 ghost use Rattle.std.specs.FinMap as finite;
-ghost use Rattle.zconnections.specs.attachments.Sittings.{all_rested, rested, touched_ids, with_changed};
+ghost use Rattle.zconnections.specs.attachments.Attachments.{all_rested, rested, touched_ids, with_changed};
 
 use crate::attachments::listing::{all_among, touched_among};
-use crate::attachments::sitting::Sitting;
+use crate::attachments::attachment::Attachment;
 use std::alloc::Global;
 use std::collections::BTreeMap;
 use std::marker::Model;
@@ -14,29 +14,29 @@ use ztree::SessionId;
 
 // An attachment under each session's id.
 #[derive(Drop)]
-pub(crate) struct SittingTable {
+pub(crate) struct AttachmentTable {
     alloc: Global,
-    table: BTreeMap<u64, Sitting>,
+    table: BTreeMap<u64, Attachment>,
 }
 
-impl Model for SittingTable {
+impl Model for AttachmentTable {
     ghost use Rattle.std.specs.FinMap as finite;
-    ghost use Rattle.zconnections.specs.attachments.Sittings.{SittingsView};
-    ghost use Rattle.zconnections.specs.attachments.support.Codes.{coded_sittings};
+    ghost use Rattle.zconnections.specs.attachments.Attachments.{AttachmentsView};
+    ghost use Rattle.zconnections.specs.attachments.support.Codes.{coded_attachments};
 
-    ghost Value = { SittingsView };
+    ghost Value = { AttachmentsView };
 
-    ghost coded = { coded_sittings };
+    ghost coded = { coded_attachments };
 
     ghost view = { λ s. finite.from_entries s.table.entries };
 }
 
-impl SittingTable {
+impl AttachmentTable {
     // Returns an empty table. Allocates nothing.
-    pub(crate) fn new(alloc: Global) -> SittingTable
+    pub(crate) fn new(alloc: Global) -> AttachmentTable
         ensures { result ≡ finite.empty }
     {
-        SittingTable {
+        AttachmentTable {
             alloc,
             table: BTreeMap::new(alloc),
         }
@@ -50,27 +50,27 @@ impl SittingTable {
     }
 
     // Returns the attachment of a session, if it exists.
-    pub(crate) fn get(&self, id: SessionId) -> Option<Sitting>
+    pub(crate) fn get(&self, id: SessionId) -> Option<Attachment>
         ensures { result ≡ finite.get self.now id }
     {
         self.table.get(&id.number()).copied()
     }
 
     // Adds an attachment. After `Memory` nothing has changed.
-    pub(crate) fn insert(&mut self, id: SessionId, sitting: Sitting) -> Result<(), Memory>
-        ensures ok { OnOk result (self.new ≡ finite.insert self.old id sitting) }
+    pub(crate) fn insert(&mut self, id: SessionId, attachment: Attachment) -> Result<(), Memory>
+        ensures ok { OnOk result (self.new ≡ finite.insert self.old id attachment) }
         ensures err { OnErr result (self.new ≡ self.old) }
     {
-        self.table.insert(id.number(), sitting)?;
+        self.table.insert(id.number(), attachment)?;
         Ok(())
     }
 
     // Replaces the attachment of a session, if it exists. Allocates nothing.
-    pub(crate) fn put(&mut self, id: SessionId, sitting: Sitting)
-        ensures { self.new ≡ with_changed (λ _. sitting) self.old id }
+    pub(crate) fn put(&mut self, id: SessionId, attachment: Attachment)
+        ensures { self.new ≡ with_changed (λ _. attachment) self.old id }
     {
         if let Some(place) = self.table.get_mut(&id.number()) {
-            *place = sitting;
+            *place = attachment;
         }
     }
 
@@ -85,8 +85,8 @@ impl SittingTable {
     pub(crate) fn rest(&mut self)
         ensures { self.new ≡ all_rested self.old }
     {
-        self.table.retain(|_, sitting| {
-            *sitting = rested(*sitting);
+        self.table.retain(|_, attachment| {
+            *attachment = rested(*attachment);
             true
         });
     }
@@ -107,11 +107,11 @@ impl SittingTable {
 }
 
 // Returns the attachment without the flag of a request.
-fn rested(sitting: Sitting) -> Sitting
-    ensures { result ≡ rested sitting }
+fn rested(attachment: Attachment) -> Attachment
+    ensures { result ≡ rested attachment }
 {
-    Sitting {
+    Attachment {
         is_touched: false,
-        ..sitting
+        ..attachment
     }
 }

@@ -4,7 +4,7 @@ ghost use Rattle.std.specs.Prelude.{◌≡◌, ◌==◌, [], ◌∷◌, ◌++◌
 ghost use Rattle.std.specs.Option.{option_copied};
 ghost use Rattle.zconnections.specs.buffers.Outbox.{first_of, without};
 
-use crate::buffers::piece::Piece;
+use crate::buffers::chunk::Chunk;
 use std::alloc::Global;
 use std::collections::VecDeque;
 use std::marker::Model;
@@ -13,19 +13,19 @@ use zalloc::Memory;
 /// The chunks to be sent, in the order in which they were added.
 #[derive(Drop)]
 pub struct Outbox {
-    pieces: VecDeque<Piece>,
+    chunks: VecDeque<Chunk>,
 }
 
 impl Model for Outbox {
     ghost use Rattle.std.specs.Prelude.{List};
-    ghost use Rattle.zconnections.specs.buffers.Outbox.{PieceView};
-    ghost use Rattle.zconnections.specs.buffers.support.Codes.{coded_pieces};
+    ghost use Rattle.zconnections.specs.buffers.Outbox.{ChunkView};
+    ghost use Rattle.zconnections.specs.buffers.support.Codes.{coded_chunks};
 
-    ghost Value = { List PieceView };
+    ghost Value = { List ChunkView };
 
-    ghost coded = { coded_pieces };
+    ghost coded = { coded_chunks };
 
-    ghost view = { λ o. o.pieces.items };
+    ghost view = { λ o. o.chunks.items };
 }
 
 impl Outbox {
@@ -34,7 +34,7 @@ impl Outbox {
         ensures { result ≡ [] }
     {
         Outbox {
-            pieces: VecDeque::new(alloc),
+            chunks: VecDeque::new(alloc),
         }
     }
 
@@ -42,51 +42,51 @@ impl Outbox {
     pub fn is_empty(&self) -> bool
         ensures { result ≡ (length self.now == 0) }
     {
-        self.pieces.is_empty()
+        self.chunks.is_empty()
     }
 
     /// Returns the chunk to be sent first.
-    pub fn first(&self) -> Option<&Piece>
+    pub fn first(&self) -> Option<&Chunk>
         ensures { option_copied result ≡ first_of self.now }
     {
-        self.pieces.front()
+        self.chunks.front()
     }
 
     /// Adds a chunk at the end. After `Memory` nothing has changed.
-    pub fn push(&mut self, piece: Piece) -> Result<(), Memory>
-        ensures ok { OnOk result (self.new ≡ self.old ++ piece ∷ []) }
+    pub fn push(&mut self, chunk: Chunk) -> Result<(), Memory>
+        ensures ok { OnOk result (self.new ≡ self.old ++ chunk ∷ []) }
         ensures err { OnErr result (self.new ≡ self.old) }
     {
-        self.pieces.push_back(piece)?;
+        self.chunks.push_back(chunk)?;
         Ok(())
     }
 
     /// Removes and returns the chunk to be sent first. Allocates nothing.
-    pub fn next(&mut self) -> Option<Piece>
+    pub fn next(&mut self) -> Option<Chunk>
         ensures first { result ≡ first_of self.old }
         ensures rest { self.new ≡ drop 1 self.old }
     {
-        self.pieces.pop_front()
+        self.chunks.pop_front()
     }
 
     /// Drops the chunks of a connection. Allocates nothing.
     pub fn forget(&mut self, connection: u32)
         ensures { self.new ≡ without self.old connection }
     {
-        keep_others(&mut self.pieces, connection);
+        keep_others(&mut self.chunks, connection);
     }
 }
 
 // Retains the chunks of other connections.
-fn keep_others(pieces: &mut VecDeque<Piece>, connection: u32)
-    ensures { pieces.new.items ≡ without pieces.old.items connection }
+fn keep_others(chunks: &mut VecDeque<Chunk>, connection: u32)
+    ensures { chunks.new.items ≡ without chunks.old.items connection }
 {
-    pieces.retain(|piece| !is_for(piece, connection));
+    chunks.retain(|chunk| !is_for(chunk, connection));
 }
 
 // Returns whether the chunk is for this connection.
-fn is_for(piece: &Piece, connection: u32) -> bool
-    ensures { result ≡ nat_eq piece.now.connection connection }
+fn is_for(chunk: &Chunk, connection: u32) -> bool
+    ensures { result ≡ nat_eq chunk.now.connection connection }
 {
-    piece.connection == connection
+    chunk.connection == connection
 }

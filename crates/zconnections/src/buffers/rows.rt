@@ -2,7 +2,7 @@
 
 ghost use Rattle.std.specs.Prelude.{◌≡◌, ℕ, [], ◌∷◌, None, Some};
 ghost use Rattle.zconnections.specs.declared.buffers.phase.Phase.TheVariants.{Closing, Silent, Speaking};
-ghost use Rattle.zconnections.specs.declared.buffers.piece.Piece.{Piece};
+ghost use Rattle.zconnections.specs.declared.buffers.chunk.Chunk.{Chunk};
 ghost use Rattle.zconnections.specs.buffers.Outbox.{first_of, without};
 ghost use Rattle.zconnections.specs.buffers.Streams.{bytes_of, closed, held_of, opened, phase_of};
 ghost use Rattle.zconnections.specs.buffers.Streams.{with_bytes, with_phase};
@@ -31,9 +31,9 @@ pub fn streams_are_changed()
 {}
 
 /// Chunks for connections 3 and 5 are to be sent.
-pub fn pieces_in_order()
-    ensures first { (p q : Piece) → first_of (p ∷ q ∷ []) ≡ Some p }
+pub fn chunks_in_order()
+    ensures first { (p q : Chunk) → first_of (p ∷ q ∷ []) ≡ Some p }
     ensures none { first_of [] ≡ None }
-    ensures without { (p q : Piece) → p.connection ≡ 3 → q.connection ≡ 5
+    ensures without { (p q : Chunk) → p.connection ≡ 3 → q.connection ≡ 5
         → without (p ∷ q ∷ p ∷ []) 3 ≡ q ∷ [] }
 {}

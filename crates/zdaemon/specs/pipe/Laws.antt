@@ -10,8 +10,8 @@ abbrev pub AreForms : Type 0
 AreForms = IsForm message × IsForm output
 
 -- no two sequences of messages have the same bytes, and no two of answers do
-abbrev pub BytesTellApart : Type 0
-BytesTellApart =
+abbrev pub BytesAreDistinct : Type 0
+BytesAreDistinct =
     ((a b : List MessageView) → AllByRecursion message.Fits a → AllByRecursion message.Fits b →
     flat_map message.spell a ≡ flat_map message.spell b → a ≡ b)
     × ((a b : List OutputView) → AllByRecursion output.Fits a → AllByRecursion output.Fits b →

@@ -2,10 +2,10 @@
 use Rattle.std.specs.Prelude.{◌≡◌, ◌⊎◌, ℕ, List, [], ◌∷◌, ◌++◌}
 use Rattle.std.specs.List.{flat_map, AllByRecursion}
 use Rattle.zdevices.specs.Device.{IsBeginning}
-use Rattle.zconnections.specs.buffers.Outbox.{PieceView}
+use Rattle.zconnections.specs.buffers.Outbox.{ChunkView}
 use Rattle.zconnections.specs.buffers.Inputs.{InputView}
 use Rattle.zdaemon.specs.pipe.Messages.{MessageView, Input, Keep, message}
-use Rattle.zdaemon.specs.pipe.Outputs.{OutputView, Piece, End, output}
+use Rattle.zdaemon.specs.pipe.Outputs.{OutputView, Chunk, End, output}
 
 -- the bytes of messages, and of what is sent
 abbrev pub messages_text : List MessageView → List ℕ
@@ -15,43 +15,43 @@ abbrev pub outputs_text : List OutputView → List ℕ
 outputs_text outputs = flat_map output.spell outputs
 
 -- the answer to a demand: chunks, and an end
-abbrev pub answer_of : List PieceView → List OutputView
+abbrev pub answer_of : List ChunkView → List OutputView
 answer_of [] = End ∷ []
-answer_of (piece ∷ pieces) = Piece piece ∷ answer_of pieces
+answer_of (chunk ∷ chunks) = Chunk chunk ∷ answer_of chunks
 
 -- the bytes of chunks
-abbrev pub pieces_text : List PieceView → List ℕ
-pieces_text pieces = flat_map (λ p. output.spell (Piece p)) pieces
+abbrev pub chunks_text : List ChunkView → List ℕ
+chunks_text chunks = flat_map (λ p. output.spell (Chunk p)) chunks
 
 -- chunks are sent, in order
-abbrev pub Tells : {V : Type 0} → (V → PieceView → V → Type 0) → List PieceView → V → V → Type 0
-Tells told [] old new = new ≡ old
-Tells {V} told (piece ∷ pieces) old new = (middle : V) × told old piece middle × Tells told pieces middle new
+abbrev pub Reports : {V : Type 0} → (V → ChunkView → V → Type 0) → List ChunkView → V → V → Type 0
+Reports reported [] old new = new ≡ old
+Reports {V} reported (chunk ∷ chunks) old new = (middle : V) × reported old chunk middle × Reports reported chunks middle new
 
 -- chunks were sent. The sink took a prefix of their bytes, and the rest waits
-pub record IsTelling {V : Type 0} (told : V → PieceView → V → Type 0) (takes : List ℕ → Type 0) (old new : V) (waits : List ℕ) : Type 0 where
-  pub pieces : List PieceView
-  pub tells : Tells told pieces old new
+pub record IsReporting {V : Type 0} (reported : V → ChunkView → V → Type 0) (takes : List ℕ → Type 0) (old new : V) (waits : List ℕ) : Type 0 where
+  pub chunks : List ChunkView
+  pub reports : Reports reported chunks old new
   pub front : List ℕ
   pub took_it : takes front
-  pub text : front ++ waits ≡ pieces_text pieces
+  pub text : front ++ waits ≡ chunks_text chunks
 
 -- and where the rest is lost
-pub record TellsSome {V : Type 0} (told : V → PieceView → V → Type 0) (takes : List ℕ → Type 0) (old : V) : Type 0 where
-  pub pieces : List PieceView
+pub record ReportsSome {V : Type 0} (reported : V → ChunkView → V → Type 0) (takes : List ℕ → Type 0) (old : V) : Type 0 where
+  pub chunks : List ChunkView
   pub last : V
-  pub tells : Tells told pieces old last
+  pub reports : Reports reported chunks old last
   pub front : List ℕ
   pub took_it : takes front
-  pub is_front : IsBeginning front (pieces_text pieces)
+  pub is_front : IsBeginning front (chunks_text chunks)
 
-module _ {V : Type 0} (kept : V → V → Type 0) (told : V → PieceView → V → Type 0) where
+module _ {V : Type 0} (kept : V → V → Type 0) (reported : V → ChunkView → V → Type 0) where
   -- nothing is sent for a demand yet; or all is committed, and some chunks are sent
   abbrev pub BeginsToAnswer : List OutputView → V → Type 0
   BeginsToAnswer outputs old =
       (outputs ≡ [])
-      ⊎ ((pieces : List PieceView) × (middle last : V) × kept old middle × Tells told pieces middle last
-      × (outputs ≡ answer_of pieces))
+      ⊎ ((chunks : List ChunkView) × (middle last : V) × kept old middle × Reports reported chunks middle last
+      × (outputs ≡ answer_of chunks))
 
   -- and the sink took a prefix of that
   pub record SendsSome (takes : List ℕ → Type 0) (old : V) : Type 0 where
@@ -61,15 +61,15 @@ module _ {V : Type 0} (kept : V → V → Type 0) (told : V → PieceView → V 
     pub is_front : IsBeginning front (outputs_text outputs)
     pub took_it : takes front
 
-module _ {V : Type 0} (kept : V → V → Type 0) (told : V → PieceView → V → Type 0) (has_told : V → Type 0) where
+module _ {V : Type 0} (kept : V → V → Type 0) (reported : V → ChunkView → V → Type 0) (has_reported : V → Type 0) where
   -- all is committed; then chunks are sent, and none is left
-  abbrev pub Answers : List PieceView → V → V → Type 0
-  Answers pieces old new = (middle : V) × kept old middle × Tells told pieces middle new × has_told new
+  abbrev pub Answers : List ChunkView → V → V → Type 0
+  Answers chunks old new = (middle : V) × kept old middle × Reports reported chunks middle new × has_reported new
 
-module _ {V : Type 0} (took : V → InputView → V → Type 0) (kept : V → V → Type 0) (told : V → PieceView → V → Type 0) (has_told : V → Type 0) where
+module _ {V : Type 0} (took : V → InputView → V → Type 0) (kept : V → V → Type 0) (reported : V → ChunkView → V → Type 0) (has_reported : V → Type 0) where
   -- this is done at a message, and this is sent for it
   abbrev pub Does : MessageView → List OutputView → V → V → Type 0
-  Does Keep outputs old new = (pieces : List PieceView) × Answers kept told has_told pieces old new × (outputs ≡ answer_of pieces)
+  Does Keep outputs old new = (chunks : List ChunkView) × Answers kept reported has_reported chunks old new × (outputs ≡ answer_of chunks)
   Does (Input input) outputs old new = took old input new × (outputs ≡ [])
 
   -- and that goes to the sink
@@ -113,7 +113,7 @@ module _ {V : Type 0} (took : V → InputView → V → Type 0) (kept : V → V 
     pub last : V
     pub serves : Serves messages outputs old last
     pub more : List OutputView
-    pub begins : BeginsToAnswer kept told more last
+    pub begins : BeginsToAnswer kept reported more last
     pub front : List ℕ
     pub is_front : IsBeginning front (outputs_text (outputs ++ more))
     pub took_it : takes front

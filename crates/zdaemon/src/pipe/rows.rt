@@ -6,7 +6,7 @@ ghost use Rattle.zconnections.specs.buffers.Inputs.InputView.{Opened, Came, Ende
 ghost use Rattle.zdaemon.specs.pipe.Messages.{message};
 ghost use Rattle.zdaemon.specs.pipe.Messages.MessageView.{Input, Keep};
 ghost use Rattle.zdaemon.specs.pipe.Outputs.{output};
-ghost use Rattle.zdaemon.specs.pipe.Outputs.OutputView.{Piece, End};
+ghost use Rattle.zdaemon.specs.pipe.Outputs.OutputView.{Chunk, End};
 
 /// The bytes of messages: a tag, a connection, a length.
 #[tactic(auto, unfolding(crate::specs::pipe::Messages::message, crate::specs::pipe::Messages::came))]
@@ -20,12 +20,12 @@ pub fn messages_have_bytes()
 {}
 
 /// The bytes of answers.
-#[tactic(auto, unfolding(crate::specs::pipe::Outputs::output, crate::specs::pipe::Outputs::piece))]
+#[tactic(auto, unfolding(crate::specs::pipe::Outputs::output, crate::specs::pipe::Outputs::chunk))]
 pub fn outputs_have_bytes()
-    ensures piece { output.spell
-        (Piece (record { connection = 7; is_last = false; bytes = 104 ∷ 105 ∷ [] }))
+    ensures chunk { output.spell
+        (Chunk (record { connection = 7; is_last = false; bytes = 104 ∷ 105 ∷ [] }))
         ≡ 0 ∷ 0 ∷ 0 ∷ 0 ∷ 7 ∷ 0 ∷ 0 ∷ 0 ∷ 0 ∷ 2 ∷ 104 ∷ 105 ∷ [] }
-    ensures last { output.spell (Piece (record { connection = 7; is_last = true; bytes = [] }))
+    ensures last { output.spell (Chunk (record { connection = 7; is_last = true; bytes = [] }))
         ≡ 0 ∷ 0 ∷ 0 ∷ 0 ∷ 7 ∷ 1 ∷ 0 ∷ 0 ∷ 0 ∷ 0 ∷ [] }
     ensures end { output.spell End ≡ 1 ∷ [] }
 {}

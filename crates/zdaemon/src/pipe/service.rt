@@ -6,10 +6,10 @@
 
 ghost use Rattle.std.specs.Prelude.{◌≡◌, ◌<◌, ℕ, IfNone, IfSome, OnOk};
 ghost use Rattle.zconnections.specs.buffers.Inputs.{InputView, input_of};
-ghost use Rattle.zconnections.specs.buffers.Outbox.{PieceView};
+ghost use Rattle.zconnections.specs.buffers.Outbox.{ChunkView};
 
 use crate::pipe::fault::ServeFault;
-use zconnections::buffers::{Input, Piece};
+use zconnections::buffers::{Input, Chunk};
 
 /// A service that makes its changes durable. Once it failed nothing is promised of it.
 pub trait Service {
@@ -20,13 +20,13 @@ pub trait Service {
     ghost kept: { Self → Self → Type 0 };
 
     /// Between two states it returned this chunk.
-    ghost told: { Self → PieceView → Self → Type 0 };
+    ghost reported: { Self → ChunkView → Self → Type 0 };
 
     /// No chunk is left.
-    ghost has_told: { Self → Type 0 };
+    ghost has_reported: { Self → Type 0 };
 
     /// How many chunks are left.
-    ghost pieces_left: { Self → ℕ };
+    ghost chunks_left: { Self → ℕ };
 
     /// It has not failed.
     ghost is_sound: { Self → Type 0 };
@@ -44,10 +44,10 @@ pub trait Service {
         ensures sound { OnOk result (is_sound self.new) };
 
     /// Takes the next chunk to be sent, if there is one.
-    fn next_piece(&mut self) -> Option<Piece>
+    fn next_chunk(&mut self) -> Option<Chunk>
         requires { is_sound self.old }
-        ensures told { IfSome result (λ piece. told self.old piece self.new) }
-        ensures fewer { IfSome result (λ _. pieces_left self.new < pieces_left self.old) }
-        ensures none { IfNone result (has_told self.old × (self.new ≡ self.old)) }
+        ensures reported { IfSome result (λ chunk. reported self.old chunk self.new) }
+        ensures fewer { IfSome result (λ _. chunks_left self.new < chunks_left self.old) }
+        ensures none { IfNone result (has_reported self.old × (self.new ≡ self.old)) }
         ensures sound { is_sound self.new };
 }

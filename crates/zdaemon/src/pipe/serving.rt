@@ -9,15 +9,15 @@ ghost use Rattle.std.specs.Prelude.{IfOk, OnErr, OnOk};
 ghost use Rattle.zdevices.specs.Device.{Between, TookBeginning};
 ghost use Rattle.zdaemon.specs.pipe.Messages.{message_of};
 ghost use Rattle.zdaemon.specs.pipe.Messages.MessageView.{Keep};
-ghost use Rattle.zdaemon.specs.pipe.Serving.{IsTelling, Sends, SendsSome, ServesAll, ServesFront};
-ghost use Rattle.zdaemon.specs.pipe.Serving.{ServesSome, TellsSome};
+ghost use Rattle.zdaemon.specs.pipe.Serving.{IsReporting, Sends, SendsSome, ServesAll, ServesFront};
+ghost use Rattle.zdaemon.specs.pipe.Serving.{ServesSome, ReportsSome};
 
 use crate::pipe::fault::ServeFault;
 use crate::pipe::limits::BLOCK;
 use crate::pipe::message::Message;
 use crate::pipe::reading::next_message;
 use crate::pipe::service::Service;
-use crate::pipe::writing::{put_end, put_piece};
+use crate::pipe::writing::{put_end, put_chunk};
 use std::alloc::Global;
 use zdevices::{Sink, Source, write_all};
 use zcodec::Fault;
@@ -32,11 +32,11 @@ pub fn serve_all<V: Service, S: Source, K: Sink>(
     sink: &mut K,
 ) -> Result<(), ServeFault>
     requires { V.is_sound service.old }
-    ensures all { OnOk result (ServesAll V.took V.kept V.told V.has_told (Keep ∷ [])
+    ensures all { OnOk result (ServesAll V.took V.kept V.reported V.has_reported (Keep ∷ [])
         (Between S.gave source.old source.new) (Between K.took sink.old sink.new)
         service.old service.new) }
     ensures ended { OnOk result (S.has_ended source.new) }
-    ensures some { OnErr result (ServesSome V.took V.kept V.told V.has_told
+    ensures some { OnErr result (ServesSome V.took V.kept V.reported V.has_reported
         (Between K.took sink.old sink.new) service.old) }
 {
     let mut block = vec![in alloc; 0; BLOCK]?;
@@ -55,11 +55,11 @@ fn serve_blocks<V: Service, S: Source, K: Sink>(
 ) -> Result<(), ServeFault>
     requires sound { V.is_sound service.old }
     requires room { 0 < length block.old }
-    ensures all { OnOk result (ServesAll V.took V.kept V.told V.has_told []
+    ensures all { OnOk result (ServesAll V.took V.kept V.reported V.has_reported []
         (Between S.gave source.old source.new) (Between K.took sink.old sink.new)
         service.old service.new) }
     ensures ended { OnOk result (S.has_ended source.new) }
-    ensures some { OnErr result (ServesSome V.took V.kept V.told V.has_told
+    ensures some { OnErr result (ServesSome V.took V.kept V.reported V.has_reported
         (Between K.took sink.old sink.new) service.old) }
 {
     let mut begun = Vec::new(alloc);
@@ -83,10 +83,10 @@ fn take_all<V: Service, K: Sink>(
     sink: &mut K,
 ) -> Result<Vec<u8>, ServeFault>
     requires { V.is_sound service.old }
-    ensures front { IfOk result (λ rest. ServesFront V.took V.kept V.told V.has_told
+    ensures front { IfOk result (λ rest. ServesFront V.took V.kept V.reported V.has_reported
         (Between K.took sink.old sink.new) bytes.now rest.items service.old service.new) }
     ensures sound { OnOk result (V.is_sound service.new) }
-    ensures some { OnErr result (ServesSome V.took V.kept V.told V.has_told
+    ensures some { OnErr result (ServesSome V.took V.kept V.reported V.has_reported
         (Between K.took sink.old sink.new) service.old) }
 {
     let rest = take_whole(alloc, service, bytes, sink)?;
@@ -101,10 +101,10 @@ fn take_whole<'a, V: Service, K: Sink>(
     sink: &mut K,
 ) -> Result<&'a [u8], ServeFault>
     requires { V.is_sound service.old }
-    ensures front { IfOk result (λ rest. ServesFront V.took V.kept V.told V.has_told
+    ensures front { IfOk result (λ rest. ServesFront V.took V.kept V.reported V.has_reported
         (Between K.took sink.old sink.new) bytes.now rest.now service.old service.new) }
     ensures sound { OnOk result (V.is_sound service.new) }
-    ensures some { OnErr result (ServesSome V.took V.kept V.told V.has_told
+    ensures some { OnErr result (ServesSome V.took V.kept V.reported V.has_reported
         (Between K.took sink.old sink.new) service.old) }
 {
     let mut rest = bytes;
@@ -128,10 +128,10 @@ fn take<V: Service, K: Sink>(
     sink: &mut K,
 ) -> Result<(), ServeFault>
     requires { V.is_sound service.old }
-    ensures done { OnOk result (Sends V.took V.kept V.told V.has_told (message_of message.entry)
+    ensures done { OnOk result (Sends V.took V.kept V.reported V.has_reported (message_of message.entry)
         (Between K.took sink.old sink.new) service.old service.new) }
     ensures sound { OnOk result (V.is_sound service.new) }
-    ensures some { OnErr result (SendsSome V.kept V.told (Between K.took sink.old sink.new)
+    ensures some { OnErr result (SendsSome V.kept V.reported (Between K.took sink.old sink.new)
         service.old) }
 {
     match message {
@@ -147,35 +147,35 @@ fn answer<V: Service, K: Sink>(
     sink: &mut K,
 ) -> Result<(), ServeFault>
     requires { V.is_sound service.old }
-    ensures done { OnOk result (Sends V.took V.kept V.told V.has_told Keep
+    ensures done { OnOk result (Sends V.took V.kept V.reported V.has_reported Keep
         (Between K.took sink.old sink.new) service.old service.new) }
     ensures sound { OnOk result (V.is_sound service.new) }
-    ensures some { OnErr result (SendsSome V.kept V.told (Between K.took sink.old sink.new)
+    ensures some { OnErr result (SendsSome V.kept V.reported (Between K.took sink.old sink.new)
         service.old) }
 {
     service.keep()?;
     let mut out = Vec::new(alloc);
-    tell_pieces(service, &mut out, sink)?;
+    report_chunks(service, &mut out, sink)?;
     put_end(&mut out)?;
     tell(&mut out, sink)
 }
 
 // Sends all chunks. What isn't written yet is left in `out`.
-fn tell_pieces<V: Service, K: Sink>(
+fn report_chunks<V: Service, K: Sink>(
     service: &mut V,
     out: &mut Vec<u8>,
     sink: &mut K,
 ) -> Result<(), ServeFault>
     requires sound { V.is_sound service.old }
     requires empty { out.old.items ≡ [] }
-    ensures done { OnOk result (IsTelling V.told (Between K.took sink.old sink.new)
-        service.old service.new out.new.items × V.has_told service.new) }
+    ensures done { OnOk result (IsReporting V.reported (Between K.took sink.old sink.new)
+        service.old service.new out.new.items × V.has_reported service.new) }
     ensures sound { OnOk result (V.is_sound service.new) }
-    ensures some { OnErr result (TellsSome V.told (Between K.took sink.old sink.new)
+    ensures some { OnErr result (ReportsSome V.reported (Between K.took sink.old sink.new)
         service.old) }
 {
-    while let Some(piece) = service.next_piece() {
-        put_piece(out, &piece)?;
+    while let Some(chunk) = service.next_chunk() {
+        put_chunk(out, &chunk)?;
         if out.len() >= BLOCK {
             tell(out, sink)?;
         }

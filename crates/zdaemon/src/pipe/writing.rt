@@ -2,26 +2,26 @@
 
 ghost use Rattle.std.specs.Prelude.{◌≡◌, ◌++◌, OnOk};
 ghost use Rattle.zdaemon.specs.pipe.Outputs.{OutputView, output};
-ghost use Rattle.zdaemon.specs.pipe.Outputs.OutputView.{Piece as OfPiece, End};
+ghost use Rattle.zdaemon.specs.pipe.Outputs.OutputView.{Chunk as OfChunk, End};
 
 use crate::pipe::limits::MAX_PIECE;
 use zalloc::Memory;
 use zcodec::{put_flag, put_sized, put_u8, put_u32};
-use zconnections::buffers::Piece;
+use zconnections::buffers::Chunk;
 
 /// Writes a chunk. One of more than `MAX_PIECE` bytes takes no memory.
-#[tactic(auto, unfolding(crate::specs::pipe::Outputs::output, crate::specs::pipe::Outputs::piece))]
-pub fn put_piece(out: &mut Vec<u8>, piece: &Piece) -> Result<(), Memory>
-    ensures text { OnOk result (out.new.items ≡ out.old.items ++ output.spell (OfPiece piece.now)) }
-    ensures fits { OnOk result (output.Fits (OfPiece piece.now)) }
+#[tactic(auto, unfolding(crate::specs::pipe::Outputs::output, crate::specs::pipe::Outputs::chunk))]
+pub fn put_chunk(out: &mut Vec<u8>, chunk: &Chunk) -> Result<(), Memory>
+    ensures text { OnOk result (out.new.items ≡ out.old.items ++ output.spell (OfChunk chunk.now)) }
+    ensures fits { OnOk result (output.Fits (OfChunk chunk.now)) }
 {
-    if piece.bytes.len() > MAX_PIECE as usize {
+    if chunk.bytes.len() > MAX_PIECE as usize {
         return Err(Memory);
     }
     put_u8(out, 0)?;
-    put_u32(out, piece.connection)?;
-    put_flag(out, piece.is_last)?;
-    put_sized(out, &piece.bytes)?;
+    put_u32(out, chunk.connection)?;
+    put_flag(out, chunk.is_last)?;
+    put_sized(out, &chunk.bytes)?;
     Ok(())
 }
 

@@ -43,7 +43,7 @@ fn is_read(rt: &impl Abort, alloc: Global, text: &[u8]) -> bool {
 }
 
 #[test]
-fn a_cut_text_is_told(rt: HostRuntime) {
+fn a_cut_text_is_reported(rt: HostRuntime) {
     let alloc = rt.alloc();
     let text = text(&rt, alloc, MORE.len());
     let ends = ends(&rt, alloc);
@@ -54,12 +54,12 @@ fn a_cut_text_is_told(rt: HostRuntime) {
 }
 
 // Whether a text represents no tree, or is the snapshot of the one that it represents.
-fn is_told(rt: &impl Abort, alloc: Global, text: &[u8]) -> bool {
+fn is_reported(rt: &impl Abort, alloc: Global, text: &[u8]) -> bool {
     !is_read(rt, alloc, text) || keeps(rt, alloc, text, text)
 }
 
 // Each byte of the snapshot of these lines' tree is changed.
-fn each_byte_is_told(rt: &impl Abort, alloc: Global, lines: &[&str]) {
+fn each_byte_is_reported(rt: &impl Abort, alloc: Global, lines: &[&str]) {
     let mut text = snapshot_of(rt, alloc, lines);
     for place in 0..text.len() {
         let byte = text[place];
@@ -70,16 +70,16 @@ fn each_byte_is_told(rt: &impl Abort, alloc: Global, lines: &[&str]) {
             byte.wrapping_sub(1),
         ] {
             text[place] = other;
-            assert!(rt; is_told(rt, alloc, &text), "byte {place} is {other}");
+            assert!(rt; is_reported(rt, alloc, &text), "byte {place} is {other}");
         }
         text[place] = byte;
     }
 }
 
 #[test]
-fn a_changed_byte_is_told(rt: HostRuntime) {
+fn a_changed_byte_is_reported(rt: HostRuntime) {
     let alloc = rt.alloc();
     for lines in STORIES {
-        each_byte_is_told(&rt, alloc, lines);
+        each_byte_is_reported(&rt, alloc, lines);
     }
 }

@@ -6,7 +6,7 @@ use zcalls::{Call, Update};
 use zscript_text::{Line, Request, read_line};
 use zwire::records::write_records;
 use ztree_service::LocalTree;
-use zsnapshots::folder::{Shortening, add_entry};
+use zsnapshots::folder::{Compaction, add_entry};
 
 // More chunks than any tree here has.
 const MANY: usize = 100;
@@ -77,13 +77,13 @@ pub(crate) fn update(rt: &impl Abort, alloc: Global, line: &str) -> Update {
 
 /// Returns the text of a tree's snapshot, and how many chunks it has.
 pub(crate) fn snapshot(rt: &impl Abort, alloc: Global, tree: &LocalTree) -> (Vec<u8>, usize) {
-    let mut shortening = Shortening::new(alloc, tree).expect(rt, "there is memory");
+    let mut compaction = Compaction::new(alloc, tree).expect(rt, "there is memory");
     let mut text = Vec::new(alloc);
-    for pieces in 0..MANY {
-        let Some(piece) = shortening.next_piece().expect(rt, "there is memory") else {
-            return (text, pieces);
+    for chunks in 0..MANY {
+        let Some(chunk) = compaction.next_chunk().expect(rt, "there is memory") else {
+            return (text, chunks);
         };
-        text.extend_from_slice(&piece).expect(rt, "there is memory");
+        text.extend_from_slice(&chunk).expect(rt, "there is memory");
     }
     (text, MANY)
 }

@@ -33,13 +33,13 @@ fn grow(rt: &impl Abort, alloc: Global, tree: &mut LocalTree) {
 }
 
 #[test]
-fn a_snapshot_of_two_pieces_is_read_again(rt: HostRuntime) {
+fn a_snapshot_of_two_chunks_is_read_again(rt: HostRuntime) {
     let alloc = rt.alloc();
     let mut tree = tree(&rt, alloc, WORKED);
     grow(&rt, alloc, &mut tree);
-    let (text, pieces) = snapshot(&rt, alloc, &tree);
+    let (text, chunks) = snapshot(&rt, alloc, &tree);
     drop(tree);
-    assert!(rt; pieces == 2);
+    assert!(rt; chunks == 2);
     let found = read(alloc, &text).expect(&rt, "the text keeps a tree");
     assert!(rt; is_there(&rt, &found.tree, 1, &[2]));
     assert!(rt; found.snapshot == text.len());

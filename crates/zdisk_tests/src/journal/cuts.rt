@@ -1,13 +1,13 @@
 //! The power is cut at every moment of sixty runs, and the file is opened each time.
 
-use crate::journal::lives::{opened, put_all};
+use crate::journal::incarnations::{opened, put_all};
 use std::alloc::Global;
 use std::test::Fail;
 use zjournal::{MemoryFile, open};
 
 // Whether at each moment the acknowledged batches are in the file, and at most the one in flight.
-fn keeps_what_was_told(alloc: Global, file: &MemoryFile, chance: u64) -> bool {
-    let mut told = 0;
+fn keeps_what_was_reported(alloc: Global, file: &MemoryFile, chance: u64) -> bool {
+    let mut reported = 0;
     for moment in file.past() {
         let Some(torn) = opened(alloc, &moment.disk, chance) else {
             return false;
@@ -15,10 +15,10 @@ fn keeps_what_was_told(alloc: Global, file: &MemoryFile, chance: u64) -> bool {
         let Some(whole) = opened(alloc, &moment.seen, chance) else {
             return false;
         };
-        if torn < told || whole < torn || whole - torn > 1 {
+        if torn < reported || whole < torn || whole - torn > 1 {
             return false;
         }
-        told = torn;
+        reported = torn;
     }
     opened(alloc, &file.current().disk, chance) == Some(5)
 }
@@ -30,7 +30,7 @@ fn is_kept(alloc: Global, chance: u64) -> bool {
     let Ok((mut journal, _)) = open(alloc, file, 3) else {
         return false;
     };
-    put_all(&mut journal, 5) == 5 && keeps_what_was_told(alloc, journal.device(), chance)
+    put_all(&mut journal, 5) == 5 && keeps_what_was_reported(alloc, journal.device(), chance)
 }
 
 #[test]

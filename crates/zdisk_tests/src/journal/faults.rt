@@ -2,7 +2,7 @@
 
 ghost use Rattle.std.specs.Prelude.{◌<◌};
 
-use crate::journal::lives::put_all;
+use crate::journal::incarnations::put_all;
 use std::alloc::Global;
 use std::test::Fail;
 use zjournal::{MemoryFile, OpenError, open};
@@ -54,7 +54,7 @@ fn fault_with(alloc: Global, at: usize, byte: u8) -> Option<OpenError> {
 }
 
 #[test]
-fn other_files_are_told(rt: HostRuntime) -> Result<(), Fail> {
+fn other_files_are_reported(rt: HostRuntime) -> Result<(), Fail> {
     let alloc = rt.alloc();
     assert_eq!(rt;
         fault_of(alloc, b"hello, world\n"),
@@ -67,7 +67,7 @@ fn other_files_are_told(rt: HostRuntime) -> Result<(), Fail> {
 }
 
 #[test]
-fn damage_is_told_with_its_place(rt: HostRuntime) -> Result<(), Fail> {
+fn damage_is_reported_with_its_place(rt: HostRuntime) -> Result<(), Fail> {
     let alloc = rt.alloc();
     assert_eq!(rt; fault_with(alloc, 25, 33), Some(OpenError::Damaged(0)));
     assert_eq!(rt; fault_with(alloc, 36, 33), Some(OpenError::Damaged(34)));

@@ -2,7 +2,7 @@
 
 ghost use Rattle.zjournal.specs.Journal.{IsSound};
 
-use crate::journal::lives::put_all;
+use crate::journal::incarnations::put_all;
 use std::alloc::Global;
 use std::test::Fail;
 use zjournal::{Device, Journal, MemoryFile, Moment, PutError, open};
@@ -125,7 +125,7 @@ fn power_cuts_leave_either_file(rt: HostRuntime) -> Result<(), Fail> {
 
 // Whether a renewal whose disk fails after this many steps leaves either file, and makes no further
 // call.
-fn is_told(alloc: Global, calls: u64, chance: u64) -> bool {
+fn is_reported(alloc: Global, calls: u64, chance: u64) -> bool {
     let Ok(file) = MemoryFile::new(alloc, &[], chance, calls) else {
         return false;
     };
@@ -150,11 +150,11 @@ fn is_told(alloc: Global, calls: u64, chance: u64) -> bool {
 }
 
 #[test]
-fn a_failing_disk_is_told(rt: HostRuntime) -> Result<(), Fail> {
+fn a_failing_disk_is_reported(rt: HostRuntime) -> Result<(), Fail> {
     // Opening takes eight steps, a batch four, and this renewal eleven.
     for calls in 12..23u64 {
-        assert!(rt; is_told(rt.alloc(), calls, 5));
-        assert!(rt; is_told(rt.alloc(), calls, 23));
+        assert!(rt; is_reported(rt.alloc(), calls, 5));
+        assert!(rt; is_reported(rt.alloc(), calls, 23));
     }
     Ok(())
 }

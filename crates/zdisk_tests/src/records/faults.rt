@@ -10,7 +10,7 @@ fn fault_of(alloc: Global, text: &[u8]) -> Option<RecordFault> {
 }
 
 #[test]
-fn bad_lines_are_told(rt: HostRuntime) -> Result<(), Fail> {
+fn bad_lines_are_reported(rt: HostRuntime) -> Result<(), Fail> {
     let alloc = rt.alloc();
     assert_eq!(rt; fault_of(alloc, b""), None);
     assert_eq!(rt; fault_of(alloc, b"AQc=\n"), None);

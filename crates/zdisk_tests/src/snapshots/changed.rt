@@ -14,7 +14,7 @@ fn text(rt: &impl Abort, alloc: Global) -> Vec<u8> {
 }
 
 // Whether the text begins with no machine, or with one that has these rows.
-fn is_told(rt: &impl Abort, alloc: Global, text: &[u8]) -> bool {
+fn is_reported(rt: &impl Abort, alloc: Global, text: &[u8]) -> bool {
     let (machine, rest) = match read(rt, alloc, text) {
         Ok(read) => read,
         Err(_) => return true,
@@ -26,7 +26,7 @@ fn is_told(rt: &impl Abort, alloc: Global, text: &[u8]) -> bool {
 }
 
 #[test]
-fn a_cut_text_is_told(rt: HostRuntime) {
+fn a_cut_text_is_reported(rt: HostRuntime) {
     let alloc = rt.alloc();
     let text = text(&rt, alloc);
     assert!(rt; text.len() > 1000);
@@ -41,7 +41,7 @@ fn a_cut_text_is_told(rt: HostRuntime) {
 }
 
 #[test]
-fn a_changed_byte_is_told(rt: HostRuntime) {
+fn a_changed_byte_is_reported(rt: HostRuntime) {
     let alloc = rt.alloc();
     let mut text = text(&rt, alloc);
     for place in 0..text.len() {
@@ -53,7 +53,7 @@ fn a_changed_byte_is_told(rt: HostRuntime) {
             byte.wrapping_sub(1),
         ] {
             text[place] = other;
-            assert!(rt; is_told(&rt, alloc, &text), "byte {place} is {other}");
+            assert!(rt; is_reported(&rt, alloc, &text), "byte {place} is {other}");
         }
         text[place] = byte;
     }

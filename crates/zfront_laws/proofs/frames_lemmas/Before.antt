@@ -13,7 +13,7 @@ use Rattle.ztree_service.specs.log.Logs.{Log}
 use Rattle.zconnections.specs.declared.buffers.phase.Phase.{Phase}
 use Rattle.zconnections.specs.declared.buffers.phase.Phase.TheVariants.{Speaking}
 use Rattle.zconnections.specs.buffers.Inputs.InputView.{Opened, Came, Ended, Tick}
-use Rattle.zconnections.specs.buffers.Outbox.{PieceView}
+use Rattle.zconnections.specs.buffers.Outbox.{ChunkView}
 use Rattle.zconnections.specs.buffers.Outbox as outbox
 use Rattle.zconnections.specs.buffers.Streams.{StreamView, phase_of}
 use Rattle.zconnections.specs.buffers.Streams as stream
@@ -59,11 +59,11 @@ none_speaks phase none is =
     cc clash
 
 module _ (c : ℕ) where
-  none_left : (ps : List PieceView) → on c (outbox.without ps c) ≡ []
+  none_left : (ps : List ChunkView) → on c (outbox.without ps c) ≡ []
   none_left [] = refl
   none_left (p ∷ ps) = by (eqb p.connection c) refl (none_left ps)
     where
-      rest : List PieceView
+      rest : List ChunkView
       rest = outbox.without ps c
 
       by : (b : Bool) → eqb p.connection c ≡ b → on c rest ≡ [] → on c (if not b then p ∷ rest else rest) ≡ []
@@ -93,11 +93,11 @@ module _ (c : ℕ) where
       let none : on c (take 1 unsent) ++ on c (drop 1 unsent) ≡ [] =
       sym (on-both c (take 1 unsent) (drop 1 unsent)) ∙ ap (on c) (take-append-drop 1 unsent) ∙ ap (λ (w : View). w.1) away in
       ap (λ (o : Option StreamView). (o, on c (drop 1 unsent))) (ap (λ (w : View). w.0) away)
-      ∙ ap (λ (ps : List PieceView). (None, ps)) (second_empty (on c (take 1 unsent)) (on c (drop 1 unsent)) none)
+      ∙ ap (λ (ps : List ChunkView). (None, ps)) (second_empty (on c (take 1 unsent)) (on c (drop 1 unsent)) none)
 
   module _ (clock : Clock) (secret : List ℕ) where
     abbrev pub Known : Log → TablesView → Type 0
-    Known log t = ((came : List ℕ) × (taken : List PieceView) × HoldsAt clock secret c came taken log (view c t)) ⊎ IsAway c t
+    Known log t = ((came : List ℕ) × (taken : List ChunkView) × HoldsAt clock secret c came taken log (view c t)) ⊎ IsAway c t
 
     -- a connection that is opened
     pub opens : (log : Log) (old : FrontView) → IsAway c old.tables → Free c old.tables
@@ -115,7 +115,7 @@ module _ (c : ℕ) where
           },
         )
 
-    module _ (log : Log) (old new : FrontView) (few : KeepsFew old) (told : IsBehind clock secret log old) (free : Free c old.tables) where
+    module _ (log : Log) (old new : FrontView) (few : KeepsFew old) (reported : IsBehind clock secret log old) (free : Free c old.tables) where
       -- behind a step
       abbrev Then : (step : Step) → Does step old new → Type 0
       Then step does = Known (log ++ step_log step old new does) new.tables × Free c new.tables
@@ -162,14 +162,14 @@ module _ (c : ℕ) where
       step_away Took is away = calm_away Took is away (fronts.becomes c old new (all_taken old) is (same c old.tables))
 
       -- the connection is there
-      module _ (came : List ℕ) (taken : List PieceView) (has : HoldsAt clock secret c came taken log (view c old.tables)) where
+      module _ (came : List ℕ) (taken : List ChunkView) (has : HoldsAt clock secret c came taken log (view c old.tables)) where
         not_free : phase_of old.tables.streams c ≡ None → ⊥
         not_free none = subst (λ phase. Holds clock secret c came (taken ++ on c old.tables.unsent) log phase
             (bytes_in (finite.get old.tables.streams c))) none has
 
         stays_there : (step : Step) → Stays c step → (does : Does step old new) → Then step does
         stays_there step stays does =
-            let done = step_stays clock secret c came taken log old new few told has free step stays does in
+            let done = step_stays clock secret c came taken log old new few reported has free step stays does in
             (inl (came ++ came_at c step old, taken ++ sent_at c step old, done.0), done.1)
 
         opens_there : (d : ℕ) → IsFree c (Takes (Opened d)) old → (does : Does (Takes (Opened d)) old new) → (d ≡ c) ⊎ (d ≢ c)
@@ -195,15 +195,15 @@ module _ (c : ℕ) where
         → Known log old.tables → (runs : Runs steps old new) → GivesOnce c steps old new runs
         → Known (log ++ run_log steps old new runs) new.tables × Free c new.tables
         × IsBehind clock secret (log ++ run_log steps old new runs) new × KeepsFew new
-    runs_before [] log old new few told free known is once =
+    runs_before [] log old new few reported free known is once =
         subst (λ (l : Log). Known l new.tables × Free c new.tables × IsBehind clock secret l new × KeepsFew new) (sym (append-nil log))
         (subst (λ (v : FrontView). Known log v.tables × Free c v.tables × IsBehind clock secret log v × KeepsFew v) (sym is)
-        (known, free, told, few))
-    runs_before (step ∷ steps) log old new few told free known runs once =
+        (known, free, reported, few))
+    runs_before (step ∷ steps) log old new few reported free known runs once =
         let middle = runs.0 in
         let now = step_log step old middle runs.1 in
-        let done = step_before log old middle few told free known step once.0 runs.1 in
+        let done = step_before log old middle few reported free known step once.0 runs.1 in
         subst (λ (l : Log). Known l new.tables × Free c new.tables × IsBehind clock secret l new × KeepsFew new)
         (append_assoc log now (run_log steps middle new runs.2))
         (runs_before steps (log ++ now) middle new ((goes step old middle few runs.1).few few)
-        (goes_behind clock secret step log old middle few told runs.1) done.1 done.0 runs.2 once.1)
+        (goes_behind clock secret step log old middle few reported runs.1) done.1 done.0 runs.2 once.1)

@@ -10,7 +10,7 @@ use Rattle.ztree.specs.Tree.{opening_tree}
 use Rattle.zresponses.specs.declared.clock.Clock.{Clock}
 use Rattle.ztree_service.specs.log.Logs.{Log}
 use Rattle.zconnections.specs.buffers.Inputs.InputView.{Opened, Came, Ended, Tick}
-use Rattle.zconnections.specs.buffers.Outbox.{PieceView}
+use Rattle.zconnections.specs.buffers.Outbox.{ChunkView}
 use Rattle.zconnections.specs.buffers.Streams.{phase_of}
 use Rattle.zconnections.specs.Tables.{is_open}
 use Rattle.zfront.specs.Front.{FrontView}
@@ -36,16 +36,16 @@ module _ (clock : Clock) (secret : List ℕ) where
   -- the log goes on
   pub goes_behind : (step : Step) (log : Log) (old new : FrontView) → KeepsFew old → IsBehind clock secret log old → (does : Does step old new)
       → IsBehind clock secret (log ++ step_log step old new does) new
-  goes_behind step log old new few told does =
+  goes_behind step log old new few reported does =
       let done = goes step old new few does in
       let more = step_log step old new does in (
-        sym (behind-both opening_tree log more) ∙ ap (λ t. tree_behind t more) told.0 ∙ done.leads.1,
-        done.alike.1 ∙ told.1,
-        done.alike.0 ∙ told.2,
+        sym (behind-both opening_tree log more) ∙ ap (λ t. tree_behind t more) reported.0 ∙ done.leads.1,
+        done.alike.1 ∙ reported.1,
+        done.alike.0 ∙ reported.2,
       )
 
   module _ (c : ℕ) where
-    nothing_more : (came : List ℕ) (taken : List PieceView) (log : Log) (new : FrontView) → After clock secret c came taken log new
+    nothing_more : (came : List ℕ) (taken : List ChunkView) (log : Log) (new : FrontView) → After clock secret c came taken log new
         → After clock secret c (came ++ []) (taken ++ []) log new
     nothing_more came taken log new after =
         subst (λ xs. After clock secret c xs (taken ++ []) log new) (sym (append-nil came))
@@ -55,8 +55,8 @@ module _ (clock : Clock) (secret : List ℕ) where
     not_its : (d : ℕ) (bytes : List ℕ) (v : FrontView) → d ≢ c → came_at c (Takes (Came d bytes)) v ≡ []
     not_its d bytes v other = ap (λ (b : Bool). if b && is_open v.tables c then bytes else []) (ne_eqb d c other)
 
-    module _ (came : List ℕ) (taken : List PieceView) (log : Log) (old new : FrontView) (few : KeepsFew old)
-        (told : IsBehind clock secret log old) (has : HoldsAt clock secret c came taken log (view c old.tables)) (free : Free c old.tables) where
+    module _ (came : List ℕ) (taken : List ChunkView) (log : Log) (old new : FrontView) (few : KeepsFew old)
+        (reported : IsBehind clock secret log old) (has : HoldsAt clock secret c came taken log (view c old.tables)) (free : Free c old.tables) where
       -- a step that answers nothing on it
       calm_step : (more : Log) → Calm c old.tables new.tables → After clock secret c (came ++ []) (taken ++ []) (log ++ more) new
       calm_step more calm =
@@ -67,7 +67,7 @@ module _ (clock : Clock) (secret : List ℕ) where
       -- bytes of its own
       comes_by : (on_now : Bool) (bytes : List ℕ) → is_open old.tables c ≡ on_now → (comes : ComesIf on_now bytes c old new)
           → After clock secret c (came ++ (if on_now then bytes else [])) taken (log ++ came_log on_now bytes c old new comes) new
-      comes_by true bytes is_on comes = comes_open clock secret c came bytes taken log old new few told is_on has free comes
+      comes_by true bytes is_on comes = comes_open clock secret c came bytes taken log old new few reported is_on has free comes
       comes_by false bytes shut is =
           subst (λ xs. After clock secret c xs taken (log ++ []) new) (sym (append-nil came))
           (subst (λ (l : Log). After clock secret c came taken l new) (sym (append-nil log))
@@ -94,7 +94,7 @@ module _ (clock : Clock) (secret : List ℕ) where
           subst (λ xs. After clock secret c (came ++ xs) (taken ++ []) (log ++ more) new) (sym (not_its d bytes old other))
           (calm_step more (others.comes_elsewhere c d other bytes old new few comes))
 
-      -- a piece is sent
+      -- a chunk is sent
       sends_first : After clock secret c (came ++ []) (taken ++ on c (take 1 old.tables.unsent)) (log ++ []) (without_first old)
       sends_first =
           let unsent = old.tables.unsent in
@@ -121,23 +121,23 @@ module _ (clock : Clock) (secret : List ℕ) where
       step_stays Took stays is = calm_step [] (fronts.becomes c old new (all_taken old) is (same c old.tables))
 
     -- steps behind its opening
-    pub runs_behind : (steps : List Step) (came : List ℕ) (taken : List PieceView) (log : Log) (old new : FrontView) → KeepsFew old
+    pub runs_behind : (steps : List Step) (came : List ℕ) (taken : List ChunkView) (log : Log) (old new : FrontView) → KeepsFew old
         → IsBehind clock secret log old → HoldsAt clock secret c came taken log (view c old.tables) → Free c old.tables
         → AllByRecursion (Stays c) steps → (runs : Runs steps old new)
         → Holds clock secret c (came ++ came_on c steps old new runs) (taken ++ went_on c steps old new runs) (log ++ run_log steps old new runs)
         (phase_of new.tables.streams c) (bytes_in (finite.get new.tables.streams c))
-    runs_behind [] came taken log old new few told has free stays is =
+    runs_behind [] came taken log old new few reported has free stays is =
         subst (λ xs. Holds clock secret c xs (taken ++ on c new.tables.unsent) (log ++ []) (phase_of new.tables.streams c)
         (bytes_in (finite.get new.tables.streams c))) (sym (append-nil came))
         (subst (λ (l : Log). HoldsAt clock secret c came taken l (view c new.tables)) (sym (append-nil log))
         (subst (λ (v : FrontView). HoldsAt clock secret c came taken log (view c v.tables)) (sym is) has))
-    runs_behind (step ∷ steps) came taken log old new few told has free stays runs =
+    runs_behind (step ∷ steps) came taken log old new few reported has free stays runs =
         let middle = runs.0 in
         let now = step_log step old middle runs.1 in
         let later = run_log steps middle new runs.2 in
-        let done = step_stays came taken log old middle few told has free step stays.0 runs.1 in
+        let done = step_stays came taken log old middle few reported has free step stays.0 runs.1 in
         let rest = runs_behind steps (came ++ came_at c step old) (taken ++ sent_at c step old) (log ++ now) middle new
-        ((goes step old middle few runs.1).few few) (goes_behind step log old middle few told runs.1) done.0 done.1 stays.1 runs.2 in
+        ((goes step old middle few runs.1).few few) (goes_behind step log old middle few reported runs.1) done.0 done.1 stays.1 runs.2 in
         subst (λ xs. Holds clock secret c xs (taken ++ (sent_at c step old ++ went_on c steps middle new runs.2)) (log ++ (now ++ later))
         (phase_of new.tables.streams c) (bytes_in (finite.get new.tables.streams c)))
         (append_assoc came (came_at c step old) (came_on c steps middle new runs.2))

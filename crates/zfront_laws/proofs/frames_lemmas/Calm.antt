@@ -1,4 +1,4 @@
--- What the tables' changes do on one connection, where they answer no frame of it: events are told
+-- What the tables' changes do on one connection, where they answer no frame of it: events are reported
 -- while it speaks, or it is closed.
 use Rattle.std.proofs.Common.{◌≡◌, ◌≢◌, ◌⊎◌, inl, inr, ◌∙◌, ℕ, Bool, true, false, ◌||◌, cond, List, [], ◌∷◌, map}
 use Rattle.std.proofs.Common.{Option, None, Some, refl, sym, ap, subst, eqb}
@@ -23,26 +23,26 @@ use Rattle.zconnections.specs.buffers.Streams.{phase_of}
 use Rattle.zwatches.specs.Watches.{watch, is_full}
 use Rattle.zwatches.specs.Events as watches
 use Rattle.zwatches.specs.declared.kind.Kind.{Kind}
-use Rattle.zwatches.proofs.Worked.{tells_who_waits}
+use Rattle.zwatches.proofs.Worked.{reports_who_waits}
 use Rattle.ztree.specs.Tree.{Path}
-use Rattle.zconnections.specs.Tables.{TablesView, is_open, piece, with_piece, sent, closed, connection_of, moved}
-use Rattle.zconnections.specs.Telling.{event_frame, sent_on, unwatched, in_order, told, told_all}
+use Rattle.zconnections.specs.Tables.{TablesView, is_open, chunk, with_chunk, sent, closed, connection_of, moved}
+use Rattle.zconnections.specs.Reporting.{event_frame, sent_on, unwatched, in_order, reported, reported_all}
 use Rattle.zconnections.specs.Sweeping.{noted, swept, swept_all}
 use Rattle.zresponses.specs.effects.Replying.{absorbed, absorbed_all}
 use Rattle.zresponses.specs.effects.Watching.{waiting, granted_all}
 use Rattle.zresponses.specs.effects.Wishes.{wishes}
 use Rattle.zfront_laws.proofs.Seated.{same_number}
-use Rattle.zfront_laws.proofs.Kept.{noted_alike}
+use Rattle.zfront_laws.proofs.Cached.{noted_alike}
 use Rattle.zfront_laws.proofs.Wishes.{wished}
-use Rattle.zfront_laws.specs.frames.Talk.{Talk, Quiet, Tells, Answers, Closes, is_closed}
+use Rattle.zfront_laws.specs.frames.Talk.{Talk, Quiet, Reports, Answers, Closes, is_closed}
 use Rattle.zfront_laws.proofs.frames_lemmas.Views.{View, view, phase_in, run, followed, run_then, run_stream, view-sent}
 use Rattle.zfront_laws.proofs.frames_lemmas.Views.{view-sent-elsewhere, view-closed, view-closed-elsewhere}
-use Rattle.zfront_laws.proofs.frames_lemmas.Free.{speaks, Free, free-unwatched, free-waiting, free-closed, free-sent, free-sittings, free-forgotten}
+use Rattle.zfront_laws.proofs.frames_lemmas.Free.{speaks, Free, free-unwatched, free-waiting, free-closed, free-sent, free-attachments, free-forgotten}
 
 -- no answer; and events, if it speaks
 abbrev pub IsCalm : Bool → Talk → Type 0
 IsCalm speaking Quiet = Unit {0}
-IsCalm speaking (Tells event talk) = (speaking ≡ true) × IsCalm speaking talk
+IsCalm speaking (Reports event talk) = (speaking ≡ true) × IsCalm speaking talk
 IsCalm speaking (Answers bytes talk) = ⊥
 IsCalm speaking Closes = Unit {0}
 
@@ -54,7 +54,7 @@ Calm c old new = Free c old → Talked c (speaks (phase_of old.streams c)) old n
 
 calm-followed : (speaking : Bool) (a b : Talk) → IsCalm speaking a → (is_closed a ≡ false → IsCalm speaking b) → IsCalm speaking (followed a b)
 calm-followed speaking Quiet b one two = two refl
-calm-followed speaking (Tells event a) b one two = (one.0, calm-followed speaking a b one.1 two)
+calm-followed speaking (Reports event a) b one two = (one.0, calm-followed speaking a b one.1 two)
 calm-followed speaking (Answers bytes a) b one two = absurd one
 calm-followed speaking Closes b one two = tt
 
@@ -82,9 +82,9 @@ pub same_stream : (c : ℕ) (old new : TablesView) (talk : Talk) → is_closed t
     → finite.get new.streams c ≡ finite.get old.streams c
 same_stream c old new talk still is = ap (λ (w : View). w.0) is ∙ run_stream c talk (view c old) still
 
--- what is sent and told leaves the streams
+-- what is sent and reported leaves the streams
 sent_streams : (d : ℕ) (bytes : List ℕ) (t : TablesView) → (sent d bytes t).streams ≡ t.streams
-sent_streams d bytes t = elim (is_open t d) as (λ b. (if b then with_piece (piece d bytes) t else t).streams ≡ t.streams) [
+sent_streams d bytes t = elim (is_open t d) as (λ b. (if b then with_chunk (chunk d bytes) t else t).streams ≡ t.streams) [
   | true ↦ refl
   | false ↦ refl
 ]
@@ -93,13 +93,13 @@ sent_on_streams : (ds bytes : List ℕ) (t : TablesView) → (sent_on ds bytes t
 sent_on_streams [] bytes t = refl
 sent_on_streams (d ∷ ds) bytes t = sent_on_streams ds bytes (sent d bytes t) ∙ sent_streams d bytes t
 
-told_all_streams : (es : List Event) (t : TablesView) → (told_all es t).streams ≡ t.streams
-told_all_streams [] t = refl
-told_all_streams (e ∷ es) t =
-    told_all_streams es (told e t) ∙ sent_on_streams (in_order (watches.told t.watches e.kind e.path)) (event_frame e) (unwatched e t)
+reported_all_streams : (es : List Event) (t : TablesView) → (reported_all es t).streams ≡ t.streams
+reported_all_streams [] t = refl
+reported_all_streams (e ∷ es) t =
+    reported_all_streams es (reported e t) ∙ sent_on_streams (in_order (watches.reported t.watches e.kind e.path)) (event_frame e) (unwatched e t)
 
 absorbed_streams : (call : Call) (reply : Reply) (t : TablesView) → (absorbed call reply t).streams ≡ t.streams
-absorbed_streams (Update update) reply t = told_all_streams (events_of update reply) (record t { sittings = noted update reply t.sittings })
+absorbed_streams (Update update) reply t = reported_all_streams (events_of update reply) (record t { attachments = noted update reply t.attachments })
 absorbed_streams (Query query) reply t = refl
 
 pub absorbed_all_streams : (calls : List Call) (replies : List Reply) (t : TablesView) → (absorbed_all calls replies t).streams ≡ t.streams
@@ -146,7 +146,7 @@ module _ (c : ℕ) where
   event_talk : (speaking : Bool) (e : Event) (d : ℕ) (t : TablesView) → (d ≡ c → speaking ≡ true) → (d ≡ c) ⊎ (d ≢ c)
       → Talked c speaking t (sent d (event_frame e) t)
   event_talk speaking e d t own (inl same) = (
-    Tells e Quiet,
+    Reports e Quiet,
     (own same, tt),
     ap (λ x. view c (sent x (event_frame e) t)) same
         ∙ view-sent c (event_frame e) t,
@@ -176,7 +176,7 @@ module _ (c : ℕ) where
   free_sent_on [] bytes t free = free
   free_sent_on (d ∷ ds) bytes t free = free_sent_on ds bytes (sent d bytes t) (free-sent c d bytes t free)
 
-  -- who is told has a watch
+  -- who is reported has a watch
   listed_by : (x : ℕ) (b : Bool) (rest : Option (Unit {0})) → is_some (cond b (Some tt) rest) ≡ (b || is_some rest)
   listed_by x true rest = refl
   listed_by x false rest = refl
@@ -207,27 +207,27 @@ module _ (c : ℕ) where
       ∙ contains_key-keys (from_entries {R = nat_cmp} marks) c
       ∙ tied_any (in_order set) there
 
-  tells : (e : Event) (t : TablesView) → Calm c t (told e t)
-  tells e t free = (
-    sent_on_talk (speaks (phase_of t.streams c)) e (in_order (watches.told t.watches e.kind e.path)) (unwatched e t)
+  reports : (e : Event) (t : TablesView) → Calm c t (reported e t)
+  reports e t free = (
+    sent_on_talk (speaks (phase_of t.streams c)) e (in_order (watches.reported t.watches e.kind e.path)) (unwatched e t)
         (λ there.
-        let fired = (tells_who_waits t.watches e.kind e.path c).0 (ordered_there (watches.told t.watches e.kind e.path) there) in
+        let fired = (reports_who_waits t.watches e.kind e.path c).0 (ordered_there (watches.reported t.watches e.kind e.path) there) in
         free.watch fired.0 fired.1.0 fired.1.2),
-    free_sent_on (in_order (watches.told t.watches e.kind e.path)) (event_frame e) (unwatched e t) (free-unwatched c e t free),
+    free_sent_on (in_order (watches.reported t.watches e.kind e.path)) (event_frame e) (unwatched e t) (free-unwatched c e t free),
   )
 
-  pub tells_all : (es : List Event) (t : TablesView) → Calm c t (told_all es t)
-  tells_all [] t = same t
-  tells_all (e ∷ es) t = both t (told e t) (told_all es (told e t)) (tells e t) (tells_all es (told e t))
+  pub reports_all : (es : List Event) (t : TablesView) → Calm c t (reported_all es t)
+  reports_all [] t = same t
+  reports_all (e ∷ es) t = both t (reported e t) (reported_all es (reported e t)) (reports e t) (reports_all es (reported e t))
 
   -- ---- calls that were answered
 
   absorbs : (call : Call) (reply : Reply) (t : TablesView) → Calm c t (absorbed call reply t)
   absorbs (Update update) reply t =
-      let u = record t { sittings = noted update reply t.sittings } in
-      both t u (told_all (events_of update reply) u)
-      (alike t u refl (free-sittings c t (noted update reply t.sittings) (noted_alike update reply t.sittings).0))
-      (tells_all (events_of update reply) u)
+      let u = record t { attachments = noted update reply t.attachments } in
+      both t u (reported_all (events_of update reply) u)
+      (alike t u refl (free-attachments c t (noted update reply t.attachments) (noted_alike update reply t.attachments).0))
+      (reports_all (events_of update reply) u)
   absorbs (Query query) reply t = same t
 
   pub absorbs_all : (calls : List Call) (replies : List Reply) (t : TablesView) → Calm c t (absorbed_all calls replies t)
@@ -240,7 +240,7 @@ module _ (c : ℕ) where
   -- ---- sessions that are gone
 
   pub moves : (session : ℕ) (t : TablesView) → Calm c t (moved session t)
-  moves session t = elim (connection_of t.sittings session) as (λ o. Calm c t (option_map_or (λ d. closed d t) o t)) [
+  moves session t = elim (connection_of t.attachments session) as (λ o. Calm c t (option_map_or (λ d. closed d t) o t)) [
     | None ↦ same t
     | Some d ↦ closes d t
   ]

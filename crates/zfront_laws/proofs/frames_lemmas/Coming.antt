@@ -9,7 +9,7 @@ use Rattle.ztree.specs.Tree.{opening_tree}
 use Rattle.zjute.specs.Frames.{next_of, IsEnd}
 use Rattle.zconnections.specs.declared.buffers.phase.Phase.{Phase}
 use Rattle.zconnections.specs.declared.buffers.phase.Phase.TheVariants.{Silent, Speaking, Closing}
-use Rattle.zconnections.specs.buffers.Outbox.{PieceView}
+use Rattle.zconnections.specs.buffers.Outbox.{ChunkView}
 use Rattle.zconnections.specs.buffers.Streams.{StreamView, StreamRows, bytes_of, held_of, phase_of, with_bytes}
 use Rattle.zresponses.specs.declared.clock.Clock.{Clock}
 use Rattle.ztree_service.specs.log.Logs.{Log}
@@ -21,7 +21,7 @@ use Rattle.zfront.specs.Words.{word_in, text_of_word}
 use Rattle.zfront_laws.specs.Logs.{bytes_log, came_log, frames_log}
 use Rattle.zfront_laws.specs.Runs.{KeepsFew}
 use Rattle.zfront_laws.proofs.Coming as coming
-use Rattle.zfront_laws.specs.frames.Talk.{Talk, Quiet, Answers, Closes, pieces_of, is_closed, tree_behind, Greeted, SaysText, IsTalk}
+use Rattle.zfront_laws.specs.frames.Talk.{Talk, Quiet, Answers, Closes, chunks_of, is_closed, tree_behind, Greeted, SaysText, IsTalk}
 use Rattle.zfront_laws.specs.frames.Laws.{on}
 use Rattle.zfront_laws.proofs.frames_lemmas.Views.{view, phase_in, run, shut_open, view-sent, view-closed, changed-here}
 use Rattle.zfront_laws.proofs.frames_lemmas.Free.{speaks, Free, free-sent, free-closed}
@@ -64,11 +64,11 @@ IsBehind clock secret log v = (tree_behind opening_tree log ≡ v.tree) × (v.cl
 
 module _ (clock : Clock) (secret : List ℕ) (c : ℕ) where
   -- what is so then
-  abbrev pub After : List ℕ → List PieceView → Log → FrontView → Type 0
+  abbrev pub After : List ℕ → List ChunkView → Log → FrontView → Type 0
   After came taken log new = HoldsAt clock secret c came taken log (view c new.tables) × Free c new.tables
 
   -- the rest is kept
-  module _ (came : List ℕ) (taken : List PieceView) (log : Log) (rest : List ℕ) where
+  module _ (came : List ℕ) (taken : List ChunkView) (log : Log) (rest : List ℕ) where
     kept_as : (t : TablesView) → Heard clock secret c came (taken ++ on c t.unsent) log rest (phase_of t.streams c) → is_open t c ≡ true
         → IsEnd rest → (o : Option StreamView) → finite.get t.streams c ≡ o
         → HoldsAt clock secret c came taken log (option_map (λ (s : StreamView). record s { bytes = rest }) o, on c t.unsent)
@@ -85,9 +85,9 @@ module _ (clock : Clock) (secret : List ℕ) (c : ℕ) where
         × Free c (if over then closed c t else record t { streams = with_bytes t.streams c rest })
     kept_by true t heard is_on ends free = (
       subst (HoldsAt clock secret c came taken log) (sym (view-closed c t ∙ shut_open c (view c t) is_on))
-          (heard_holds clock secret c came (taken ++ (on c t.unsent ++ pieces_of c Closes)) log rest [] (Some Closing)
-          (heard_closed clock secret c came (taken ++ on c t.unsent) (taken ++ (on c t.unsent ++ pieces_of c Closes)) log rest
-          (phase_of t.streams c) heard is_on (sym (append_assoc taken (on c t.unsent) (pieces_of c Closes))))
+          (heard_holds clock secret c came (taken ++ (on c t.unsent ++ chunks_of c Closes)) log rest [] (Some Closing)
+          (heard_closed clock secret c came (taken ++ on c t.unsent) (taken ++ (on c t.unsent ++ chunks_of c Closes)) log rest
+          (phase_of t.streams c) heard is_on (sym (append_assoc taken (on c t.unsent) (chunks_of c Closes))))
           (λ never. absurd (cc never))),
       free-closed c c t free,
     )
@@ -115,7 +115,7 @@ module _ (clock : Clock) (secret : List ℕ) (c : ℕ) where
     finish middle new heard ends free is =
         subst (After came taken log) (sym is) (keeps_by (is_open middle.tables c) middle refl heard ends free)
 
-  module _ (came bytes : List ℕ) (taken : List PieceView) (log : Log) where
+  module _ (came bytes : List ℕ) (taken : List ChunkView) (log : Log) where
     -- a text is said
     says : (text : List ℕ) (kept_bytes : List ℕ) (old new : FrontView) → phase_of old.tables.streams c ≡ Some Silent
         → Holds clock secret c came (taken ++ on c old.tables.unsent) log (Some Silent) kept_bytes
@@ -126,13 +126,13 @@ module _ (clock : Clock) (secret : List ℕ) (c : ℕ) where
         let talk = Answers text Closes in
         let done = went c talk Silent old.tables (closed c u) (ap may_send silent) (λ still. silent)
         (view-closed c u ∙ ap (run c Closes) (view-sent c text old.tables)) in
-        let pieces : taken ++ on c (closed c u).unsent ≡ pieces_of c talk =
-        ap (λ ps. taken ++ ps) done.pieces ∙ sym (append_assoc taken (on c old.tables.unsent) (pieces_of c talk))
-        ∙ ap (λ ps. ps ++ pieces_of c talk) has.3 in
+        let chunks : taken ++ on c (closed c u).unsent ≡ chunks_of c talk =
+        ap (λ ps. taken ++ ps) done.chunks ∙ sym (append_assoc taken (on c old.tables.unsent) (chunks_of c talk))
+        ∙ ap (λ ps. ps ++ chunks_of c talk) has.3 in
         subst (After (came ++ bytes) taken log) (sym is) (
           subst (λ (phase : Option Phase). Holds clock secret c (came ++ bytes) (taken ++ on c (closed c u).unsent) log phase
               (bytes_in (finite.get (closed c u).streams c))) (sym done.leaves)
-              ([], came ++ bytes, talk, refl, talks, refl, pieces),
+              ([], came ++ bytes, talk, refl, talks, refl, chunks),
           free-closed c c u (free-sent c c text old.tables free),
         )
 
@@ -143,7 +143,7 @@ module _ (clock : Clock) (secret : List ℕ) (c : ℕ) where
         → Free c old.tables → Cuts (kept_bytes ++ bytes) frames rest → (handles : HandlesAll frames c old middle)
         → (is_open middle.tables c ≡ true → IsEnd rest) → new ≡ keeps rest c middle
         → After (came ++ bytes) taken (log ++ frames_log frames c old middle handles) new
-    silent_reads kept_bytes rest [] old middle new told silent has none free cuts same ends is =
+    silent_reads kept_bytes rest [] old middle new reported silent has none free cuts same ends is =
         let heard : Heard clock secret c (came ++ bytes) (taken ++ on c old.tables.unsent) (log ++ []) rest (phase_of old.tables.streams c) = record {
           session = 0;
           frames = [];
@@ -151,14 +151,14 @@ module _ (clock : Clock) (secret : List ℕ) (c : ℕ) where
           cuts = ap (λ xs. xs ++ bytes) has.0 ∙ cuts;
           word = ap (λ xs. word_in (xs ++ bytes)) has.0 ∙ none;
           greeted = refl;
-          pieces = has.3;
+          chunks = has.3;
           stands = inr (inr (silent, refl, refl));
         } in
         finish (came ++ bytes) taken (log ++ []) rest middle new
         (subst (λ (v : FrontView). Heard clock secret c (came ++ bytes) (taken ++ on c v.tables.unsent) (log ++ []) rest
         (phase_of v.tables.streams c)) (sym same) heard) ends
         (subst (λ (v : FrontView). Free c v.tables) (sym same) free) is
-    silent_reads kept_bytes rest (first ∷ frames) old middle new told silent has none free cuts handling ends is =
+    silent_reads kept_bytes rest (first ∷ frames) old middle new reported silent has none free cuts handling ends is =
         let more = frames_log (first ∷ frames) c old middle handling in
         let done = greets_all c first frames old middle silent free handling in
         let session = done.0 in
@@ -171,10 +171,10 @@ module _ (clock : Clock) (secret : List ℕ) (c : ℕ) where
           cuts = subst (λ xs. Cuts (xs ++ bytes) (first ∷ frames) rest) (sym has.0) cuts;
           word = ap (λ xs. word_in (xs ++ bytes)) has.0 ∙ none;
           greeted = greeted_deeper clock secret session opening_tree log more (first ∷ frames) talk
-              (greeted_as told.1 told.2 (sym told.0) session more (first ∷ frames) talk done.2);
-          pieces =
-              ap (λ ps. taken ++ ps) done.3.pieces ∙ sym (append_assoc taken (on c old.tables.unsent) (pieces_of c talk))
-              ∙ ap (λ ps. ps ++ pieces_of c talk) has.3;
+              (greeted_as reported.1 reported.2 (sym reported.0) session more (first ∷ frames) talk done.2);
+          chunks =
+              ap (λ ps. taken ++ ps) done.3.chunks ∙ sym (append_assoc taken (on c old.tables.unsent) (chunks_of c talk))
+              ∙ ap (λ ps. ps ++ chunks_of c talk) has.3;
           stands = standing session first frames talk (phase_of middle.tables.streams c) (is_closed talk) refl done.3.leaves;
         } in
         finish (came ++ bytes) taken (log ++ more) rest middle new heard ends done.4 is
@@ -186,7 +186,7 @@ module _ (clock : Clock) (secret : List ℕ) (c : ℕ) where
         → Free c old.tables → Cuts (kept_bytes ++ bytes) frames rest → (handles : HandlesAll frames c old middle)
         → (is_open middle.tables c ≡ true → IsEnd rest) → new ≡ keeps rest c middle
         → After (came ++ bytes) taken (log ++ frames_log frames c old middle handles) new
-    speaking_reads session kept_bytes rest frames old middle new told speaking has free cuts handling ends is =
+    speaking_reads session kept_bytes rest frames old middle new reported speaking has free cuts handling ends is =
         let more = frames_log frames c old middle handling in
         let done = own.handles_all c session frames old middle speaking free handling in
         let talk = done.0 in
@@ -198,21 +198,21 @@ module _ (clock : Clock) (secret : List ℕ) (c : ℕ) where
               (cuts_more came bytes (first ∷ before) kept_bytes before_cuts) cuts,
           cuts_word came bytes first before kept_bytes before_cuts,
         ))
-        (answered_as told.1 told.2 (sym told.0) session more frames talk done.1)
-        (ap (λ ps. taken ++ ps) here.pieces ∙ sym (append_assoc taken (on c old.tables.unsent) (pieces_of c talk))) here.leaves in
+        (answered_as reported.1 reported.2 (sym reported.0) session more frames talk done.1)
+        (ap (λ ps. taken ++ ps) here.chunks ∙ sym (append_assoc taken (on c old.tables.unsent) (chunks_of c talk))) here.leaves in
         finish (came ++ bytes) taken (log ++ more) rest middle new heard ends done.3 is
 
     silent_comes : (kept_bytes : List ℕ) (old new : FrontView) → KeepsFew old → IsBehind clock secret log old → phase_of old.tables.streams c ≡ Some Silent
         → Holds clock secret c came (taken ++ on c old.tables.unsent) log (Some Silent) kept_bytes → Free c old.tables
         → (comes : ComesBy (word_in (kept_bytes ++ bytes)) (kept_bytes ++ bytes) c old new)
         → After (came ++ bytes) taken (log ++ bytes_log (word_in (kept_bytes ++ bytes)) (kept_bytes ++ bytes) c old new comes) new
-    silent_comes kept_bytes old new few told silent has free comes =
+    silent_comes kept_bytes old new few reported silent has free comes =
         let all : word_in (came ++ bytes) ≡ word_in (kept_bytes ++ bytes) = ap (λ xs. word_in (xs ++ bytes)) has.0 in
         elim (word_in (kept_bytes ++ bytes)) as (λ asked. word_in (kept_bytes ++ bytes) ≡ asked
         → (comes : ComesBy asked (kept_bytes ++ bytes) c old new)
         → After (came ++ bytes) taken (log ++ bytes_log asked (kept_bytes ++ bytes) c old new comes) new) [
           | None ↦ λ none read.
-              silent_reads kept_bytes read.0 read.2.frames old read.1 new told silent has none free read.2.cuts read.2.handles read.2.ends
+              silent_reads kept_bytes read.0 read.2.frames old read.1 new reported silent has none free read.2.cuts read.2.handles read.2.ends
               (now_kept c (kept_bytes ++ bytes) read.0 old read.1 new few read.2 read.3)
           | Some word ↦ λ asked is.
               let text = text_of_word word old in
@@ -221,7 +221,7 @@ module _ (clock : Clock) (secret : List ℕ) (c : ℕ) where
               (says text kept_bytes old new silent has
               (subst (λ x. MatchOption x ((session : ℕ) × Greeted clock secret session opening_tree log [] talk)
               (λ y. SaysText clock secret (text_of_word y) log [] talk)) (sym (all ∙ asked))
-              (refl, (old, log, [], sym (append-nil log), sym told.0, told.1, told.2, refl))) free is)
+              (refl, (old, log, [], sym (append-nil log), sym reported.0, reported.1, reported.2, refl))) free is)
         ] refl comes
 
     comes_in : (phase : Option Phase) (kept_bytes : List ℕ) (old new : FrontView) → KeepsFew old → IsBehind clock secret log old
@@ -229,21 +229,21 @@ module _ (clock : Clock) (secret : List ℕ) (c : ℕ) where
         → Holds clock secret c came (taken ++ on c old.tables.unsent) log phase kept_bytes → Free c old.tables
         → (comes : ComesBy (word_asked phase (kept_bytes ++ bytes)) (kept_bytes ++ bytes) c old new)
         → After (came ++ bytes) taken (log ++ bytes_log (word_asked phase (kept_bytes ++ bytes)) (kept_bytes ++ bytes) c old new comes) new
-    comes_in None kept_bytes old new few told is is_on has free comes = absurd (cc is_on)
-    comes_in (Some Silent) kept_bytes old new few told silent is_on has free comes = silent_comes kept_bytes old new few told silent has free comes
-    comes_in (Some (Speaking session)) kept_bytes old new few told speaking is_on has free comes =
+    comes_in None kept_bytes old new few reported is is_on has free comes = absurd (cc is_on)
+    comes_in (Some Silent) kept_bytes old new few reported silent is_on has free comes = silent_comes kept_bytes old new few reported silent has free comes
+    comes_in (Some (Speaking session)) kept_bytes old new few reported speaking is_on has free comes =
         let reads = comes.2 in
-        speaking_reads session kept_bytes comes.0 reads.frames old comes.1 new told speaking has free reads.cuts reads.handles reads.ends
+        speaking_reads session kept_bytes comes.0 reads.frames old comes.1 new reported speaking has free reads.cuts reads.handles reads.ends
         (now_kept c (kept_bytes ++ bytes) comes.0 old comes.1 new few reads comes.3)
-    comes_in (Some Closing) kept_bytes old new few told is is_on has free comes = absurd (cc is_on)
+    comes_in (Some Closing) kept_bytes old new few reported is is_on has free comes = absurd (cc is_on)
 
     pub comes_open : (old new : FrontView) → KeepsFew old → IsBehind clock secret log old → is_open old.tables c ≡ true
         → HoldsAt clock secret c came taken log (view c old.tables) → Free c old.tables → (comes : ComesIf true bytes c old new)
         → After (came ++ bytes) taken (log ++ came_log true bytes c old new comes) new
-    comes_open old new few told is_on has free comes =
+    comes_open old new few reported is_on has free comes =
         let start = emptied c old in
         let same = phase_with c old.tables.streams [] in
-        comes_in (phase_of start.tables.streams c) (bytes_of old.tables.streams c) start new ((coming.empties c old).few few) told refl
+        comes_in (phase_of start.tables.streams c) (bytes_of old.tables.streams c) start new ((coming.empties c old).few few) reported refl
         (ap may_send same ∙ is_on)
         (subst (λ (phase : Option Phase). Holds clock secret c came (taken ++ on c old.tables.unsent) log phase (bytes_of old.tables.streams c))
         (sym same) has)

@@ -13,11 +13,11 @@ use Rattle.std.specs.Option.{option_map_or}
 use Rattle.ztree.proofs.Maps.{same_some, none_some, tied_same, get-insert-here, get-insert-elsewhere, get-remove-here, get-remove-elsewhere}
 use Rattle.zconnections.specs.declared.buffers.phase.Phase.{Phase}
 use Rattle.zconnections.specs.declared.buffers.phase.Phase.TheVariants.{Silent, Speaking, Closing}
-use Rattle.zconnections.specs.buffers.Outbox.{PieceView}
+use Rattle.zconnections.specs.buffers.Outbox.{ChunkView}
 use Rattle.zconnections.specs.buffers.Streams.{StreamRows, empty_in, phase_of}
-use Rattle.zconnections.specs.declared.attachments.sitting.Sitting.{Sitting}
-use Rattle.zconnections.specs.attachments.Sittings.{SittingsView, left, new_sitting, restored_sitting, with_changed}
-use Rattle.zconnections.specs.attachments.Sittings as seats
+use Rattle.zconnections.specs.declared.attachments.attachment.Attachment.{Attachment}
+use Rattle.zconnections.specs.attachments.Attachments.{AttachmentsView, left, new_attachment, restored_attachment, with_changed}
+use Rattle.zconnections.specs.attachments.Attachments as seats
 use Rattle.zwatches.specs.declared.changes.event.Event.{Event}
 use Rattle.zwatches.specs.declared.kind.Kind.{Kind}
 use Rattle.zwatches.specs.declared.watch.Watch.{Watch}
@@ -25,8 +25,8 @@ use Rattle.zwatches.specs.Watches.{Path, Watches, watch, watch_cmp}
 use Rattle.zwatches.specs.Events as watches
 use Rattle.zwatches.proofs.Order.{watches_total, same_watch}
 use Rattle.zconnections.specs.Tables.{TablesView, is_open, session_in, without_seat, parted, closing, closed, connection_of}
-use Rattle.zconnections.specs.Tables.{sent, sitting, seated, with_piece, piece}
-use Rattle.zconnections.specs.Telling.{unwatched}
+use Rattle.zconnections.specs.Tables.{sent, attachment, seated, with_chunk, chunk}
+use Rattle.zconnections.specs.Reporting.{unwatched}
 use Rattle.zconnections.specs.Sweeping.{forgotten}
 use Rattle.zfront_laws.proofs.Seated.{same_number, seat_elsewhere, seat_here, connection_in}
 use Rattle.zfront_laws.proofs.frames_lemmas.Views.{phase_in, changed-elsewhere}
@@ -38,12 +38,12 @@ speaks (Some Closing) = false
 speaks None = false
 
 pub record Free (c : ℕ) (t : TablesView) : Type 0 where
-  pub seat : (session : ℕ) → connection_of t.sittings session ≡ Some c → phase_of t.streams c ≡ Some (Speaking session)
+  pub seat : (session : ℕ) → connection_of t.attachments session ≡ Some c → phase_of t.streams c ≡ Some (Speaking session)
   pub watch : (w : Watch) → contains t.watches w ≡ true → w.connection ≡ c → speaks (phase_of t.streams c) ≡ true
 
 -- the same stream, and no seat or watch more
 pub free_by : (c : ℕ) (t u : TablesView) → get u.streams c ≡ get t.streams c
-    → ((session : ℕ) → connection_of u.sittings session ≡ Some c → connection_of t.sittings session ≡ Some c)
+    → ((session : ℕ) → connection_of u.attachments session ≡ Some c → connection_of t.attachments session ≡ Some c)
     → ((w : Watch) → contains u.watches w ≡ true → w.connection ≡ c → contains t.watches w ≡ true) → Free c t → Free c u
 free_by c t u same was had free = record {
   seat = λ session is. ap phase_in same ∙ free.seat session (was session is);
@@ -88,26 +88,26 @@ free-waiting c d kind path t own free = record {
 -- ---- a connection that leaves its session
 
 left_was : (o : Option ℕ) (t : TablesView) (session x : ℕ) → connection_of (without_seat o t) session ≡ Some x
-    → (connection_of t.sittings session ≡ Some x) × (o ≡ Some session → ⊥)
+    → (connection_of t.attachments session ≡ Some x) × (o ≡ Some session → ⊥)
 left_was None t session x is = (is, λ clash. none_some session clash)
 left_was (Some mine) t session x is = near (same_number session mine)
   where
-    gone : (o : Option Sitting) → get t.sittings mine ≡ o → connection_of (with_changed left t.sittings mine) mine ≡ None
-    gone None none = ap (λ o. connection_of (option_map_or (λ s. insert t.sittings mine (left s)) o t.sittings) mine) none ∙ ap connection_in none
-    gone (Some s) there = ap connection_in (seat_here left t.sittings mine s there)
+    gone : (o : Option Attachment) → get t.attachments mine ≡ o → connection_of (with_changed left t.attachments mine) mine ≡ None
+    gone None none = ap (λ o. connection_of (option_map_or (λ s. insert t.attachments mine (left s)) o t.attachments) mine) none ∙ ap connection_in none
+    gone (Some s) there = ap connection_in (seat_here left t.attachments mine s there)
 
-    near : (session ≡ mine) ⊎ (session ≢ mine) → (connection_of t.sittings session ≡ Some x) × (Some mine ≡ Some session → ⊥)
+    near : (session ≡ mine) ⊎ (session ≢ mine) → (connection_of t.attachments session ≡ Some x) × (Some mine ≡ Some session → ⊥)
     near (inl same) =
-        absurd (none_some x (sym (gone (get t.sittings mine) refl) ∙ ap (connection_of (with_changed left t.sittings mine)) (sym same) ∙ is))
+        absurd (none_some x (sym (gone (get t.attachments mine) refl) ∙ ap (connection_of (with_changed left t.attachments mine)) (sym same) ∙ is))
     near (inr apart) = (
-      sym (ap connection_in (seat_elsewhere left t.sittings mine session apart)) ∙ is,
+      sym (ap connection_in (seat_elsewhere left t.attachments mine session apart)) ∙ is,
       λ own. apart (sym (same_some mine session own)),
     )
 
 -- it has nothing left
-pub free-parted : (c : ℕ) (t : TablesView) (rows : StreamRows) (pieces : List PieceView) → Free c t
-    → Free c (record (parted c t) { streams = rows; unsent = pieces })
-free-parted c t rows pieces free = record {
+pub free-parted : (c : ℕ) (t : TablesView) (rows : StreamRows) (chunks : List ChunkView) → Free c t
+    → Free c (record (parted c t) { streams = rows; unsent = chunks })
+free-parted c t rows chunks free = record {
   seat = λ session is.
       let was = left_was (session_in (phase_of t.streams c)) t session c is in
       absurd (was.1 (ap session_in (free.seat session was.0)));
@@ -115,10 +115,10 @@ free-parted c t rows pieces free = record {
 }
 
 -- and the others have no more
-pub free-parted-elsewhere : (c d : ℕ) (t : TablesView) (rows : StreamRows) (pieces : List PieceView) → get rows c ≡ get t.streams c → Free c t
-    → Free c (record (parted d t) { streams = rows; unsent = pieces })
-free-parted-elsewhere c d t rows pieces same free =
-    free_by c t (record (parted d t) { streams = rows; unsent = pieces }) same
+pub free-parted-elsewhere : (c d : ℕ) (t : TablesView) (rows : StreamRows) (chunks : List ChunkView) → get rows c ≡ get t.streams c → Free c t
+    → Free c (record (parted d t) { streams = rows; unsent = chunks })
+free-parted-elsewhere c d t rows chunks same free =
+    free_by c t (record (parted d t) { streams = rows; unsent = chunks }) same
     (λ session is. (left_was (session_in (phase_of t.streams d)) t session c is).0)
     (λ w is own. (retained t.watches (λ w. not (eqb w.connection d)) w is).0) free
 
@@ -135,7 +135,7 @@ free-closed c d t free = elim (is_open t d) as (λ b. Free c (if b then closing 
         (changed-elsewhere (λ s. empty_in Closing) t.streams d c (λ is. other (sym is))) free
 
 pub free-sent : (c d : ℕ) (bytes : List ℕ) (t : TablesView) → Free c t → Free c (sent d bytes t)
-free-sent c d bytes t free = elim (is_open t d) as (λ b. Free c (if b then with_piece (piece d bytes) t else t)) [
+free-sent c d bytes t free = elim (is_open t d) as (λ b. Free c (if b then with_chunk (chunk d bytes) t else t)) [
   | true ↦ record { seat = free.seat; watch = free.watch }
   | false ↦ free
 ]
@@ -143,24 +143,24 @@ free-sent c d bytes t free = elim (is_open t d) as (λ b. Free c (if b then with
 -- ---- sessions
 
 -- the same seats
-pub free-sittings : (c : ℕ) (t : TablesView) (m : SittingsView) → ((id : ℕ) → connection_of m id ≡ connection_of t.sittings id) → Free c t
-    → Free c (record t { sittings = m })
-free-sittings c t m alike free = free_by c t (record t { sittings = m }) refl (λ session is. sym (alike session) ∙ is) (λ w is own. is) free
+pub free-attachments : (c : ℕ) (t : TablesView) (m : AttachmentsView) → ((id : ℕ) → connection_of m id ≡ connection_of t.attachments id) → Free c t
+    → Free c (record t { attachments = m })
+free-attachments c t m alike free = free_by c t (record t { attachments = m }) refl (λ session is. sym (alike session) ∙ is) (λ w is own. is) free
 
 pub free-forgotten : (c session : ℕ) (t : TablesView) → Free c t → Free c (forgotten session t)
 free-forgotten c session t free =
     free_by c t (forgotten session t) refl (λ other is. near other is (same_number other session)) (λ w is own. is) free
   where
-    near : (other : ℕ) → connection_of (remove t.sittings session) other ≡ Some c → (other ≡ session) ⊎ (other ≢ session)
-        → connection_of t.sittings other ≡ Some c
+    near : (other : ℕ) → connection_of (remove t.attachments session) other ≡ Some c → (other ≡ session) ⊎ (other ≢ session)
+        → connection_of t.attachments other ≡ Some c
     near other is (inl same) =
-        absurd (none_some c (sym (ap connection_in (get-remove-here nat_cmp_total nat_cmp-IsAntisymmetric t.sittings session))
-        ∙ ap (connection_of (remove t.sittings session)) (sym same) ∙ is))
+        absurd (none_some c (sym (ap connection_in (get-remove-here nat_cmp_total nat_cmp-IsAntisymmetric t.attachments session))
+        ∙ ap (connection_of (remove t.attachments session)) (sym same) ∙ is))
     near other is (inr apart) = sym
-        (ap connection_in (get-remove-elsewhere nat_cmp_total nat_cmp-IsAntisymmetric t.sittings session other apart)) ∙ is
+        (ap connection_in (get-remove-elsewhere nat_cmp_total nat_cmp-IsAntisymmetric t.attachments session other apart)) ∙ is
 
--- who has the seats, where a session gets a sitting with a connection
-new_seat : (m : SittingsView) (session d x other : ℕ) (s : Sitting) → s.connection ≡ Some d → connection_of (insert m session s) other ≡ Some x
+-- who has the seats, where a session gets a attachment with a connection
+new_seat : (m : AttachmentsView) (session d x other : ℕ) (s : Attachment) → s.connection ≡ Some d → connection_of (insert m session s) other ≡ Some x
     → ((other ≡ session) × (d ≡ x)) ⊎ ((other ≢ session) × (connection_of m other ≡ Some x))
 new_seat m session d x other s sits is = near (same_number other session)
   where
@@ -175,46 +175,46 @@ new_seat m session d x other s sits is = near (same_number other session)
         inr (apart, sym (ap connection_in (get-insert-elsewhere nat_cmp_total nat_cmp-IsAntisymmetric m session s other apart)) ∙ is)
 
 -- that of one that is taken up
-abbrev taken_in : SittingsView → ℕ → ℕ → Sitting
-taken_in m session d = seats.taken_up d (unwrap_or (get m session) restored_sitting)
+abbrev taken_in : AttachmentsView → ℕ → ℕ → Attachment
+taken_in m session d = seats.taken_up d (unwrap_or (get m session) restored_attachment)
 
 -- another connection gets it
 seat_of_another : (c d : ℕ) (t : TablesView) (session other : ℕ) → d ≢ c → ((other ≡ session) × (d ≡ c))
-    ⊎ ((other ≢ session) × (connection_of t.sittings other ≡ Some c))
-    → connection_of t.sittings other ≡ Some c
+    ⊎ ((other ≢ session) × (connection_of t.attachments other ≡ Some c))
+    → connection_of t.attachments other ≡ Some c
 seat_of_another c d t session other apart (inl own) = absurd (apart own.1)
 seat_of_another c d t session other apart (inr was) = was.1
 
-pub free-sitting-elsewhere : (c d session : ℕ) (t : TablesView) → d ≢ c → Free c t → Free c (sitting session d t)
-free-sitting-elsewhere c d session t other free =
-    free_by c t (sitting session d t) (changed-elsewhere (λ s. record s { phase = Speaking session }) t.streams d c (λ is. other (sym is)))
-    (λ s is. seat_of_another c d t session s other (new_seat t.sittings session d c s (new_sitting d) refl is)) (λ w is own. is) free
+pub free-attachment-elsewhere : (c d session : ℕ) (t : TablesView) → d ≢ c → Free c t → Free c (attachment session d t)
+free-attachment-elsewhere c d session t other free =
+    free_by c t (attachment session d t) (changed-elsewhere (λ s. record s { phase = Speaking session }) t.streams d c (λ is. other (sym is)))
+    (λ s is. seat_of_another c d t session s other (new_seat t.attachments session d c s (new_attachment d) refl is)) (λ w is own. is) free
 
 pub free-seated-elsewhere : (c d session : ℕ) (t : TablesView) → d ≢ c → Free c t → Free c (seated session d t)
 free-seated-elsewhere c d session t other free =
     free_by c t (seated session d t) (changed-elsewhere (λ s. record s { phase = Speaking session }) t.streams d c (λ is. other (sym is)))
-    (λ s is. seat_of_another c d t session s other (new_seat t.sittings session d c s (taken_in t.sittings session d) refl is)) (λ w is own. is) free
+    (λ s is. seat_of_another c d t session s other (new_seat t.attachments session d c s (taken_in t.attachments session d) refl is)) (λ w is own. is) free
 
 -- the connection itself gets it, and speaks then
 own_seat : (c : ℕ) (t : TablesView) (session other : ℕ) (p : Option Phase) → Free c t → phase_of t.streams c ≡ Some Silent
     → p ≡ Some (Speaking session)
-    → ((other ≡ session) × (c ≡ c)) ⊎ ((other ≢ session) × (connection_of t.sittings other ≡ Some c)) → p ≡ Some (Speaking other)
+    → ((other ≡ session) × (c ≡ c)) ⊎ ((other ≢ session) × (connection_of t.attachments other ≡ Some c)) → p ≡ Some (Speaking other)
 own_seat c t session other p free silent speaking (inl own) = speaking ∙ ap (λ s. Some (Speaking s)) (sym own.0)
 own_seat c t session other p free silent speaking (inr was) =
     let clash : false ≡ true = sym (ap speaks silent) ∙ ap speaks (free.seat other was.1) in
     absurd (cc clash)
 
 module _ (c session : ℕ) (t : TablesView) (free : Free c t) (silent : phase_of t.streams c ≡ Some Silent) where
-  pub free-sitting : phase_of (sitting session c t).streams c ≡ Some (Speaking session) → Free c (sitting session c t)
-  free-sitting speaking = record {
-    seat = λ s is. own_seat c t session s (phase_of (sitting session c t).streams c) free silent speaking
-        (new_seat t.sittings session c c s (new_sitting c) refl is);
+  pub free-attachment : phase_of (attachment session c t).streams c ≡ Some (Speaking session) → Free c (attachment session c t)
+  free-attachment speaking = record {
+    seat = λ s is. own_seat c t session s (phase_of (attachment session c t).streams c) free silent speaking
+        (new_seat t.attachments session c c s (new_attachment c) refl is);
     watch = λ w is own. ap speaks speaking;
   }
 
   pub free-seated : phase_of (seated session c t).streams c ≡ Some (Speaking session) → Free c (seated session c t)
   free-seated speaking = record {
     seat = λ s is. own_seat c t session s (phase_of (seated session c t).streams c) free silent speaking
-        (new_seat t.sittings session c c s (taken_in t.sittings session c) refl is);
+        (new_seat t.attachments session c c s (taken_in t.attachments session c) refl is);
     watch = λ w is own. ap speaks speaking;
   }

@@ -4,7 +4,7 @@ use Rattle.std.specs.List.{list_any}
 use Rattle.zcalls.specs.declared.call.Call.{Call}
 use Rattle.zcalls.specs.declared.reply.Reply.{Reply}
 use Rattle.zconnections.specs.Tables.{TablesView}
-use Rattle.zconnections.specs.Telling.{told_all}
+use Rattle.zconnections.specs.Reporting.{reported_all}
 use Rattle.zresponses.specs.effects.Looking.{seen}
 use Rattle.zfront.specs.Front.{FrontView, with_tables, may_end, gone_from, swept, took_unnamed, looks, LooksIf, TidiesIf, Tidies}
 use Rattle.zfront_laws.proofs.frames_lemmas.Calm as table
@@ -28,7 +28,7 @@ module _ (c : ℕ) where
   looks_if false old new is = same old new is
   looks_if true old new has =
       let events = seen old.tree.zxid has.0 (looks old.tree has.0) in
-      retabled (told_all events old.tables) old new has.2 (table.tells_all c events old.tables)
+      retabled (reported_all events old.tables) old new has.2 (table.reports_all c events old.tables)
 
   tidies_if : (may : Bool) (replies : List Reply) (old new : FrontView) → TidiesIf may replies old new → Calm c old.tables new.tables
   tidies_if false replies old new is = same old new is

@@ -1,5 +1,5 @@
 -- The first frame of a connection is answered as a greeting, or the connection is closed. Behind it
--- the connection speaks for the session that it was told.
+-- the connection speaks for the session that it was reported.
 use Rattle.std.proofs.Common.{◌≡◌, ◌≢◌, inl, inr, ◌∙◌, ℕ, Bool, true, false, List, [], ◌∷◌, ◌++◌, Option, None, Some}
 use Rattle.std.proofs.Common.{Result, Ok, Err, refl, sym, ap, subst, append_assoc, arith}
 use Rattle.std.specs.Prelude.{◌||◌, ℤ, pos, negsuc, nat_eq, replicate, zip, if◌then◌else◌}
@@ -19,7 +19,7 @@ use Rattle.zcalls.specs.declared.reply.Reply.{Reply}
 use Rattle.zcalls.specs.declared.reply.Reply.TheVariants.{Opened}
 use Rattle.zjute.specs.Connecting.{connect_request}
 use Rattle.zjute.specs.declared.connecting.ConnectRequest.{ConnectRequest}
-use Rattle.zrequests.specs.Timeouts.{millis_told}
+use Rattle.zrequests.specs.Timeouts.{millis_reported}
 use Rattle.zresponses.specs.declared.clock.Clock.{Clock}
 use Rattle.zresponses.specs.Stats.{long_of}
 use Rattle.ztree_service.specs.log.Logs.{Log}
@@ -27,21 +27,21 @@ use Rattle.zpasswords.specs.Passwords.{password_of}
 use Rattle.zconnections.specs.declared.buffers.phase.Phase.{Phase}
 use Rattle.zconnections.specs.declared.buffers.phase.Phase.TheVariants.{Silent, Speaking, Closing}
 use Rattle.zconnections.specs.buffers.Streams.{StreamView, StreamRows, phase_of, with_phase}
-use Rattle.zconnections.specs.Tables.{TablesView, may_send, is_open, piece, sent, closed, sitting, seated, moved, taken_up, connection_of}
+use Rattle.zconnections.specs.Tables.{TablesView, may_send, is_open, chunk, sent, closed, attachment, seated, moved, taken_up, connection_of}
 use Rattle.zresponses.specs.effects.Frames.{response_frame}
-use Rattle.zresponses.specs.effects.Greeting.{session_told, turned_away, given, came_back, is_ahead}
+use Rattle.zresponses.specs.effects.Greeting.{session_reported, turned_away, given, came_back, is_ahead}
 use Rattle.zfront.specs.Front.{FrontView, with_tables, replies_to}
 use Rattle.zfront.specs.Greeting.{opening, opened, with_session, returned, greeted_by}
 use Rattle.zfront.specs.Reading.{HandlesIn, Handles, HandlesAll}
 use Rattle.zfront_laws.specs.Logs.{greeting_calls, frame_calls, done_by, frame_log, frames_log}
 use Rattle.zfront_laws.proofs.Coming as coming
 use Rattle.zfront_laws.proofs.Steps.{Goes}
-use Rattle.zfront_laws.specs.frames.Talk.{Talk, Quiet, Answers, Closes, pieces_of, is_closed, IsWelcome, tree_behind, Greeted}
+use Rattle.zfront_laws.specs.frames.Talk.{Talk, Quiet, Answers, Closes, chunks_of, is_closed, IsWelcome, tree_behind, Greeted}
 use Rattle.zfront_laws.specs.frames.Laws.{on}
-use Rattle.zfront_laws.proofs.frames_lemmas.Views.{View, view, phase_in, run, followed, closed-followed, pieces-followed}
-use Rattle.zfront_laws.proofs.frames_lemmas.Views.{run_pieces, run_closed, run_stream, view-sent, view-closed}
+use Rattle.zfront_laws.proofs.frames_lemmas.Views.{View, view, phase_in, run, followed, closed-followed, chunks-followed}
+use Rattle.zfront_laws.proofs.frames_lemmas.Views.{run_chunks, run_closed, run_stream, view-sent, view-closed}
 use Rattle.zfront_laws.proofs.frames_lemmas.Views.{view-closed-elsewhere, changed-here}
-use Rattle.zfront_laws.proofs.frames_lemmas.Free.{speaks, Free, free-sent, free-closed, free-sitting, free-seated}
+use Rattle.zfront_laws.proofs.frames_lemmas.Free.{speaks, Free, free-sent, free-closed, free-attachment, free-seated}
 use Rattle.zfront_laws.proofs.frames_lemmas.Calm as table
 use Rattle.zfront_laws.proofs.frames_lemmas.Calm.{Calm}
 use Rattle.zfront_laws.proofs.frames_lemmas.Talking.{answered_as, greeted_both}
@@ -55,7 +55,7 @@ abbrev pub after : Talk → Phase → Option Phase
 after talk phase = if is_closed talk then Some Closing else Some phase
 
 pub record Went (c : ℕ) (talk : Talk) (phase : Phase) (old new : TablesView) : Type 0 where
-  pub pieces : on c new.unsent ≡ on c old.unsent ++ pieces_of c talk
+  pub chunks : on c new.unsent ≡ on c old.unsent ++ chunks_of c talk
   pub leaves : phase_of new.streams c ≡ after talk phase
 
 -- frames, the first of them a greeting, were answered, while the calls of this log were made
@@ -72,7 +72,7 @@ module _ (c : ℕ) where
       → (is_closed talk ≡ false → phase_of old.streams c ≡ Some phase)
       → view c new ≡ run c talk (view c old) → Went c talk phase old new
   went talk phase old new is_on is has = record {
-    pieces = ap (λ (w : View). w.1) has ∙ run_pieces c talk (view c old) is_on;
+    chunks = ap (λ (w : View). w.1) has ∙ run_chunks c talk (view c old) is_on;
     leaves = by (is_closed talk) refl;
   }
     where
@@ -84,11 +84,11 @@ module _ (c : ℕ) where
       → Went c one phase old middle → Went c two last middle new
       → Went c (followed one two) last old new
   went_both one two phase last old middle new still first second = record {
-    pieces =
-        second.pieces
-        ∙ ap (λ ps. ps ++ pieces_of c two) first.pieces
-        ∙ append_assoc (on c old.unsent) (pieces_of c one) (pieces_of c two)
-        ∙ ap (λ ps. on c old.unsent ++ ps) (sym (pieces-followed c one two still));
+    chunks =
+        second.chunks
+        ∙ ap (λ ps. ps ++ chunks_of c two) first.chunks
+        ∙ append_assoc (on c old.unsent) (chunks_of c one) (chunks_of c two)
+        ∙ ap (λ ps. on c old.unsent ++ ps) (sym (chunks-followed c one two still));
     leaves =
         second.leaves
         ∙ ap (λ (b : Bool). if b then Some Closing else Some last)
@@ -109,14 +109,14 @@ module _ (c : ℕ) where
 
   -- the session's connection is another one
   moved_view : (session : ℕ) (t : TablesView) → IsSilent t → Free c t → view c (moved session t) ≡ view c t
-  moved_view session t silent free = by (connection_of t.sittings session) refl
+  moved_view session t silent free = by (connection_of t.attachments session) refl
     where
-      apart : (d : ℕ) → connection_of t.sittings session ≡ Some d → d ≢ c
+      apart : (d : ℕ) → connection_of t.attachments session ≡ Some d → d ≢ c
       apart d has is =
           let clash : false ≡ true = sym (ap speaks silent) ∙ ap speaks (free.seat session (has ∙ ap (λ x. Some x) is)) in
           absurd (cc clash)
 
-      by : (o : Option ℕ) → connection_of t.sittings session ≡ o → view c (option_map_or (λ d. closed d t) o t) ≡ view c t
+      by : (o : Option ℕ) → connection_of t.attachments session ≡ o → view c (option_map_or (λ d. closed d t) o t) ≡ view c t
       by None has = refl
       by (Some d) has = view-closed-elsewhere c d t (apart d has)
 
@@ -135,28 +135,28 @@ module _ (c : ℕ) where
       -- who is turned away
       met_turned : (old : TablesView) → IsSilent old → Free c old → Met clock secret c (bytes ∷ []) tree [] old (turned_away greeting c old)
       met_turned old silent free =
-          let told = response_frame greeting (pos 0) (pos 0) (replicate 16 0) in
-          let u = sent c told old in (
+          let reported = response_frame greeting (pos 0) (pos 0) (replicate 16 0) in
+          let u = sent c reported old in (
             0,
-            Answers told Closes,
+            Answers reported Closes,
             (bytes, [], [], [], refl, refl, inr (record { greeting = greeting; reads = reads; frames = refl }, refl, refl)),
-            went (Answers told Closes) (Speaking 0) old (closed c u) (ap may_send silent) (λ still. absurd (cc still))
-                (view-closed c u ∙ ap (run c Closes) (view-sent c told old)),
-            free-closed c c u (free-sent c c told old free),
+            went (Answers reported Closes) (Speaking 0) old (closed c u) (ap may_send silent) (λ still. absurd (cc still))
+                (view-closed c u ∙ ap (run c Closes) (view-sent c reported old)),
+            free-closed c c u (free-sent c c reported old free),
           )
 
-      -- who is told a session, which the connection has then
-      met_told : (session : ℕ) (told : List ℕ) (log : Log) (old u : TablesView)
-          → IsWelcome clock secret session bytes told (tree_behind tree log) log → on c u.unsent ≡ on c old.unsent
-          → phase_of u.streams c ≡ Some (Speaking session) → Free c u → Met clock secret c (bytes ∷ []) tree log old (sent c told u)
-      met_told session told log old u is same speaking free =
+      -- who is reported a session, which the connection has then
+      met_reported : (session : ℕ) (reported : List ℕ) (log : Log) (old u : TablesView)
+          → IsWelcome clock secret session bytes reported (tree_behind tree log) log → on c u.unsent ≡ on c old.unsent
+          → phase_of u.streams c ≡ Some (Speaking session) → Free c u → Met clock secret c (bytes ∷ []) tree log old (sent c reported u)
+      met_reported session reported log old u is same speaking free =
           let is_on : is_open u c ≡ true = ap may_send speaking in
-          let here = went (Answers told Quiet) (Speaking session) u (sent c told u) is_on (λ still. speaking) (view-sent c told u) in (
+          let here = went (Answers reported Quiet) (Speaking session) u (sent c reported u) is_on (λ still. speaking) (view-sent c reported u) in (
             session,
-            Answers told Quiet,
+            Answers reported Quiet,
             (bytes, [], log, [], refl, sym (append-nil log), inl (is, refl)),
-            record { pieces = here.pieces ∙ ap (λ ps. ps ++ piece c told ∷ []) same; leaves = here.leaves },
-            free-sent c c told u free,
+            record { chunks = here.chunks ∙ ap (λ ps. ps ++ chunk c reported ∷ []) same; leaves = here.leaves },
+            free-sent c c reported u free,
           )
 
       -- a session was opened, or not
@@ -167,11 +167,11 @@ module _ (c : ℕ) where
       met_opened (Opened session ticks ∷ replies) old new silent free =
           let log = (opening clock.tick greeting, Opened session ticks) ∷ [] in
           let speaking = phase_there old.streams (Speaking session) silent in
-          met_told session (response_frame greeting (millis_told clock.tick ticks) (long_of session) (password_of secret session)) log
-          old (sitting session c old) (record { greeting = greeting; reads = reads; has = inl ([], ticks, new, refl, refl) }) refl speaking
-          (free-sitting c session old free silent speaking)
-      met_opened (told ∷ replies) old new silent free =
-          met_closed (zip (opening clock.tick greeting ∷ []) (told ∷ replies)) old silent free
+          met_reported session (response_frame greeting (millis_reported clock.tick ticks) (long_of session) (password_of secret session)) log
+          old (attachment session c old) (record { greeting = greeting; reads = reads; has = inl ([], ticks, new, refl, refl) }) refl speaking
+          (free-attachment c session old free silent speaking)
+      met_opened (reported ∷ replies) old new silent free =
+          met_closed (zip (opening clock.tick greeting ∷ []) (reported ∷ replies)) old silent free
 
       -- a client comes back
       met_back : (session : ℕ) (sits : Session) (old : TablesView) → greeting.session_id ≡ pos session
@@ -180,18 +180,18 @@ module _ (c : ℕ) where
           (came_back clock.tick greeting session sits.timeout (password_of secret session) c old)
       met_back session sits old asks there silent free =
           let u = moved session old in
-          let timeout = millis_told clock.tick sits.timeout in
+          let timeout = millis_reported clock.tick sits.timeout in
           let password = password_of secret session in
           let same = moved_view session old silent free in
           let silent_then : IsSilent u = ap (λ (w : View). phase_in w.0) same ∙ silent in
           let speaking = phase_there u.streams (Speaking session) silent_then in
           elim (pointwise nat_eq (given greeting) password) as
           (λ b. pointwise nat_eq (given greeting) password ≡ b
-          → Met clock secret c (bytes ∷ []) tree [] old (if b then session_told greeting session timeout password c (taken_up session c old)
+          → Met clock secret c (bytes ∷ []) tree [] old (if b then session_reported greeting session timeout password c (taken_up session c old)
           else turned_away greeting c old)) [
             | true ↦ λ matches.
                 let gives = (bytes_decides (given greeting) password).0 matches in
-                met_told session (response_frame greeting timeout (long_of session) password) [] old (seated session c u)
+                met_reported session (response_frame greeting timeout (long_of session) password) [] old (seated session c u)
                 (record {
                   greeting = greeting;
                   reads = reads;

@@ -8,7 +8,7 @@ use Rattle.ztree.specs.Tree.{opening_tree}
 use Rattle.zconnections.specs.declared.buffers.phase.Phase.{Phase}
 use Rattle.zconnections.specs.declared.buffers.phase.Phase.TheVariants.{Silent, Speaking, Closing}
 use Rattle.zconnections.specs.buffers.Inputs.InputView.{Opened}
-use Rattle.zconnections.specs.buffers.Outbox.{PieceView}
+use Rattle.zconnections.specs.buffers.Outbox.{ChunkView}
 use Rattle.zconnections.specs.buffers.Streams.{StreamRows, StreamView, phase_of}
 use Rattle.zwatches.specs.Watches.{Watches, watch_cmp}
 use Rattle.zresponses.specs.declared.clock.Clock.{Clock}
@@ -32,7 +32,7 @@ use Rattle.zfront_laws.proofs.frames_lemmas.Behind.{runs_behind}
 use Rattle.zfront_laws.proofs.frames_lemmas.Before.{IsAway, Known, opens, runs_before}
 
 -- what a connection that is there shows
-shows : (clock : Clock) (secret : List ℕ) (c : ℕ) (came : List ℕ) (went : List PieceView) (log : Log) (phase : Option Phase) (bytes : List ℕ) → Holds clock secret c came went log phase bytes
+shows : (clock : Clock) (secret : List ℕ) (c : ℕ) (came : List ℕ) (went : List ChunkView) (log : Log) (phase : Option Phase) (bytes : List ℕ) → Holds clock secret c came went log phase bytes
     → Talks clock secret c log came went (may_send phase)
 shows clock secret c came went log None bytes has = absurd has
 shows clock secret c came went log (Some Silent) bytes has = record {
@@ -40,7 +40,7 @@ shows clock secret c came went log (Some Silent) bytes has = record {
   rest = bytes;
   talk = Quiet;
   cuts = has.0;
-  pieces = has.3;
+  chunks = has.3;
   answers = unworded clock secret came log [] Quiet has.2 (0, refl);
   ends = λ is_on. has.1;
   closes = refl;
@@ -50,7 +50,7 @@ shows clock secret c came went log (Some (Speaking session)) bytes has = record 
   rest = bytes;
   talk = has.2;
   cuts = has.3;
-  pieces = has.8;
+  chunks = has.8;
   answers = unworded clock secret came log (has.0 ∷ has.1) has.2 has.5 (session, has.6);
   ends = λ is_on. has.4;
   closes = has.7;
@@ -60,7 +60,7 @@ shows clock secret c came went log (Some Closing) bytes has = record {
   rest = has.1;
   talk = has.2;
   cuts = has.3;
-  pieces = has.6;
+  chunks = has.6;
   answers = has.4;
   ends = λ is_on. absurd (cc is_on);
   closes = has.5;
@@ -70,7 +70,7 @@ shows clock secret c came went log (Some Closing) bytes has = record {
 bare_away : (c : ℕ) (t : TablesView) → IsBare t → IsAway c t × Free c t
 bare_away c t bare = (
   ap (λ (rows : StreamRows). (finite.get rows c, on c t.unsent)) bare.streams
-      ∙ ap (λ (pieces : List PieceView). (finite.get (finite.empty {X = StreamView} {R = nat_cmp}) c, on c pieces)) bare.unsent
+      ∙ ap (λ (chunks : List ChunkView). (finite.get (finite.empty {X = StreamView} {R = nat_cmp}) c, on c chunks)) bare.unsent
       ∙ ap (λ (o : Option StreamView). (o, [])) (finite.get-empty nat_cmp c),
   record {
     seat = λ session sits. absurd (none_some c (sym (unseated t bare session) ∙ sits));

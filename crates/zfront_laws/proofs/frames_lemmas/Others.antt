@@ -23,7 +23,7 @@ use Rattle.zjute.specs.declared.connecting.ConnectRequest.{ConnectRequest}
 use Rattle.zjute.specs.declared.request.Request.{Request}
 use Rattle.zrequests.specs.Asking.{Meaning}
 use Rattle.zrequests.specs.Requests.{calls_in}
-use Rattle.zrequests.specs.Timeouts.{millis_told}
+use Rattle.zrequests.specs.Timeouts.{millis_reported}
 use Rattle.zrequests.specs.declared.fault.Unasked.TheVariants.{Refused, Memory}
 use Rattle.zresponses.specs.declared.answer.Answer.{Answer}
 use Rattle.zresponses.specs.declared.clock.Clock.{Clock}
@@ -32,16 +32,16 @@ use Rattle.zresponses.specs.Answers.{failed}
 use Rattle.zresponses.specs.Stats.{long_of}
 use Rattle.zconnections.specs.declared.buffers.phase.Phase.{Phase}
 use Rattle.zconnections.specs.declared.buffers.phase.Phase.TheVariants.{Silent, Speaking, Closing}
-use Rattle.zconnections.specs.buffers.Outbox.{PieceView}
+use Rattle.zconnections.specs.buffers.Outbox.{ChunkView}
 use Rattle.zconnections.specs.buffers.Outbox as outbox
 use Rattle.zconnections.specs.buffers.Streams.{StreamRows, StreamView, bytes_of, held_of, phase_of, with_bytes}
 use Rattle.zconnections.specs.buffers.Streams as stream
 use Rattle.zpasswords.specs.Passwords.{password_of}
-use Rattle.zconnections.specs.attachments.Sittings.{touched, touched_ids, with_changed, all_rested}
-use Rattle.zconnections.specs.Tables.{TablesView, is_open, closed, sent, sitting, moved, taken_up, ended}
+use Rattle.zconnections.specs.attachments.Attachments.{touched, touched_ids, with_changed, all_rested}
+use Rattle.zconnections.specs.Tables.{TablesView, is_open, closed, sent, attachment, moved, taken_up, ended}
 use Rattle.zresponses.specs.effects.Answering.{answered, answer_unless, now_of}
 use Rattle.zresponses.specs.effects.Frames.{answer_frame, response_frame, ends_connection}
-use Rattle.zresponses.specs.effects.Greeting.{session_told, welcomed, turned_away, given, came_back, is_ahead}
+use Rattle.zresponses.specs.effects.Greeting.{session_reported, welcomed, turned_away, given, came_back, is_ahead}
 use Rattle.zresponses.specs.effects.Replying.{absorbed_all, replied}
 use Rattle.zresponses.specs.effects.Watching.{granted_all, some_lacked}
 use Rattle.zresponses.specs.effects.Wishes.{wishes}
@@ -55,11 +55,11 @@ use Rattle.zfront.specs.Requests.{touched_by, with_answer, Makes, Acts, Requests
 use Rattle.zfront.specs.Ticking.{tick_calls, rested, TicksBy, Ticks}
 use Rattle.zfront.specs.Words.{said, text_of_word}
 use Rattle.zfront_laws.specs.Runs.{KeepsFew}
-use Rattle.zfront_laws.proofs.Kept.{changed_alike, rests_alike}
+use Rattle.zfront_laws.proofs.Cached.{changed_alike, rests_alike}
 use Rattle.zfront_laws.proofs.Coming as coming
 use Rattle.zfront_laws.specs.frames.Laws.{on}
 use Rattle.zfront_laws.proofs.frames_lemmas.Views.{changed-elsewhere}
-use Rattle.zfront_laws.proofs.frames_lemmas.Free.{free_by, free-sittings, free-sitting-elsewhere, free-seated-elsewhere, free-parted-elsewhere}
+use Rattle.zfront_laws.proofs.frames_lemmas.Free.{free_by, free-attachments, free-attachment-elsewhere, free-seated-elsewhere, free-parted-elsewhere}
 use Rattle.zfront_laws.proofs.frames_lemmas.Calm as table
 use Rattle.zfront_laws.proofs.frames_lemmas.Calm.{Calm}
 use Rattle.zfront_laws.proofs.frames_lemmas.Fronts as front
@@ -80,12 +80,12 @@ module _ (c : ℕ) where
   pub touches : (session : ℕ) (v : FrontView) → Calm c v.tables (touched_by session v).tables
   touches session v =
       table.alike c v.tables (touched_by session v).tables refl
-      (free-sittings c v.tables (with_changed touched v.tables.sittings session) (changed_alike touched (λ s. refl) v.tables.sittings session).0)
+      (free-attachments c v.tables (with_changed touched v.tables.attachments session) (changed_alike touched (λ s. refl) v.tables.attachments session).0)
 
 -- frames of another connection
 module _ (c d : ℕ) (other : d ≢ c) where
-  tells_answer : (zxid : ℕ) (xid : ℤ) (answer : Answer) (t : TablesView) → Calm c t (replied zxid d xid answer t)
-  tells_answer zxid xid answer t =
+  reports_answer : (zxid : ℕ) (xid : ℤ) (answer : Answer) (t : TablesView) → Calm c t (replied zxid d xid answer t)
+  reports_answer zxid xid answer t =
       let u = sent d (answer_frame zxid xid answer) t in
       let sends = table.sends_elsewhere c d (answer_frame zxid xid answer) t other in
       elim (ends_connection answer.code) as (λ b. Calm c t (if b then closed d u else u)) [
@@ -102,7 +102,7 @@ module _ (c d : ℕ) (other : d ≢ c) where
       let answer = answer_unless (some_lacked d wished u) clock now r.asked calls replies in
       table.both c t u (replied now.zxid d r.xid answer w) (table.absorbs_all c calls replies t)
       (table.both c u w (replied now.zxid d r.xid answer w) (table.grants c d r.asked calls replies u (λ is. absurd (other is)))
-      (tells_answer now.zxid r.xid answer w))
+      (reports_answer now.zxid r.xid answer w))
 
   makes : (calls : List Call) (r : Request) (old new : FrontView) → Makes calls d r old new → Calm c old.tables new.tables
   makes calls r old new has =
@@ -113,7 +113,7 @@ module _ (c d : ℕ) (other : d ≢ c) where
   acts : (meaning : Meaning (List Call)) (r : Request) (old new : FrontView) → Acts meaning d r old new → Calm c old.tables new.tables
   acts (Err (Refused code)) r old new is =
       front.retabled c (replied old.tree.zxid d r.xid (failed code) old.tables) old new is
-      (tells_answer old.tree.zxid r.xid (failed code) old.tables)
+      (reports_answer old.tree.zxid r.xid (failed code) old.tables)
   acts (Err Memory) r old new is = absurd is
   acts (Ok calls) r old new has = makes calls r old new has
 
@@ -127,11 +127,11 @@ module _ (c d : ℕ) (other : d ≢ c) where
   welcomes : (tick : ℕ) (greeting : ConnectRequest) (session ticks : ℕ) (password : List ℕ) (t : TablesView)
       → Calm c t (welcomed tick greeting session ticks password d t)
   welcomes tick greeting session ticks password t =
-      let u = sitting session d t in
-      let bytes = response_frame greeting (millis_told tick ticks) (long_of session) password in
+      let u = attachment session d t in
+      let bytes = response_frame greeting (millis_reported tick ticks) (long_of session) password in
       let same = changed-elsewhere (λ s. record s { phase = Speaking session }) t.streams d c (λ is. other (sym is)) in
       table.both c t u (sent d bytes u)
-      (table.alike c t u (ap (λ (o : Option StreamView). (o, on c t.unsent)) same) (free-sitting-elsewhere c d session t other))
+      (table.alike c t u (ap (λ (o : Option StreamView). (o, on c t.unsent)) same) (free-attachment-elsewhere c d session t other))
       (table.sends_elsewhere c d bytes u other)
 
   turns_away : (greeting : ConnectRequest) (t : TablesView) → Calm c t (turned_away greeting d t)
@@ -144,10 +144,10 @@ module _ (c d : ℕ) (other : d ≢ c) where
   comes_back tick greeting session ticks password t =
       let u = moved session t in
       let w = taken_up session d t in
-      let bytes = response_frame greeting (millis_told tick ticks) (long_of session) password in
+      let bytes = response_frame greeting (millis_reported tick ticks) (long_of session) password in
       let same = changed-elsewhere (λ s. record s { phase = Speaking session }) u.streams d c (λ is. other (sym is)) in
       elim (pointwise nat_eq (given greeting) password) as
-      (λ b. Calm c t (if b then session_told greeting session (millis_told tick ticks) password d (taken_up session d t)
+      (λ b. Calm c t (if b then session_reported greeting session (millis_reported tick ticks) password d (taken_up session d t)
       else turned_away greeting d t)) [
         | true ↦ table.both c t u (sent d bytes w) (table.moves c session t)
             (table.both c u w (sent d bytes w)
@@ -170,7 +170,7 @@ module _ (c d : ℕ) (other : d ≢ c) where
       → Calm c t (opened tick secret greeting d replies t)
   opens_by tick secret greeting [] t = table.closes c d t
   opens_by tick secret greeting (Opened session ticks ∷ replies) t = welcomes tick greeting session ticks (password_of secret session) t
-  opens_by tick secret greeting (told ∷ replies) t = table.closes c d t
+  opens_by tick secret greeting (reported ∷ replies) t = table.closes c d t
 
   greets_if : (is_new : Bool) (greeting : ConnectRequest) (v : FrontView)
       → Calm c v.tables (if is_new then with_session greeting d v else with_tables (returned greeting greeting.session_id d v) v).tables
@@ -252,11 +252,11 @@ module _ (c d : ℕ) (other : d ≢ c) where
       (other_rows c old.tables rows (get-insert-elsewhere nat_cmp_total nat_cmp-IsAntisymmetric old.tables.streams d
       stream.opened c (λ same. other (sym same))))
 
-  on-others : (ps : List PieceView) → on c (outbox.without ps d) ≡ on c ps
+  on-others : (ps : List ChunkView) → on c (outbox.without ps d) ≡ on c ps
   on-others [] = refl
   on-others (p ∷ ps) = by (eqb p.connection d) refl (eqb p.connection c) refl (on-others ps)
     where
-      rest : List PieceView
+      rest : List ChunkView
       rest = outbox.without ps d
 
       by : (b : Bool) → eqb p.connection d ≡ b → (e : Bool) → eqb p.connection c ≡ e → on c rest ≡ on c ps
@@ -273,7 +273,7 @@ module _ (c d : ℕ) (other : d ≢ c) where
       front.retabled c (ended d t) old new is
       (table.alike c t (ended d t)
       (ap (λ (o : Option StreamView). (o, on c (outbox.without t.unsent d))) same
-      ∙ ap (λ (ps : List PieceView). (finite.get t.streams c, ps)) (on-others t.unsent))
+      ∙ ap (λ (ps : List ChunkView). (finite.get t.streams c, ps)) (on-others t.unsent))
       (free-parted-elsewhere c d t (finite.remove t.streams d) (outbox.without t.unsent d) same))
 
 -- a tick
@@ -282,9 +282,9 @@ module _ (c : ℕ) where
   ticks_by calls old new has =
       let middle = rested (asked calls old) in
       front.both c old middle new
-      (table.alike c old.tables middle.tables refl (free-sittings c old.tables (all_rested old.tables.sittings)
-      (rests_alike old.tables.sittings).0))
+      (table.alike c old.tables middle.tables refl (free-attachments c old.tables (all_rested old.tables.attachments)
+      (rests_alike old.tables.attachments).0))
       (front.tidies c calls (replies_to calls old) middle new has)
 
   pub ticks : (old new : FrontView) → Ticks old new → Calm c old.tables new.tables
-  ticks old new has = ticks_by (tick_calls (touched_ids old.tables.sittings)) old new has
+  ticks old new has = ticks_by (tick_calls (touched_ids old.tables.attachments)) old new has

@@ -43,9 +43,9 @@ use Rattle.zfront_laws.proofs.frames_lemmas.Doing.{Serving, behind, calmly, quie
 
 -- one answer
 module _ (clock : Clock) (secret : List ℕ) (session : ℕ) (bytes : List ℕ) where
-  answers_one : (tree : Tree) (log : Log) (told : List ℕ) (end : Talk) → IsAnswer clock secret session bytes told (tree_behind tree log) log
-      → IsCalm false end → Answered clock secret session tree log (bytes ∷ []) (Answers told end)
-  answers_one tree log told end is calm =
+  answers_one : (tree : Tree) (log : Log) (reported : List ℕ) (end : Talk) → IsAnswer clock secret session bytes reported (tree_behind tree log) log
+      → IsCalm false end → Answered clock secret session tree log (bytes ∷ []) (Answers reported end)
+  answers_one tree log reported end is calm =
       (bytes, [], log, [], refl, sym (append-nil log), is, answered_calm clock secret session false (tree_behind tree log) [] end calm)
 
   says_so : (r : Request) → whole request bytes ≡ Ok r → (after tree : Tree) (part : Log) (answer : Answer) (meaning : Meaning (List Call))
@@ -73,19 +73,19 @@ module _ (c : ℕ) where
           → Serving c session (done_by calls v) (bytes ∷ []) v (with_answer calls c r v)
       answers_all calls v means speaking free =
           let t = v.tables in
-          let told = replies_to calls v in
+          let reported = replies_to calls v in
           let log = done_by calls v in
           let after = (asked calls v).tree in
-          let u = absorbed_all calls told t in
-          let wished = wishes r.asked calls told in
+          let u = absorbed_all calls reported t in
+          let wished = wishes r.asked calls reported in
           let w = granted_all c wished u in
           let lacked = some_lacked c wished u in
-          let answer = answer_unless lacked v.clock (now_of after) r.asked calls told in
-          let each : replies_of log ≡ told = replies_zipped v.tree calls in
-          let events = table.both c t u w (table.absorbs_all c calls told t)
-          (table.grants c c r.asked calls told u (λ is. ap (λ rows. speaks (phase_of rows c)) (absorbed_all_streams calls told t) ∙ speaking)) free in
-          let told_to = replies c after.zxid r.xid answer w in
-          let talk = Answers (answer_frame after.zxid r.xid answer) told_to.0 in
+          let answer = answer_unless lacked v.clock (now_of after) r.asked calls reported in
+          let each : replies_of log ≡ reported = replies_zipped v.tree calls in
+          let events = table.both c t u w (table.absorbs_all c calls reported t)
+          (table.grants c c r.asked calls reported u (λ is. ap (λ rows. speaks (phase_of rows c)) (absorbed_all_streams calls reported t) ∙ speaking)) free in
+          let reported_to = replies c after.zxid r.xid answer w in
+          let talk = Answers (answer_frame after.zxid r.xid answer) reported_to.0 in
           let none_lacked : wishes r.asked calls (replies_of log) ≡ [] → lacked ≡ false =
           λ none. ap (λ ws. some_lacked c ws u) (ap (λ rs. wishes r.asked calls rs) (sym each) ∙ none) in
           let is = says_so v.clock v.secret session bytes r reads after (tree_behind v.tree log) log answer (Ok calls)
@@ -93,9 +93,9 @@ module _ (c : ℕ) where
           (calls_zipped v.tree calls, (lacked, none_lacked, ap (λ rs. answer_unless lacked v.clock (now_of after) r.asked calls rs) (sym each))) in (
             followed events.0.0 talk,
             answered_behind v.clock v.secret session (speaks (phase_of t.streams c)) v.tree log bytes events.0.0 talk events.0.1
-                (answers_one v.clock v.secret session bytes v.tree log (answer_frame after.zxid r.xid answer) told_to.0 is told_to.1),
-            told_to.2 ∙ ap (run c talk) events.0.2 ∙ sym (run_then c events.0.0 talk (view c t)),
-            told_to.3 events.1,
+                (answers_one v.clock v.secret session bytes v.tree log (answer_frame after.zxid r.xid answer) reported_to.0 is reported_to.1),
+            reported_to.2 ∙ ap (run c talk) events.0.2 ∙ sym (run_then c events.0.0 talk (view c t)),
+            reported_to.3 events.1,
           )
 
       acts : (meaning : Meaning (List Call)) (old new : FrontView) → calls_in old.clock.tick session r.asked ≡ meaning
@@ -103,12 +103,12 @@ module _ (c : ℕ) where
           → Serving c session (done_by (meant meaning) old) (bytes ∷ []) old new
       acts (Err (Refused code)) old new means speaking free is =
           let answer = failed code in
-          let told = replies c old.tree.zxid r.xid answer old.tables in
+          let reported = replies c old.tree.zxid r.xid answer old.tables in
           quietly c (λ talk. Answered old.clock old.secret session old.tree [] (bytes ∷ []) talk)
-          (Answers (answer_frame old.tree.zxid r.xid answer) told.0) (replied old.tree.zxid c r.xid answer old.tables) old new
-          (answers_one old.clock old.secret session bytes old.tree [] (answer_frame old.tree.zxid r.xid answer) told.0
-          (says_so old.clock old.secret session bytes r reads old.tree old.tree [] answer (Err (Refused code)) refl means (refl, refl)) told.1)
-          is told.2 (told.3 free)
+          (Answers (answer_frame old.tree.zxid r.xid answer) reported.0) (replied old.tree.zxid c r.xid answer old.tables) old new
+          (answers_one old.clock old.secret session bytes old.tree [] (answer_frame old.tree.zxid r.xid answer) reported.0
+          (says_so old.clock old.secret session bytes r reads old.tree old.tree [] answer (Err (Refused code)) refl means (refl, refl)) reported.1)
+          is reported.2 (reported.3 free)
       acts (Err Memory) old new means speaking free is = absurd is
       acts (Ok calls) old new means speaking free makes =
           let log = done_by calls old in

@@ -10,7 +10,7 @@ use Rattle.ztree_service.specs.log.Logs.{Log}
 use Rattle.zfront.specs.Front.{FrontView}
 use Rattle.zfront.specs.Greeting.{opening}
 use Rattle.zfront.specs.Words.{word_in, text_of_word}
-use Rattle.zfront_laws.specs.frames.Talk.{Talk, Quiet, Tells, Answers, Closes, is_closed, IsAnswer, tree_behind, Answered}
+use Rattle.zfront_laws.specs.frames.Talk.{Talk, Quiet, Reports, Answers, Closes, is_closed, IsAnswer, tree_behind, Answered}
 use Rattle.zfront_laws.specs.frames.Talk.{IsOpened, IsReturned, IsWelcome, IsTurnedAway, Greeted, SaysText, IsTalk}
 use Rattle.zfront_laws.proofs.frames_lemmas.Views.{followed}
 use Rattle.zfront_laws.proofs.frames_lemmas.Calm.{IsCalm}
@@ -18,7 +18,7 @@ use Rattle.zfront_laws.proofs.frames_lemmas.Calm.{IsCalm}
 -- the tree behind two logs
 pub behind-both : (tree : Tree) (log more : Log) → tree_behind (tree_behind tree log) more ≡ tree_behind tree (log ++ more)
 behind-both tree [] more = refl
-behind-both tree (told ∷ log) more = behind-both (tree_behind tree (told ∷ [])) log more
+behind-both tree (reported ∷ log) more = behind-both (tree_behind tree (reported ∷ [])) log more
 
 -- the same clock, secret and tree
 module _ {k clock : Clock} {s secret : List ℕ} {t u : Tree} (clocks : k ≡ clock) (secrets : s ≡ secret) (trees : t ≡ u) (session : ℕ) (log : Log)
@@ -38,9 +38,9 @@ module _ {k clock : Clock} {s secret : List ℕ} {t u : Tree} (clocks : k ≡ cl
 -- talks of a server with this clock and this secret
 module _ (clock : Clock) (secret : List ℕ) where
   -- a log with more in front of it
-  answer_deeper : (session : ℕ) (bytes told : List ℕ) (tree : Tree) (more log : Log) → IsAnswer clock secret session bytes told tree log
-      → IsAnswer clock secret session bytes told tree (more ++ log)
-  answer_deeper session bytes told tree more log a = record {
+  answer_deeper : (session : ℕ) (bytes reported : List ℕ) (tree : Tree) (more log : Log) → IsAnswer clock secret session bytes reported tree log
+      → IsAnswer clock secret session bytes reported tree (more ++ log)
+  answer_deeper session bytes reported tree more log a = record {
     asked = a.asked;
     answer = a.answer;
     before = more ++ a.before;
@@ -56,8 +56,8 @@ module _ (clock : Clock) (secret : List ℕ) where
         → Answered clock secret session (tree_behind tree more) log frames talk
         → Answered clock secret session tree (more ++ log) frames talk
     answered_deeper tree more log frames Quiet has = has
-    answered_deeper tree more log frames (Tells event talk) has = answered_deeper tree more log frames talk has
-    answered_deeper tree more log frames (Answers told talk) has =
+    answered_deeper tree more log frames (Reports event talk) has = answered_deeper tree more log frames talk has
+    answered_deeper tree more log frames (Answers reported talk) has =
         let same = behind-both tree more has.2 in (
           has.0,
           has.1,
@@ -65,8 +65,8 @@ module _ (clock : Clock) (secret : List ℕ) where
           has.3,
           has.4,
           ap (λ (l : Log). more ++ l) has.5 ∙ sym (append_assoc more has.2 has.3),
-          subst (λ (u : Tree). IsAnswer clock secret session has.0 told u (more ++ has.2)) same
-              (answer_deeper session has.0 told (tree_behind (tree_behind tree more) has.2) more has.2 has.6),
+          subst (λ (u : Tree). IsAnswer clock secret session has.0 reported u (more ++ has.2)) same
+              (answer_deeper session has.0 reported (tree_behind (tree_behind tree more) has.2) more has.2 has.6),
           subst (λ (u : Tree). Answered clock secret session u has.3 has.1 talk) same has.7,
         )
     answered_deeper tree more log frames Closes has = has
@@ -74,8 +74,8 @@ module _ (clock : Clock) (secret : List ℕ) where
     answered_wider : (tree : Tree) (log more : Log) (frames : List (List ℕ)) (talk : Talk) → Answered clock secret session tree log frames talk
         → Answered clock secret session tree (log ++ more) frames talk
     answered_wider tree log more frames Quiet has = has
-    answered_wider tree log more frames (Tells event talk) has = answered_wider tree log more frames talk has
-    answered_wider tree log more frames (Answers told talk) has = (
+    answered_wider tree log more frames (Reports event talk) has = answered_wider tree log more frames talk has
+    answered_wider tree log more frames (Answers reported talk) has = (
       has.0,
       has.1,
       has.2,
@@ -93,8 +93,8 @@ module _ (clock : Clock) (secret : List ℕ) where
         → Answered clock secret session tree (log ++ more) (frames ++ next) (followed one two)
     answered_both tree log more frames next Quiet two first second none =
         subst (λ fs. Answered clock secret session tree (log ++ more) (fs ++ next) two) (sym first) (answered_deeper tree log more next two second)
-    answered_both tree log more frames next (Tells event one) two first second none = answered_both tree log more frames next one two first second none
-    answered_both tree log more frames next (Answers told one) two first second none =
+    answered_both tree log more frames next (Reports event one) two first second none = answered_both tree log more frames next one two first second none
+    answered_both tree log more frames next (Answers reported one) two first second none =
         let same : tree_behind tree log ≡ tree_behind (tree_behind tree first.2) first.3 =
         ap (tree_behind tree) first.5 ∙ sym (behind-both tree first.2 first.3) in (
           first.0,
@@ -113,7 +113,7 @@ module _ (clock : Clock) (secret : List ℕ) where
     -- where no frame is answered
     pub answered_calm : (speaking : Bool) (tree : Tree) (log : Log) (talk : Talk) → IsCalm speaking talk → Answered clock secret session tree log [] talk
     answered_calm speaking tree log Quiet calm = refl
-    answered_calm speaking tree log (Tells event talk) calm = answered_calm speaking tree log talk calm.1
+    answered_calm speaking tree log (Reports event talk) calm = answered_calm speaking tree log talk calm.1
     answered_calm speaking tree log (Answers bytes talk) calm = absurd calm
     answered_calm speaking tree log Closes calm = omega arith
 
@@ -122,17 +122,17 @@ module _ (clock : Clock) (secret : List ℕ) where
         → Answered clock secret session tree log (bytes ∷ []) two
         → Answered clock secret session tree log (bytes ∷ []) (followed one two)
     answered_behind speaking tree log bytes Quiet two calm has = has
-    answered_behind speaking tree log bytes (Tells event one) two calm has = answered_behind speaking tree log bytes one two calm.1 has
-    answered_behind speaking tree log bytes (Answers told one) two calm has = absurd calm
+    answered_behind speaking tree log bytes (Reports event one) two calm has = answered_behind speaking tree log bytes one two calm.1 has
+    answered_behind speaking tree log bytes (Answers reported one) two calm has = absurd calm
     answered_behind speaking tree log bytes Closes two calm has = omega arith
 
     -- a greeting, and what is behind it
-    welcome_deeper : (bytes told : List ℕ) (tree : Tree) (more log : Log) → IsWelcome clock secret session bytes told tree log
-        → IsWelcome clock secret session bytes told tree (more ++ log)
-    welcome_deeper bytes told tree more log a = record { greeting = a.greeting; reads = a.reads; has = by a.has }
+    welcome_deeper : (bytes reported : List ℕ) (tree : Tree) (more log : Log) → IsWelcome clock secret session bytes reported tree log
+        → IsWelcome clock secret session bytes reported tree (more ++ log)
+    welcome_deeper bytes reported tree more log a = record { greeting = a.greeting; reads = a.reads; has = by a.has }
       where
-        by : IsOpened clock secret session a.greeting log told ⊎ IsReturned clock secret session a.greeting tree told
-            → IsOpened clock secret session a.greeting (more ++ log) told ⊎ IsReturned clock secret session a.greeting tree told
+        by : IsOpened clock secret session a.greeting log reported ⊎ IsReturned clock secret session a.greeting tree reported
+            → IsOpened clock secret session a.greeting (more ++ log) reported ⊎ IsReturned clock secret session a.greeting tree reported
         by (inl one) =
             inl (
               more ++ one.0,
@@ -144,35 +144,35 @@ module _ (clock : Clock) (secret : List ℕ) where
         by (inr other) = inr other
 
     abbrev Met : List ℕ → List ℕ → Tree → Log → Log → List (List ℕ) → Talk → Type 0
-    Met bytes told tree front behind rest talk =
-        (IsWelcome clock secret session bytes told (tree_behind tree front) front × Answered clock secret session (tree_behind tree front) behind rest talk)
-        ⊎ (IsTurnedAway bytes told × (rest ≡ []) × (talk ≡ Closes))
+    Met bytes reported tree front behind rest talk =
+        (IsWelcome clock secret session bytes reported (tree_behind tree front) front × Answered clock secret session (tree_behind tree front) behind rest talk)
+        ⊎ (IsTurnedAway bytes reported × (rest ≡ []) × (talk ≡ Closes))
 
-    met_wider : (bytes told : List ℕ) (tree : Tree) (front behind more : Log) (rest : List (List ℕ)) (talk : Talk)
-        → Met bytes told tree front behind rest talk
-        → Met bytes told tree front (behind ++ more) rest talk
-    met_wider bytes told tree front behind more rest talk (inl one) = inl (one.0, answered_wider (tree_behind tree front) behind more rest talk one.1)
-    met_wider bytes told tree front behind more rest talk (inr other) = inr other
+    met_wider : (bytes reported : List ℕ) (tree : Tree) (front behind more : Log) (rest : List (List ℕ)) (talk : Talk)
+        → Met bytes reported tree front behind rest talk
+        → Met bytes reported tree front (behind ++ more) rest talk
+    met_wider bytes reported tree front behind more rest talk (inl one) = inl (one.0, answered_wider (tree_behind tree front) behind more rest talk one.1)
+    met_wider bytes reported tree front behind more rest talk (inr other) = inr other
 
-    met_deeper : (bytes told : List ℕ) (tree : Tree) (more front behind : Log) (rest : List (List ℕ)) (talk : Talk)
-        → Met bytes told (tree_behind tree more) front behind rest talk
-        → Met bytes told tree (more ++ front) behind rest talk
-    met_deeper bytes told tree more front behind rest talk (inl one) =
+    met_deeper : (bytes reported : List ℕ) (tree : Tree) (more front behind : Log) (rest : List (List ℕ)) (talk : Talk)
+        → Met bytes reported (tree_behind tree more) front behind rest talk
+        → Met bytes reported tree (more ++ front) behind rest talk
+    met_deeper bytes reported tree more front behind rest talk (inl one) =
         let same = behind-both tree more front in
         inl (
-          subst (λ (u : Tree). IsWelcome clock secret session bytes told u (more ++ front)) same
-              (welcome_deeper bytes told (tree_behind (tree_behind tree more) front) more front one.0),
+          subst (λ (u : Tree). IsWelcome clock secret session bytes reported u (more ++ front)) same
+              (welcome_deeper bytes reported (tree_behind (tree_behind tree more) front) more front one.0),
           subst (λ (u : Tree). Answered clock secret session u behind rest talk) same one.1,
         )
-    met_deeper bytes told tree more front behind rest talk (inr other) = inr other
+    met_deeper bytes reported tree more front behind rest talk (inr other) = inr other
 
-    met_both : (bytes told : List ℕ) (tree : Tree) (front behind more : Log) (rest next : List (List ℕ)) (one two : Talk)
-        → Met bytes told tree front behind rest one
+    met_both : (bytes reported : List ℕ) (tree : Tree) (front behind more : Log) (rest next : List (List ℕ)) (one two : Talk)
+        → Met bytes reported tree front behind rest one
         → Answered clock secret session (tree_behind (tree_behind tree front) behind) more next two → (is_closed one ≡ true → next ≡ [])
-        → Met bytes told tree front (behind ++ more) (rest ++ next) (followed one two)
-    met_both bytes told tree front behind more rest next one two (inl is) second none =
+        → Met bytes reported tree front (behind ++ more) (rest ++ next) (followed one two)
+    met_both bytes reported tree front behind more rest next one two (inl is) second none =
         inl (is.0, answered_both (tree_behind tree front) behind more rest next one two is.1 second none)
-    met_both bytes told tree front behind more rest next one two (inr is) second none = inr (
+    met_both bytes reported tree front behind more rest next one two (inr is) second none = inr (
       is.0,
       ap (λ fs. fs ++ next) is.1 ∙ none (ap is_closed is.2),
       ap (λ talk. followed talk two) is.2,
@@ -181,30 +181,30 @@ module _ (clock : Clock) (secret : List ℕ) where
     greeted_wider : (tree : Tree) (log more : Log) (frames : List (List ℕ)) (talk : Talk) → Greeted clock secret session tree log frames talk
         → Greeted clock secret session tree (log ++ more) frames talk
     greeted_wider tree log more frames Quiet has = has
-    greeted_wider tree log more frames (Tells event talk) has = absurd has
-    greeted_wider tree log more frames (Answers told talk) has = (
+    greeted_wider tree log more frames (Reports event talk) has = absurd has
+    greeted_wider tree log more frames (Answers reported talk) has = (
       has.0,
       has.1,
       has.2,
       has.3 ++ more,
       has.4,
       ap (λ (l : Log). l ++ more) has.5 ∙ append_assoc has.2 has.3 more,
-      met_wider has.0 told tree has.2 has.3 more has.1 talk has.6,
+      met_wider has.0 reported tree has.2 has.3 more has.1 talk has.6,
     )
     greeted_wider tree log more frames Closes has = has
 
     pub greeted_deeper : (tree : Tree) (more log : Log) (frames : List (List ℕ)) (talk : Talk) → Greeted clock secret session (tree_behind tree more) log frames talk
         → Greeted clock secret session tree (more ++ log) frames talk
     greeted_deeper tree more log frames Quiet has = has
-    greeted_deeper tree more log frames (Tells event talk) has = absurd has
-    greeted_deeper tree more log frames (Answers told talk) has = (
+    greeted_deeper tree more log frames (Reports event talk) has = absurd has
+    greeted_deeper tree more log frames (Answers reported talk) has = (
       has.0,
       has.1,
       more ++ has.2,
       has.3,
       has.4,
       ap (λ (l : Log). more ++ l) has.5 ∙ sym (append_assoc more has.2 has.3),
-      met_deeper has.0 told tree more has.2 has.3 has.1 talk has.6,
+      met_deeper has.0 reported tree more has.2 has.3 has.1 talk has.6,
     )
     greeted_deeper tree more log frames Closes has = has
 
@@ -216,8 +216,8 @@ module _ (clock : Clock) (secret : List ℕ) where
         → Answered clock secret session (tree_behind tree log) more next two → (is_closed one ≡ true → next ≡ [])
         → Greeted clock secret session tree (log ++ more) (bytes ∷ (frames ++ next)) (followed one two)
     greeted_both tree log more bytes frames next Quiet two first second none = absurd (none_there bytes frames first)
-    greeted_both tree log more bytes frames next (Tells event one) two first second none = absurd first
-    greeted_both tree log more bytes frames next (Answers told one) two first second none =
+    greeted_both tree log more bytes frames next (Reports event one) two first second none = absurd first
+    greeted_both tree log more bytes frames next (Answers reported one) two first second none =
         let same : tree_behind tree log ≡ tree_behind (tree_behind tree first.2) first.3 =
         ap (tree_behind tree) first.5 ∙ sym (behind-both tree first.2 first.3) in (
           first.0,
@@ -226,7 +226,7 @@ module _ (clock : Clock) (secret : List ℕ) where
           first.3 ++ more,
           ap (λ fs. fs ++ next) first.4,
           ap (λ (l : Log). l ++ more) first.5 ∙ append_assoc first.2 first.3 more,
-          met_both first.0 told tree first.2 first.3 more first.1 next one two first.6
+          met_both first.0 reported tree first.2 first.3 more first.1 next one two first.6
               (subst (λ (u : Tree). Answered clock secret session u more next two) same second) none,
         )
     greeted_both tree log more bytes frames next Closes two first second none =

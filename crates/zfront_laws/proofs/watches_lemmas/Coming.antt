@@ -55,7 +55,7 @@ rest_moves : (over : Bool) (rest : List ℕ) (c : ℕ) (v : FrontView) (s : Scen
 rest_moves true rest c v s there = closes false v s c there
 rest_moves false rest c v s there =
     let t : TablesView = record v.tables { streams = with_bytes v.tables.streams c rest } in
-    moves false v s t there (bytes_move v.tables c rest) (unchanged v.tables.sittings)
+    moves false v s t there (bytes_move v.tables c rest) (unchanged v.tables.attachments)
 
 keeps_rest : (rest : List ℕ) (c : ℕ) (v : FrontView) (s : Scene) → At v s → Reaches (keeps rest c v) s []
 keeps_rest rest c v s there = elim (is_open v.tables c) as (λ b. Reaches (if b then with_tables (kept rest c v.tables) v else v) s []) [
@@ -102,7 +102,7 @@ comes_if true bytes c old new s few fine there has =
     let v = emptied c old in
     let empty = step.empties c old in
     behind false false v new s [] (came_log true bytes c old new has)
-    (moves false old s v.tables there (bytes_move old.tables c []) (unchanged old.tables.sittings))
+    (moves false old s v.tables there (bytes_move old.tables c []) (unchanged old.tables.attachments))
     (λ next here. comes_by (word_asked (phase_of v.tables.streams c) came) came c v new next (empty.few few) (empty.seats fine) here refl has)
 
 pub comes : (bytes : List ℕ) (c : ℕ) (old new : FrontView) (s : Scene) → KeepsFew old → Fine old → At old s

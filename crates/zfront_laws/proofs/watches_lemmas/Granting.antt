@@ -33,16 +33,16 @@ use Rattle.zwatches.specs.Watches.{watch, watch_cmp, is_full}
 use Rattle.zwatches.specs.Places.{is_of_node}
 use Rattle.zwatches.proofs.Order.{watches_total, same_watch}
 use Rattle.zconnections.specs.Tables.{TablesView, sent}
-use Rattle.zconnections.specs.Telling.{event_frame}
+use Rattle.zconnections.specs.Reporting.{event_frame}
 use Rattle.zresponses.specs.effects.Answering.{answer_unless, granted_and_answered, now_of}
 use Rattle.zresponses.specs.effects.Watching.{waiting, granted, granted_all, some_lacked}
 use Rattle.zresponses.specs.effects.Wishes.{query_wish, first_wish, look_wish, wish_again, call_again, wishes_again, all_again, wishes}
 use Rattle.zfront.specs.Front.{FrontView, with_tables}
-use Rattle.zfront_laws.specs.watches.Watching.{Scene, Set, Missed, tree_of, after, IsSameAt, set_now, tells_node}
+use Rattle.zfront_laws.specs.watches.Watching.{Scene, Set, Missed, tree_of, after, IsSameAt, set_now, reports_node}
 use Rattle.zfront_laws.proofs.watches_lemmas.Holding.{Pending}
 use Rattle.zfront_laws.proofs.watches_lemmas.Owners.{OwnersAre}
 use Rattle.zfront_laws.proofs.watches_lemmas.Marks.{Marked}
-use Rattle.zfront_laws.proofs.watches_lemmas.Reaching.{At, Reaches, all_told, once, replies, sends_as, stays, still}
+use Rattle.zfront_laws.proofs.watches_lemmas.Reaching.{At, Reaches, all_reported, once, replies, sends_as, stays, still}
 use Rattle.zfront_laws.proofs.watches_lemmas.Standing.{In, insert_leaves}
 use Rattle.zfront_laws.proofs.watches_lemmas.Wishing.{AreOf, left, taken}
 
@@ -84,8 +84,8 @@ module _ (s : Scene) (c : ℕ) (kind : Kind) (path : Path) where
       by true is true there = before (ap (contains t.watches) (same is) ∙ there)
       by false is b there = before (other is (stood w stands))
 
-  sittings_stay : (waiting c kind path t).sittings ≡ t.sittings
-  sittings_stay = elim (is_full t.watches mine) as (λ b. (if b then t else record t { watches = insert t.watches mine }).sittings ≡ t.sittings) [
+  attachments_stay : (waiting c kind path t).attachments ≡ t.attachments
+  attachments_stay = elim (is_full t.watches mine) as (λ b. (if b then t else record t { watches = insert t.watches mine }).attachments ≡ t.attachments) [
     | true ↦ refl
     | false ↦ refl
   ]
@@ -102,7 +102,7 @@ module _ (s : Scene) (c : ℕ) (kind : Kind) (path : Path) where
       seen = λ w stands. set_case (λ nodes. Pending false (tree_of s) nodes w.kind w.path) w
           (λ same. inl (same_itself w.kind w.path (tree_of s).nodes))
           (λ stood. there.holds.seen w stood) stands;
-      owners = subst (λ m. OwnersAre (Marked m) (tree_of s).nodes) (sym sittings_stay) there.holds.owners;
+      owners = subst (λ m. OwnersAre (Marked m) (tree_of s).nodes) (sym attachments_stay) there.holds.owners;
     };
   }
 
@@ -123,10 +123,10 @@ grants_watch c kind path nodes may v s is there =
     once false (with_tables (waiting c kind path v.tables) v) s (Set c kind path) (after (Set c kind path) s) (here, refl) refl
     (waits s c kind path v there here)
 
-grants_event : (c : ℕ) (k : EventKind) (path : Path) (nodes : Nodes) → has_node nodes path ≡ tells_node k
+grants_event : (c : ℕ) (k : EventKind) (path : Path) (nodes : Nodes) → has_node nodes path ≡ reports_node k
     → Grants (sent c (event_frame (event k path))) nodes
 grants_event c k path nodes may v s is there =
-    sends_as false v s c (event_frame (event k path)) (Missed c (event k path)) (has_here v s nodes path (tells_node k) is there may) refl there
+    sends_as false v s c (event_frame (event k path)) (Missed c (event k path)) (has_here v s nodes path (reports_node k) is there may) refl there
 
 grants_both : (first second : TablesView → TablesView) (nodes : Nodes) → Grants first nodes → Grants second nodes
     → Grants (λ t. second (first t)) nodes
@@ -172,8 +172,8 @@ first_grants : (c : ℕ) (t : Tree) (calls : List Call) (replies : List Reply) �
 first_grants c t [] replies all = grants_nothing t.nodes
 first_grants c t (Update update ∷ calls) replies all = grants_nothing t.nodes
 first_grants c t (Query q ∷ calls) [] all = grants_nothing t.nodes
-first_grants c t (Query q ∷ calls) (told ∷ replies) all =
-    subst (λ told. Grants (granted_all c (query_wish q told)) t.nodes) (sym all.0) (query_grants c t q)
+first_grants c t (Query q ∷ calls) (reported ∷ replies) all =
+    subst (λ reported. Grants (granted_all c (query_wish q reported)) t.nodes) (sym all.0) (query_grants c t q)
 
 look_grants : (c : ℕ) (t : Tree) (look : Look) (calls : List Call) (replies : List Reply) → AreOf t calls replies
     → Grants (granted_all c (look_wish look calls replies)) t.nodes
@@ -227,10 +227,10 @@ calls_grant : (c : ℕ) (t : Tree) (kind : Kind) (seen : ℤ) (calls : List Call
     → Grants (granted_all c (wishes_again kind seen calls replies)) t.nodes
 calls_grant c t kind seen [] replies all = grants_nothing t.nodes
 calls_grant c t kind seen (call ∷ calls) [] all = grants_nothing t.nodes
-calls_grant c t kind seen (call ∷ calls) (told ∷ replies) all =
-    grants_append (granted c) (granted_all c) (λ u. refl) (λ w ws u. refl) (call_again kind seen call told)
+calls_grant c t kind seen (call ∷ calls) (reported ∷ replies) all =
+    grants_append (granted c) (granted_all c) (λ u. refl) (λ w ws u. refl) (call_again kind seen call reported)
     (wishes_again kind seen calls replies) t.nodes
-    (subst (λ told. Grants (granted_all c (call_again kind seen call told)) t.nodes) (sym all.0) (call_grants c t kind seen call))
+    (subst (λ reported. Grants (granted_all c (call_again kind seen call reported)) t.nodes) (sym all.0) (call_grants c t kind seen call))
     (calls_grant c t kind seen calls replies all.1)
 
 set_grants : (c : ℕ) (t : Tree) (set : SetWatches) (calls : List Call) (replies : List Reply) → AreOf t calls replies
@@ -267,11 +267,11 @@ pub no_wish_grants : (c : ℕ) (asks : Asked) (calls : List Call) (replies : Lis
 no_wish_grants c asks calls replies nodes none = rw none (grants_nothing nodes)
 
 -- the wishes of a request are granted, and it is answered
-pub granted_answers : (v : FrontView) (s : Scene) (c : ℕ) (request : Request) (calls : List Call) (told : List Reply) → At v s
-    → Grants (granted_all c (wishes request.asked calls told)) v.tree.nodes
-    → Reaches (with_tables (granted_and_answered v.clock (now_of v.tree) c request calls told v.tables) v) s []
-granted_answers v s c request calls told there grants =
-    let u = with_tables (granted_all c (wishes request.asked calls told) v.tables) v in
-    let answer = answer_unless (some_lacked c (wishes request.asked calls told) v.tables) v.clock (now_of v.tree) request.asked calls told in
-    still false false u (with_tables (granted_and_answered v.clock (now_of v.tree) c request calls told v.tables) v) s [] (grants v s refl there)
-    (λ next here. replies false u next c request.xid answer here (inl (all_told u next c here)))
+pub granted_answers : (v : FrontView) (s : Scene) (c : ℕ) (request : Request) (calls : List Call) (reported : List Reply) → At v s
+    → Grants (granted_all c (wishes request.asked calls reported)) v.tree.nodes
+    → Reaches (with_tables (granted_and_answered v.clock (now_of v.tree) c request calls reported v.tables) v) s []
+granted_answers v s c request calls reported there grants =
+    let u = with_tables (granted_all c (wishes request.asked calls reported) v.tables) v in
+    let answer = answer_unless (some_lacked c (wishes request.asked calls reported) v.tables) v.clock (now_of v.tree) request.asked calls reported in
+    still false false u (with_tables (granted_and_answered v.clock (now_of v.tree) c request calls reported v.tables) v) s [] (grants v s refl there)
+    (λ next here. replies false u next c request.xid answer here (inl (all_reported u next c here)))

@@ -18,15 +18,15 @@ use Rattle.zcalls.specs.declared.reply.Reply.TheVariants.{Opened}
 use Rattle.zcalls.specs.Step.{step}
 use Rattle.zjute.specs.Connecting.{connect_request}
 use Rattle.zjute.specs.declared.connecting.ConnectRequest.{ConnectRequest}
-use Rattle.zrequests.specs.Timeouts.{millis_told, ticks_asked}
+use Rattle.zrequests.specs.Timeouts.{millis_reported, ticks_asked}
 use Rattle.zresponses.specs.Stats.{long_of}
 use Rattle.zpasswords.specs.Passwords.{password_of}
-use Rattle.zconnections.specs.declared.attachments.sitting.Sitting.{Sitting}
-use Rattle.zconnections.specs.attachments.Sittings.{SittingsView, new_sitting}
-use Rattle.zconnections.specs.Tables.{closed, moved, sent, sitting, taken_up}
+use Rattle.zconnections.specs.declared.attachments.attachment.Attachment.{Attachment}
+use Rattle.zconnections.specs.attachments.Attachments.{AttachmentsView, new_attachment}
+use Rattle.zconnections.specs.Tables.{closed, moved, sent, attachment, taken_up}
 use Rattle.zconnections.specs.Sweeping.{made_one}
 use Rattle.zresponses.specs.effects.Frames.{response_frame}
-use Rattle.zresponses.specs.effects.Greeting.{session_told, turned_away, given, came_back, is_ahead}
+use Rattle.zresponses.specs.effects.Greeting.{session_reported, turned_away, given, came_back, is_ahead}
 use Rattle.zfront.specs.Front.{FrontView, with_tables, asked}
 use Rattle.zfront.specs.Greeting.{opening, opened, with_session, returned, greeted_by, greeted}
 use Rattle.zfront_laws.specs.Logs.{done_by, greeting_calls}
@@ -49,7 +49,7 @@ greets_with v s c greeting timeout session password there =
 -- ---- a session that opens
 
 -- it was not there, so the others keep their marks
-module _ (m : SittingsView) (session : ℕ) (new : Sitting) (fresh : Has m session → ⊥) where
+module _ (m : AttachmentsView) (session : ℕ) (new : Attachment) (fresh : Has m session → ⊥) where
   apart : (id : ℕ) → Has m id → id ≢ session
   apart id has same = fresh (has.0, ap (finite.get m) (sym same) ∙ has.1)
 
@@ -85,20 +85,20 @@ module _ (greeting : ConnectRequest) (c : ℕ) (old : FrontView) (s : Scene) (fi
   here = nothing_taken calls old s there (open_leaves old.tree ticks)
 
   abbrev done : Reply → FrontView
-  done told = with_tables (opened v.clock.tick v.secret greeting c (told ∷ []) v.tables) v
+  done reported = with_tables (opened v.clock.tick v.secret greeting c (reported ∷ []) v.tables) v
 
   welcomes : (session granted : ℕ) → session ≡ old.tree.zxid + 1 → Reaches (done (Opened session granted)) then_scene []
   welcomes session granted is =
-      let fresh : Has v.tables.sittings session → ⊥ = λ has. too_new session old.tree.zxid is (below old fine session has) in
+      let fresh : Has v.tables.attachments session → ⊥ = λ has. too_new session old.tree.zxid is (below old fine session has) in
       let password = password_of v.secret session in
-      let t = sitting session c v.tables in
+      let t = attachment session c v.tables in
       still false false (with_tables t v) (done (Opened session granted)) then_scene []
-      (moves_if false v then_scene t here (speaks_moves v.tables c session (finite.insert v.tables.sittings session (new_sitting c)))
-      (λ all path n found. marks_stay v.tables.sittings session (new_sitting c) fresh n.owner (all path n found)))
-      (λ last this. greets_with (with_tables t v) last c greeting (millis_told v.clock.tick granted) (long_of session) password this)
+      (moves_if false v then_scene t here (speaks_moves v.tables c session (finite.insert v.tables.attachments session (new_attachment c)))
+      (λ all path n found. marks_stay v.tables.attachments session (new_attachment c) fresh n.owner (all path n found)))
+      (λ last this. greets_with (with_tables t v) last c greeting (millis_reported v.clock.tick granted) (long_of session) password this)
 
-  opens_with : (told : Reply) → ((session granted : ℕ) → told ≡ Opened session granted → session ≡ old.tree.zxid + 1)
-      → Reaches (done told) then_scene []
+  opens_with : (reported : Reply) → ((session granted : ℕ) → reported ≡ Opened session granted → session ≡ old.tree.zxid + 1)
+      → Reaches (done reported) then_scene []
   opens_with (Opened session granted) new = welcomes session granted (new session granted refl)
   opens_with other new = closes false v then_scene c here
 
@@ -120,18 +120,18 @@ comes_back : (greeting : ConnectRequest) (session granted : ℕ) (password : Lis
 comes_back greeting session granted password c v s there =
     elim (pointwise nat_eq (given greeting) password) as (λ b. Reaches (with_tables (
     if b
-    then session_told greeting session (millis_told v.clock.tick granted) password c (taken_up session c v.tables)
+    then session_reported greeting session (millis_reported v.clock.tick granted) password c (taken_up session c v.tables)
     else turned_away greeting c v.tables
     ) v) s []) [
       | true ↦
           let u = moved session v.tables in
           let t = taken_up session c v.tables in
-          let done = with_tables (session_told greeting session (millis_told v.clock.tick granted) password c t) v in
+          let done = with_tables (session_reported greeting session (millis_reported v.clock.tick granted) password c t) v in
           still false false (with_tables u v) done s [] (moves_away false session v s there)
           (λ next here.
           still false false (with_tables t v) done next [] (moves false (with_tables u v) next t here
-          (speaks_moves u c session t.sittings) (seated_keeps session c v.tables))
-          (λ last this. greets_with (with_tables t v) last c greeting (millis_told v.clock.tick granted) (long_of session) password this))
+          (speaks_moves u c session t.attachments) (seated_keeps session c v.tables))
+          (λ last this. greets_with (with_tables t v) last c greeting (millis_reported v.clock.tick granted) (long_of session) password this))
       | false ↦ turns_away greeting c v s there
     ]
 

@@ -24,22 +24,22 @@ use Rattle.zcalls.specs.Step.{step, is_exhausted, update_result, change_result, 
 use Rattle.zcalls.proofs.Leaving.{Leaves}
 use Rattle.zwatches.specs.declared.changes.event.Event.{Event}
 use Rattle.zwatches.specs.changes.Events.{events_of}
-use Rattle.zwatches.specs.changes.Laws.{but_children, data_at, children_at, takes_away, tells_data}
-use Rattle.zwatches.proofs.changes_lemmas.Changes.{events_tell_every_change}
-use Rattle.zconnections.specs.attachments.Sittings.{SittingsView}
+use Rattle.zwatches.specs.changes.Laws.{but_children, data_at, children_at, takes_away, reports_data}
+use Rattle.zwatches.proofs.changes_lemmas.Changes.{events_report_every_change}
+use Rattle.zconnections.specs.attachments.Attachments.{AttachmentsView}
 use Rattle.zwatches.specs.declared.kind.Kind.{Kind}
 use Rattle.zwatches.specs.declared.kind.Kind.TheVariants.{Data, Missing, Children}
 use Rattle.zwatches.specs.declared.watch.Watch.{Watch}
 use Rattle.zwatches.specs.Places.{is_of_node}
 use Rattle.zconnections.specs.Tables.{TablesView}
-use Rattle.zconnections.specs.Telling.{told_all}
+use Rattle.zconnections.specs.Reporting.{reported_all}
 use Rattle.zconnections.specs.Sweeping.{noted, made_by_parts, made_by}
 use Rattle.zfront_laws.specs.watches.Watching.{IsSameAt}
-use Rattle.zfront_laws.proofs.watches_lemmas.Waiting.{tells_creation, tells_loss, update_leaves}
+use Rattle.zfront_laws.proofs.watches_lemmas.Waiting.{reports_creation, reports_loss, update_leaves}
 use Rattle.zfront_laws.proofs.watches_lemmas.Taking.{Loses}
 use Rattle.zfront_laws.proofs.watches_lemmas.Owners.{OwnersAre, PartNames, made, deleted, set, ran}
 use Rattle.zfront_laws.proofs.watches_lemmas.Marks.{Known, Marked, Keeps, marked, made_keeps, made_marked, parts_keep, parts_marked}
-use Rattle.zfront_laws.proofs.watches_lemmas.Standing.{In, Fewer, Unfired, told_all_leaves, told_all_sittings, fires_data, fires_missing, fires_children, misses}
+use Rattle.zfront_laws.proofs.watches_lemmas.Standing.{In, Fewer, Unfired, reported_all_leaves, reported_all_attachments, fires_data, fires_missing, fires_children, misses}
 
 -- what a watch may wait for in vain while a look is due: its node is gone, or the last change took a child
 abbrev pub WentAway : Kind → Path → Tree → Type 0
@@ -55,7 +55,7 @@ Pending must t before kind path = IsSameAt kind path before t.nodes ⊎ ((must �
 pub record Holds (must : Bool) (t : Tree) (set_at : Watch → Nodes) (tables : TablesView) : Type 0 where
   pub right : (w : Watch) → In tables w → has_node (set_at w) w.path ≡ is_of_node w.kind
   pub seen : (w : Watch) → In tables w → Pending must t (set_at w) w.kind w.path
-  pub owners : OwnersAre (Marked tables.sittings) t.nodes
+  pub owners : OwnersAre (Marked tables.attachments) t.nodes
 
 -- where no look is due, nothing has changed
 pub settled : (t : Tree) (before : Nodes) (kind : Kind) (path : Path) → Pending false t before kind path → IsSameAt kind path before t.nodes
@@ -93,20 +93,20 @@ module _ (t : Tree) (u : Update) (stays : takes_away u ≡ false) (before : Node
   es = events_of u (step t 0 u).1
 
   data_stays : w.kind ≡ Data → data_at t.nodes w.path ≡ data_at before w.path → data_at now w.path ≡ data_at before w.path
-  data_stays is same = (events_tell_every_change t 0 u w.path stays).of_data (misses tells_data w (λ k. fires_data w k is) es unfired) ∙ same
+  data_stays is same = (events_report_every_change t 0 u w.path stays).of_data (misses reports_data w (λ k. fires_data w k is) es unfired) ∙ same
 
   missing_stays : w.kind ≡ Missing → has_node before w.path ≡ false → data_at t.nodes w.path ≡ data_at before w.path
       → data_at now w.path ≡ data_at before w.path
   missing_stays is none same =
       let was : has_node t.nodes w.path ≡ false = sym (there_data t.nodes w.path) ∙ ap is_some same ∙ there_data before w.path ∙ none in
-      let still = (update_leaves t 0 u w.path stays).missing was (misses tells_creation w (λ k. fires_missing w k is) es unfired) in
+      let still = (update_leaves t 0 u w.path stays).missing was (misses reports_creation w (λ k. fires_missing w k is) es unfired) in
       no_data now w.path still ∙ sym (no_data before w.path none)
 
   children_stay : w.kind ≡ Children → has_node before w.path ≡ true → children_at t.nodes w.path ≡ children_at before w.path
       → children_at now w.path ≡ children_at before w.path
   children_stay is some same =
       let was : has_node t.nodes w.path ≡ true = sym (there_children t.nodes w.path) ∙ ap is_some same ∙ there_children before w.path ∙ some in
-      ((update_leaves t 0 u w.path stays).there was (misses tells_loss w (λ k. fires_children w k is) es unfired)).1 ∙ same
+      ((update_leaves t 0 u w.path stays).there was (misses reports_loss w (λ k. fires_children w k is) es unfired)).1 ∙ same
 
   stays_at : (k : Kind) → w.kind ≡ k → has_node before w.path ≡ is_of_node k → IsSameAt k w.path before t.nodes → IsSameAt k w.path before now
   stays_at Data is right same = data_stays is same
@@ -122,13 +122,13 @@ UpdateNames Q (Create create) = Q (owner_of create.kind.lifetime)
 UpdateNames Q (Multi parts) = AllByRecursion (PartNames Q) parts
 UpdateNames Q other = Unit {0}
 
-pub owners_kept : (m n : SittingsView) (nodes : Nodes) → Keeps m n → OwnersAre (Marked m) nodes → OwnersAre (Marked n) nodes
+pub owners_kept : (m n : AttachmentsView) (nodes : Nodes) → Keeps m n → OwnersAre (Marked m) nodes → OwnersAre (Marked n) nodes
 owners_kept m n nodes kept all path node found = marked m n kept node.owner (all path node found)
 
-abbrev Own : SittingsView → Update → Tree × Reply → Type 0
+abbrev Own : AttachmentsView → Update → Tree × Reply → Type 0
 Own m u did = OwnersAre (Marked (noted u did.1 m)) did.0.nodes
 
-create_owned : (m : SittingsView) (t : Tree) (create : ToCreate) → OwnersAre (Marked m) t.nodes → Known m (owner_of create.kind.lifetime)
+create_owned : (m : AttachmentsView) (t : Tree) (create : ToCreate) → OwnersAre (Marked m) t.nodes → Known m (owner_of create.kind.lifetime)
     → Own m (Create create) (change_result t (create_step t 0 create))
 unfolding create_step
 create_owned m t create all names = by (first_that_holds (create_refusals t 0 create))
@@ -155,17 +155,17 @@ change_owned : (Q : ℕ → Type 0) (t : Tree) (r : Result (Tree × ChangeReply)
 change_owned Q t (Err refusal) all left = all
 change_owned Q t (Ok (u, did)) all left = left
 
-multi_owned : (m : SittingsView) (t : Tree) (parts : List Part) (r : Run) → OwnersAre (Marked m) t.nodes
+multi_owned : (m : AttachmentsView) (t : Tree) (parts : List Part) (r : Run) → OwnersAre (Marked m) t.nodes
     → Leaves (λ u. OwnersAre (Marked (made_by_parts parts m)) u.nodes) r → Own m (Multi parts) (multi_result t r)
 multi_owned m t parts (Err (number, refusal)) all left = all
-multi_owned m t parts (Ok (u, told)) all left = left
+multi_owned m t parts (Ok (u, reported)) all left = left
 
-either : (m : SittingsView) (u : Update) (t : Tree) (why : Reply) (did : Tree × Reply) (b : Bool) → Own m u (t, why)
+either : (m : AttachmentsView) (u : Update) (t : Tree) (why : Reply) (did : Tree × Reply) (b : Bool) → Own m u (t, why)
     → Own m u did → Own m u (if b then (t, why) else did)
 either m u t why did true first second = first
 either m u t why did false first second = second
 
-result_owned : (m : SittingsView) (t : Tree) (u : Update) → takes_away u ≡ false → OwnersAre (Marked m) t.nodes
+result_owned : (m : AttachmentsView) (t : Tree) (u : Update) → takes_away u ≡ false → OwnersAre (Marked m) t.nodes
     → UpdateNames (Known m) u → Own m u (update_result t 0 u)
 result_owned m t (Create create) stays all names = create_owned m t create all names
 result_owned m t (Delete delete) stays all names = change_owned (Marked m) t (delete_step t delete) all (deleted (Marked m) t delete all)
@@ -179,12 +179,12 @@ result_owned m t (Ping session) stays all names = either m (Ping session) t _ _ 
 result_owned m t (Close session) stays all names = absurd (cc stays)
 result_owned m t Tick stays all names = absurd (cc stays)
 
-refused_owned : (m : SittingsView) (t : Tree) (u : Update) (refusal : Refusal) → OwnersAre (Marked m) t.nodes → Own m u (t, reply.Refused refusal)
+refused_owned : (m : AttachmentsView) (t : Tree) (u : Update) (refusal : Refusal) → OwnersAre (Marked m) t.nodes → Own m u (t, reply.Refused refusal)
 refused_owned m t (Create create) refusal all = all
 refused_owned m t (Multi parts) refusal all = all
 refused_owned m t u refusal all = all
 
-update_owned : (m : SittingsView) (t : Tree) (u : Update) → takes_away u ≡ false → OwnersAre (Marked m) t.nodes
+update_owned : (m : AttachmentsView) (t : Tree) (u : Update) → takes_away u ≡ false → OwnersAre (Marked m) t.nodes
     → UpdateNames (Known m) u → Own m u (step t 0 u)
 unfolding step
 update_owned m t u stays all names =
@@ -193,29 +193,29 @@ update_owned m t u stays all names =
 
 -- tables that took up an update and its reply
 abbrev pub absorbing : Update → Reply → TablesView → TablesView
-absorbing u told tables = told_all (events_of u told) (record tables { sittings = noted u told tables.sittings })
+absorbing u reported tables = reported_all (events_of u reported) (record tables { attachments = noted u reported tables.attachments })
 
 -- behind an update that takes nothing away, and its events, all holds again
 pub update_holds : (t : Tree) (set_at : Watch → Nodes) (tables : TablesView) (u : Update) → takes_away u ≡ false
-    → UpdateNames (Known tables.sittings) u
+    → UpdateNames (Known tables.attachments) u
     → Holds false t set_at tables → Holds false (step t 0 u).0 set_at (absorbing u (step t 0 u).1 tables)
 update_holds t set_at tables u stays names holds = record {
   right = λ w stands. holds.right w (left w stands).0;
   seen = λ w stands.
       let was = left w stands in
       inl (unfired_stays t u stays (set_at w) w was.1 (holds.right w was.0) (settled t (set_at w) w.kind w.path (holds.seen w was.0)));
-  owners = subst (λ m. OwnersAre (Marked m) (step t 0 u).0.nodes) (sym (told_all_sittings es middle))
-      (update_owned tables.sittings t u stays holds.owners names);
+  owners = subst (λ m. OwnersAre (Marked m) (step t 0 u).0.nodes) (sym (reported_all_attachments es middle))
+      (update_owned tables.attachments t u stays holds.owners names);
 }
   where
     middle : TablesView
-    middle = record tables { sittings = noted u (step t 0 u).1 tables.sittings }
+    middle = record tables { attachments = noted u (step t 0 u).1 tables.attachments }
 
     es : List Event
     es = events_of u (step t 0 u).1
 
-    left : (w : Watch) → In (told_all es middle) w → In tables w × Unfired w es
-    left w stands = told_all_leaves es middle w stands
+    left : (w : Watch) → In (reported_all es middle) w → In tables w × Unfired w es
+    left w stands = reported_all_leaves es middle w stands
 
 -- the nodes are the same
 pub still_holds : (t u : Tree) (set_at : Watch → Nodes) (tables : TablesView) → u.nodes ≡ t.nodes → Holds false t set_at tables
@@ -224,7 +224,7 @@ still_holds t u set_at tables nodes holds = record {
   right = holds.right;
   seen = λ w stands.
       inl (subst (IsSameAt w.kind w.path (set_at w)) (sym nodes) (settled t (set_at w) w.kind w.path (holds.seen w stands)));
-  owners = subst (OwnersAre (Marked tables.sittings)) (sym nodes) holds.owners;
+  owners = subst (OwnersAre (Marked tables.attachments)) (sym nodes) holds.owners;
 }
 
 -- what a close or a tick took away waits for a look
@@ -272,7 +272,7 @@ lost_holds t u set_at tables zxid loses holds = record {
   seen = λ w stands.
       lost (t.zxid + 1) (set_at w) t.nodes u.nodes u w.kind w.path refl zxid (loses w.path) (holds.right w stands)
       (settled t (set_at w) w.kind w.path (holds.seen w stands));
-  owners = lost_owner (Marked tables.sittings) (t.zxid + 1) t.nodes u.nodes loses holds.owners;
+  owners = lost_owner (Marked tables.attachments) (t.zxid + 1) t.nodes u.nodes loses holds.owners;
 }
 
 -- a look is due, or stays due
@@ -290,32 +290,32 @@ more_due m n t set_at tables more holds = record {
 
 -- tables with no watch more, whose sessions keep their marks
 pub fewer_holds : (must : Bool) (t : Tree) (set_at : Watch → Nodes) (old new : TablesView) → Fewer old new
-    → (OwnersAre (Marked old.sittings) t.nodes → OwnersAre (Marked new.sittings) t.nodes) → Holds must t set_at old → Holds must t set_at new
+    → (OwnersAre (Marked old.attachments) t.nodes → OwnersAre (Marked new.attachments) t.nodes) → Holds must t set_at old → Holds must t set_at new
 fewer_holds must t set_at old new fewer owners holds = record {
   right = λ w stands. holds.right w (fewer w stands);
   seen = λ w stands. holds.seen w (fewer w stands);
   owners = owners holds.owners;
 }
 
--- events are told
-pub told_holds : (must : Bool) (t : Tree) (set_at : Watch → Nodes) (tables : TablesView) (es : List Event) → Holds must t set_at tables
-    → Holds must t set_at (told_all es tables)
-told_holds must t set_at tables es holds =
-    fewer_holds must t set_at tables (told_all es tables) (λ w stands. (told_all_leaves es tables w stands).0)
-    (λ all. subst (λ m. OwnersAre (Marked m) t.nodes) (sym (told_all_sittings es tables)) all) holds
+-- events are reported
+pub reported_holds : (must : Bool) (t : Tree) (set_at : Watch → Nodes) (tables : TablesView) (es : List Event) → Holds must t set_at tables
+    → Holds must t set_at (reported_all es tables)
+reported_holds must t set_at tables es holds =
+    fewer_holds must t set_at tables (reported_all es tables) (λ w stands. (reported_all_leaves es tables w stands).0)
+    (λ all. subst (λ m. OwnersAre (Marked m) t.nodes) (sym (reported_all_attachments es tables)) all) holds
 
 -- and no watch that stands behind them waits in vain
 pub look_holds : (t : Tree) (set_at : Watch → Nodes) (tables : TablesView) (es : List Event)
     → ((w : Watch) → In tables w → Unfired w es → WentAway w.kind w.path t → ⊥) → Holds true t set_at tables
-    → Holds false t set_at (told_all es tables)
+    → Holds false t set_at (reported_all es tables)
 look_holds t set_at tables es settles holds = record {
-  right = told.right;
-  seen = λ w stands. let left = told_all_leaves es tables w stands in each (set_at w) w (told.seen w stands) (settles w left.0 left.1);
-  owners = told.owners;
+  right = reported.right;
+  seen = λ w stands. let left = reported_all_leaves es tables w stands in each (set_at w) w (reported.seen w stands) (settles w left.0 left.1);
+  owners = reported.owners;
 }
   where
-    told : Holds true t set_at (told_all es tables)
-    told = told_holds true t set_at tables es holds
+    reported : Holds true t set_at (reported_all es tables)
+    reported = reported_holds true t set_at tables es holds
 
     each : (before : Nodes) (w : Watch) → Pending true t before w.kind w.path → (WentAway w.kind w.path t → ⊥) → Pending false t before w.kind w.path
     each before w (inl same) none = inl same

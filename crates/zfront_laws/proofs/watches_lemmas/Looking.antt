@@ -35,7 +35,7 @@ use Rattle.zfront.specs.Front.{looks}
 use Rattle.zfront_laws.proofs.watches_lemmas.Holding.{WentAway}
 use Rattle.zfront_laws.proofs.watches_lemmas.Standing.{Unfired, fires_data, fires_children}
 
--- ---- the cause of what is told
+-- ---- the cause of what is reported
 
 abbrev pub IsSeenIn : Tree → Event → Type 0
 IsSeenIn t e = ((e.kind ≡ NodeDeleted) × (finite.get t.nodes e.path ≡ None))
@@ -110,7 +110,7 @@ deleted_fires w Children is of_node = fires_children w NodeDeleted is refl
 level : (a b : ℕ) → a ≡ b → (a == b) ≡ true
 level a b is = grind (arith, nat_tests)
 
--- what is told of a place settles the watch there
+-- what is reported of a place settles the watch there
 settled_there : (t : Tree) (p : Place) (w : Watch) (n : Node) (k : Kind) → w.kind ≡ k → place_of w ≡ p → finite.get t.nodes w.path ≡ Some n
     → Unfired w (node_seen t.zxid k p (stat_of t.nodes p.path n)) → WentAway k w.path t → ⊥
 settled_there t p w n Data is at there unfired away = none_some (but_children n) (sym away ∙ ap (option_map but_children) there)
@@ -118,9 +118,9 @@ settled_there t p w n Missing is at there unfired away = away
 settled_there t p w n Children is at there unfired (inl away) = none_some n.pzxid (sym away ∙ ap (option_map (λ (m : Node). m.pzxid)) there)
 settled_there t p w n Children is at there unfired (inr last) =
     let z : n.pzxid ≡ t.zxid = same_some n.pzxid t.zxid (sym (ap (option_map (λ (m : Node). m.pzxid)) there) ∙ last) in
-    let told : Unfired w (event NodeChildrenChanged p.path ∷ []) =
+    let reported : Unfired w (event NodeChildrenChanged p.path ∷ []) =
     subst (λ b. Unfired w (if b then event NodeChildrenChanged p.path ∷ [] else [])) (level n.pzxid t.zxid z) unfired in
-    true≢false (sym (fires_children w NodeChildrenChanged is refl) ∙ ap (λ (q : Place). fires NodeChildrenChanged q.path w) at ∙ told.0)
+    true≢false (sym (fires_children w NodeChildrenChanged is refl) ∙ ap (λ (q : Place). fires NodeChildrenChanged q.path w) at ∙ reported.0)
 
 look_settles : (t : Tree) (p : Place) (w : Watch) → place_of w ≡ p → is_of_node w.kind ≡ true
     → Unfired w (seen_at t.zxid p (query_reply t (Exists p.path)))
@@ -130,11 +130,11 @@ look_settles t p w at of_node unfired away = by (finite.get t.nodes p.path) refl
   where
     by : (o : Option Node) → finite.get t.nodes p.path ≡ o
         → Unfired w (seen_at t.zxid p (on_node o (λ n. reply.Exists (stat_of t.nodes p.path n)))) → ⊥
-    by None is told =
-        true≢false (sym (deleted_fires w w.kind refl of_node) ∙ ap (λ (q : Place). fires NodeDeleted q.path w) at ∙ told.0)
-    by (Some n) is told =
+    by None is reported =
+        true≢false (sym (deleted_fires w w.kind refl of_node) ∙ ap (λ (q : Place). fires NodeDeleted q.path w) at ∙ reported.0)
+    by (Some n) is reported =
         settled_there t p w n w.kind refl at (ap (λ (q : Place). finite.get t.nodes q.path) at ∙ is)
-        (subst (λ k. Unfired w (node_seen t.zxid k p (stat_of t.nodes p.path n))) (ap (λ (q : Place). q.kind) (sym at)) told) away
+        (subst (λ k. Unfired w (node_seen t.zxid k p (stat_of t.nodes p.path n))) (ap (λ (q : Place). q.kind) (sym at)) reported) away
 
 looks_settle : (t : Tree) (places : List Place) (w : Watch) → list_any (eq_by_cmp place_cmp (place_of w)) places ≡ true
     → is_of_node w.kind ≡ true → Unfired w (seen t.zxid places (looks t places))

@@ -16,9 +16,9 @@ use Rattle.zcalls.specs.declared.call.Lifetime.TheVariants.{Persistent, WithTtl,
 use Rattle.zcalls.specs.declared.call.Part.{Part}
 use Rattle.zcalls.specs.declared.call.Part.TheVariants as part
 use Rattle.zcalls.specs.Part.{owner_of}
-use Rattle.zconnections.specs.declared.attachments.sitting.Sitting.{Sitting}
-use Rattle.zconnections.specs.attachments.Sittings.{SittingsView, with_changed, with_ephemeral, left, touched, rested, restored_sitting, all_rested}
-use Rattle.zconnections.specs.attachments.Sittings as seats
+use Rattle.zconnections.specs.declared.attachments.attachment.Attachment.{Attachment}
+use Rattle.zconnections.specs.attachments.Attachments.{AttachmentsView, with_changed, with_ephemeral, left, touched, rested, restored_attachment, all_rested}
+use Rattle.zconnections.specs.attachments.Attachments as seats
 use Rattle.zconnections.proofs.attachments_lemmas.Changed.{each_rests}
 use Rattle.zconnections.specs.Tables.{TablesView, is_open, session_in, without_seat, closing, closed, moved, taken_up}
 use Rattle.zconnections.specs.Sweeping.{owner_in, made_by, made_by_parts, is_gone, gone, made_one, some_made_one}
@@ -27,46 +27,46 @@ use Rattle.zfront_laws.proofs.Seated.{Has, same_number, seat_here, seat_elsewher
 use Rattle.zfront_laws.proofs.watches_lemmas.Owners.{PartNames}
 
 -- nobody, or a session that is there
-abbrev pub Known : SittingsView → ℕ → Type 0
+abbrev pub Known : AttachmentsView → ℕ → Type 0
 Known m id = (id ≡ 0) ⊎ Has m id
 
 -- nobody, or a session that made an ephemeral node
-abbrev pub Marked : SittingsView → ℕ → Type 0
+abbrev pub Marked : AttachmentsView → ℕ → Type 0
 Marked m id = (id ≡ 0) ⊎ (made_one m id ≡ true)
 
 -- sessions stay, and so does what they made
-pub record Keeps (m n : SittingsView) : Type 0 where
+pub record Keeps (m n : AttachmentsView) : Type 0 where
   pub has : (id : ℕ) → Has m id → Has n id
   pub marks : (id : ℕ) → made_one m id ≡ true → made_one n id ≡ true
 
-pub unchanged : (m : SittingsView) → Keeps m m
+pub unchanged : (m : AttachmentsView) → Keeps m m
 unchanged m = record { has = λ id there. there; marks = λ id is. is }
 
-pub keeps : (a b c : SittingsView) → Keeps a b → Keeps b c → Keeps a c
+pub keeps : (a b c : AttachmentsView) → Keeps a b → Keeps b c → Keeps a c
 keeps a b c one two = record { has = λ id there. two.has id (one.has id there); marks = λ id is. two.marks id (one.marks id is) }
 
-pub known : (m n : SittingsView) → Keeps m n → (id : ℕ) → Known m id → Known n id
+pub known : (m n : AttachmentsView) → Keeps m n → (id : ℕ) → Known m id → Known n id
 known m n kept id (inl nobody) = inl nobody
 known m n kept id (inr has) = inr (kept.has id has)
 
-pub marked : (m n : SittingsView) → Keeps m n → (id : ℕ) → Marked m id → Marked n id
+pub marked : (m n : AttachmentsView) → Keeps m n → (id : ℕ) → Marked m id → Marked n id
 marked m n kept id (inl nobody) = inl nobody
 marked m n kept id (inr made) = inr (kept.marks id made)
 
 -- a mark is of a session that is there
-pub made_there : (m : SittingsView) (id : ℕ) → made_one m id ≡ true → Has m id
+pub made_there : (m : AttachmentsView) (id : ℕ) → made_one m id ≡ true → Has m id
 made_there m id is = by (finite.get m id) refl
   where
-    by : (o : Option Sitting) → finite.get m id ≡ o → Has m id
-    by None none = absurd (cc (sym (ap (λ o. option_map_or (λ (s : Sitting). s.made_ephemeral) o false) none) ∙ is))
+    by : (o : Option Attachment) → finite.get m id ≡ o → Has m id
+    by None none = absurd (cc (sym (ap (λ o. option_map_or (λ (s : Attachment). s.made_ephemeral) o false) none) ∙ is))
     by (Some s) there = (s, there)
 
-pub marked_in : (m : SittingsView) (id : ℕ) (s : Sitting) → finite.get m id ≡ Some s → made_one m id ≡ s.made_ephemeral
-marked_in m id s there = ap (λ o. option_map_or (λ (s : Sitting). s.made_ephemeral) o false) there
+pub marked_in : (m : AttachmentsView) (id : ℕ) (s : Attachment) → finite.get m id ≡ Some s → made_one m id ≡ s.made_ephemeral
+marked_in m id s there = ap (λ o. option_map_or (λ (s : Attachment). s.made_ephemeral) o false) there
 
--- a sitting is changed
-module _ (to : Sitting → Sitting) (keeps_mark : (s : Sitting) → s.made_ephemeral ≡ true → (to s).made_ephemeral ≡ true)
-    (m : SittingsView) (key : ℕ) where
+-- a attachment is changed
+module _ (to : Attachment → Attachment) (keeps_mark : (s : Attachment) → s.made_ephemeral ≡ true → (to s).made_ephemeral ≡ true)
+    (m : AttachmentsView) (key : ℕ) where
   pub changed : Keeps m (with_changed to m key)
   changed = record {
     has = λ id there. near id (same_number id key) there;
@@ -78,7 +78,7 @@ module _ (to : Sitting → Sitting) (keeps_mark : (s : Sitting) → s.made_ephem
           (to has.0, ap (finite.get (with_changed to m key)) same ∙ seat_here to m key has.0 (ap (finite.get m) (sym same) ∙ has.1))
       near id (inr apart) has = (has.0, seat_elsewhere to m key id apart ∙ has.1)
 
-      still : (id : ℕ) (s : Sitting) → finite.get m id ≡ Some s → s.made_ephemeral ≡ true → (id ≡ key) ⊎ (id ≢ key)
+      still : (id : ℕ) (s : Attachment) → finite.get m id ≡ Some s → s.made_ephemeral ≡ true → (id ≡ key) ⊎ (id ≢ key)
           → made_one (with_changed to m key) id ≡ true
       still id s there is (inl same) =
           marked_in (with_changed to m key) id (to s) (ap (finite.get (with_changed to m key)) same
@@ -87,18 +87,18 @@ module _ (to : Sitting → Sitting) (keeps_mark : (s : Sitting) → s.made_ephem
       still id s there is (inr apart) =
           marked_in (with_changed to m key) id s (seat_elsewhere to m key id apart ∙ there) ∙ is
 
-pub without_seat_keeps : (o : Option ℕ) (t : TablesView) → Keeps t.sittings (without_seat o t)
-without_seat_keeps None t = unchanged t.sittings
-without_seat_keeps (Some mine) t = changed left (λ s is. is) t.sittings mine
+pub without_seat_keeps : (o : Option ℕ) (t : TablesView) → Keeps t.attachments (without_seat o t)
+without_seat_keeps None t = unchanged t.attachments
+without_seat_keeps (Some mine) t = changed left (λ s is. is) t.attachments mine
 
-pub closed_keeps : (c : ℕ) (t : TablesView) → Keeps t.sittings (closed c t).sittings
-closed_keeps c t = elim (is_open t c) as (λ b. Keeps t.sittings (if b then closing c t else t).sittings) [
+pub closed_keeps : (c : ℕ) (t : TablesView) → Keeps t.attachments (closed c t).attachments
+closed_keeps c t = elim (is_open t c) as (λ b. Keeps t.attachments (if b then closing c t else t).attachments) [
   | true ↦ without_seat_keeps (session_in (phase_of t.streams c)) t
-  | false ↦ unchanged t.sittings
+  | false ↦ unchanged t.attachments
 ]
 
--- a sitting is put, in the place of one or beside the others
-module _ (m : SittingsView) (key : ℕ) (s : Sitting) (keeps_mark : made_one m key ≡ true → s.made_ephemeral ≡ true) where
+-- a attachment is put, in the place of one or beside the others
+module _ (m : AttachmentsView) (key : ℕ) (s : Attachment) (keeps_mark : made_one m key ≡ true → s.made_ephemeral ≡ true) where
   put_keeps : Keeps m (finite.insert m key s)
   put_keeps = record { has = λ id there. near id (same_number id key) there; marks = λ id is. still id (same_number id key) is }
     where
@@ -113,25 +113,25 @@ module _ (m : SittingsView) (key : ℕ) (s : Sitting) (keeps_mark : made_one m k
       still id (inl same) is =
           marked_in (finite.insert m key s) id s (ap (finite.get (finite.insert m key s)) same ∙ here) ∙ keeps_mark (ap (made_one m) (sym same) ∙ is)
       still id (inr apart) is =
-          ap (λ o. option_map_or (λ (s : Sitting). s.made_ephemeral) o false)
+          ap (λ o. option_map_or (λ (s : Attachment). s.made_ephemeral) o false)
           (get-insert-elsewhere nat_cmp_total nat_cmp-IsAntisymmetric m key s id apart)
           ∙ is
 
 -- a session that is taken up counts as one that made a node, where it isn't known
-taken_mark : (o : Option Sitting) → option_map_or (λ (s : Sitting). s.made_ephemeral) o false ≡ true
-    → (unwrap_or o restored_sitting).made_ephemeral ≡ true
+taken_mark : (o : Option Attachment) → option_map_or (λ (s : Attachment). s.made_ephemeral) o false ≡ true
+    → (unwrap_or o restored_attachment).made_ephemeral ≡ true
 taken_mark None is = refl
 taken_mark (Some s) is = is
 
-pub seated_keeps : (session c : ℕ) (t : TablesView) → Keeps (moved session t).sittings (taken_up session c t).sittings
+pub seated_keeps : (session c : ℕ) (t : TablesView) → Keeps (moved session t).attachments (taken_up session c t).attachments
 seated_keeps session c t =
-    let m = (moved session t).sittings in
-    put_keeps m session (seats.taken_up c (unwrap_or (finite.get m session) restored_sitting)) (taken_mark (finite.get m session))
+    let m = (moved session t).attachments in
+    put_keeps m session (seats.taken_up c (unwrap_or (finite.get m session) restored_attachment)) (taken_mark (finite.get m session))
 
-pub touched_keeps : (session : ℕ) (m : SittingsView) → Keeps m (with_changed touched m session)
+pub touched_keeps : (session : ℕ) (m : AttachmentsView) → Keeps m (with_changed touched m session)
 touched_keeps session m = changed touched (λ s is. is) m session
 
-pub rested_keeps : (m : SittingsView) → Keeps m (all_rested m)
+pub rested_keeps : (m : AttachmentsView) → Keeps m (all_rested m)
 rested_keeps m = record {
   has = λ id there. (rested there.0, each_rests m id ∙ ap (option_map rested) there.1);
   marks = λ id is.
@@ -140,23 +140,23 @@ rested_keeps m = record {
 }
 
 -- a node of a lifetime is made
-pub made_keeps : (lifetime : Lifetime) (m : SittingsView) → Keeps m (made_by lifetime m)
+pub made_keeps : (lifetime : Lifetime) (m : AttachmentsView) → Keeps m (made_by lifetime m)
 made_keeps lifetime m = elim (owner_in lifetime) as (λ o. Keeps m (option_map_or (λ session. with_changed with_ephemeral m session) o m)) [
   | None ↦ unchanged m
   | Some session ↦ changed with_ephemeral (λ s is. refl) m session
 ]
 
-here_marked : (m : SittingsView) (session : ℕ) → Known m session → Marked (with_changed with_ephemeral m session) session
+here_marked : (m : AttachmentsView) (session : ℕ) → Known m session → Marked (with_changed with_ephemeral m session) session
 here_marked m session (inl nobody) = inl nobody
 here_marked m session (inr has) =
     inr (marked_in (with_changed with_ephemeral m session) session (with_ephemeral has.0) (seat_here with_ephemeral m session has.0 has.1))
 
-pub made_marked : (lifetime : Lifetime) (m : SittingsView) → Known m (owner_of lifetime) → Marked (made_by lifetime m) (owner_of lifetime)
+pub made_marked : (lifetime : Lifetime) (m : AttachmentsView) → Known m (owner_of lifetime) → Marked (made_by lifetime m) (owner_of lifetime)
 made_marked Persistent m mine = inl refl
 made_marked (WithTtl ttl) m mine = inl refl
 made_marked (Ephemeral session) m mine = here_marked m session mine
 
-pub parts_keep : (parts : List Part) (m : SittingsView) → Keeps m (made_by_parts parts m)
+pub parts_keep : (parts : List Part) (m : AttachmentsView) → Keeps m (made_by_parts parts m)
 parts_keep [] m = unchanged m
 parts_keep (part.Create create ∷ parts) m =
     keeps m (made_by create.kind.lifetime m) (made_by_parts parts (made_by create.kind.lifetime m)) (made_keeps create.kind.lifetime m)
@@ -165,18 +165,18 @@ parts_keep (part.Delete delete ∷ parts) m = parts_keep parts m
 parts_keep (part.SetData set ∷ parts) m = parts_keep parts m
 parts_keep (part.Check check ∷ parts) m = parts_keep parts m
 
-part_known : (m n : SittingsView) → Keeps m n → (p : Part) → PartNames (Known m) p → PartNames (Known n) p
+part_known : (m n : AttachmentsView) → Keeps m n → (p : Part) → PartNames (Known m) p → PartNames (Known n) p
 part_known m n kept (part.Create create) names = known m n kept (owner_of create.kind.lifetime) names
 part_known m n kept (part.Delete delete) names = tt
 part_known m n kept (part.SetData set) names = tt
 part_known m n kept (part.Check check) names = tt
 
-pub parts_known : (m n : SittingsView) → Keeps m n → (parts : List Part) → AllByRecursion (PartNames (Known m)) parts
+pub parts_known : (m n : AttachmentsView) → Keeps m n → (parts : List Part) → AllByRecursion (PartNames (Known m)) parts
     → AllByRecursion (PartNames (Known n)) parts
 parts_known m n kept [] names = tt
 parts_known m n kept (p ∷ parts) names = (part_known m n kept p names.0, parts_known m n kept parts names.1)
 
-pub parts_marked : (parts : List Part) (m : SittingsView) → AllByRecursion (PartNames (Known m)) parts
+pub parts_marked : (parts : List Part) (m : AttachmentsView) → AllByRecursion (PartNames (Known m)) parts
     → AllByRecursion (PartNames (Marked (made_by_parts parts m))) parts
 parts_marked [] m names = tt
 parts_marked (part.Create create ∷ parts) m names =
@@ -189,9 +189,9 @@ parts_marked (part.SetData set ∷ parts) m names = (tt, parts_marked parts m na
 parts_marked (part.Check check ∷ parts) m names = (tt, parts_marked parts m names.1)
 
 -- a session is forgotten: the others keep their marks
-pub removed_mark : (m : SittingsView) (session id : ℕ) → id ≢ session → made_one (finite.remove m session) id ≡ made_one m id
+pub removed_mark : (m : AttachmentsView) (session id : ℕ) → id ≢ session → made_one (finite.remove m session) id ≡ made_one m id
 removed_mark m session id apart =
-    ap (λ o. option_map_or (λ (s : Sitting). s.made_ephemeral) o false)
+    ap (λ o. option_map_or (λ (s : Attachment). s.made_ephemeral) o false)
     (get-remove-elsewhere nat_cmp_total nat_cmp-IsAntisymmetric m session id apart)
 
 pub apart_from : (sessions : Sessions) (id session : ℕ) → finite.contains_key sessions id ≡ true → is_gone sessions session ≡ true → id ≢ session
@@ -208,7 +208,7 @@ all_kept test (id ∷ ids) = by (test id) refl (all_kept test ids)
     by true is rest = (is, rest)
     by false is rest = rest
 
-pub all_gone : (sessions : Sessions) (m : SittingsView) → AllByRecursion (λ id. is_gone sessions id ≡ true) (gone sessions m)
+pub all_gone : (sessions : Sessions) (m : AttachmentsView) → AllByRecursion (λ id. is_gone sessions id ≡ true) (gone sessions m)
 all_gone sessions m = all_kept (is_gone sessions) (finite.keys m)
 
 -- one of them made an ephemeral node
@@ -230,7 +230,7 @@ any_kept test p id (first ∷ ids) passes has among =
     by true ties false is rest = absurd (true≢false (sym passes ∙ ap test (tied_same nat_cmp_total nat_cmp-IsAntisymmetric id first ties) ∙ is))
     by false ties b is rest = any_more p first (filter test ids) b (rest (sym (ap (λ b. b || list_any (eq_by_cmp nat_cmp id) ids) ties) ∙ among))
 
-pub gone_made : (sessions : Sessions) (m : SittingsView) (id : ℕ) → finite.get sessions id ≡ None → made_one m id ≡ true
+pub gone_made : (sessions : Sessions) (m : AttachmentsView) (id : ℕ) → finite.get sessions id ≡ None → made_one m id ≡ true
     → some_made_one m (gone sessions m) ≡ true
 gone_made sessions m id none is =
     let there = made_there m id is in

@@ -8,7 +8,7 @@ use Rattle.std.specs.Option.{option_map, option_map_or}
 use Rattle.ztree.proofs.Maps.{same_or_other, get-insert-here}
 use Rattle.zconnections.specs.declared.buffers.phase.Phase.TheVariants.{Speaking}
 use Rattle.zconnections.specs.buffers.Streams.{StreamRows, StreamView, changed, phase_of, with_bytes, with_phase}
-use Rattle.zconnections.specs.attachments.Sittings.{SittingsView}
+use Rattle.zconnections.specs.attachments.Attachments.{AttachmentsView}
 use Rattle.zconnections.specs.Tables.{TablesView, may_send}
 use Rattle.zfront_laws.proofs.Seated.{phase_elsewhere}
 use Rattle.zfront_laws.specs.watches.Watching.{IsMoved}
@@ -35,9 +35,9 @@ module _ (to : StreamView → StreamView) (stays : (s : StreamView) → may_send
       near (inl same) = by (finite.get rows c) refl same
       near (inr other) = ap may_send (phase_elsewhere to rows c d other) ∙ opens
 
--- other sittings
-pub sittings_move : (t : TablesView) (m : SittingsView) → IsMoved t (record t { sittings = m })
-sittings_move t m = record { watches = refl; unsent = refl; opens = λ c opens. opens }
+-- other attachments
+pub attachments_move : (t : TablesView) (m : AttachmentsView) → IsMoved t (record t { attachments = m })
+attachments_move t m = record { watches = refl; unsent = refl; opens = λ c opens. opens }
 
 -- other bytes
 pub bytes_move : (t : TablesView) (c : ℕ) (bytes : List ℕ) → IsMoved t (record t { streams = with_bytes t.streams c bytes })
@@ -48,8 +48,8 @@ bytes_move t c bytes = record {
 }
 
 -- a connection speaks for a session
-pub speaks_moves : (t : TablesView) (c session : ℕ) (m : SittingsView)
-    → IsMoved t (record t { streams = with_phase t.streams c (Speaking session); sittings = m })
+pub speaks_moves : (t : TablesView) (c session : ℕ) (m : AttachmentsView)
+    → IsMoved t (record t { streams = with_phase t.streams c (Speaking session); attachments = m })
 speaks_moves t c session m = record {
   watches = refl;
   unsent = refl;

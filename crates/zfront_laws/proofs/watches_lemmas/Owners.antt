@@ -14,7 +14,7 @@ use Rattle.zcalls.specs.Part.{create_step, delete_step, set_step, part_step, mad
 use Rattle.zcalls.specs.Multi.{run}
 use Rattle.zcalls.proofs.Bounds.{all_insert, all_remove, all_changed}
 use Rattle.zcalls.proofs.Leaving.{Leaves, create_step-leaves, delete_step-leaves, set_step-leaves, check_step-leaves}
-use Rattle.zcalls.proofs.Leaving.{told_as_part-leaves, and_then-leaves}
+use Rattle.zcalls.proofs.Leaving.{reported_as_part-leaves, and_then-leaves}
 
 -- each node's owner has the property
 abbrev pub OwnersAre : (ℕ → Type 0) → Nodes → Type 0
@@ -58,10 +58,10 @@ module _ (Q : ℕ → Type 0) where
   PartNames other = Unit {0}
 
   part_done : (t : Tree) (client : ℕ) (p : Part) → PartNames p → OwnersAre Q t.nodes → Leaves (λ u. OwnersAre Q u.nodes) (part_step t client p)
-  part_done t client (part.Create create) names all = told_as_part-leaves (λ u. OwnersAre Q u.nodes) (create_step t client create)
+  part_done t client (part.Create create) names all = reported_as_part-leaves (λ u. OwnersAre Q u.nodes) (create_step t client create)
       (created t client create all names)
-  part_done t client (part.Delete delete) names all = told_as_part-leaves (λ u. OwnersAre Q u.nodes) (delete_step t delete) (deleted t delete all)
-  part_done t client (part.SetData to) names all = told_as_part-leaves (λ u. OwnersAre Q u.nodes) (set_step t to) (set t to all)
+  part_done t client (part.Delete delete) names all = reported_as_part-leaves (λ u. OwnersAre Q u.nodes) (delete_step t delete) (deleted t delete all)
+  part_done t client (part.SetData to) names all = reported_as_part-leaves (λ u. OwnersAre Q u.nodes) (set_step t to) (set t to all)
   part_done t client (part.Check check) names all = check_step-leaves (λ u. OwnersAre Q u.nodes) t check all
 
   pub ran : (parts : List Part) (t : Tree) (client : ℕ) → AllByRecursion PartNames parts → OwnersAre Q t.nodes

@@ -10,13 +10,13 @@ use Rattle.zconnections.specs.Tables.{TablesView, sent, closed}
 use Rattle.zresponses.specs.effects.Frames.{answer_frame, ends_connection}
 use Rattle.zresponses.specs.effects.Replying.{replied}
 use Rattle.zfront.specs.Front.{FrontView, with_tables}
-use Rattle.zfront_laws.specs.watches.Watching.{Scene, Happening, Answered, Closed, Moved, tree_of, after, May, Happens, HasToldAll, IsClose, IsMoved}
+use Rattle.zfront_laws.specs.watches.Watching.{Scene, Happening, Answered, Closed, Moved, tree_of, after, May, Happens, HasReportedAll, IsClose, IsMoved}
 use Rattle.zfront_laws.proofs.watches_lemmas.Holding.{Holds, fewer_holds, owners_kept, settled}
 use Rattle.zfront_laws.proofs.watches_lemmas.Marks.{Marked, Keeps}
 use Rattle.zfront_laws.proofs.watches_lemmas.Marks as marks
 use Rattle.zfront_laws.proofs.watches_lemmas.Owners.{OwnersAre}
 use Rattle.zfront_laws.proofs.watches_lemmas.Scenes.{happens_both}
-use Rattle.zfront_laws.proofs.watches_lemmas.Standing.{Fewer, closed_fewer, sent_watches, sent_sittings}
+use Rattle.zfront_laws.proofs.watches_lemmas.Standing.{Fewer, closed_fewer, sent_watches, sent_attachments}
 
 -- the server's tables and tree are those of the scene, where a look may be due
 pub record AtIf (must : Bool) (v : FrontView) (s : Scene) : Type 0 where
@@ -81,7 +81,7 @@ becomes new like s more is has = subst (λ (v : FrontView). Reaches v s more) (s
 
 -- the tables move
 pub moves_if : (must : Bool) (v : FrontView) (s : Scene) (t : TablesView) → AtIf must v s → IsMoved v.tables t
-    → (OwnersAre (Marked v.tables.sittings) v.tree.nodes → OwnersAre (Marked t.sittings) v.tree.nodes)
+    → (OwnersAre (Marked v.tables.attachments) v.tree.nodes → OwnersAre (Marked t.attachments) v.tree.nodes)
     → Arrives must (with_tables t v) s []
 moves_if must v s t there moved owners =
     once must (with_tables t v) s (Moved t) (after (Moved t) s) (subst (λ old. IsMoved old t) (sym there.tables) moved, refl) refl (record {
@@ -90,25 +90,25 @@ moves_if must v s t there moved owners =
       holds = fewer_holds must (tree_of s) s.set_at s.tables t
           (λ w is. ap (λ (u : TablesView). contains u.watches w) there.tables ∙ ap (λ table. contains table w) (sym moved.watches) ∙ is)
           (λ all.
-          subst (λ (u : Tree). OwnersAre (Marked t.sittings) u.nodes) (sym there.tree)
-          (owners (subst (λ (u : Tree). OwnersAre (Marked v.tables.sittings) u.nodes) there.tree
-          (subst (λ (u : TablesView). OwnersAre (Marked u.sittings) (tree_of s).nodes) there.tables all))))
+          subst (λ (u : Tree). OwnersAre (Marked t.attachments) u.nodes) (sym there.tree)
+          (owners (subst (λ (u : Tree). OwnersAre (Marked v.tables.attachments) u.nodes) there.tree
+          (subst (λ (u : TablesView). OwnersAre (Marked u.attachments) (tree_of s).nodes) there.tables all))))
           there.holds;
     })
 
 -- and its sessions keep their marks
-pub moves : (must : Bool) (v : FrontView) (s : Scene) (t : TablesView) → AtIf must v s → IsMoved v.tables t → Keeps v.tables.sittings t.sittings
+pub moves : (must : Bool) (v : FrontView) (s : Scene) (t : TablesView) → AtIf must v s → IsMoved v.tables t → Keeps v.tables.attachments t.attachments
     → Arrives must (with_tables t v) s []
-moves must v s t there moved kept = moves_if must v s t there moved (owners_kept v.tables.sittings t.sittings v.tree.nodes kept)
+moves must v s t there moved kept = moves_if must v s t there moved (owners_kept v.tables.attachments t.attachments v.tree.nodes kept)
 
 -- a connection is closed, or ends
 pub shuts : (must : Bool) (v : FrontView) (s : Scene) (to : TablesView → TablesView) → AtIf must v s → Fewer s.tables (to s.tables)
-    → Keeps s.tables.sittings (to s.tables).sittings → AtIf must (with_tables (to v.tables) v) (record s { tables = to s.tables })
+    → Keeps s.tables.attachments (to s.tables).attachments → AtIf must (with_tables (to v.tables) v) (record s { tables = to s.tables })
 shuts must v s to there fewer kept = record {
   tables = ap to there.tables;
   tree = there.tree;
   holds = fewer_holds must (tree_of s) s.set_at s.tables (to s.tables) fewer
-      (owners_kept s.tables.sittings (to s.tables).sittings (tree_of s).nodes kept) there.holds;
+      (owners_kept s.tables.attachments (to s.tables).attachments (tree_of s).nodes kept) there.holds;
 }
 
 pub closes : (must : Bool) (v : FrontView) (s : Scene) (c : ℕ) → AtIf must v s → Arrives must (with_tables (closed c v.tables) v) s []
@@ -124,7 +124,7 @@ sends must v s c bytes there = record {
   tree = there.tree;
   holds = fewer_holds must (tree_of s) s.set_at s.tables (sent c bytes s.tables)
       (λ w is. ap (λ table. contains table w) (sym (sent_watches c bytes s.tables)) ∙ is)
-      (subst (λ m. OwnersAre (Marked m) (tree_of s).nodes) (sym (sent_sittings c bytes s.tables)))
+      (subst (λ m. OwnersAre (Marked m) (tree_of s).nodes) (sym (sent_attachments c bytes s.tables)))
       there.holds;
 }
 
@@ -136,14 +136,14 @@ sends_as must v s c bytes h may is there =
     (sends must v s c bytes there)
 
 -- an answer
-answers : (must : Bool) (v : FrontView) (s : Scene) (c : ℕ) (xid : ℤ) (answer : Answer) → AtIf must v s → (HasToldAll s c ⊎ IsClose s c)
+answers : (must : Bool) (v : FrontView) (s : Scene) (c : ℕ) (xid : ℤ) (answer : Answer) → AtIf must v s → (HasReportedAll s c ⊎ IsClose s c)
     → Arrives must (with_tables (sent c (answer_frame v.tree.zxid xid answer) v.tables) v) s []
 answers must v s c xid answer there may =
     sends_as must v s c (answer_frame v.tree.zxid xid answer) (Answered c xid answer) may
     (ap (λ (t : Tree). record s { tables = sent c (answer_frame t.zxid xid answer) s.tables }) there.tree) there
 
 -- and behind one that ends the connection it is closed
-pub replies : (must : Bool) (v : FrontView) (s : Scene) (c : ℕ) (xid : ℤ) (answer : Answer) → AtIf must v s → (HasToldAll s c ⊎ IsClose s c)
+pub replies : (must : Bool) (v : FrontView) (s : Scene) (c : ℕ) (xid : ℤ) (answer : Answer) → AtIf must v s → (HasReportedAll s c ⊎ IsClose s c)
     → Arrives must (with_tables (replied v.tree.zxid c xid answer v.tables) v) s []
 replies must v s c xid answer there may = elim (ends_connection answer.code) as (λ b. Arrives must (with_tables (
     if b
@@ -157,6 +157,6 @@ replies must v s c xid answer there may = elim (ends_connection answer.code) as 
       | false ↦ answers must v s c xid answer there may
     ]
 
--- where no look is due, all watches were told all
-pub all_told : (v : FrontView) (s : Scene) (c : ℕ) → At v s → HasToldAll s c
-all_told v s c there w stands mine = settled (tree_of s) (s.set_at w) w.kind w.path (there.holds.seen w stands)
+-- where no look is due, all watches were reported all
+pub all_reported : (v : FrontView) (s : Scene) (c : ℕ) → At v s → HasReportedAll s c
+all_reported v s c there w stands mine = settled (tree_of s) (s.set_at w) w.kind w.path (there.holds.seen w stands)

@@ -31,7 +31,7 @@ use Rattle.zresponses.specs.Answers.{failed}
 use Rattle.ztree_service.specs.log.Logs.{tree_after}
 use Rattle.zconnections.specs.buffers.Streams.{phase_of}
 use Rattle.zconnections.specs.declared.buffers.phase.Phase.TheVariants.{Speaking}
-use Rattle.zconnections.specs.attachments.Sittings.{SittingsView, with_changed, touched}
+use Rattle.zconnections.specs.attachments.Attachments.{AttachmentsView, with_changed, touched}
 use Rattle.zconnections.specs.Tables.{TablesView, closed, sent}
 use Rattle.zresponses.specs.effects.Answering.{answer_unless, granted_and_answered, now_of}
 use Rattle.zresponses.specs.effects.Replying.{absorbed_all, replied}
@@ -42,16 +42,16 @@ use Rattle.zfront.specs.Front.{FrontView, with_tables, asked, replies_to, may_en
 use Rattle.zfront.specs.Requests.{touched_by, with_answer, Makes, Acts, Requests, Serves}
 use Rattle.zfront_laws.specs.Logs.{done_by, meant, request_calls}
 use Rattle.zfront_laws.proofs.Seated.{Has}
-use Rattle.zfront_laws.specs.watches.Watching.{Scene, HasToldAll, IsClose}
+use Rattle.zfront_laws.specs.watches.Watching.{Scene, HasReportedAll, IsClose}
 use Rattle.zfront_laws.proofs.watches_lemmas.Granting.{granted_answers, no_wish_grants, wishes_grant}
 use Rattle.zfront_laws.proofs.watches_lemmas.Holding.{UpdateNames, absorbing}
 use Rattle.zfront_laws.proofs.watches_lemmas.Marks.{Known, Keeps, unchanged, closed_keeps, touched_keeps}
-use Rattle.zfront_laws.proofs.watches_lemmas.Moving.{sittings_move}
+use Rattle.zfront_laws.proofs.watches_lemmas.Moving.{attachments_move}
 use Rattle.zfront_laws.proofs.watches_lemmas.Owners.{PartNames}
-use Rattle.zfront_laws.proofs.watches_lemmas.Reaching.{At, Reaches, all_told, becomes, behind, moves, replies, still, closes}
+use Rattle.zfront_laws.proofs.watches_lemmas.Reaching.{At, Reaches, all_reported, becomes, behind, moves, replies, still, closes}
 use Rattle.zfront_laws.proofs.watches_lemmas.Scenes.{is_lawful}
 use Rattle.zfront_laws.proofs.watches_lemmas.Sorting.{Sorts, sorts}
-use Rattle.zfront_laws.proofs.watches_lemmas.Standing.{sent_sittings}
+use Rattle.zfront_laws.proofs.watches_lemmas.Standing.{sent_attachments}
 use Rattle.zfront_laws.proofs.watches_lemmas.Taking.{close_takes}
 use Rattle.zfront_laws.proofs.watches_lemmas.Tidying.{Gone, tidies}
 use Rattle.zfront_laws.proofs.watches_lemmas.Updating.{Taken, absorbs, behind_calls, close_does, next, nothing_taken, taken}
@@ -70,11 +70,11 @@ same_tree t [] all = refl
 same_tree t (Query query ∷ calls) all = same_tree t calls all.1
 same_tree t (Update update ∷ calls) all = absurd all.0
 
-absorbed_queries : (calls : List Call) (told : List Reply) (t : TablesView) → AreQueries calls → absorbed_all calls told t ≡ t
-absorbed_queries [] told t all = refl
+absorbed_queries : (calls : List Call) (reported : List Reply) (t : TablesView) → AreQueries calls → absorbed_all calls reported t ≡ t
+absorbed_queries [] reported t all = refl
 absorbed_queries (call ∷ calls) [] t all = refl
-absorbed_queries (Query query ∷ calls) (reply ∷ told) t all = absorbed_queries calls told t all.1
-absorbed_queries (Update update ∷ calls) (reply ∷ told) t all = absurd all.0
+absorbed_queries (Query query ∷ calls) (reply ∷ reported) t all = absorbed_queries calls reported t all.1
+absorbed_queries (Update update ∷ calls) (reply ∷ reported) t all = absurd all.0
 
 module _ (c : ℕ) (asks : Request) where
   -- queries set watches, and are answered
@@ -82,13 +82,13 @@ module _ (c : ℕ) (asks : Request) where
       → Reaches new s (done_by calls old)
   makes_queries calls old new s all there has =
       becomes new (with_answer calls c asks old) s (done_by calls old)
-      (subst (λ b. TidiesIf b told (with_answer calls c asks old) new) (never_end calls all) has)
+      (subst (λ b. TidiesIf b reported (with_answer calls c asks old) new) (never_end calls all) has)
       (behind_calls calls old s there (with_answer calls c asks old)
-      (subst (λ t. Reaches (with_tables (granted_and_answered old.clock (now_of v.tree) c asks calls told t) v) (next calls old s there) [])
-      (sym (absorbed_queries calls told old.tables all)) granted))
+      (subst (λ t. Reaches (with_tables (granted_and_answered old.clock (now_of v.tree) c asks calls reported t) v) (next calls old s there) [])
+      (sym (absorbed_queries calls reported old.tables all)) granted))
     where
-      told : List Reply
-      told = replies_to calls old
+      reported : List Reply
+      reported = replies_to calls old
 
       v : FrontView
       v = asked calls old
@@ -96,70 +96,70 @@ module _ (c : ℕ) (asks : Request) where
       same : v.tree ≡ old.tree
       same = same_tree old.tree calls all
 
-      granted : Reaches (with_tables (granted_and_answered old.clock (now_of v.tree) c asks calls told old.tables) v) (next calls old s there) []
+      granted : Reaches (with_tables (granted_and_answered old.clock (now_of v.tree) c asks calls reported old.tables) v) (next calls old s there) []
       granted =
-          granted_answers v (next calls old s there) c asks calls told (nothing_taken calls old s there (ap (λ (t : Tree). t.nodes) same))
-          (wishes_grant c v.tree asks.asked calls told (subst (λ t. AreOf t calls told) (sym same) (served_are_of old.tree calls all)))
+          granted_answers v (next calls old s there) c asks calls reported (nothing_taken calls old s there (ap (λ (t : Tree). t.nodes) same))
+          (wishes_grant c v.tree asks.asked calls reported (subst (λ t. AreOf t calls reported) (sym same) (served_are_of old.tree calls all)))
 
   -- an update, which sets no watch
-  module _ (u : Act) (old new : FrontView) (s : Scene) (no_watch : (told : List Reply) → wishes asks.asked (Update u ∷ []) told ≡ [])
+  module _ (u : Act) (old new : FrontView) (s : Scene) (no_watch : (reported : List Reply) → wishes asks.asked (Update u ∷ []) reported ≡ [])
       (there : At old s) where
     abbrev calls : List Call
     calls = Update u ∷ []
 
-    abbrev told : Reply
-    told = (step old.tree 0 u).1
+    abbrev reported : Reply
+    reported = (step old.tree 0 u).1
 
     abbrev v : FrontView
     v = asked calls old
 
     -- it takes nothing away
-    updates : takes_away u ≡ false → UpdateNames (Known s.tables.sittings) u → new ≡ with_answer calls c asks old → Reaches new s (done_by calls old)
+    updates : takes_away u ≡ false → UpdateNames (Known s.tables.attachments) u → new ≡ with_answer calls c asks old → Reaches new s (done_by calls old)
     updates stays names is =
-        let w = with_tables (absorbing u told old.tables) v in
+        let w = with_tables (absorbing u reported old.tables) v in
         becomes new (with_answer calls c asks old) s (done_by calls old) is
         (still false false w (with_answer calls c asks old) s (done_by calls old) (absorbs old s u there stays names)
         (λ last here.
-        granted_answers w last c asks calls (told ∷ []) here
-        (no_wish_grants c asks.asked calls (told ∷ []) w.tree.nodes (no_watch (told ∷ [])))))
+        granted_answers w last c asks calls (reported ∷ []) here
+        (no_wish_grants c asks.asked calls (reported ∷ []) w.tree.nodes (no_watch (reported ∷ [])))))
 
     -- the answer to one that may take something away
     abbrev answer : Answer
-    answer = answer_unless false old.clock (now_of v.tree) asks.asked calls (told ∷ [])
+    answer = answer_unless false old.clock (now_of v.tree) asks.asked calls (reported ∷ [])
 
     abbrev answered : FrontView
     answered = with_tables (replied v.tree.zxid c asks.xid answer old.tables) v
 
-    no_wishes : with_tables (granted_and_answered old.clock (now_of v.tree) c asks calls (told ∷ []) old.tables) v ≡ answered
+    no_wishes : with_tables (granted_and_answered old.clock (now_of v.tree) c asks calls (reported ∷ []) old.tables) v ≡ answered
     no_wishes =
         ap (λ ws. with_tables (replied v.tree.zxid c asks.xid
-        (answer_unless (some_lacked c ws old.tables) old.clock (now_of v.tree) asks.asked calls (told ∷ [])) (granted_all c ws old.tables)) v)
-        (no_watch (told ∷ []))
+        (answer_unless (some_lacked c ws old.tables) old.clock (now_of v.tree) asks.asked calls (reported ∷ [])) (granted_all c ws old.tables)) v)
+        (no_watch (reported ∷ []))
 
-    -- it is answered, and what it took away is told
-    replied_keeps : (t : TablesView) → Keeps t.sittings (replied v.tree.zxid c asks.xid answer t).sittings
+    -- it is answered, and what it took away is reported
+    replied_keeps : (t : TablesView) → Keeps t.attachments (replied v.tree.zxid c asks.xid answer t).attachments
     replied_keeps t =
         let u = sent c (answer_frame v.tree.zxid asks.xid answer) t in
-        elim (ends_connection answer.code) as (λ b. Keeps t.sittings (if b then closed c u else u).sittings) [
-          | true ↦ subst (λ m. Keeps m (closed c u).sittings) (sent_sittings c (answer_frame v.tree.zxid asks.xid answer) t) (closed_keeps c u)
-          | false ↦ subst (Keeps t.sittings) (sym (sent_sittings c (answer_frame v.tree.zxid asks.xid answer) t)) (unchanged t.sittings)
+        elim (ends_connection answer.code) as (λ b. Keeps t.attachments (if b then closed c u else u).attachments) [
+          | true ↦ subst (λ m. Keeps m (closed c u).attachments) (sent_attachments c (answer_frame v.tree.zxid asks.xid answer) t) (closed_keeps c u)
+          | false ↦ subst (Keeps t.attachments) (sym (sent_attachments c (answer_frame v.tree.zxid asks.xid answer) t)) (unchanged t.attachments)
         ]
 
-    ends : (took : Taken v (next calls old s there) (takes_nodes told)) → (HasToldAll (next calls old s there) c ⊎ IsClose (next calls old s there) c)
-        → LooksIf (took_unnamed (told ∷ []) answered) (swept answered) new → Reaches new s (done_by calls old)
+    ends : (took : Taken v (next calls old s there) (takes_nodes reported)) → (HasReportedAll (next calls old s there) c ⊎ IsClose (next calls old s there) c)
+        → LooksIf (took_unnamed (reported ∷ []) answered) (swept answered) new → Reaches new s (done_by calls old)
     ends took may has =
         behind_calls calls old s there new
         (behind took.must false answered new (next calls old s there) [] []
         (replies took.must v (next calls old s there) c asks.xid answer took.there may)
-        (λ last here. tidies took.must (told ∷ []) answered new last here (λ due. why (took.why due)) has))
+        (λ last here. tidies took.must (reported ∷ []) answered new last here (λ due. why (took.why due)) has))
       where
-        why : (takes_nodes told ≡ true) ⊎ Gone v → (list_any takes_nodes (told ∷ []) ≡ true) ⊎ Gone answered
+        why : (takes_nodes reported ≡ true) ⊎ Gone v → (list_any takes_nodes (reported ∷ []) ≡ true) ⊎ Gone answered
         why (inl some) = inl (ap (λ b. b || false) some)
         why (inr (id, gone, made)) = inr (id, gone, (replied_keeps old.tables).marks id made)
 
   -- a close
   closes_session : (session : ℕ) (old new : FrontView) (s : Scene) → phase_of old.tables.streams c ≡ Some (Speaking session)
-      → ((told : List Reply) → wishes asks.asked (Update (act.Close session) ∷ []) told ≡ []) → At old s
+      → ((reported : List Reply) → wishes asks.asked (Update (act.Close session) ∷ []) reported ≡ []) → At old s
       → Makes (Update (act.Close session) ∷ []) c asks old new → Reaches new s (done_by (Update (act.Close session) ∷ []) old)
   closes_session session old new s speaks no_watch there has = by (close_does old.tree session)
     where
@@ -179,7 +179,7 @@ module _ (c : ℕ) (asks : Request) where
       by (inl same) =
           let here = nothing_taken (Update u ∷ []) old s there (ap (λ (t : Tree). t.nodes) same) in
           ends u old new s no_watch there (record { must = false; there = here; why = λ due. absurd (cc due) })
-          (inl (all_told (asked (Update u ∷ []) old) then_scene c here)) looks
+          (inl (all_reported (asked (Update u ∷ []) old) then_scene c here)) looks
       by (inr ended) =
           ends u old new s no_watch there
           (taken (Update u ∷ []) old s there (takes_nodes (step old.tree 0 u).1)
@@ -192,8 +192,8 @@ module _ (c : ℕ) (asks : Request) where
           )) looks
 
   -- an update
-  makes_update : (session : ℕ) (u : Act) → UpdateIsFor session u → ((told : List Reply) → wishes asks.asked (Update u ∷ []) told ≡ [])
-      → (old new : FrontView) (s : Scene) → phase_of old.tables.streams c ≡ Some (Speaking session) → UpdateNames (Known s.tables.sittings) u
+  makes_update : (session : ℕ) (u : Act) → UpdateIsFor session u → ((reported : List Reply) → wishes asks.asked (Update u ∷ []) reported ≡ [])
+      → (old new : FrontView) (s : Scene) → phase_of old.tables.streams c ≡ Some (Speaking session) → UpdateNames (Known s.tables.attachments) u
       → At old s → Makes (Update u ∷ []) c asks old new → Reaches new s (done_by (Update u ∷ []) old)
   makes_update session (act.Create create) for no_watch old new s speaks names there is =
       updates (act.Create create) old new s no_watch there refl names is
@@ -211,13 +211,13 @@ module _ (c : ℕ) (asks : Request) where
 
 -- ---- what a request names
 
-lifetime_names : (m : SittingsView) (session : ℕ) → Has m session → (lifetime : Lifetime) → IsForSession session lifetime
+lifetime_names : (m : AttachmentsView) (session : ℕ) → Has m session → (lifetime : Lifetime) → IsForSession session lifetime
     → Known m (owner_of lifetime)
 lifetime_names m session has Persistent for = inl refl
 lifetime_names m session has (WithTtl ttl) for = inl refl
 lifetime_names m session has (Ephemeral owner) for = inr (subst (Has m) (sym for) has)
 
-parts_names : (m : SittingsView) (session : ℕ) → Has m session → (parts : List Part) → AllByRecursion (PartIsFor session) parts
+parts_names : (m : AttachmentsView) (session : ℕ) → Has m session → (parts : List Part) → AllByRecursion (PartIsFor session) parts
     → AllByRecursion (PartNames (Known m)) parts
 parts_names m session has [] for = tt
 parts_names m session has (part.Create create ∷ parts) for = (
@@ -228,7 +228,7 @@ parts_names m session has (part.Delete delete ∷ parts) for = (tt, parts_names 
 parts_names m session has (part.SetData set ∷ parts) for = (tt, parts_names m session has parts for.1)
 parts_names m session has (part.Check check ∷ parts) for = (tt, parts_names m session has parts for.1)
 
-update_names : (m : SittingsView) (session : ℕ) → Has m session → (u : Act) → UpdateIsFor session u → UpdateNames (Known m) u
+update_names : (m : AttachmentsView) (session : ℕ) → Has m session → (u : Act) → UpdateIsFor session u → UpdateNames (Known m) u
 update_names m session has (act.Create create) for = lifetime_names m session has create.kind.lifetime for
 update_names m session has (act.Multi parts) for = parts_names m session has parts for
 update_names m session has (act.Delete delete) for = tt
@@ -242,23 +242,23 @@ update_names m session has act.Tick for = tt
 
 module _ (c session : ℕ) (asks : Request) where
   makes : (made : List Call) → Sorts asks.asked made → AllByRecursion (CallIsFor session) made → (old new : FrontView) (s : Scene)
-      → phase_of old.tables.streams c ≡ Some (Speaking session) → Has s.tables.sittings session → At old s
+      → phase_of old.tables.streams c ≡ Some (Speaking session) → Has s.tables.attachments session → At old s
       → Makes made c asks old new → Reaches new s (done_by made old)
   makes made (inl all) for old new s speaks sits there has = makes_queries c asks made old new s all there has
   makes made (inr (u, is, no_watch)) for old new s speaks sits there has =
       let own : UpdateIsFor session u = (subst (AllByRecursion (CallIsFor session)) is for).0 in
       subst (λ cs. Reaches new s (done_by cs old)) (sym is)
-      (makes_update c asks session u own (λ told. ap (λ cs. wishes asks.asked cs told) (sym is) ∙ no_watch told) old new s speaks
-      (update_names s.tables.sittings session sits u own) there
+      (makes_update c asks session u own (λ reported. ap (λ cs. wishes asks.asked cs reported) (sym is) ∙ no_watch reported) old new s speaks
+      (update_names s.tables.attachments session sits u own) there
       (subst (λ cs. Makes cs c asks old new) is has))
 
   acts : (meaning : Meaning (List Call)) → ((calls : List Call) → meaning ≡ Ok calls
       → Sorts asks.asked calls × AllByRecursion (CallIsFor session) calls)
-      → (old new : FrontView) (s : Scene) → phase_of old.tables.streams c ≡ Some (Speaking session) → Has s.tables.sittings session
+      → (old new : FrontView) (s : Scene) → phase_of old.tables.streams c ≡ Some (Speaking session) → Has s.tables.attachments session
       → At old s → Acts meaning c asks old new → Reaches new s (done_by (meant meaning) old)
   acts (Err (Refused code)) each old new s speaks sits there is =
       becomes new (with_tables (replied old.tree.zxid c asks.xid (failed code) old.tables) old) s [] is
-      (replies false old s c asks.xid (failed code) there (inl (all_told old s c there)))
+      (replies false old s c asks.xid (failed code) there (inl (all_reported old s c there)))
   acts (Err Memory) each old new s speaks sits there has = absurd has
   acts (Ok calls) each old new s speaks sits there has =
       let sorted = each calls refl in
@@ -266,21 +266,21 @@ module _ (c session : ℕ) (asks : Request) where
 
 -- a frame of a session
 requests : (read : Result Request Fault) (session c : ℕ) (old new : FrontView) (s : Scene) → phase_of old.tables.streams c ≡ Some (Speaking session)
-    → Has old.tables.sittings session → At old s → Requests read session c old new → Reaches new s (done_by (request_calls read session old) old)
+    → Has old.tables.attachments session → At old s → Requests read session c old new → Reaches new s (done_by (request_calls read session old) old)
 requests (Err fault) session c old new s speaks sits there is =
     becomes new (with_tables (closed c old.tables) old) s [] is (closes false old s c there)
 requests (Ok asks) session c old new s speaks sits there has =
-    let kept = touched_keeps session old.tables.sittings in
-    let t : TablesView = record old.tables { sittings = with_changed touched old.tables.sittings session } in
+    let kept = touched_keeps session old.tables.attachments in
+    let t : TablesView = record old.tables { attachments = with_changed touched old.tables.attachments session } in
     behind false false (touched_by session old) new s [] (done_by (request_calls (Ok asks) session old) old)
-    (moves false old s t there (sittings_move old.tables (with_changed touched old.tables.sittings session)) kept)
+    (moves false old s t there (attachments_move old.tables (with_changed touched old.tables.attachments session)) kept)
     (λ next here.
     acts c session asks (calls_in old.clock.tick session asks.asked)
     (λ calls is. (sorts old.clock.tick session asks.asked calls is, calls_are_for_their_session old.clock.tick session asks.asked calls is))
     (touched_by session old) new next speaks
-    (subst (λ (u : TablesView). Has u.sittings session) (sym here.tables) (kept.has session sits)) here has)
+    (subst (λ (u : TablesView). Has u.attachments session) (sym here.tables) (kept.has session sits)) here has)
 
 pub serves : (bytes : List ℕ) (session c : ℕ) (old new : FrontView) (s : Scene) → phase_of old.tables.streams c ≡ Some (Speaking session)
-    → Has old.tables.sittings session → At old s → Serves bytes session c old new
+    → Has old.tables.attachments session → At old s → Serves bytes session c old new
     → Reaches new s (done_by (request_calls (whole request bytes) session old) old)
 serves bytes session c old new s speaks sits there has = requests (whole request bytes) session c old new s speaks sits there has

@@ -15,7 +15,7 @@ use Rattle.zconnections.specs.buffers.Streams as streams
 use Rattle.zconnections.specs.buffers.Streams.{phase_of}
 use Rattle.zwatches.specs.declared.watch.Watch.{Watch}
 use Rattle.zwatches.specs.Watches.{Watches, watch_cmp}
-use Rattle.zconnections.specs.declared.attachments.sitting.Sitting.{Sitting}
+use Rattle.zconnections.specs.declared.attachments.attachment.Attachment.{Attachment}
 use Rattle.zconnections.specs.Sweeping.{made_one}
 use Rattle.zconnections.specs.Tables.{TablesView, session_in}
 use Rattle.zconnections.specs.Tables as tables
@@ -31,7 +31,7 @@ use Rattle.zfront_laws.proofs.Restored.{is_bare, is_few, is_fine, sits}
 use Rattle.zfront_laws.proofs.Seated.{Has}
 use Rattle.zfront_laws.proofs.Steps.{Fine}
 use Rattle.zfront_laws.specs.watches.Watching.{Scene, tree_of}
-use Rattle.zfront_laws.specs.watches.Laws.{Brings, BringsAll, EveryWatchIsTold, opening_scene}
+use Rattle.zfront_laws.specs.watches.Laws.{Brings, BringsAll, EveryWatchIsReported, opening_scene}
 use Rattle.zfront_laws.proofs.watches_lemmas.Coming.{comes}
 use Rattle.zfront_laws.proofs.watches_lemmas.Holding.{settled}
 use Rattle.zfront_laws.proofs.watches_lemmas.Marks.{Marked, unchanged, without_seat_keeps}
@@ -56,7 +56,7 @@ brings (Takes (Opened c)) old new s few fine there is =
       record s { tables = to s.tables },
       refl,
       sym (append-nil s.log),
-      shuts false old s to there (λ w stands. stands) (unchanged s.tables.sittings),
+      shuts false old s to there (λ w stands. stands) (unchanged s.tables.attachments),
     )
 brings (Takes (Came c bytes)) old new s few fine there has =
     let done = comes bytes c old new s few fine there has in
@@ -78,7 +78,7 @@ brings Sent old new s few fine there is =
       record s { tables = to s.tables },
       refl,
       sym (append-nil s.log),
-      shuts false old s to there (λ w stands. stands) (unchanged s.tables.sittings),
+      shuts false old s to there (λ w stands. stands) (unchanged s.tables.attachments),
     )
 brings Took old new s few fine there is =
     became Took new (all_taken old) s is (
@@ -122,14 +122,14 @@ module _ (t : Tree) (secret : List ℕ) (times : Clock) (is_kept : Bool) (before
   can : CanStart t
   can = subst CanStart left.1 (can_start opens)
 
-  -- each owner of a node is a session of the tree, and each of these has a sitting that is marked
-  owners : OwnersAre (Marked v.tables.sittings) t.nodes
+  -- each owner of a node is a session of the tree, and each of these has a attachment that is marked
+  owners : OwnersAre (Marked v.tables.attachments) t.nodes
   owners path n found = by (can.lawful.owners path n found)
     where
-      marks : Has v.tables.sittings n.owner → made_one v.tables.sittings n.owner ≡ true
-      marks has = ap (λ o. option_map_or (λ (s : Sitting). s.made_ephemeral) o false) has.1 ∙ (bare.apart n.owner has.0 has.1).marked
+      marks : Has v.tables.attachments n.owner → made_one v.tables.attachments n.owner ≡ true
+      marks has = ap (λ o. option_map_or (λ (s : Attachment). s.made_ephemeral) o false) has.1 ∙ (bare.apart n.owner has.0 has.1).marked
 
-      by : IsOwner t.sessions n.owner → Marked v.tables.sittings n.owner
+      by : IsOwner t.sessions n.owner → Marked v.tables.attachments n.owner
       by (inl nobody) = inl nobody
       by (inr some) = inr (marks (sits t secret times is_kept n.owner some))
 
@@ -140,12 +140,12 @@ module _ (t : Tree) (secret : List ℕ) (times : Clock) (is_kept : Bool) (before
     holds = record {
       right = λ w stands. no_watches v.tables w bare stands;
       seen = λ w stands. no_watches v.tables w bare stands;
-      owners = subst (λ (u : Tree). OwnersAre (Marked v.tables.sittings) u.nodes) (sym left.1) owners;
+      owners = subst (λ (u : Tree). OwnersAre (Marked v.tables.attachments) u.nodes) (sym left.1) owners;
     };
   }
 
-pub every_watch_is_told : EveryWatchIsTold
-every_watch_is_told t secret times is_kept before steps v left runs =
+pub every_watch_is_reported : EveryWatchIsReported
+every_watch_is_reported t secret times is_kept before steps v left runs =
     let first = beginning t secret times is_kept in
     let done = brings_all steps first v (opening_scene before first.tables) (is_few t secret times is_kept)
     (is_fine t secret times is_kept (can t secret times is_kept before left)) (begins t secret times is_kept before left) runs in (

@@ -19,12 +19,12 @@ use Rattle.zprotocol.specs.world.FromTree.{CanStart}
 use Rattle.zprotocol.specs.world.PlainTree.{serve}
 use Rattle.zprotocol.proofs.world_lemmas.FirstCallsFrom.{opening_can_start}
 use Rattle.ztree_service.specs.log.Logs.{Log, calls_of, served, tree_after}
-use Rattle.ztree_service.proofs.log_lemmas.Lives.{calls_zipped, lives_leave_one_tree, trees_can_start_again}
+use Rattle.ztree_service.proofs.log_lemmas.Lives.{calls_zipped, incarnations_leave_one_tree, trees_can_start_again}
 use Rattle.ztree_service.proofs.log_lemmas.Logs.{last_tree}
 use Rattle.zconnections.specs.Tables.{TablesView}
-use Rattle.zconnections.specs.Telling.{told_all}
+use Rattle.zconnections.specs.Reporting.{reported_all}
 use Rattle.zfront_laws.specs.watches.Watching.{Scene, Happening, Served, Fired, tree_of, after, May, Happens}
-use Rattle.zfront_laws.proofs.watches_lemmas.Standing.{Fewer, told_leaves}
+use Rattle.zfront_laws.proofs.watches_lemmas.Standing.{Fewer, reported_leaves}
 
 -- the tree of a scene can start a service: it is lawful
 pub can_start : (s : Scene) → CanStart (tree_of s)
@@ -82,15 +82,15 @@ served_happens (call ∷ calls) t s is =
 -- the tree behind them
 pub tree_logged : (calls : List Call) (t : Tree) (s : Scene) → tree_of s ≡ t → tree_of (logged s (zip calls (served t calls))) ≡ tree_after t calls
 tree_logged calls t s is =
-    lives_leave_one_tree opening_tree s.log (zip calls (served t calls)) ∙ ap (tree_after (tree_of s)) (calls_zipped t calls)
+    incarnations_leave_one_tree opening_tree s.log (zip calls (served t calls)) ∙ ap (tree_after (tree_of s)) (calls_zipped t calls)
     ∙ ap (λ u. tree_after u calls) is
 
--- events are told, one after the other
+-- events are reported, one after the other
 pub fired_happens : (es : List Event) (s : Scene)
     → ((e : Event) (t : TablesView) → Among e es → Fewer s.tables t → May (Fired e) (record s { tables = t }))
-    → Happens (map (λ e. Fired e) es) s (record s { tables = told_all es s.tables })
+    → Happens (map (λ e. Fired e) es) s (record s { tables = reported_all es s.tables })
 fired_happens [] s cause = refl
 fired_happens (e ∷ es) s cause = (
   cause e s.tables (inl refl) (λ w stands. stands),
-  fired_happens es (after (Fired e) s) (λ other t among fewer. cause other t (inr among) (λ w stands. (told_leaves e s.tables w (fewer w stands)).0)),
+  fired_happens es (after (Fired e) s) (λ other t among fewer. cause other t (inr among) (λ w stands. (reported_leaves e s.tables w (fewer w stands)).0)),
 )

@@ -1,4 +1,4 @@
--- The watches that stand where events are told: no event told fires them.
+-- The watches that stand where events are reported: no event reported fires them.
 use Rattle.std.proofs.Common.{◌≡◌, ◌∙◌, ℕ, Bool, true, false, List, [], ◌∷◌, refl, sym, ap, inl, inr}
 use Rattle.std.proofs.Math.Bool.{or-true}
 use mathlib.Core.Bool.{true≢false}
@@ -11,7 +11,7 @@ use Rattle.ztree.proofs.Maps.{tied}
 use Rattle.zjute.specs.declared.event.EventKind.{EventKind}
 use Rattle.zjute.specs.declared.event.EventKind.TheVariants as kind
 use Rattle.zwatches.specs.declared.changes.event.Event.{Event}
-use Rattle.zwatches.specs.changes.Laws.{Misses, tells_data}
+use Rattle.zwatches.specs.changes.Laws.{Misses, reports_data}
 use Rattle.zwatches.specs.declared.kind.Kind.{Kind}
 use Rattle.zwatches.specs.declared.kind.Kind.TheVariants.{Data, Missing, Children}
 use Rattle.zwatches.specs.declared.watch.Watch.{Watch}
@@ -20,23 +20,23 @@ use Rattle.zwatches.specs.Events.{fires, is_at, without, unfired}
 use Rattle.zwatches.specs.Events as watches
 use Rattle.zwatches.proofs.Order.{places_total, same_place, watches_total}
 use Rattle.zwatches.proofs.Worked.{contains-kept, fires_once}
-use Rattle.zconnections.specs.Tables.{TablesView, is_open, sent, closing, closed, with_piece, piece}
-use Rattle.zconnections.specs.Telling.{event_frame, sent_on, unwatched, in_order, told, told_all}
-use Rattle.zfront_laws.proofs.watches_lemmas.Waiting.{tells_creation, tells_loss}
+use Rattle.zconnections.specs.Tables.{TablesView, is_open, sent, closing, closed, with_chunk, chunk}
+use Rattle.zconnections.specs.Reporting.{event_frame, sent_on, unwatched, in_order, reported, reported_all}
+use Rattle.zfront_laws.proofs.watches_lemmas.Waiting.{reports_creation, reports_loss}
 
 -- the tables have this watch
 abbrev pub In : TablesView → Watch → Type 0
 In t w = contains t.watches w ≡ true
 
--- what is sent leaves watches and sittings
+-- what is sent leaves watches and attachments
 pub sent_watches : (c : ℕ) (bytes : List ℕ) (t : TablesView) → (sent c bytes t).watches ≡ t.watches
-sent_watches c bytes t = elim (is_open t c) as (λ b. (if b then with_piece (piece c bytes) t else t).watches ≡ t.watches) [
+sent_watches c bytes t = elim (is_open t c) as (λ b. (if b then with_chunk (chunk c bytes) t else t).watches ≡ t.watches) [
   | true ↦ refl
   | false ↦ refl
 ]
 
-pub sent_sittings : (c : ℕ) (bytes : List ℕ) (t : TablesView) → (sent c bytes t).sittings ≡ t.sittings
-sent_sittings c bytes t = elim (is_open t c) as (λ b. (if b then with_piece (piece c bytes) t else t).sittings ≡ t.sittings) [
+pub sent_attachments : (c : ℕ) (bytes : List ℕ) (t : TablesView) → (sent c bytes t).attachments ≡ t.attachments
+sent_attachments c bytes t = elim (is_open t c) as (λ b. (if b then with_chunk (chunk c bytes) t else t).attachments ≡ t.attachments) [
   | true ↦ refl
   | false ↦ refl
 ]
@@ -45,32 +45,32 @@ sent_on_watches : (cs bytes : List ℕ) (t : TablesView) → (sent_on cs bytes t
 sent_on_watches [] bytes t = refl
 sent_on_watches (c ∷ cs) bytes t = sent_on_watches cs bytes (sent c bytes t) ∙ sent_watches c bytes t
 
-sent_on_sittings : (cs bytes : List ℕ) (t : TablesView) → (sent_on cs bytes t).sittings ≡ t.sittings
-sent_on_sittings [] bytes t = refl
-sent_on_sittings (c ∷ cs) bytes t = sent_on_sittings cs bytes (sent c bytes t) ∙ sent_sittings c bytes t
+sent_on_attachments : (cs bytes : List ℕ) (t : TablesView) → (sent_on cs bytes t).attachments ≡ t.attachments
+sent_on_attachments [] bytes t = refl
+sent_on_attachments (c ∷ cs) bytes t = sent_on_attachments cs bytes (sent c bytes t) ∙ sent_attachments c bytes t
 
-pub told_sittings : (e : Event) (t : TablesView) → (told e t).sittings ≡ t.sittings
-told_sittings e t = sent_on_sittings (in_order (watches.told t.watches e.kind e.path)) (event_frame e) (unwatched e t)
+pub reported_attachments : (e : Event) (t : TablesView) → (reported e t).attachments ≡ t.attachments
+reported_attachments e t = sent_on_attachments (in_order (watches.reported t.watches e.kind e.path)) (event_frame e) (unwatched e t)
 
-told_watches : (e : Event) (t : TablesView) → (told e t).watches ≡ unfired t.watches e.kind e.path
-told_watches e t = sent_on_watches (in_order (watches.told t.watches e.kind e.path)) (event_frame e) (unwatched e t)
+reported_watches : (e : Event) (t : TablesView) → (reported e t).watches ≡ unfired t.watches e.kind e.path
+reported_watches e t = sent_on_watches (in_order (watches.reported t.watches e.kind e.path)) (event_frame e) (unwatched e t)
 
-pub told_all_sittings : (es : List Event) (t : TablesView) → (told_all es t).sittings ≡ t.sittings
-told_all_sittings [] t = refl
-told_all_sittings (e ∷ es) t = told_all_sittings es (told e t) ∙ told_sittings e t
+pub reported_all_attachments : (es : List Event) (t : TablesView) → (reported_all es t).attachments ≡ t.attachments
+reported_all_attachments [] t = refl
+reported_all_attachments (e ∷ es) t = reported_all_attachments es (reported e t) ∙ reported_attachments e t
 
 -- a watch that stands behind an event stood before, and isn't fired
-pub told_leaves : (e : Event) (t : TablesView) (w : Watch) → In (told e t) w → In t w × (fires e.kind e.path w ≡ false)
-told_leaves e t w stands = (fires_once t.watches e.kind e.path w).0 (ap (λ table. contains table w) (sym (told_watches e t)) ∙ stands)
+pub reported_leaves : (e : Event) (t : TablesView) (w : Watch) → In (reported e t) w → In t w × (fires e.kind e.path w ≡ false)
+reported_leaves e t w stands = (fires_once t.watches e.kind e.path w).0 (ap (λ table. contains table w) (sym (reported_watches e t)) ∙ stands)
 
 abbrev pub Unfired : Watch → List Event → Type 0
 Unfired w es = AllByRecursion (λ e. fires e.kind e.path w ≡ false) es
 
-pub told_all_leaves : (es : List Event) (t : TablesView) (w : Watch) → In (told_all es t) w → In t w × Unfired w es
-told_all_leaves [] t w stands = (stands, tt)
-told_all_leaves (e ∷ es) t w stands =
-    let rest = told_all_leaves es (told e t) w stands in
-    let first = told_leaves e t w rest.0 in
+pub reported_all_leaves : (es : List Event) (t : TablesView) (w : Watch) → In (reported_all es t) w → In t w × Unfired w es
+reported_all_leaves [] t w stands = (stands, tt)
+reported_all_leaves (e ∷ es) t w stands =
+    let rest = reported_all_leaves es (reported e t) w stands in
+    let first = reported_leaves e t w rest.0 in
     (first.0, (first.1, rest.1))
 
 -- an event at a watch's place fires it
@@ -80,32 +80,32 @@ at_place w path k is = ap (λ p. eq_by_cmp place_cmp p (place path k)) is ∙ ti
 placed : (w : Watch) (k : Kind) → w.kind ≡ k → place_of w ≡ place w.path k
 placed w k is = ap (place w.path) is
 
-pub fires_data : (w : Watch) (k : EventKind) → w.kind ≡ Data → tells_data k ≡ true → fires k w.path w ≡ true
-fires_data w kind.NodeCreated is tells = ap (λ b. b || list_any (λ at. is_at at w) (place w.path Missing ∷ []))
+pub fires_data : (w : Watch) (k : EventKind) → w.kind ≡ Data → reports_data k ≡ true → fires k w.path w ≡ true
+fires_data w kind.NodeCreated is reports = ap (λ b. b || list_any (λ at. is_at at w) (place w.path Missing ∷ []))
     (at_place w w.path Data (placed w Data is))
-fires_data w kind.NodeDeleted is tells = ap (λ b. b || list_any (λ at. is_at at w) (place w.path Children ∷ []))
+fires_data w kind.NodeDeleted is reports = ap (λ b. b || list_any (λ at. is_at at w) (place w.path Children ∷ []))
     (at_place w w.path Data (placed w Data is))
-fires_data w kind.NodeDataChanged is tells = ap (λ b. b || false) (at_place w w.path Data (placed w Data is))
-fires_data w other is tells = absurd (cc tells)
+fires_data w kind.NodeDataChanged is reports = ap (λ b. b || false) (at_place w w.path Data (placed w Data is))
+fires_data w other is reports = absurd (cc reports)
 
-pub fires_missing : (w : Watch) (k : EventKind) → w.kind ≡ Missing → tells_creation k ≡ true → fires k w.path w ≡ true
-fires_missing w kind.NodeCreated is tells =
+pub fires_missing : (w : Watch) (k : EventKind) → w.kind ≡ Missing → reports_creation k ≡ true → fires k w.path w ≡ true
+fires_missing w kind.NodeCreated is reports =
     ap (λ b. is_at (place w.path Data) w || (b || false)) (at_place w w.path Missing (placed w Missing is)) ∙ or-true (is_at (place w.path Data) w)
-fires_missing w other is tells = absurd (cc tells)
+fires_missing w other is reports = absurd (cc reports)
 
-pub fires_children : (w : Watch) (k : EventKind) → w.kind ≡ Children → tells_loss k ≡ true → fires k w.path w ≡ true
-fires_children w kind.NodeDeleted is tells =
+pub fires_children : (w : Watch) (k : EventKind) → w.kind ≡ Children → reports_loss k ≡ true → fires k w.path w ≡ true
+fires_children w kind.NodeDeleted is reports =
     ap (λ b. is_at (place w.path Data) w || (b || false)) (at_place w w.path Children (placed w Children is)) ∙ or-true (is_at (place w.path Data) w)
-fires_children w kind.NodeChildrenChanged is tells = ap (λ b. b || false) (at_place w w.path Children (placed w Children is))
-fires_children w other is tells = absurd (cc tells)
+fires_children w kind.NodeChildrenChanged is reports = ap (λ b. b || false) (at_place w w.path Children (placed w Children is))
+fires_children w other is reports = absurd (cc reports)
 
 -- so events that fire none tell nothing of its path
-pub misses : (tells : EventKind → Bool) (w : Watch) → ((k : EventKind) → tells k ≡ true → fires k w.path w ≡ true) → (es : List Event)
-    → Unfired w es → Misses tells w.path es
-misses tells w fire [] unfired = tt
-misses tells w fire (e ∷ es) unfired = (
+pub misses : (reports : EventKind → Bool) (w : Watch) → ((k : EventKind) → reports k ≡ true → fires k w.path w ≡ true) → (es : List Event)
+    → Unfired w es → Misses reports w.path es
+misses reports w fire [] unfired = tt
+misses reports w fire (e ∷ es) unfired = (
   λ does same. true≢false (sym (fire e.kind does) ∙ ap (λ path. fires e.kind path w) (sym same) ∙ unfired.0),
-  misses tells w fire es unfired.1,
+  misses reports w fire es unfired.1,
 )
 
 -- tables with no watch more

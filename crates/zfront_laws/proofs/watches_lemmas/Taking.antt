@@ -166,7 +166,7 @@ ended_or_owned (first ∷ ids) t above = by (ephemerals t.nodes first) refl (end
           (above.0, path, found.0, found.1, found.2),
         )
 
--- all nodes stay, or the change takes some away: then the reply tells it, or a session that is gone owned one
+-- all nodes stay, or the change takes some away: then the reply reports it, or a session that is gone owned one
 abbrev pub TakesTo : Tree → Tree → Bool → Type 0
 TakesTo t u took =
     (u.nodes ≡ t.nodes)
@@ -212,12 +212,12 @@ some_removed path paths = grind (arith, nat_tests)
 ticked_takes : (t : Tree) (ids : List ℕ) (paths : List Path) → AllByRecursion (λ id. 0 < id) ids → Takes t (tick_result t ids paths)
 ticked_takes t ids paths above = by (is_busy ids paths) refl
   where
-    told : Reply
-    told = reply.Ticked (t.time + 1) (length ids) (length paths)
+    reported : Reply
+    reported = reply.Ticked (t.time + 1) (length ids) (length paths)
 
     owned : (is_busy ids paths ≡ true) → (paths ≡ []) → ((without_sessions t ids).nodes ≡ t.nodes)
         ⊎ ((id : ℕ) × (list_any (eq_by_cmp nat_cmp id) ids ≡ true) × Owned t.nodes id)
-        → Takes t (with_next_zxid (after_tick t ids paths), told)
+        → Takes t (with_next_zxid (after_tick t ids paths), reported)
     owned busy none (inl same) = inl (ap (λ ps. (without_nodes (without_sessions t ids) ps).nodes) none ∙ same)
     owned busy none (inr (id, among, has)) =
         inr (
@@ -231,7 +231,7 @@ ticked_takes t ids paths above = by (is_busy ids paths) refl
           ),
         )
 
-    busy : (ps : List Path) → paths ≡ ps → is_busy ids paths ≡ true → Takes t (with_next_zxid (after_tick t ids paths), told)
+    busy : (ps : List Path) → paths ≡ ps → is_busy ids paths ≡ true → Takes t (with_next_zxid (after_tick t ids paths), reported)
     busy [] none does = owned does none (ended_or_owned ids t above)
     busy (p ∷ ps) some does =
         inr (
@@ -240,7 +240,7 @@ ticked_takes t ids paths above = by (is_busy ids paths) refl
           inl (ap (λ (all : List Path). nat_lt 0 (length all)) some ∙ some_removed p ps),
         )
 
-    by : (b : Bool) → is_busy ids paths ≡ b → Takes t (counted_if b (after_tick t ids paths), told)
+    by : (b : Bool) → is_busy ids paths ≡ b → Takes t (counted_if b (after_tick t ids paths), reported)
     by true is = busy paths refl is
     by false is =
         let none = idle ids paths is in

@@ -8,14 +8,14 @@ use Rattle.zcalls.specs.declared.reply.Reply.{Reply}
 use Rattle.ztree_service.specs.log.Logs.{tree_after}
 use Rattle.ztree_service.proofs.log_lemmas.Lives.{trees_can_start_again}
 use Rattle.zprotocol.specs.world.FromTree.{CanStart}
-use Rattle.zconnections.specs.attachments.Sittings.{touched_ids, all_rested}
+use Rattle.zconnections.specs.attachments.Attachments.{touched_ids, all_rested}
 use Rattle.zconnections.specs.Tables.{TablesView}
 use Rattle.zfront.specs.Front.{FrontView, asked, replies_to, may_end, takes_nodes, TidiesIf}
 use Rattle.zfront.specs.Ticking.{tick_calls, rested, TicksBy, Ticks}
 use Rattle.zfront_laws.specs.Logs.{done_by}
 use Rattle.zfront_laws.specs.watches.Watching.{Scene}
 use Rattle.zfront_laws.proofs.watches_lemmas.Marks.{rested_keeps}
-use Rattle.zfront_laws.proofs.watches_lemmas.Moving.{sittings_move}
+use Rattle.zfront_laws.proofs.watches_lemmas.Moving.{attachments_move}
 use Rattle.zfront_laws.proofs.watches_lemmas.Reaching.{At, Reaches, behind, moves}
 use Rattle.zfront_laws.proofs.watches_lemmas.Scenes.{can_start}
 use Rattle.zfront_laws.proofs.watches_lemmas.Tidying.{Gone, tidies}
@@ -30,8 +30,8 @@ module _ (sessions : List ℕ) (old new : FrontView) (s : Scene) (there : At old
   abbrev calls : List Call
   calls = tick_calls sessions
 
-  abbrev told : List Reply
-  told = replies_to calls old
+  abbrev reported : List Reply
+  reported = replies_to calls old
 
   abbrev v : FrontView
   v = asked calls old
@@ -39,21 +39,21 @@ module _ (sessions : List ℕ) (old new : FrontView) (s : Scene) (there : At old
   lawful : (more : List Call) → IsLawful (tree_after old.tree more)
   lawful more = (trees_can_start_again old.tree more (subst CanStart there.tree (can_start s))).lawful
 
-  took : Taken v (next calls old s there) (list_any takes_nodes told)
-  took = taken calls old s there (list_any takes_nodes told) (tick_taken sessions old.tree lawful)
+  took : Taken v (next calls old s there) (list_any takes_nodes reported)
+  took = taken calls old s there (list_any takes_nodes reported) (tick_taken sessions old.tree lawful)
 
-  why : (list_any takes_nodes told ≡ true) ⊎ Gone v → (list_any takes_nodes told ≡ true) ⊎ Gone (rested v)
+  why : (list_any takes_nodes reported ≡ true) ⊎ Gone v → (list_any takes_nodes reported ≡ true) ⊎ Gone (rested v)
   why (inl some) = inl some
-  why (inr (id, gone, made)) = inr (id, gone, (rested_keeps v.tables.sittings).marks id made)
+  why (inr (id, gone, made)) = inr (id, gone, (rested_keeps v.tables.attachments).marks id made)
 
   ticks_by : TicksBy calls old new → Reaches new s (done_by calls old)
   ticks_by has =
-      let t : TablesView = record v.tables { sittings = all_rested v.tables.sittings } in
+      let t : TablesView = record v.tables { attachments = all_rested v.tables.attachments } in
       behind_calls calls old s there new
       (behind took.must false (rested v) new (next calls old s there) [] []
-      (moves took.must v (next calls old s there) t took.there (sittings_move v.tables t.sittings) (rested_keeps v.tables.sittings))
-      (λ last here. tidies took.must told (rested v) new last here (λ due. why (took.why due))
-      (subst (λ b. TidiesIf b told (rested v) new) (may_end_some sessions) has)))
+      (moves took.must v (next calls old s there) t took.there (attachments_move v.tables t.attachments) (rested_keeps v.tables.attachments))
+      (λ last here. tidies took.must reported (rested v) new last here (λ due. why (took.why due))
+      (subst (λ b. TidiesIf b reported (rested v) new) (may_end_some sessions) has)))
 
-pub ticks : (old new : FrontView) (s : Scene) → At old s → Ticks old new → Reaches new s (done_by (tick_calls (touched_ids old.tables.sittings)) old)
-ticks old new s there has = ticks_by (touched_ids old.tables.sittings) old new s there has
+pub ticks : (old new : FrontView) (s : Scene) → At old s → Ticks old new → Reaches new s (done_by (tick_calls (touched_ids old.tables.attachments)) old)
+ticks old new s there has = ticks_by (touched_ids old.tables.attachments) old new s there has

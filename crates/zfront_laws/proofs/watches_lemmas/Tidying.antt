@@ -18,17 +18,17 @@ use Rattle.zwatches.specs.declared.watch.Watch.{Watch}
 use Rattle.zwatches.specs.Events.{Lists, fires}
 use Rattle.zwatches.specs.Places.{node_places}
 use Rattle.zconnections.specs.Tables.{TablesView, closed, connection_of, moved}
-use Rattle.zconnections.specs.Telling.{told_all}
+use Rattle.zconnections.specs.Reporting.{reported_all}
 use Rattle.zconnections.specs.Sweeping.{forgotten, is_gone, made_one, some_made_one, swept_all}
 use Rattle.zconnections.specs.Sweeping as tables
 use Rattle.zresponses.specs.effects.Looking.{seen}
 use Rattle.zfront.specs.Front.{FrontView, with_tables, gone_from, swept, takes_nodes, took_unnamed, looks, looked, LooksIf}
 use Rattle.zfront_laws.specs.watches.Watching.{Scene, Fired, tree_of, May, IsUnchanged}
-use Rattle.zfront_laws.proofs.watches_lemmas.Changing.{fired_at_path, gone_changed, tells_of}
+use Rattle.zfront_laws.proofs.watches_lemmas.Changing.{fired_at_path, gone_changed, reports_of}
 use Rattle.zfront_laws.proofs.watches_lemmas.Holding.{WentAway, look_holds, more_due}
 use Rattle.zfront_laws.proofs.watches_lemmas.Looking.{IsSeenIn, seen_caused, none_in_vain}
 use Rattle.zfront_laws.proofs.watches_lemmas.Marks.{Marked, all_gone, apart_from, gone_made, removed_mark}
-use Rattle.zfront_laws.proofs.watches_lemmas.Moving.{sittings_move}
+use Rattle.zfront_laws.proofs.watches_lemmas.Moving.{attachments_move}
 use Rattle.zfront_laws.proofs.watches_lemmas.Reaching.{AtIf, Reaches, Arrives, becomes, moves_if, stays, still, closes}
 use Rattle.zfront_laws.proofs.watches_lemmas.Scenes.{fired_happens, is_lawful}
 use Rattle.zfront_laws.proofs.watches_lemmas.Standing.{Fewer, In}
@@ -37,13 +37,13 @@ use Rattle.zfront_laws.proofs.watches_lemmas.Standing.{Fewer, In}
 
 -- a session that is gone made a node
 abbrev pub Gone : FrontView → Type 0
-Gone v = (id : ℕ) × (finite.get v.tree.sessions id ≡ None) × (made_one v.tables.sittings id ≡ true)
+Gone v = (id : ℕ) × (finite.get v.tree.sessions id ≡ None) × (made_one v.tables.attachments id ≡ true)
 
 -- why a look gets due
-becomes_due : (told : List Reply) (v : FrontView) → (list_any takes_nodes told ≡ true) ⊎ Gone v → took_unnamed told v ≡ true
-becomes_due told v (inl some) = ap (λ b. b || some_made_one v.tables.sittings (gone_from v)) some
-becomes_due told v (inr (id, none, made)) =
-    ap (λ b. list_any takes_nodes told || b) (gone_made v.tree.sessions v.tables.sittings id none made) ∙ or-true (list_any takes_nodes told)
+becomes_due : (reported : List Reply) (v : FrontView) → (list_any takes_nodes reported ≡ true) ⊎ Gone v → took_unnamed reported v ≡ true
+becomes_due reported v (inl some) = ap (λ b. b || some_made_one v.tables.attachments (gone_from v)) some
+becomes_due reported v (inr (id, none, made)) =
+    ap (λ b. list_any takes_nodes reported || b) (gone_made v.tree.sessions v.tables.attachments id none made) ∙ or-true (list_any takes_nodes reported)
 
 owned_there : (m : Sessions) (id : ℕ) → IsOwner m id → (id ≡ 0) ⊎ (finite.contains_key m id ≡ true)
 owned_there m id (inl nobody) = inl nobody
@@ -53,23 +53,23 @@ owned_there m id (inr there) = inr there
 forgets : (must : Bool) (id : ℕ) (v : FrontView) (s : Scene) → is_gone v.tree.sessions id ≡ true → AtIf must v s
     → Arrives must (with_tables (forgotten id v.tables) v) s []
 forgets must id v s gone there =
-    moves_if must v s (forgotten id v.tables) there (sittings_move v.tables (finite.remove v.tables.sittings id))
+    moves_if must v s (forgotten id v.tables) there (attachments_move v.tables (finite.remove v.tables.attachments id))
     (λ all path n found. mark n.owner (owned_there v.tree.sessions n.owner (lawful.owners path n found)) (all path n found))
   where
     lawful : IsLawful v.tree
     lawful = subst IsLawful there.tree (is_lawful s)
 
-    mark : (owner : ℕ) → (owner ≡ 0) ⊎ (finite.contains_key v.tree.sessions owner ≡ true) → Marked v.tables.sittings owner
-        → Marked (finite.remove v.tables.sittings id) owner
+    mark : (owner : ℕ) → (owner ≡ 0) ⊎ (finite.contains_key v.tree.sessions owner ≡ true) → Marked v.tables.attachments owner
+        → Marked (finite.remove v.tables.attachments id) owner
     mark owner (inl nobody) was = inl nobody
     mark owner (inr lives) (inl nobody) = inl nobody
     mark owner (inr lives) (inr made) =
-        inr (removed_mark v.tables.sittings id owner (apart_from v.tree.sessions owner id lives gone) ∙ made)
+        inr (removed_mark v.tables.attachments id owner (apart_from v.tree.sessions owner id lives gone) ∙ made)
 
 -- its connection is closed
 pub moves_away : (must : Bool) (id : ℕ) (v : FrontView) (s : Scene) → AtIf must v s → Arrives must (with_tables (moved id v.tables) v) s []
 moves_away must id v s there =
-    elim (connection_of v.tables.sittings id) as (λ o. Arrives must (with_tables (option_map_or (λ c. closed c v.tables) o v.tables) v) s []) [
+    elim (connection_of v.tables.attachments id) as (λ o. Arrives must (with_tables (option_map_or (λ c. closed c v.tables) o v.tables) v) s []) [
       | None ↦ stays must v s there
       | Some c ↦ closes must v s c there
     ]
@@ -91,7 +91,7 @@ module _ (places : List Place) (v : FrontView) (s : Scene) (lists : Lists places
   es = seen v.tree.zxid places (looks v.tree places)
 
   abbrev last : Scene
-  last = record s { tables = told_all es s.tables }
+  last = record s { tables = reported_all es s.tables }
 
   cause : (e : Event) → Among e es → IsSeenIn (tree_of s) e
   cause e among = subst (λ u. IsSeenIn u e) (sym there.tree) (seen_caused v.tree places e among)
@@ -103,7 +103,7 @@ module _ (places : List Place) (v : FrontView) (s : Scene) (lists : Lists places
       let at = fired_at_path e.kind e.path w fired in
       gone_changed (s.set_at w) (tree_of s).nodes w.path w.kind (there.holds.right w stands)
       (ap (finite.get (tree_of s).nodes) (sym at.0) ∙ none)
-      (ap (tells_of w.kind) (sym deleted) ∙ at.1) unchanged
+      (ap (reports_of w.kind) (sym deleted) ∙ at.1) unchanged
 
   may : (e : Event) (t : TablesView) → Fewer s.tables t → IsSeenIn (tree_of s) e → May (Fired e) (record s { tables = t })
   may e t fewer (inl (deleted, none)) =
@@ -117,7 +117,7 @@ module _ (places : List Place) (v : FrontView) (s : Scene) (lists : Lists places
     happens = fired_happens es s (λ e t among fewer. may e t fewer (cause e among));
     log = sym (append-nil s.log);
     there = record {
-      tables = ap (told_all es) there.tables;
+      tables = ap (reported_all es) there.tables;
       tree = there.tree;
       holds = look_holds (tree_of s) s.set_at s.tables es
           (λ w stands unfired away.
@@ -138,8 +138,8 @@ looks_if must true old new s why there (places, lists, is) =
     }))
 
 -- behind calls that ended sessions
-pub tidies : (must : Bool) (told : List Reply) (old new : FrontView) (s : Scene) → AtIf must old s
-    → (must ≡ true → (list_any takes_nodes told ≡ true) ⊎ Gone old) → LooksIf (took_unnamed told old) (swept old) new → Reaches new s []
-tidies must told old new s there why has =
-    still must false (swept old) new s [] (sweeps must (gone_from old) old s (all_gone old.tree.sessions old.tables.sittings) there)
-    (λ next here. looks_if must (took_unnamed told old) (swept old) new next (λ due. becomes_due told old (why due)) here has)
+pub tidies : (must : Bool) (reported : List Reply) (old new : FrontView) (s : Scene) → AtIf must old s
+    → (must ≡ true → (list_any takes_nodes reported ≡ true) ⊎ Gone old) → LooksIf (took_unnamed reported old) (swept old) new → Reaches new s []
+tidies must reported old new s there why has =
+    still must false (swept old) new s [] (sweeps must (gone_from old) old s (all_gone old.tree.sessions old.tables.attachments) there)
+    (λ next here. looks_if must (took_unnamed reported old) (swept old) new next (λ due. becomes_due reported old (why due)) here has)

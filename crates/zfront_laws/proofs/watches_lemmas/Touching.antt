@@ -1,4 +1,4 @@
--- What an event of an update tells has changed: the node is gone, or has the zxid of this change.
+-- What an event of an update reports has changed: the node is gone, or has the zxid of this change.
 use Rattle.std.proofs.Common.{◌≡◌, ◌≢◌, ◌∙◌, ◌+◌, ℕ, Bool, true, false, List, [], ◌∷◌, ◌++◌, Option, Some, None, Result}
 use Rattle.std.proofs.Common.{Ok, Err, refl, sym, ap, subst, inl, inr, if◌then◌else◌}
 use Rattle.std.specs.Prelude.{◌⊎◌, is_some}
@@ -30,7 +30,7 @@ use Rattle.zcalls.specs.declared.change.ChangeReply.{ChangeReply}
 use Rattle.zcalls.specs.declared.change.ChangeReply.TheVariants.{Created, Deleted, Set}
 use Rattle.zcalls.specs.declared.reply.PartReply.{PartReply}
 use Rattle.zcalls.specs.declared.reply.PartReply.TheVariants as part_reply
-use Rattle.zcalls.specs.Part.{create_step, delete_step, set_step, check_step, part_step, told_as_part, create_refusals}
+use Rattle.zcalls.specs.Part.{create_step, delete_step, set_step, check_step, part_step, reported_as_part, create_refusals}
 use Rattle.zcalls.specs.Part.{delete_refusals, unless_refused, made_path, owner_of, ttl_of, on_version}
 use Rattle.zcalls.specs.Part.{has_other_version, with_node_set}
 use Rattle.zcalls.specs.Multi.{Run, run, behind, and_then}
@@ -39,10 +39,10 @@ use Rattle.zjute.specs.declared.event.EventKind.{EventKind}
 use Rattle.zjute.specs.declared.event.EventKind.TheVariants.{NodeCreated, NodeDeleted, NodeDataChanged}
 use Rattle.zwatches.specs.declared.changes.event.Event.{Event}
 use Rattle.zwatches.specs.changes.Events.{event, events_of, with_parent, part_events, parts_events}
-use Rattle.zwatches.specs.changes.Laws.{tells_data}
-use Rattle.zfront_laws.proofs.watches_lemmas.Waiting.{tells_creation, tells_loss}
+use Rattle.zwatches.specs.changes.Laws.{reports_data}
+use Rattle.zfront_laws.proofs.watches_lemmas.Waiting.{reports_creation, reports_loss}
 
--- what is read of a node tells that it is gone, or that its last change is this one
+-- what is read of a node reports that it is gone, or that its last change is this one
 abbrev pub Dated : (Node → ℕ) → ℕ → Nodes → Path → Type 0
 Dated of_node zxid nodes path = (n : Node) → finite.get nodes path ≡ Some n → of_node n ≡ zxid
 
@@ -176,34 +176,34 @@ module _ (zxid : ℕ) (path : Path) where
       (dated.0, changed children_changed_at zxid path t.nodes set.path (with_data set.bytes (t.zxid + 1) t.time) (λ n is. is) dated.1))
       dated
 
--- one of the events tells this of the path
-abbrev pub Tells : (EventKind → Bool) → Path → List Event → Type 0
-Tells tells path events = (e : Event) × Among e events × (tells e.kind ≡ true) × (e.path ≡ path)
+-- one of the events reports this of the path
+abbrev pub Reports : (EventKind → Bool) → Path → List Event → Type 0
+Reports reports path events = (e : Event) × Among e events × (reports e.kind ≡ true) × (e.path ≡ path)
 
-tells-append : (tells : EventKind → Bool) (path : Path) (events more : List Event) → Tells tells path (events ++ more)
-    → Tells tells path events ⊎ Tells tells path more
-tells-append tells path [] more has = inr has
-tells-append tells path (e ∷ events) more (it, inl here, does, at) = inl (it, inl here, does, at)
-tells-append tells path (e ∷ events) more (it, inr there, does, at) = by (tells-append tells path events more (it, there, does, at))
+reports-append : (reports : EventKind → Bool) (path : Path) (events more : List Event) → Reports reports path (events ++ more)
+    → Reports reports path events ⊎ Reports reports path more
+reports-append reports path [] more has = inr has
+reports-append reports path (e ∷ events) more (it, inl here, does, at) = inl (it, inl here, does, at)
+reports-append reports path (e ∷ events) more (it, inr there, does, at) = by (reports-append reports path events more (it, there, does, at))
   where
-    by : Tells tells path events ⊎ Tells tells path more → Tells tells path (e ∷ events) ⊎ Tells tells path more
+    by : Reports reports path events ⊎ Reports reports path more → Reports reports path (e ∷ events) ⊎ Reports reports path more
     by (inl has) = inl (has.0, inr has.1, has.2, has.3)
     by (inr has) = inr has
 
-pub no_event : {P : Type 0} (tells : EventKind → Bool) (path : Path) → Tells tells path [] → P
-no_event tells path has = absurd has.1
+pub no_event : {P : Type 0} (reports : EventKind → Bool) (path : Path) → Reports reports path [] → P
+no_event reports path has = absurd has.1
 
 -- the two events of a node that came or went
-with_parent_data : {P : Type 0} (k : EventKind) (at path : Path) → (at ≡ path → P) → Tells tells_data path (with_parent k at) → P
+with_parent_data : {P : Type 0} (k : EventKind) (at path : Path) → (at ≡ path → P) → Reports reports_data path (with_parent k at) → P
 with_parent_data k at path here (e, inl is, does, same) = here (ap (λ (e : Event). e.path) is ∙ same)
 with_parent_data k at path here (e, inr (inl is), does, same) =
-    absurd (cc (ap (λ (e : Event). tells_data e.kind) is ∙ does))
+    absurd (cc (ap (λ (e : Event). reports_data e.kind) is ∙ does))
 with_parent_data k at path here (e, inr (inr none), does, same) = absurd none
 
-with_parent_children : {P : Type 0} (k : EventKind) (at path : Path) → (tells_loss k ≡ true → at ≡ path → P)
-    → (parent_of at ≡ path → P) → Tells tells_loss path (with_parent k at) → P
+with_parent_children : {P : Type 0} (k : EventKind) (at path : Path) → (reports_loss k ≡ true → at ≡ path → P)
+    → (parent_of at ≡ path → P) → Reports reports_loss path (with_parent k at) → P
 with_parent_children k at path here above (e, inl is, does, same) =
-    here (ap (λ (e : Event). tells_loss e.kind) is ∙ does) (ap (λ (e : Event). e.path) is ∙ same)
+    here (ap (λ (e : Event). reports_loss e.kind) is ∙ does) (ap (λ (e : Event). e.path) is ∙ same)
 with_parent_children k at path here above (e, inr (inl is), does, same) = above (ap (λ (e : Event). e.path) is ∙ same)
 with_parent_children k at path here above (e, inr (inr none), does, same) = absurd none
 
@@ -211,8 +211,8 @@ with_parent_children k at path here above (e, inr (inr none), does, same) = absu
 abbrev ChangeDid : ℕ → Path → (ChangeReply → List Event) → Result (Tree × ChangeReply) Refusal → Type 0
 ChangeDid zxid path events (Err refusal) = Unit {0}
 ChangeDid zxid path events (Ok (u, did)) =
-    (Tells tells_data path (events did) → Dated written_at zxid u.nodes path)
-    × (Tells tells_loss path (events did) → Dated children_changed_at zxid u.nodes path)
+    (Reports reports_data path (events did) → Dated written_at zxid u.nodes path)
+    × (Reports reports_loss path (events did) → Dated children_changed_at zxid u.nodes path)
 
 abbrev of_create : ChangeReply → List Event
 of_create (Created path) = with_parent NodeCreated path
@@ -277,12 +277,12 @@ delete_did t delete path = by (first_that_holds (delete_refusals t.nodes delete)
           (λ same. set_here children_changed_at (t.zxid + 1) path fewer (parent_of delete.path) f (λ n. refl) same),
     )
 
-written_data : {P : Type 0} (at path : Path) → (at ≡ path → P) → Tells tells_data path (event NodeDataChanged at ∷ []) → P
+written_data : {P : Type 0} (at path : Path) → (at ≡ path → P) → Reports reports_data path (event NodeDataChanged at ∷ []) → P
 written_data at path here (e, inl is, does, same) = here (ap (λ (e : Event). e.path) is ∙ same)
 written_data at path here (e, inr none, does, same) = absurd none
 
-written_children : {P : Type 0} (at path : Path) → Tells tells_loss path (event NodeDataChanged at ∷ []) → P
-written_children at path (e, inl is, does, same) = absurd (cc (ap (λ (e : Event). tells_loss e.kind) is ∙ does))
+written_children : {P : Type 0} (at path : Path) → Reports reports_loss path (event NodeDataChanged at ∷ []) → P
+written_children at path (e, inl is, does, same) = absurd (cc (ap (λ (e : Event). reports_loss e.kind) is ∙ does))
 written_children at path (e, inr none, does, same) = absurd none
 
 set_did : (t : Tree) (set : SetData) (path : Path) → ChangeDid (t.zxid + 1) path (of_set set) (set_step t set)
@@ -307,26 +307,26 @@ set_did t set path = by (finite.get t.nodes set.path)
 -- what a part did
 abbrev PartDid : ℕ → Path → Part → Result (Tree × PartReply) Refusal → Type 0
 PartDid zxid path p (Err refusal) = Unit {0}
-PartDid zxid path p (Ok (u, told)) =
-    (Tells tells_data path (part_events p told) → Dated written_at zxid u.nodes path)
-    × (Tells tells_loss path (part_events p told) → Dated children_changed_at zxid u.nodes path)
+PartDid zxid path p (Ok (u, reported)) =
+    (Reports reports_data path (part_events p reported) → Dated written_at zxid u.nodes path)
+    × (Reports reports_loss path (part_events p reported) → Dated children_changed_at zxid u.nodes path)
 
 part_create : (zxid : ℕ) (path : Path) (create : Create) (r : Result (Tree × ChangeReply) Refusal) → ChangeDid zxid path of_create r
-    → PartDid zxid path (part.Create create) (told_as_part r)
+    → PartDid zxid path (part.Create create) (reported_as_part r)
 part_create zxid path create (Err refusal) did = tt
 part_create zxid path create (Ok (u, Created at)) did = did
 part_create zxid path create (Ok (u, Deleted)) did = did
 part_create zxid path create (Ok (u, Set stat)) did = did
 
 part_delete : (zxid : ℕ) (path : Path) (delete : Delete) (r : Result (Tree × ChangeReply) Refusal) → ChangeDid zxid path (of_delete delete) r
-    → PartDid zxid path (part.Delete delete) (told_as_part r)
+    → PartDid zxid path (part.Delete delete) (reported_as_part r)
 part_delete zxid path delete (Err refusal) did = tt
 part_delete zxid path delete (Ok (u, Created at)) did = did
 part_delete zxid path delete (Ok (u, Deleted)) did = did
 part_delete zxid path delete (Ok (u, Set stat)) did = did
 
 part_set : (zxid : ℕ) (path : Path) (set : SetData) (r : Result (Tree × ChangeReply) Refusal) → ChangeDid zxid path (of_set set) r
-    → PartDid zxid path (part.SetData set) (told_as_part r)
+    → PartDid zxid path (part.SetData set) (reported_as_part r)
 part_set zxid path set (Err refusal) did = tt
 part_set zxid path set (Ok (u, Created at)) did = did
 part_set zxid path set (Ok (u, Deleted)) did = did
@@ -338,7 +338,7 @@ part_check t check path = by (finite.get t.nodes check.path)
   where
     chosen : (test : Bool) → PartDid (t.zxid + 1) path (part.Check check) (if test then Err BadVersion else Ok (t, part_reply.Checked))
     chosen true = tt
-    chosen false = (no_event tells_data path, no_event tells_loss path)
+    chosen false = (no_event reports_data path, no_event reports_loss path)
 
     by : (o : Option Node) → PartDid (t.zxid + 1) path (part.Check check) (on_version check.version o (λ n. (t, part_reply.Checked)))
     by None = tt
@@ -361,27 +361,27 @@ same_zxid zxid t client p is =
 -- what the parts of a multi did
 abbrev RunDid : ℕ → Path → List Part → Run → Type 0
 RunDid zxid path parts (Err refused) = Unit {0}
-RunDid zxid path parts (Ok (u, told)) =
-    (Tells tells_data path (parts_events parts told) → Dated written_at zxid u.nodes path)
-    × (Tells tells_loss path (parts_events parts told) → Dated children_changed_at zxid u.nodes path)
+RunDid zxid path parts (Ok (u, reported)) =
+    (Reports reports_data path (parts_events parts reported) → Dated written_at zxid u.nodes path)
+    × (Reports reports_loss path (parts_events parts reported) → Dated children_changed_at zxid u.nodes path)
 
 run_behind : (zxid : ℕ) (path : Path) (v : Tree) (p : Part) (parts : List Part) (first : PartReply) (r : Run)
-    → ((Tells tells_data path (part_events p first) → Dated written_at zxid v.nodes path)
-    × (Tells tells_loss path (part_events p first) → Dated children_changed_at zxid v.nodes path))
+    → ((Reports reports_data path (part_events p first) → Dated written_at zxid v.nodes path)
+    × (Reports reports_loss path (part_events p first) → Dated children_changed_at zxid v.nodes path))
     → (Dated written_at zxid v.nodes path → Leaves (IsDated written_at zxid path) r)
     → (Dated children_changed_at zxid v.nodes path → Leaves (IsDated children_changed_at zxid path) r)
     → RunDid zxid path parts r → RunDid zxid path (p ∷ parts) (behind first r)
 run_behind zxid path v p parts first (Err (number, refusal)) did by_data by_children rest = tt
-run_behind zxid path v p parts first (Ok (u, told)) did by_data by_children rest = (
-  λ tells. of_data (tells-append tells_data path (part_events p first) (parts_events parts told) tells),
-  λ tells. of_children (tells-append tells_loss path (part_events p first) (parts_events parts told) tells),
+run_behind zxid path v p parts first (Ok (u, reported)) did by_data by_children rest = (
+  λ reports. of_data (reports-append reports_data path (part_events p first) (parts_events parts reported) reports),
+  λ reports. of_children (reports-append reports_loss path (part_events p first) (parts_events parts reported) reports),
 )
   where
-    of_data : Tells tells_data path (part_events p first) ⊎ Tells tells_data path (parts_events parts told) → Dated written_at zxid u.nodes path
+    of_data : Reports reports_data path (part_events p first) ⊎ Reports reports_data path (parts_events parts reported) → Dated written_at zxid u.nodes path
     of_data (inl now) = (by_data (did.0 now)).1
     of_data (inr later) = rest.0 later
 
-    of_children : Tells tells_loss path (part_events p first) ⊎ Tells tells_loss path (parts_events parts told)
+    of_children : Reports reports_loss path (part_events p first) ⊎ Reports reports_loss path (parts_events parts reported)
         → Dated children_changed_at zxid u.nodes path
     of_children (inl now) = (by_children (did.1 now)).1
     of_children (inr later) = rest.1 later
@@ -398,7 +398,7 @@ run_then zxid path client p parts (Ok (v, first)) did same rest =
 
 run_did : (zxid : ℕ) (path : Path) (client : ℕ) (parts : List Part) (t : Tree) → t.zxid + 1 ≡ zxid → RunDid zxid path parts (run t client parts)
 unfolding run
-run_did zxid path client [] t is = (no_event tells_data path, no_event tells_loss path)
+run_did zxid path client [] t is = (no_event reports_data path, no_event reports_loss path)
 run_did zxid path client (p ∷ parts) t is =
     run_then zxid path client p parts (part_step t client p) (subst (λ z. PartDid z path p (part_step t client p)) is (part_did t client p path))
     (same_zxid zxid t client p is) (λ v same. run_did zxid path client parts v same)
@@ -406,13 +406,13 @@ run_did zxid path client (p ∷ parts) t is =
 -- what an update did, where its events tell it
 abbrev pub Touches : ℕ → Path → Update → Tree × Reply → Type 0
 Touches zxid path u did =
-    (Tells tells_data path (events_of u did.1) → Dated written_at zxid did.0.nodes path)
-    × (Tells tells_loss path (events_of u did.1) → Dated children_changed_at zxid did.0.nodes path)
+    (Reports reports_data path (events_of u did.1) → Dated written_at zxid did.0.nodes path)
+    × (Reports reports_loss path (events_of u did.1) → Dated children_changed_at zxid did.0.nodes path)
 
 no_events : (zxid : ℕ) (path : Path) (u : Update) (did : Tree × Reply) → events_of u did.1 ≡ [] → Touches zxid path u did
 no_events zxid path u did none = (
-  λ tells. no_event tells_data path (subst (Tells tells_data path) none tells),
-  λ tells. no_event tells_loss path (subst (Tells tells_loss path) none tells),
+  λ reports. no_event reports_data path (subst (Reports reports_data path) none reports),
+  λ reports. no_event reports_loss path (subst (Reports reports_loss path) none reports),
 )
 
 create_touches : (zxid : ℕ) (path : Path) (t : Tree) (create : Create) (r : Result (Tree × ChangeReply) Refusal) → ChangeDid zxid path of_create r
@@ -440,7 +440,7 @@ set_touches zxid path t set (Ok (u, Set stat)) did = did
 multi_touches : (zxid : ℕ) (path : Path) (t : Tree) (parts : List Part) (r : Run) → RunDid zxid path parts r
     → Touches zxid path (act.Multi parts) (multi_result t r)
 multi_touches zxid path t parts (Err (number, refusal)) did = no_events zxid path (act.Multi parts) (t, reply.MultiRefused number refusal) refl
-multi_touches zxid path t parts (Ok (u, told)) did = did
+multi_touches zxid path t parts (Ok (u, reported)) did = did
 
 either : (zxid : ℕ) (path : Path) (u : Update) (b : Bool) (r s : Tree × Reply) → Touches zxid path u r → Touches zxid path u s
     → Touches zxid path u (if b then r else s)
@@ -496,27 +496,27 @@ create_made t create path = by (first_that_holds (create_refusals t 0 create))
         ∙ ap (λ p. has_node (finite.insert t.nodes at new) p) (sym same)
         ∙ ap is_some (get-insert-here paths_total same_path t.nodes at new)
 
-created_at : (at path : Path) → Tells tells_creation path (with_parent NodeCreated at) → at ≡ path
+created_at : (at path : Path) → Reports reports_creation path (with_parent NodeCreated at) → at ≡ path
 created_at at path (e, inl is, does, same) = ap (λ (e : Event). e.path) is ∙ same
-created_at at path (e, inr (inl is), does, same) = absurd (cc (ap (λ (e : Event). tells_creation e.kind) is ∙ does))
+created_at at path (e, inr (inl is), does, same) = absurd (cc (ap (λ (e : Event). reports_creation e.kind) is ∙ does))
 created_at at path (e, inr (inr none), does, same) = absurd none
 
 create_makes : (t : Tree) (create : Create) (path : Path) (r : Result (Tree × ChangeReply) Refusal) → Makes path r
-    → Tells tells_creation path (events_of (act.Create create) (change_result t r).1) → has_node (change_result t r).0.nodes path ≡ true
-create_makes t create path (Err refusal) made tells = no_event tells_creation path tells
-create_makes t create path (Ok (u, Created at)) made tells = made (created_at at path tells)
-create_makes t create path (Ok (u, Deleted)) made tells = no_event tells_creation path tells
-create_makes t create path (Ok (u, Set stat)) made tells = no_event tells_creation path tells
+    → Reports reports_creation path (events_of (act.Create create) (change_result t r).1) → has_node (change_result t r).0.nodes path ≡ true
+create_makes t create path (Err refusal) made reports = no_event reports_creation path reports
+create_makes t create path (Ok (u, Created at)) made reports = made (created_at at path reports)
+create_makes t create path (Ok (u, Deleted)) made reports = no_event reports_creation path reports
+create_makes t create path (Ok (u, Set stat)) made reports = no_event reports_creation path reports
 
 makes_if : (t : Tree) (create : Create) (path : Path) (b : Bool) (r : Tree × Reply)
-    → (Tells tells_creation path (events_of (act.Create create) r.1) → has_node r.0.nodes path ≡ true)
-    → Tells tells_creation path (events_of (act.Create create) (if b then (t, reply.Refused Exhausted) else r).1)
+    → (Reports reports_creation path (events_of (act.Create create) r.1) → has_node r.0.nodes path ≡ true)
+    → Reports reports_creation path (events_of (act.Create create) (if b then (t, reply.Refused Exhausted) else r).1)
     → has_node (if b then (t, reply.Refused Exhausted) else r).0.nodes path ≡ true
-makes_if t create path true r makes tells = no_event tells_creation path tells
-makes_if t create path false r makes tells = makes tells
+makes_if t create path true r makes reports = no_event reports_creation path reports
+makes_if t create path false r makes reports = makes reports
 
 pub create_leaves : (t : Tree) (create : Create) (path : Path)
-    → Tells tells_creation path (events_of (act.Create create) (step t 0 (act.Create create)).1)
+    → Reports reports_creation path (events_of (act.Create create) (step t 0 (act.Create create)).1)
     → has_node (step t 0 (act.Create create)).0.nodes path ≡ true
 unfolding step
 create_leaves t create path =

@@ -27,48 +27,48 @@ use Rattle.ztree_service.proofs.log_lemmas.Logs.{last_tree}
 use Rattle.zwatches.specs.declared.watch.Watch.{Watch}
 use Rattle.zwatches.specs.declared.kind.Kind.TheVariants.{Missing}
 use Rattle.zwatches.specs.Events.{fires}
-use Rattle.zconnections.specs.attachments.Sittings.{SittingsView}
+use Rattle.zconnections.specs.attachments.Attachments.{AttachmentsView}
 use Rattle.zconnections.specs.Tables.{TablesView}
 use Rattle.zconnections.specs.Sweeping.{noted, made_one}
 use Rattle.zfront.specs.Front.{FrontView, with_tables, asked, replies_to, takes_nodes}
 use Rattle.zfront.specs.Ticking.{ping, tick_calls}
 use Rattle.zfront_laws.specs.Logs.{done_by}
 use Rattle.zfront_laws.specs.watches.Watching.{Scene, Served, Fired, Moved, tree_of, after, HasChanged, IsSameAt}
-use Rattle.zfront_laws.proofs.watches_lemmas.Changing.{OfMulti, fired_at_path, has_changed, tells_of}
+use Rattle.zfront_laws.proofs.watches_lemmas.Changing.{OfMulti, fired_at_path, has_changed, reports_of}
 use Rattle.zfront_laws.proofs.watches_lemmas.Holding.{Holds, UpdateNames, absorbing, update_holds, lost_holds, still_holds, settled}
 use Rattle.zfront_laws.proofs.watches_lemmas.Marks.{Known, Marked}
-use Rattle.zfront_laws.proofs.watches_lemmas.Moving.{sittings_move}
+use Rattle.zfront_laws.proofs.watches_lemmas.Moving.{attachments_move}
 use Rattle.zfront_laws.proofs.watches_lemmas.Owners.{OwnersAre}
 use Rattle.zfront_laws.proofs.watches_lemmas.Reaching.{AtIf, At, Reaches, called}
 use Rattle.zfront_laws.proofs.watches_lemmas.Scenes.{fired_happens, logged, served_happens, servings, tree_logged}
 use Rattle.zfront_laws.proofs.watches_lemmas.Standing.{In}
 use Rattle.zfront_laws.proofs.watches_lemmas.Taking.{TakesTo, Owned, Loses, tick_takes}
 use Rattle.zfront_laws.proofs.watches_lemmas.Tidying.{Gone}
-use Rattle.zfront_laws.proofs.watches_lemmas.Touching.{Tells}
+use Rattle.zfront_laws.proofs.watches_lemmas.Touching.{Reports}
 
--- an update that takes nothing away is told whole
+-- an update that takes nothing away is reported whole
 module _ (v : FrontView) (s : Scene) (u : Act) (there : At v s) where
-  abbrev told : Reply
-  told = (step v.tree 0 u).1
+  abbrev reported : Reply
+  reported = (step v.tree 0 u).1
 
-  right : told ≡ (step (tree_of s) 0 u).1
+  right : reported ≡ (step (tree_of s) 0 u).1
   right = ap (λ t. (step t 0 u).1) (sym there.tree)
 
-  goes : tree_of (after (Served (Update u) told) s) ≡ (step (tree_of s) 0 u).0
-  goes = last_tree s.log opening_tree (Update u) told
+  goes : tree_of (after (Served (Update u) reported) s) ≡ (step (tree_of s) 0 u).0
+  goes = last_tree s.log opening_tree (Update u) reported
 
   abbrev middle : TablesView
-  middle = record s.tables { sittings = noted u told s.tables.sittings }
+  middle = record s.tables { attachments = noted u reported s.tables.attachments }
 
   abbrev es : List Event
-  es = events_of u told
+  es = events_of u reported
 
   abbrev second : Scene
-  second = after (Moved middle) (after (Served (Update u) told) s)
+  second = after (Moved middle) (after (Served (Update u) reported) s)
 
-  tells : (e : Event) (w : Watch) → Among e es → fires e.kind e.path w ≡ true
-      → Tells (tells_of w.kind) w.path (events_of u (step (tree_of s) 0 u).1)
-  tells e w among fired =
+  reports : (e : Event) (w : Watch) → Among e es → fires e.kind e.path w ≡ true
+      → Reports (reports_of w.kind) w.path (events_of u (step (tree_of s) 0 u).1)
+  reports e w among fired =
       let at = fired_at_path e.kind e.path w fired in
       (e, subst (λ r. Among e (events_of u r)) right among, at.1, at.0)
 
@@ -76,32 +76,32 @@ module _ (v : FrontView) (s : Scene) (u : Act) (there : At v s) where
       → HasChanged (record second { tables = t }) w
   changed e t w among stands fired =
       by (has_changed s u w.path (s.set_at w) w.kind (there.holds.right w stands)
-      (settled (tree_of s) (s.set_at w) w.kind w.path (there.holds.seen w stands)) (tells e w among fired))
+      (settled (tree_of s) (s.set_at w) w.kind w.path (there.holds.seen w stands)) (reports e w among fired))
     where
       by : (IsSameAt w.kind w.path (s.set_at w) (step (tree_of s) 0 u).0.nodes → ⊥) ⊎ ((w.kind ≡ Missing) × OfMulti u)
           → HasChanged (record second { tables = t }) w
       by (inl differs) = inl (λ same. differs (subst (λ (t : Tree). IsSameAt w.kind w.path (s.set_at w) t.nodes) goes same))
-      by (inr (missing, (parts, is))) = inr (missing, (s.log, parts, told, ap (λ (v : Act). s.log ++ (Update v, told) ∷ []) is))
+      by (inr (missing, (parts, is))) = inr (missing, (s.log, parts, reported, ap (λ (v : Act). s.log ++ (Update v, reported) ∷ []) is))
 
   abbrev last : Scene
-  last = record (after (Served (Update u) told) s) { tables = absorbing u told s.tables }
+  last = record (after (Served (Update u) reported) s) { tables = absorbing u reported s.tables }
 
-  pub absorbs : takes_away u ≡ false → UpdateNames (Known s.tables.sittings) u
-      → Reaches (with_tables (absorbing u told v.tables) (asked (Update u ∷ []) v)) s (done_by (Update u ∷ []) v)
+  pub absorbs : takes_away u ≡ false → UpdateNames (Known s.tables.attachments) u
+      → Reaches (with_tables (absorbing u reported v.tables) (asked (Update u ∷ []) v)) s (done_by (Update u ∷ []) v)
   absorbs stays names = record {
-    happenings = Served (Update u) told ∷ Moved middle ∷ map (λ e. Fired e) es;
+    happenings = Served (Update u) reported ∷ Moved middle ∷ map (λ e. Fired e) es;
     scene = last;
     happens = (
       right,
       (
-        sittings_move s.tables (noted u told s.tables.sittings),
+        attachments_move s.tables (noted u reported s.tables.attachments),
         fired_happens es second
-            (λ e t among fewer. inl (inl (s.log, u, told, refl, among), λ w stands fired. changed e t w among (fewer w stands) fired)),
+            (λ e t among fewer. inl (inl (s.log, u, reported, refl, among), λ w stands fired. changed e t w among (fewer w stands) fired)),
       ),
     );
     log = refl;
     there = record {
-      tables = ap (absorbing u told) there.tables;
+      tables = ap (absorbing u reported) there.tables;
       tree = goes ∙ ap (λ t. (step t 0 u).0) there.tree;
       holds = subst (λ t. Holds false t s.set_at last.tables) (sym goes)
           (subst (λ r. Holds false (step (tree_of s) 0 u).0 s.set_at (absorbing u r s.tables)) (sym right)
@@ -111,7 +111,7 @@ module _ (v : FrontView) (s : Scene) (u : Act) (there : At v s) where
 
 -- ---- calls that may take something away
 
-owner_made : (m : SittingsView) (nodes : Nodes) (id : ℕ) → OwnersAre (Marked m) nodes → Owned nodes id → made_one m id ≡ true
+owner_made : (m : AttachmentsView) (nodes : Nodes) (id : ℕ) → OwnersAre (Marked m) nodes → Owned nodes id → made_one m id ≡ true
 owner_made m nodes id all (above, path, n, found, is) = by (all path n found)
   where
     by : Marked m n.owner → made_one m id ≡ true
@@ -167,15 +167,15 @@ module _ (calls : List Call) (v : FrontView) (s : Scene) (there : At v s) where
           inr (
             id,
             ap (λ (t : Tree). finite.get t.sessions id) (sym goes_to) ∙ gone,
-            ap (λ (t : TablesView). made_one t.sittings id) (sym there.tables)
-                ∙ owner_made s.tables.sittings (tree_of s).nodes id there.holds.owners owned,
+            ap (λ (t : TablesView). made_one t.attachments id) (sym there.tables)
+                ∙ owner_made s.tables.attachments (tree_of s).nodes id there.holds.owners owned,
           )
 
   pub taken : (took : Bool) → TakesTo v.tree (tree_after v.tree calls) took → Taken (asked calls v) next took
   taken took takes =
       taken_so took (subst (λ t. TakesTo t (tree_of next) took) (sym there.tree) (subst (λ t. TakesTo v.tree t took) (sym goes_to) takes))
 
--- a close leaves the tree, or is told as closed
+-- a close leaves the tree, or is reported as closed
 closes_so : (t : Tree) (exhausted gone : Bool) (why other : Reply) (did : Tree × Reply) → did.1 ≡ reply.Closed
     → ((if exhausted then (t, why) else if gone then (t, other) else did).0 ≡ t)
     ⊎ ((if exhausted then (t, why) else if gone then (t, other) else did).1 ≡ reply.Closed)

@@ -1,4 +1,4 @@
--- What no event of an update tells stays: a path without a node, and a node with its children.
+-- What no event of an update reports stays: a path without a node, and a node with its children.
 use Rattle.std.proofs.Common.{◌≡◌, ◌≢◌, ◌∙◌, ◌+◌, ℕ, Bool, true, false, cond, List, [], ◌∷◌, ◌++◌, Option, Some, None}
 use Rattle.std.proofs.Common.{Result, Ok, Err, refl, sym, ap, inl, inr, if◌then◌else◌}
 use mathlib.Core.Bool.{true≢false}
@@ -32,7 +32,7 @@ use Rattle.zcalls.specs.declared.reply.PartReply.{PartReply}
 use Rattle.zcalls.specs.declared.reply.PartReply.TheVariants as part_reply
 use Rattle.zcalls.specs.declared.reply.Reply.{Reply}
 use Rattle.zcalls.specs.declared.reply.Reply.TheVariants as reply
-use Rattle.zcalls.specs.Part.{create_step, delete_step, set_step, check_step, part_step, told_as_part, create_refusals}
+use Rattle.zcalls.specs.Part.{create_step, delete_step, set_step, check_step, part_step, reported_as_part, create_refusals}
 use Rattle.zcalls.specs.Part.{delete_refusals, unless_refused, made_path, owner_of, ttl_of, on_version}
 use Rattle.zcalls.specs.Part.{has_other_version, with_node_set}
 use Rattle.zcalls.specs.Multi.{Run, run, behind, and_then}
@@ -43,20 +43,20 @@ use Rattle.zwatches.specs.declared.changes.event.Event.{Event}
 use Rattle.zwatches.specs.changes.Events.{event, with_parent, events_of, part_events, parts_events}
 use Rattle.zwatches.specs.changes.Laws.{children_at, Misses, takes_away}
 
--- the event tells that a node came, or that it went or has other children
-abbrev pub tells_creation : EventKind → Bool
-tells_creation NodeCreated = true
-tells_creation other = false
+-- the event reports that a node came, or that it went or has other children
+abbrev pub reports_creation : EventKind → Bool
+reports_creation NodeCreated = true
+reports_creation other = false
 
-abbrev pub tells_loss : EventKind → Bool
-tells_loss NodeDeleted = true
-tells_loss NodeChildrenChanged = true
-tells_loss other = false
+abbrev pub reports_loss : EventKind → Bool
+reports_loss NodeDeleted = true
+reports_loss NodeChildrenChanged = true
+reports_loss other = false
 
--- a path without a node stays so, and a node with its children stays so, where no event tells it
+-- a path without a node stays so, and a node with its children stays so, where no event reports it
 pub record Leaves (nodes changed : Nodes) (path : Path) (events : List Event) : Type 0 where
-  pub missing : has_node nodes path ≡ false → Misses tells_creation path events → has_node changed path ≡ false
-  pub there : has_node nodes path ≡ true → Misses tells_loss path events
+  pub missing : has_node nodes path ≡ false → Misses reports_creation path events → has_node changed path ≡ false
+  pub there : has_node nodes path ≡ true → Misses reports_loss path events
       → (has_node changed path ≡ true) × (children_at changed path ≡ children_at nodes path)
 
 untouched : (nodes : Nodes) (path : Path) (events : List Event) → Leaves nodes nodes path events
@@ -133,19 +133,19 @@ written nodes at old new path is same = near (same_or_other paths_total same_pat
     }
 
 -- one change behind another
-misses-append : (tells : EventKind → Bool) (path : Path) (events more : List Event) → Misses tells path (events ++ more)
-    → Misses tells path events × Misses tells path more
-misses-append tells path [] more misses = (tt, misses)
-misses-append tells path (e ∷ events) more misses =
-    let rest = misses-append tells path events more misses.1 in
+misses-append : (reports : EventKind → Bool) (path : Path) (events more : List Event) → Misses reports path (events ++ more)
+    → Misses reports path events × Misses reports path more
+misses-append reports path [] more misses = (tt, misses)
+misses-append reports path (e ∷ events) more misses =
+    let rest = misses-append reports path events more misses.1 in
     ((misses.0, rest.0), rest.1)
 
 joined : (first second third : Nodes) (path : Path) (events more : List Event) → Leaves first second path events
     → Leaves second third path more → Leaves first third path (events ++ more)
 joined first second third path events more d e = record {
-  missing = λ none misses. let parts = misses-append tells_creation path events more misses in e.missing (d.missing none parts.0) parts.1;
+  missing = λ none misses. let parts = misses-append reports_creation path events more misses in e.missing (d.missing none parts.0) parts.1;
   there = λ some misses.
-      let parts = misses-append tells_loss path events more misses in
+      let parts = misses-append reports_loss path events more misses in
       let one = d.there some parts.0 in
       let two = e.there one.0 parts.1 in
       (two.0, two.1 ∙ one.1);
@@ -214,24 +214,24 @@ set_did t set path = by (finite.get t.nodes set.path) refl
 -- what a part did
 abbrev PartDid : Tree → Part → Path → Result (Tree × PartReply) Refusal → Type 0
 PartDid t p path (Err refusal) = Unit {0}
-PartDid t p path (Ok (u, told)) = Leaves t.nodes u.nodes path (part_events p told)
+PartDid t p path (Ok (u, reported)) = Leaves t.nodes u.nodes path (part_events p reported)
 
 part_create : (t : Tree) (create : Create) (path : Path) (r : Result (Tree × ChangeReply) Refusal) → ChangeDid t path of_create r
-    → PartDid t (part.Create create) path (told_as_part r)
+    → PartDid t (part.Create create) path (reported_as_part r)
 part_create t create path (Err refusal) did = tt
 part_create t create path (Ok (u, Created at)) did = did
 part_create t create path (Ok (u, Deleted)) did = did
 part_create t create path (Ok (u, Set stat)) did = did
 
 part_delete : (t : Tree) (delete : Delete) (path : Path) (r : Result (Tree × ChangeReply) Refusal)
-    → ChangeDid t path (of_delete delete) r → PartDid t (part.Delete delete) path (told_as_part r)
+    → ChangeDid t path (of_delete delete) r → PartDid t (part.Delete delete) path (reported_as_part r)
 part_delete t delete path (Err refusal) did = tt
 part_delete t delete path (Ok (u, Created at)) did = did
 part_delete t delete path (Ok (u, Deleted)) did = did
 part_delete t delete path (Ok (u, Set stat)) did = did
 
 part_set : (t : Tree) (set : SetData) (path : Path) (r : Result (Tree × ChangeReply) Refusal) → ChangeDid t path (of_set set) r
-    → PartDid t (part.SetData set) path (told_as_part r)
+    → PartDid t (part.SetData set) path (reported_as_part r)
 part_set t set path (Err refusal) did = tt
 part_set t set path (Ok (u, Created at)) did = did
 part_set t set path (Ok (u, Deleted)) did = did
@@ -258,13 +258,13 @@ part_did t client (part.Check check) path = part_check t check path
 -- what the parts of a multi did
 abbrev RunDid : Tree → List Part → Path → Run → Type 0
 RunDid t parts path (Err refused) = Unit {0}
-RunDid t parts path (Ok (u, told)) = Leaves t.nodes u.nodes path (parts_events parts told)
+RunDid t parts path (Ok (u, reported)) = Leaves t.nodes u.nodes path (parts_events parts reported)
 
 run_behind : (t v : Tree) (p : Part) (parts : List Part) (path : Path) (first : PartReply) (r : Run)
     → Leaves t.nodes v.nodes path (part_events p first) → RunDid v parts path r → RunDid t (p ∷ parts) path (behind first r)
 run_behind t v p parts path first (Err (number, refusal)) did rest = tt
-run_behind t v p parts path first (Ok (u, told)) did rest = joined t.nodes v.nodes u.nodes path (part_events p first)
-    (parts_events parts told) did rest
+run_behind t v p parts path first (Ok (u, reported)) did rest = joined t.nodes v.nodes u.nodes path (part_events p first)
+    (parts_events parts reported) did rest
 
 run_then : (t : Tree) (client : ℕ) (p : Part) (parts : List Part) (path : Path) (r : Result (Tree × PartReply) Refusal)
     → PartDid t p path r → ((v : Tree) → RunDid v parts path (run v client parts)) → RunDid t (p ∷ parts) path (and_then r (λ v. run v client parts))
@@ -281,53 +281,53 @@ run_did t client (p ∷ parts) path =
 abbrev Did : Tree → Update → Path → Tree × Reply → Type 0
 Did t update path s = Leaves t.nodes s.0.nodes path (events_of update s.1)
 
-create_told : (t : Tree) (create : Create) (path : Path) (r : Result (Tree × ChangeReply) Refusal) → ChangeDid t path of_create r
+create_reported : (t : Tree) (create : Create) (path : Path) (r : Result (Tree × ChangeReply) Refusal) → ChangeDid t path of_create r
     → Did t (act.Create create) path (change_result t r)
-create_told t create path (Err refusal) did = untouched t.nodes path []
-create_told t create path (Ok (u, Created at)) did = did
-create_told t create path (Ok (u, Deleted)) did = did
-create_told t create path (Ok (u, Set stat)) did = did
+create_reported t create path (Err refusal) did = untouched t.nodes path []
+create_reported t create path (Ok (u, Created at)) did = did
+create_reported t create path (Ok (u, Deleted)) did = did
+create_reported t create path (Ok (u, Set stat)) did = did
 
-delete_told : (t : Tree) (delete : Delete) (path : Path) (r : Result (Tree × ChangeReply) Refusal)
+delete_reported : (t : Tree) (delete : Delete) (path : Path) (r : Result (Tree × ChangeReply) Refusal)
     → ChangeDid t path (of_delete delete) r → Did t (act.Delete delete) path (change_result t r)
-delete_told t delete path (Err refusal) did = untouched t.nodes path []
-delete_told t delete path (Ok (u, Created at)) did = did
-delete_told t delete path (Ok (u, Deleted)) did = did
-delete_told t delete path (Ok (u, Set stat)) did = did
+delete_reported t delete path (Err refusal) did = untouched t.nodes path []
+delete_reported t delete path (Ok (u, Created at)) did = did
+delete_reported t delete path (Ok (u, Deleted)) did = did
+delete_reported t delete path (Ok (u, Set stat)) did = did
 
-set_told : (t : Tree) (set : SetData) (path : Path) (r : Result (Tree × ChangeReply) Refusal) → ChangeDid t path (of_set set) r
+set_reported : (t : Tree) (set : SetData) (path : Path) (r : Result (Tree × ChangeReply) Refusal) → ChangeDid t path (of_set set) r
     → Did t (act.SetData set) path (change_result t r)
-set_told t set path (Err refusal) did = untouched t.nodes path []
-set_told t set path (Ok (u, Created at)) did = did
-set_told t set path (Ok (u, Deleted)) did = did
-set_told t set path (Ok (u, Set stat)) did = did
+set_reported t set path (Err refusal) did = untouched t.nodes path []
+set_reported t set path (Ok (u, Created at)) did = did
+set_reported t set path (Ok (u, Deleted)) did = did
+set_reported t set path (Ok (u, Set stat)) did = did
 
-multi_told : (t : Tree) (parts : List Part) (path : Path) (r : Run) → RunDid t parts path r → Did t (act.Multi parts) path (multi_result t r)
-multi_told t parts path (Err (number, refusal)) did = untouched t.nodes path []
-multi_told t parts path (Ok (u, told)) did = did
+multi_reported : (t : Tree) (parts : List Part) (path : Path) (r : Run) → RunDid t parts path r → Did t (act.Multi parts) path (multi_result t r)
+multi_reported t parts path (Err (number, refusal)) did = untouched t.nodes path []
+multi_reported t parts path (Ok (u, reported)) did = did
 
 either : (t : Tree) (update : Update) (path : Path) (test : Bool) (r s : Tree × Reply) → Did t update path r
     → Did t update path s → Did t update path (if test then r else s)
 either t update path true r s first second = first
 either t update path false r s first second = second
 
-update_told : (t : Tree) (client : ℕ) (update : Update) (path : Path) → takes_away update ≡ false → Did t update path (update_result t client update)
-update_told t client (act.Create create) path stays = create_told t create path (create_step t client create) (create_did t client create path)
-update_told t client (act.Delete delete) path stays = delete_told t delete path (delete_step t delete) (delete_did t delete path)
-update_told t client (act.SetData set) path stays = set_told t set path (set_step t set) (set_did t set path)
-update_told t client (act.Multi parts) path stays = multi_told t parts path (run t client parts) (run_did t client parts path)
-update_told t client (act.Open ticks) path stays = either t (act.Open ticks) path _ _ _ (untouched t.nodes path []) (untouched t.nodes path [])
-update_told t client (act.Ping session) path stays = either t (act.Ping session) path _ _ _ (untouched t.nodes path []) (untouched t.nodes path [])
-update_told t client (act.Close session) path stays = cc
-update_told t client act.Tick path stays = cc
+update_reported : (t : Tree) (client : ℕ) (update : Update) (path : Path) → takes_away update ≡ false → Did t update path (update_result t client update)
+update_reported t client (act.Create create) path stays = create_reported t create path (create_step t client create) (create_did t client create path)
+update_reported t client (act.Delete delete) path stays = delete_reported t delete path (delete_step t delete) (delete_did t delete path)
+update_reported t client (act.SetData set) path stays = set_reported t set path (set_step t set) (set_did t set path)
+update_reported t client (act.Multi parts) path stays = multi_reported t parts path (run t client parts) (run_did t client parts path)
+update_reported t client (act.Open ticks) path stays = either t (act.Open ticks) path _ _ _ (untouched t.nodes path []) (untouched t.nodes path [])
+update_reported t client (act.Ping session) path stays = either t (act.Ping session) path _ _ _ (untouched t.nodes path []) (untouched t.nodes path [])
+update_reported t client (act.Close session) path stays = cc
+update_reported t client act.Tick path stays = cc
 
 no_events : (t : Tree) (update : Update) (path : Path) (refusal : Refusal) → Did t update path (t, reply.Refused refusal)
 no_events t update path refusal = untouched t.nodes path (events_of update (reply.Refused refusal))
 
--- what an update leaves where none of its events tells it
+-- what an update leaves where none of its events reports it
 pub update_leaves : (t : Tree) (client : ℕ) (update : Update) (path : Path) → takes_away update ≡ false
     → Leaves t.nodes (step t client update).0.nodes path (events_of update (step t client update).1)
 unfolding step
 update_leaves t client update path stays =
     either t update path (is_exhausted t update) (t, reply.Refused Exhausted) (update_result t client update)
-    (no_events t update path Exhausted) (update_told t client update path stays)
+    (no_events t update path Exhausted) (update_reported t client update path stays)

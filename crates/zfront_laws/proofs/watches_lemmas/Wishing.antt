@@ -18,7 +18,7 @@ AreQueries calls = AllByRecursion IsQuery calls
 
 -- each reply is that of this tree
 abbrev pub AreOf : Tree → List Call → List Reply → Type 0
-AreOf t (call ∷ calls) (told ∷ replies) = (told ≡ (serve t 0 call).1) × AreOf t calls replies
+AreOf t (call ∷ calls) (reported ∷ replies) = (reported ≡ (serve t 0 call).1) × AreOf t calls replies
 AreOf t calls replies = Unit {0}
 
 pub served_are_of : (t : Tree) (calls : List Call) → AreQueries calls → AreOf t calls (served t calls)
@@ -30,7 +30,7 @@ pub taken : (n : ℕ) (t : Tree) (calls : List Call) (replies : List Reply) → 
 taken zero t calls replies all = tt
 taken (suc n) t [] replies all = tt
 taken (suc n) t (call ∷ calls) [] all = tt
-taken (suc n) t (call ∷ calls) (told ∷ replies) all = (all.0, taken n t calls replies all.1)
+taken (suc n) t (call ∷ calls) (reported ∷ replies) all = (all.0, taken n t calls replies all.1)
 
 none_of : (t : Tree) (calls : List Call) → AreOf t calls []
 none_of t [] = tt
@@ -40,4 +40,4 @@ pub left : (n : ℕ) (t : Tree) (calls : List Call) (replies : List Reply) → A
 left zero t calls replies all = all
 left (suc n) t [] replies all = tt
 left (suc n) t (call ∷ calls) [] all = none_of t (drop n calls)
-left (suc n) t (call ∷ calls) (told ∷ replies) all = left n t calls replies all.1
+left (suc n) t (call ∷ calls) (reported ∷ replies) all = left n t calls replies all.1

@@ -5,7 +5,7 @@ use Rattle.ztree.specs.Tree.{Tree}
 use Rattle.zjute.specs.Frames.{IsEnd}
 use Rattle.zresponses.specs.declared.clock.Clock.{Clock}
 use Rattle.zconnections.specs.buffers.Inputs.InputView.{Opened, Came, Ended}
-use Rattle.zconnections.specs.buffers.Outbox.{PieceView}
+use Rattle.zconnections.specs.buffers.Outbox.{ChunkView}
 use Rattle.zconnections.specs.buffers.Streams.{phase_of}
 use Rattle.ztree_service.specs.log.Logs.{Log, Leaves}
 use Rattle.zconnections.specs.Tables.{is_open}
@@ -15,11 +15,11 @@ use Rattle.zfront.specs.Reading.{Cuts}
 use Rattle.zfront.specs.Restoring.{beginning}
 use Rattle.zfront_laws.specs.Logs.{run_log}
 use Rattle.zfront_laws.specs.Runs.{Step, Takes, Sent, Runs}
-use Rattle.zfront_laws.specs.frames.Talk.{Talk, pieces_of, is_closed, IsTalk}
+use Rattle.zfront_laws.specs.frames.Talk.{Talk, chunks_of, is_closed, IsTalk}
 
 -- the chunks of one connection
-abbrev pub on : ℕ → List PieceView → List PieceView
-on c pieces = filter (λ p. nat_eq p.connection c) pieces
+abbrev pub on : ℕ → List ChunkView → List ChunkView
+on c chunks = filter (λ p. nat_eq p.connection c) chunks
 
 -- the bytes that a step brings to a connection; they are dropped unless it is open
 abbrev pub came_at : ℕ → Step → FrontView → List ℕ
@@ -27,7 +27,7 @@ came_at c (Takes (Came d bytes)) v = if nat_eq d c && is_open v.tables c then by
 came_at c other v = []
 
 -- the chunks of it that a step sends
-abbrev pub sent_at : ℕ → Step → FrontView → List PieceView
+abbrev pub sent_at : ℕ → Step → FrontView → List ChunkView
 sent_at c Sent v = on c (take 1 v.tables.unsent)
 sent_at c other v = []
 
@@ -37,7 +37,7 @@ came_on c [] old new is = []
 came_on c (step ∷ steps) old new has = came_at c step old ++ came_on c steps has.0 new has.2
 
 -- all chunks that were sent on it, then those still to be sent
-abbrev pub went_on : (c : ℕ) (steps : List Step) (old new : FrontView) → Runs steps old new → List PieceView
+abbrev pub went_on : (c : ℕ) (steps : List Step) (old new : FrontView) → Runs steps old new → List ChunkView
 went_on c [] old new is = on c new.tables.unsent
 went_on c (step ∷ steps) old new has = sent_at c step old ++ went_on c steps has.0 new has.2
 
@@ -58,12 +58,12 @@ Stays c other = Unit {0}
 
 -- the chunks of a connection, for the bytes that arrived on it, with this clock and this secret:
 -- the leading frames are answered, and while the connection is open no whole frame remains
-pub record Talks (times : Clock) (secret : List ℕ) (c : ℕ) (log : Log) (came : List ℕ) (went : List PieceView) (on_now : Bool) : Type 0 where
+pub record Talks (times : Clock) (secret : List ℕ) (c : ℕ) (log : Log) (came : List ℕ) (went : List ChunkView) (on_now : Bool) : Type 0 where
   pub frames : List (List ℕ)
   pub rest : List ℕ
   pub talk : Talk
   pub cuts : Cuts came frames rest
-  pub pieces : went ≡ pieces_of c talk
+  pub chunks : went ≡ chunks_of c talk
   pub answers : IsTalk times secret came log frames talk
   pub ends : on_now ≡ true → IsEnd rest
   pub closes : is_closed talk ≡ not on_now

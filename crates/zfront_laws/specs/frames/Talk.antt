@@ -17,7 +17,7 @@ use Rattle.zjute.specs.declared.request.Asked.{Asked}
 use Rattle.zjute.specs.declared.request.Request.{Request}
 use Rattle.zrequests.specs.Asking.{Meaning}
 use Rattle.zrequests.specs.Requests.{calls_in}
-use Rattle.zrequests.specs.Timeouts.{millis_told}
+use Rattle.zrequests.specs.Timeouts.{millis_reported}
 use Rattle.zrequests.specs.declared.fault.Unasked.TheVariants.{Refused, Memory}
 use Rattle.zwatches.specs.declared.changes.event.Event.{Event}
 use Rattle.zresponses.specs.declared.answer.Answer.{Answer}
@@ -27,9 +27,9 @@ use Rattle.zresponses.specs.Answers.{failed}
 use Rattle.zresponses.specs.Stats.{long_of}
 use Rattle.ztree_service.specs.log.Logs.{Log, calls_of, replies_of, tree_after}
 use Rattle.zpasswords.specs.Passwords.{password_of}
-use Rattle.zconnections.specs.buffers.Outbox.{PieceView}
-use Rattle.zconnections.specs.Tables.{piece, last_piece}
-use Rattle.zconnections.specs.Telling.{event_frame}
+use Rattle.zconnections.specs.buffers.Outbox.{ChunkView}
+use Rattle.zconnections.specs.Tables.{chunk, last_chunk}
+use Rattle.zconnections.specs.Reporting.{event_frame}
 use Rattle.zresponses.specs.effects.Answering.{answer_unless, now_of}
 use Rattle.zresponses.specs.effects.Frames.{answer_frame, response_frame}
 use Rattle.zresponses.specs.effects.Greeting.{given}
@@ -42,21 +42,21 @@ use Rattle.zfront.specs.Words.{word_in, text_of_word}
 -- answers and continues; it closes the connection
 pub data Talk : Type 0 where
   Quiet : Talk
-  Tells : Event → Talk → Talk
+  Reports : Event → Talk → Talk
   Answers : List ℕ → Talk → Talk
   Closes : Talk
 
 -- its chunks: one for each event, one for each answer, and one for the close, which is the last
-abbrev pub pieces_of : ℕ → Talk → List PieceView
-pieces_of c Quiet = []
-pieces_of c (Tells event talk) = piece c (event_frame event) ∷ pieces_of c talk
-pieces_of c (Answers bytes talk) = piece c bytes ∷ pieces_of c talk
-pieces_of c Closes = last_piece c ∷ []
+abbrev pub chunks_of : ℕ → Talk → List ChunkView
+chunks_of c Quiet = []
+chunks_of c (Reports event talk) = chunk c (event_frame event) ∷ chunks_of c talk
+chunks_of c (Answers bytes talk) = chunk c bytes ∷ chunks_of c talk
+chunks_of c Closes = last_chunk c ∷ []
 
 -- the connection was closed
 abbrev pub is_closed : Talk → Bool
 is_closed Quiet = false
-is_closed (Tells event talk) = is_closed talk
+is_closed (Reports event talk) = is_closed talk
 is_closed (Answers bytes talk) = is_closed talk
 is_closed Closes = true
 
@@ -74,23 +74,23 @@ abbrev pub tree_behind : Tree → Log → Tree
 tree_behind tree log = tree_after tree (calls_of log)
 
 -- the connect response says that there is no session: it has session 0
-pub record IsTurnedAway (bytes told : List ℕ) : Type 0 where
+pub record IsTurnedAway (bytes reported : List ℕ) : Type 0 where
   pub greeting : ConnectRequest
   pub reads : whole connect_request bytes ≡ Ok greeting
-  pub frames : told ≡ response_frame greeting (pos 0) (pos 0) (replicate 16 0)
+  pub frames : reported ≡ response_frame greeting (pos 0) (pos 0) (replicate 16 0)
 
 -- ---- with this clock and this secret
 
 module _ (clock : Clock) (secret : List ℕ) where
   -- these bytes answer a request of this session, in a frame under its xid. Its calls with their
   -- replies are the last of this log, and the header has the zxid of the tree after them
-  pub record IsAnswer (session : ℕ) (bytes told : List ℕ) (tree : Tree) (log : Log) : Type 0 where
+  pub record IsAnswer (session : ℕ) (bytes reported : List ℕ) (tree : Tree) (log : Log) : Type 0 where
     pub asked : Request
     pub answer : Answer
     pub before : Log
     pub part : Log
     pub reads : whole request bytes ≡ Ok asked
-    pub frames : told ≡ answer_frame tree.zxid asked.xid answer
+    pub frames : reported ≡ answer_frame tree.zxid asked.xid answer
     pub stands : log ≡ before ++ part
     pub says : Says (calls_in clock.tick session asked.asked) clock (now_of tree) asked.asked part answer
 
@@ -99,10 +99,10 @@ module _ (clock : Clock) (secret : List ℕ) where
   -- answer
   abbrev pub Answered : ℕ → Tree → Log → List (List ℕ) → Talk → Type 0
   Answered session tree log frames Quiet = frames ≡ []
-  Answered session tree log frames (Tells event talk) = Answered session tree log frames talk
-  Answered session tree log frames (Answers told talk) =
+  Answered session tree log frames (Reports event talk) = Answered session tree log frames talk
+  Answered session tree log frames (Answers reported talk) =
       (bytes : List ℕ) × (rest : List (List ℕ)) × (front behind : Log) × (frames ≡ bytes ∷ rest) × (log ≡ front ++ behind)
-      × IsAnswer session bytes told (tree_behind tree front) front
+      × IsAnswer session bytes reported (tree_behind tree front) front
       × Answered session (tree_behind tree front) behind rest talk
   Answered session tree log frames Closes = length frames ≤ 1
 
@@ -110,32 +110,32 @@ module _ (clock : Clock) (secret : List ℕ) where
   -- log; or the tree had it and the client gave its password. The response has the password that
   -- the secret derives for the session
   abbrev pub IsOpened : ℕ → ConnectRequest → Log → List ℕ → Type 0
-  IsOpened session greeting log told =
+  IsOpened session greeting log reported =
       (before : Log) × (ticks : ℕ) × (greeting.session_id ≡ pos 0)
       × (log ≡ before ++ (opening clock.tick greeting, Opened session ticks) ∷ [])
-      × (told ≡ response_frame greeting (millis_told clock.tick ticks) (long_of session) (password_of secret session))
+      × (reported ≡ response_frame greeting (millis_reported clock.tick ticks) (long_of session) (password_of secret session))
 
   abbrev pub IsReturned : ℕ → ConnectRequest → Tree → List ℕ → Type 0
-  IsReturned session greeting tree told =
+  IsReturned session greeting tree reported =
       (sits : Session) × (greeting.session_id ≡ pos session) × (get tree.sessions session ≡ Some sits)
       × (given greeting ≡ password_of secret session)
-      × (told ≡ response_frame greeting (millis_told clock.tick sits.timeout) (long_of session) (given greeting))
+      × (reported ≡ response_frame greeting (millis_reported clock.tick sits.timeout) (long_of session) (given greeting))
 
   -- these bytes are the connect response that gives this session
-  pub record IsWelcome (session : ℕ) (bytes told : List ℕ) (tree : Tree) (log : Log) : Type 0 where
+  pub record IsWelcome (session : ℕ) (bytes reported : List ℕ) (tree : Tree) (log : Log) : Type 0 where
     pub greeting : ConnectRequest
     pub reads : whole connect_request bytes ≡ Ok greeting
-    pub has : IsOpened session greeting log told ⊎ IsReturned session greeting tree told
+    pub has : IsOpened session greeting log reported ⊎ IsReturned session greeting tree reported
 
   -- the first frame is a connect request, and its response is sent first. After a response without
   -- a session the connection is closed. Else the next frames are answered for the session
   abbrev pub Greeted : ℕ → Tree → Log → List (List ℕ) → Talk → Type 0
   Greeted session tree log frames Quiet = frames ≡ []
-  Greeted session tree log frames (Tells event talk) = ⊥
-  Greeted session tree log frames (Answers told talk) =
+  Greeted session tree log frames (Reports event talk) = ⊥
+  Greeted session tree log frames (Answers reported talk) =
       (bytes : List ℕ) × (rest : List (List ℕ)) × (front behind : Log) × (frames ≡ bytes ∷ rest) × (log ≡ front ++ behind)
-      × ((IsWelcome session bytes told (tree_behind tree front) front × Answered session (tree_behind tree front) behind rest talk)
-      ⊎ (IsTurnedAway bytes told × (rest ≡ []) × (talk ≡ Closes)))
+      × ((IsWelcome session bytes reported (tree_behind tree front) front × Answered session (tree_behind tree front) behind rest talk)
+      ⊎ (IsTurnedAway bytes reported × (rest ≡ []) × (talk ≡ Closes)))
   Greeted session tree log frames Closes = length frames ≤ 1
 
   -- only a text is sent, then the close, and no frame is answered. The text is that of a front with

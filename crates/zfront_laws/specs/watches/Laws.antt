@@ -37,8 +37,8 @@ BringsAll (step ∷ steps) s t = (middle : Scene) × Brings step s middle × Bri
 -- happenings led to. The scene begins with any earlier log that left the first tree. Its log is
 -- that one, then the log of the steps, call by call. No watch that is still set has missed a
 -- change.
-abbrev pub EveryWatchIsTold : Type 0
-EveryWatchIsTold =
+abbrev pub EveryWatchIsReported : Type 0
+EveryWatchIsReported =
     (t : Tree) (secret : List ℕ) (times : Clock) (is_kept : Bool) (before : Log) (steps : List Step) (v : FrontView)
     → Leaves before t → (runs : Runs steps (beginning t secret times is_kept) v)
     → (s : Scene) × BringsAll steps (opening_scene before (beginning t secret times is_kept).tables) s

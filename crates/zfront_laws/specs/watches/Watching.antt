@@ -32,7 +32,7 @@ use Rattle.zwatches.specs.Watches.{watch, watch_cmp}
 use Rattle.zwatches.specs.Places.{is_of_node}
 use Rattle.zwatches.specs.Events.{fires}
 use Rattle.zconnections.specs.Tables.{TablesView, closed, is_open, sent}
-use Rattle.zconnections.specs.Telling.{event_frame, told}
+use Rattle.zconnections.specs.Reporting.{event_frame, reported}
 use Rattle.zresponses.specs.effects.Frames.{answer_frame, response_frame}
 use Rattle.zresponses.specs.effects.Watching.{waiting}
 
@@ -69,7 +69,7 @@ set_now w s other =
 -- the effect of a happening on a scene
 abbrev pub after : Happening → Scene → Scene
 after (Served call reply) s = record s { log = s.log ++ (call, reply) ∷ [] }
-after (Fired e) s = record s { tables = told e s.tables }
+after (Fired e) s = record s { tables = reported e s.tables }
 after (Set c kind path) s = record s { set_at = set_now (watch path kind c) s; tables = waiting c kind path s.tables }
 after (Missed c e) s = record s { tables = sent c (event_frame e) s.tables }
 after (Answered c xid answer) s = record s { tables = sent c (answer_frame (tree_of s).zxid xid answer) s.tables }
@@ -95,8 +95,8 @@ abbrev pub IsUnchanged : Scene → Watch → Type 0
 IsUnchanged s w = IsSameAt w.kind w.path (s.set_at w) (tree_of s).nodes
 
 -- no watch of the connection has missed a change
-abbrev pub HasToldAll : Scene → ℕ → Type 0
-HasToldAll s c = (w : Watch) → Stands s w → w.connection ≡ c → IsUnchanged s w
+abbrev pub HasReportedAll : Scene → ℕ → Type 0
+HasReportedAll s c = (w : Watch) → Stands s w → w.connection ≡ c → IsUnchanged s w
 
 -- the event is one of the last update
 abbrev pub IsOfTheLast : Scene → Event → Type 0
@@ -138,9 +138,9 @@ IsClose s c =
     × (phase_of s.tables.streams c ≡ Some (Speaking session))
 
 -- whether the node exists, for an event that a watch missed
-abbrev pub tells_node : EventKind → Bool
-tells_node NodeDeleted = false
-tells_node other = true
+abbrev pub reports_node : EventKind → Bool
+reports_node NodeDeleted = false
+reports_node other = true
 
 -- when each happening is allowed. A reply is the tree's. An event has a cause, and fires watches
 -- with a change. A watch is set where its node exists, or where it doesn't. A connection gets an
@@ -150,8 +150,8 @@ abbrev pub May : Happening → Scene → Type 0
 May (Served call reply) s = reply ≡ (serve (tree_of s) 0 call).1
 May (Fired e) s = ((IsOfTheLast s e ⊎ IsGone s e) × FiresChanged s e) ⊎ LostChild s e
 May (Set c kind path) s = has_node (tree_of s).nodes path ≡ is_of_node kind
-May (Missed c e) s = has_node (tree_of s).nodes e.path ≡ tells_node e.kind
-May (Answered c xid answer) s = HasToldAll s c ⊎ IsClose s c
+May (Missed c e) s = has_node (tree_of s).nodes e.path ≡ reports_node e.kind
+May (Answered c xid answer) s = HasReportedAll s c ⊎ IsClose s c
 May (Greeted c greeting timeout session password) s = Unit {0}
 May (Said c bytes) s = phase_of s.tables.streams c ≡ Some Silent
 May (Closed c) s = Unit {0}

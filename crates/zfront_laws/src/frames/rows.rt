@@ -9,7 +9,7 @@ ghost use Rattle.zjute.specs.Asking.{request};
 ghost use Rattle.zjute.specs.declared.connecting.ConnectRequest.{ConnectRequest};
 ghost use Rattle.zjute.specs.declared.code.Code.{Code};
 ghost use Rattle.zjute.specs.declared.request.Asked.{Asked};
-ghost use Rattle.zrequests.specs.Timeouts.{millis_told};
+ghost use Rattle.zrequests.specs.Timeouts.{millis_reported};
 ghost use Rattle.zrequests.specs.declared.fault.Unasked.TheVariants.{Refused};
 ghost use Rattle.zwatches.specs.declared.changes.event.Event.{Event};
 ghost use Rattle.zresponses.specs.declared.answer.Answer.{Answer};
@@ -19,45 +19,45 @@ ghost use Rattle.zresponses.specs.Answers.{failed};
 ghost use Rattle.zresponses.specs.Stats.{long_of};
 ghost use Rattle.ztree_service.specs.log.Logs.{Log};
 ghost use Rattle.zpasswords.specs.Passwords.{password_of};
-ghost use Rattle.zconnections.specs.buffers.Outbox.{PieceView};
-ghost use Rattle.zconnections.specs.Tables.{piece, last_piece};
-ghost use Rattle.zconnections.specs.Telling.{event_frame};
+ghost use Rattle.zconnections.specs.buffers.Outbox.{ChunkView};
+ghost use Rattle.zconnections.specs.Tables.{chunk, last_chunk};
+ghost use Rattle.zconnections.specs.Reporting.{event_frame};
 ghost use Rattle.zresponses.specs.effects.Frames.{answer_frame, response_frame};
 ghost use Rattle.zresponses.specs.effects.Greeting.{given};
 ghost use Rattle.zfront.specs.Front.{FrontView};
 ghost use Rattle.zfront.specs.Greeting.{opening};
 ghost use Rattle.zfront_laws.specs.frames.Talk.{IsOpened, IsReturned};
 ghost use Rattle.zfront_laws.specs.frames.Talk.{Answered, Answers, Closes, Greeted, IsAnswer, Says};
-ghost use Rattle.zfront_laws.specs.frames.Talk.{Quiet, SaysText, Talk, Tells, is_closed, pieces_of};
+ghost use Rattle.zfront_laws.specs.frames.Talk.{Quiet, SaysText, Talk, Reports, is_closed, chunks_of};
 ghost use Rattle.zfront_laws.specs.frames.Talk.{tree_behind};
 ghost use Rattle.zfront_laws.specs.frames.Laws.{on};
 
 /// An event and an answer are one chunk each, in order, and a close is the last chunk.
-pub fn pieces_are_in_order()
+pub fn chunks_are_in_order()
     ensures all { (event : Event) (bytes : List ℕ)
-        → pieces_of 3 (Tells event (Answers bytes Closes))
-        ≡ piece 3 (event_frame event) ∷ (piece 3 bytes ∷ (last_piece 3 ∷ [])) }
+        → chunks_of 3 (Reports event (Answers bytes Closes))
+        ≡ chunk 3 (event_frame event) ∷ (chunk 3 bytes ∷ (last_chunk 3 ∷ [])) }
     ensures still { (bytes : List ℕ) → is_closed (Answers bytes Quiet) ≡ false }
     ensures closed { (bytes : List ℕ) → is_closed (Answers bytes Closes) ≡ true }
 {}
 
 /// The chunks of one connection are selected from those of all.
-pub fn pieces_of_one_are_picked()
-    ensures own { (bytes : List ℕ) → on 3 (piece 3 bytes ∷ (piece 5 bytes ∷ []))
-        ≡ piece 3 bytes ∷ [] }
+pub fn chunks_of_one_are_picked()
+    ensures own { (bytes : List ℕ) → on 3 (chunk 3 bytes ∷ (chunk 5 bytes ∷ []))
+        ≡ chunk 3 bytes ∷ [] }
 {}
 
 /// An answer is a frame under the xid of its own request. Its header has the zxid of the tree after
 /// its calls, which are the last of the log.
 pub fn answers_are_under_their_xid()
-    ensures reads { (clock : Clock) (secret : List ℕ) (session : ℕ) (bytes told : List ℕ)
-        (tree : Tree) (log : Log) (answer : IsAnswer clock secret session bytes told tree log)
+    ensures reads { (clock : Clock) (secret : List ℕ) (session : ℕ) (bytes reported : List ℕ)
+        (tree : Tree) (log : Log) (answer : IsAnswer clock secret session bytes reported tree log)
         → whole request bytes ≡ Ok answer.asked }
-    ensures xid { (clock : Clock) (secret : List ℕ) (session : ℕ) (bytes told : List ℕ)
-        (tree : Tree) (log : Log) (answer : IsAnswer clock secret session bytes told tree log)
-        → told ≡ answer_frame tree.zxid answer.asked.xid answer.answer }
-    ensures stands { (clock : Clock) (secret : List ℕ) (session : ℕ) (bytes told : List ℕ)
-        (tree : Tree) (log : Log) (answer : IsAnswer clock secret session bytes told tree log)
+    ensures xid { (clock : Clock) (secret : List ℕ) (session : ℕ) (bytes reported : List ℕ)
+        (tree : Tree) (log : Log) (answer : IsAnswer clock secret session bytes reported tree log)
+        → reported ≡ answer_frame tree.zxid answer.asked.xid answer.answer }
+    ensures stands { (clock : Clock) (secret : List ℕ) (session : ℕ) (bytes reported : List ℕ)
+        (tree : Tree) (log : Log) (answer : IsAnswer clock secret session bytes reported tree log)
         → log ≡ answer.before ++ answer.part }
 {}
 
@@ -73,7 +73,7 @@ pub fn a_refusal_makes_no_call()
 /// Only before a close may a frame have no answer, and each answer has its frame.
 pub fn each_frame_has_one_answer()
     ensures event { (clock : Clock) (secret : List ℕ) (session : ℕ) (tree : Tree) (log : Log)
-        (event : Event) → Answered clock secret session tree log [] (Tells event Quiet) }
+        (event : Event) → Answered clock secret session tree log [] (Reports event Quiet) }
     ensures unanswered { (clock : Clock) (secret : List ℕ) (session : ℕ) (tree : Tree) (log : Log)
         (bytes : List ℕ) → Answered clock secret session tree log (bytes ∷ []) Quiet → ⊥ }
     ensures closed { (clock : Clock) (secret : List ℕ) (session : ℕ) (tree : Tree) (log : Log)
@@ -82,10 +82,10 @@ pub fn each_frame_has_one_answer()
         (log : Log) (one two : List ℕ)
         → Answered clock secret session tree log (one ∷ (two ∷ [])) Closes → ⊥ }
     ensures unasked { (clock : Clock) (secret : List ℕ) (session : ℕ) (tree : Tree) (log : Log)
-        (told : List ℕ) → Answered clock secret session tree log [] (Answers told Quiet) → ⊥ }
+        (reported : List ℕ) → Answered clock secret session tree log [] (Answers reported Quiet) → ⊥ }
     ensures twice { (clock : Clock) (secret : List ℕ) (session : ℕ) (tree : Tree) (log : Log)
-        (bytes told again : List ℕ)
-        → Answered clock secret session tree log (bytes ∷ []) (Answers told (Answers again Quiet))
+        (bytes reported again : List ℕ)
+        → Answered clock secret session tree log (bytes ∷ []) (Answers reported (Answers again Quiet))
         → ⊥ }
 {}
 
@@ -93,32 +93,32 @@ pub fn each_frame_has_one_answer()
 pub fn the_greeting_is_answered_first()
     ensures event { (clock : Clock) (secret : List ℕ) (session : ℕ) (tree : Tree) (log : Log)
         (frames : List (List ℕ)) (event : Event)
-        → Greeted clock secret session tree log frames (Tells event Quiet) → ⊥ }
+        → Greeted clock secret session tree log frames (Reports event Quiet) → ⊥ }
     ensures closed { (clock : Clock) (secret : List ℕ) (session : ℕ) (tree : Tree) (log : Log)
         (bytes : List ℕ) → Greeted clock secret session tree log (bytes ∷ []) Closes }
 {}
 
 /// A session in a connect response was opened by the last call of the log, and the response has its
 /// password. Or it is one of the tree, whose client asked for it and gave its password.
-pub fn a_session_is_told_that_is_there()
+pub fn a_session_is_reported_that_is_there()
     ensures opened { (clock : Clock) (secret : List ℕ) (session : ℕ) (greeting : ConnectRequest)
-        (log : Log) (told : List ℕ) (has : IsOpened clock secret session greeting log told)
+        (log : Log) (reported : List ℕ) (has : IsOpened clock secret session greeting log reported)
         → log ≡ has.0 ++ (opening clock.tick greeting, Opened session has.1) ∷ [] }
     ensures asks { (clock : Clock) (secret : List ℕ) (session : ℕ) (greeting : ConnectRequest)
-        (log : Log) (told : List ℕ) → IsOpened clock secret session greeting log told
+        (log : Log) (reported : List ℕ) → IsOpened clock secret session greeting log reported
         → greeting.session_id ≡ pos 0 }
     ensures password { (clock : Clock) (secret : List ℕ) (session : ℕ) (greeting : ConnectRequest)
-        (log : Log) (told : List ℕ) (has : IsOpened clock secret session greeting log told)
-        → told ≡ response_frame greeting (millis_told clock.tick has.1) (long_of session)
+        (log : Log) (reported : List ℕ) (has : IsOpened clock secret session greeting log reported)
+        → reported ≡ response_frame greeting (millis_reported clock.tick has.1) (long_of session)
         (password_of secret session) }
     ensures returned { (clock : Clock) (secret : List ℕ) (session : ℕ) (greeting : ConnectRequest)
-        (tree : Tree) (told : List ℕ) (has : IsReturned clock secret session greeting tree told)
+        (tree : Tree) (reported : List ℕ) (has : IsReturned clock secret session greeting tree reported)
         → get tree.sessions session ≡ Some has.0 }
     ensures named { (clock : Clock) (secret : List ℕ) (session : ℕ) (greeting : ConnectRequest)
-        (tree : Tree) (told : List ℕ) → IsReturned clock secret session greeting tree told
+        (tree : Tree) (reported : List ℕ) → IsReturned clock secret session greeting tree reported
         → greeting.session_id ≡ pos session }
     ensures given { (clock : Clock) (secret : List ℕ) (session : ℕ) (greeting : ConnectRequest)
-        (tree : Tree) (told : List ℕ) → IsReturned clock secret session greeting tree told
+        (tree : Tree) (reported : List ℕ) → IsReturned clock secret session greeting tree reported
         → given greeting ≡ password_of secret session }
 {}
 

@@ -1,11 +1,11 @@
 //! The law. Its body does nothing.
 
-ghost use Rattle.zfront_laws.specs.watches.Laws.{EveryWatchIsTold};
+ghost use Rattle.zfront_laws.specs.watches.Laws.{EveryWatchIsReported};
 
 /// Whatever the steps of a front were, its effect on the tables is a list of allowed happenings. So
 /// a connection gets an answer only after events for all changes that its watches waited for. The
 /// one exception is the answer to the close of its session. The log of the happenings is that of
 /// the steps.
-pub fn every_watch_is_told()
-    ensures { EveryWatchIsTold }
+pub fn every_watch_is_reported()
+    ensures { EveryWatchIsReported }
 {}

@@ -98,7 +98,7 @@ impl<R: Files<File = File> + Copy> FileDevice<R> {
 
     // Makes no call on the file.
     fn refuse(&mut self) -> DeviceError
-        ensures told { result ≡ Failed }
+        ensures reported { result ≡ Failed }
         ensures noted { events_of self.new ≡ refused ∷ events_of self.old }
     {
         self.waits = None;
@@ -111,7 +111,7 @@ impl<R: Files<File = File> + Copy> FileDevice<R> {
         ensures done { OnOk result (events_of self.new ≡ settled true ∷ events_of self.old) }
         ensures not_done { OnErr result (events_of self.new
             ≡ settled false ∷ events_of self.old) }
-        ensures told { IfErr result (λ e. e ≡ Failed) }
+        ensures reported { IfErr result (λ e. e ≡ Failed) }
     {
         let done = match &self.beside {
             Some(next) => self.mode == SyncMode::Never || calls::sync_all(next),
@@ -132,7 +132,7 @@ impl<R: Files<File = File> + Copy> FileDevice<R> {
     fn take_name(&mut self) -> Result<(), DeviceError>
         ensures done { OnOk result (events_of self.new ≡ named true ∷ events_of self.old) }
         ensures not_done { OnErr result (events_of self.new ≡ named false ∷ events_of self.old) }
-        ensures told { IfErr result (λ e. e ≡ Failed) }
+        ensures reported { IfErr result (λ e. e ≡ Failed) }
     {
         self.waits = None;
         self.is_moved = true;
@@ -157,7 +157,7 @@ impl<R: Files<File = File> + Copy> FileDevice<R> {
             ≡ folder_synced true ∷ events_of self.old) }
         ensures not_done { OnErr result (events_of self.new
             ≡ folder_synced false ∷ events_of self.old) }
-        ensures told { IfErr result (λ e. e ≡ Failed) }
+        ensures reported { IfErr result (λ e. e ≡ Failed) }
     {
         self.waits = None;
         if self.mode == SyncMode::Never || calls::sync_all(&self.place.folder) {

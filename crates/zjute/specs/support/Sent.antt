@@ -1,4 +1,4 @@
--- What is sent, field by field. kazoo 2.8.0 reads each as it is told here.
+-- What is sent, field by field. kazoo 2.8.0 reads each as it is reported here.
 use Rattle.std.specs.Prelude.{pos, ℕ, List, [], ◌∷◌, Option, Some, None, Bool}
 use Rattle.zjute.specs.declared.code.Code.{Code}
 use Rattle.zjute.specs.declared.code.Code.TheVariants as code
@@ -59,8 +59,8 @@ abbrev pub refused : Reply
 refused = answer 8 code.NoNode body.Nothing
 
 -- the data "hi" and the stat
-abbrev pub told_data_bytes : List ℕ
-told_data_bytes =
+abbrev pub reported_data_bytes : List ℕ
+reported_data_bytes =
     0 ∷ 0 ∷ 0 ∷ 10 ∷  -- xid 10
     0 ∷ 0 ∷ 0 ∷ 0 ∷ 0 ∷ 0 ∷ 0 ∷ 9 ∷  -- zxid 9
     0 ∷ 0 ∷ 0 ∷ 0 ∷  -- code 0: ok
@@ -78,12 +78,12 @@ told_data_bytes =
     0 ∷ 0 ∷ 0 ∷ 0 ∷ 0 ∷ 0 ∷ 0 ∷ 11 ∷  -- pzxid 11
     []
 
-abbrev pub told_data : Reply
-told_data = answer 10 code.Ok (body.DataStat (Some hi) some_stat)
+abbrev pub reported_data : Reply
+reported_data = answer 10 code.Ok (body.DataStat (Some hi) some_stat)
 
 -- null data and the stat
-abbrev pub told_null_bytes : List ℕ
-told_null_bytes =
+abbrev pub reported_null_bytes : List ℕ
+reported_null_bytes =
     0 ∷ 0 ∷ 0 ∷ 10 ∷  -- xid 10
     0 ∷ 0 ∷ 0 ∷ 0 ∷ 0 ∷ 0 ∷ 0 ∷ 9 ∷  -- zxid 9
     0 ∷ 0 ∷ 0 ∷ 0 ∷  -- code 0: ok
@@ -101,12 +101,12 @@ told_null_bytes =
     0 ∷ 0 ∷ 0 ∷ 0 ∷ 0 ∷ 0 ∷ 0 ∷ 11 ∷  -- pzxid 11
     []
 
-abbrev pub told_null : Reply
-told_null = answer 10 code.Ok (body.DataStat None some_stat)
+abbrev pub reported_null : Reply
+reported_null = answer 10 code.Ok (body.DataStat None some_stat)
 
 -- the names "a" and "hi" of children
-abbrev pub told_names_bytes : List ℕ
-told_names_bytes =
+abbrev pub reported_names_bytes : List ℕ
+reported_names_bytes =
     0 ∷ 0 ∷ 0 ∷ 14 ∷  -- xid 14
     0 ∷ 0 ∷ 0 ∷ 0 ∷ 0 ∷ 0 ∷ 0 ∷ 9 ∷  -- zxid 9
     0 ∷ 0 ∷ 0 ∷ 0 ∷  -- code 0: ok
@@ -115,12 +115,12 @@ told_names_bytes =
     0 ∷ 0 ∷ 0 ∷ 2 ∷ 104 ∷ 105 ∷  -- "hi"
     []
 
-abbrev pub told_names : Reply
-told_names = answer 14 code.Ok (body.Names ((97 ∷ []) ∷ hi ∷ []))
+abbrev pub reported_names : Reply
+reported_names = answer 14 code.Ok (body.Names ((97 ∷ []) ∷ hi ∷ []))
 
 -- the open ACL and the stat
-abbrev pub told_acl_bytes : List ℕ
-told_acl_bytes =
+abbrev pub reported_acl_bytes : List ℕ
+reported_acl_bytes =
     0 ∷ 0 ∷ 0 ∷ 12 ∷  -- xid 12
     0 ∷ 0 ∷ 0 ∷ 0 ∷ 0 ∷ 0 ∷ 0 ∷ 9 ∷  -- zxid 9
     0 ∷ 0 ∷ 0 ∷ 0 ∷  -- code 0: ok
@@ -141,8 +141,8 @@ told_acl_bytes =
     0 ∷ 0 ∷ 0 ∷ 0 ∷ 0 ∷ 0 ∷ 0 ∷ 11 ∷  -- pzxid 11
     []
 
-abbrev pub told_acl : Reply
-told_acl = answer 12 code.Ok (body.AclsStat open_acls some_stat)
+abbrev pub reported_acl : Reply
+reported_acl = answer 12 code.Ok (body.AclsStat open_acls some_stat)
 
 -- a check was done, and then a delete
 abbrev pub multi_done_bytes : List ℕ

@@ -1,7 +1,7 @@
 -- The events Take at a server, from another server or from a client.
 use Rattle.std.proofs.Common.{◌≡◌, ℕ, false, List, [], ◌∷◌, length, Some, None, refl, ap, ◌∙◌}
 use Rattle.zcalls.specs.declared.call.Query.{Query}
-use Rattle.zcalls.specs.Kept.{Plain}
+use Rattle.zcalls.specs.Cached.{Plain}
 use Rattle.zprotocol.specs.declared.message.Message.TheVariants as message
 use Rattle.zprotocol.specs.declared.process.Process.TheVariants.{Server, Client}
 use Rattle.zprotocol.specs.declared.world.event.Event.TheVariants.{Take}

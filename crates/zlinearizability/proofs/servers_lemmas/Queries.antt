@@ -7,7 +7,7 @@ use Rattle.zcalls.specs.declared.call.Call.TheVariants as call
 use Rattle.zcalls.specs.declared.call.Entry.{Entry}
 use Rattle.zcalls.specs.declared.call.Query.{Query}
 use Rattle.zcalls.specs.declared.reply.Reply.{Reply}
-use Rattle.zcalls.specs.Kept.{nothing_kept, Plain}
+use Rattle.zcalls.specs.Cached.{nothing_cached, Plain}
 use Rattle.zcalls.specs.Acts.{after_log, acts_from}
 use Rattle.zprotocol.specs.declared.message.Message.TheVariants as message
 use Rattle.zprotocol.specs.declared.process.Process.TheVariants.{Server, Client}
@@ -112,7 +112,7 @@ module _ {P : Type 0} (plain : Plain P) (t : Account) (s : IsSound plain t) (c y
   replays =
       let leads : after_items plain plain.opening t.items ≡ (after_log plain log).plain =
       items_lead plain plain.opening t.items ∙ ap (after_calls plain plain.opening) s.acted
-      ∙ acted_leads plain (nothing_kept plain.opening) t.committed
+      ∙ acted_leads plain (nothing_cached plain.opening) t.committed
       ∙ ap (λ l. (after_log plain l).plain) (sym is_committed) in
       replays_more plain plain.opening t.items (item ∷ []) s.replays (ap (λ p. plain.ask p query) leads, tt)
 

@@ -1,7 +1,7 @@
 -- A server takes a message of another server: what it would hold in the end stays, and what it shows first grows.
 use Rattle.std.proofs.Common.{◌≡◌, ◌⊎◌, ℕ, ◌==◌, List, ◌∷◌, drop, Option, Some, None, refl, sym, ap, ◌∙◌, subst, inl, inr, eqb-true, eq-eqb}
 use Rattle.zcalls.specs.declared.call.Entry.{Entry}
-use Rattle.zcalls.specs.Kept.{Plain}
+use Rattle.zcalls.specs.Cached.{Plain}
 use Rattle.zcalls.proofs.Among.{test}
 use Rattle.zprotocol.specs.declared.process.Process.TheVariants.{Server}
 use Rattle.zprotocol.specs.server.View.{ServerView, Neighbour}

@@ -1,5 +1,5 @@
 -- What it means that an event preserves the soundness of a run.
-use Rattle.zcalls.specs.Kept.{Plain}
+use Rattle.zcalls.specs.Cached.{Plain}
 use Rattle.zcalls.specs.PlainTree.{plain_tree}
 use Rattle.zprotocol.specs.declared.world.event.Event.{Event}
 use Rattle.zlinearizability.specs.chain.Last.{LastsAreLengths}

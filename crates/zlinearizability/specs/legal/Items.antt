@@ -8,7 +8,7 @@ use Rattle.zcalls.specs.declared.call.Entry.{Entry}
 use Rattle.zcalls.specs.declared.reply.Reply.{Reply}
 use Rattle.zcalls.specs.Lists.{Among, NoTwo}
 use Rattle.zcalls.specs.Operation.{Operation, operation_of}
-use Rattle.zcalls.specs.Kept.{Plain}
+use Rattle.zcalls.specs.Cached.{Plain}
 use Rattle.zcalls.specs.Acts.{after_log, acts_of, acts_from}
 use Rattle.zprotocol.specs.client.View.{ClientView}
 use Rattle.zprotocol.specs.declared.world.history.CallEvent.{CallEvent}

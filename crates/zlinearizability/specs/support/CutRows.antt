@@ -10,7 +10,7 @@ use Rattle.zprotocol.specs.world.History.{History}
 use Rattle.zprotocol.specs.world.Links.{Links, is_same}
 use Rattle.zprotocol.specs.world.World.{World, opening_world}
 use Rattle.zprotocol.specs.world.support.Counter.{Counting, counting_machine, create}
-use Rattle.zprotocol.specs.world.support.RunRows.{m, s1, s2, s3, c0, c1, began, told}
+use Rattle.zprotocol.specs.world.support.RunRows.{m, s1, s2, s3, c0, c1, began, reported}
 use Rattle.zlinearizability.specs.Cuts.{Stays, run_with_cuts}
 
 -- this many messages remain on each channel
@@ -67,4 +67,4 @@ order_stays = uncut (Fail 1 ∷ Take s1 m ∷ []) ++ (each 0, Take m s2) ∷ []
 
 -- what callers see of the two updates
 abbrev pub first_answered : History
-first_answered = began 0 1 ∷ began 1 1 ∷ told 0 1 0 ∷ []
+first_answered = began 0 1 ∷ began 1 1 ∷ reported 0 1 0 ∷ []

@@ -10,7 +10,7 @@ use Rattle.zcalls.specs.declared.call.Entry.{Entry}
 use Rattle.zcalls.specs.declared.call.Update.{Update}
 use Rattle.zcalls.specs.declared.call.Update.TheVariants as call
 use Rattle.zcalls.specs.declared.reply.Reply.{Reply}
-use Rattle.zcalls.specs.Kept.{Kept, entry_step}
+use Rattle.zcalls.specs.Cached.{Cached, entry_step}
 use Rattle.zcalls.specs.Part.{node_has}
 use Rattle.zcalls.specs.Step.{step, due_next, stale_next, tick_result}
 
@@ -28,7 +28,7 @@ next_tick_result t = tick_result t (due_next t) (stale_next t)
 
 -- kept replies by the clients' numbers
 abbrev pub Replies : Type 0
-Replies = FinMap nat_cmp Kept
+Replies = FinMap nat_cmp Cached
 
 -- an entry leads from one store with kept replies to another, and has this reply
 abbrev pub IsEntered : Entry → StoreView → Replies → StoreView → Replies → Option Reply → Type 0
@@ -36,9 +36,9 @@ IsEntered entry old kept_old new kept_new reply =
     (record { plain = new.tree; kept = kept_new }, reply)
     ≡ entry_step step (record { plain = old.tree; kept = kept_old }) entry
 
--- it is told whether the node that an Id names passes a test
-abbrev pub TellsWhether : (Node → Bool) → StoreView → Id → Bool → Type 0
-TellsWhether test store id told = AtPath store id (λ path. told ≡ node_has test store.tree.nodes path)
+-- it is reported whether the node that an Id names passes a test
+abbrev pub ReportsWhether : (Node → Bool) → StoreView → Id → Bool → Type 0
+ReportsWhether test store id reported = AtPath store id (λ path. reported ≡ node_has test store.tree.nodes path)
 
 -- whether the node at a path has children
 abbrev pub is_parent : Nodes → Path → Bool

@@ -14,7 +14,7 @@ use Rattle.zprotocol.proofs.master_lemmas.Numbers.{numbers_of, later}
 use Rattle.zprotocol.specs.master.support.Cases.{IsMended, Only, First, Last, Between, IsMasterRow, Ignores, Reports, Joins, LeavesOutside, Leaves}
 
 module _ {T : Type 0} (epoch s : ℕ) where
-  -- what is left behind p, and what is told
+  -- what is left behind p, and what is reported
   abbrev next : ℕ → List Neighbour → MendedChain T
   next p rest = without_next epoch p rest
 

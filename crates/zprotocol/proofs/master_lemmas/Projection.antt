@@ -8,7 +8,7 @@ use Rattle.zprotocol.specs.declared.process.Process.TheVariants.{Server, Client}
 use Rattle.zprotocol.specs.server.View.{Neighbour, Transfer, MessageOf, Post}
 use Rattle.zprotocol.specs.server.support.Homomorphism.{message_with, posts_with}
 use Rattle.zprotocol.specs.master.View.{MasterView, is_among, with_number, members, is_joining, head_of, tail_of}
-use Rattle.zprotocol.specs.master.Table.{MasterResult, no_effect, config_posts, and_tell_clients, order_step, before, have_row, joined_row, MendedChain, without_first, without_next, mended_chain_behind, mended_chain, without_member, gone_row, master_step}
+use Rattle.zprotocol.specs.master.Table.{MasterResult, no_effect, config_posts, and_report_clients, order_step, before, have_row, joined_row, MendedChain, without_first, without_next, mended_chain_behind, mended_chain, without_member, gone_row, master_step}
 use Rattle.zprotocol.specs.declared.master.order.Order.{Order}
 use Rattle.zprotocol.specs.declared.master.order.Order.TheVariants.{Join, Retire}
 use Rattle.zprotocol.specs.master.Laws.{master_result_with}
@@ -19,15 +19,15 @@ module _ {M N : Type 0} (h : M → N) where
   posts_append [] more = refl
   posts_append (post ∷ posts) more = ap (λ rest. (post.0, message_with h post.1) ∷ rest) (posts_append posts more)
 
-  -- what clients are told names no machine
+  -- what clients are reported names no machine
   configs_with : (v : MasterView) (clients : List ℕ)
       → posts_with h (map (λ c. (Client c, message.Config v.epoch (head_of v) (tail_of v))) clients)
       ≡ map (λ c. (Client c, message.Config v.epoch (head_of v) (tail_of v))) clients
   configs_with v [] = refl
   configs_with v (c ∷ clients) = ap (λ rest. (Client c, message.Config v.epoch (head_of v) (tail_of v)) ∷ rest) (configs_with v clients)
 
-  told_with : (v : MasterView) (first : List (Post M)) (first' : List (Post N)) → first' ≡ posts_with h first → and_tell_clients v first' ≡ master_result_with h (and_tell_clients v first)
-  told_with v first first' p =
+  reported_with : (v : MasterView) (first : List (Post M)) (first' : List (Post N)) → first' ≡ posts_with h first → and_report_clients v first' ≡ master_result_with h (and_report_clients v first)
+  reported_with v first first' p =
       let q : first' ++ config_posts v ≡ posts_with h (first ++ config_posts v) =
       ap (λ posts. posts ++ config_posts v) p ∙ ap (λ posts. posts_with h first ++ posts) (sym (configs_with v (range_with_len 0 v.clients))) ∙ sym (posts_append first (config_posts v))
       in λ i. (v, q i)
@@ -78,7 +78,7 @@ module _ {M N : Type 0} (h : M → N) where
 
   -- the master after a member has failed, when it is known how the chain is mended
   after_gone : {K : Type 0} → MasterView → ℕ → MendedChain K → MasterResult K
-  after_gone v s chain = and_tell_clients (without_member v s chain.0) chain.1
+  after_gone v s chain = and_report_clients (without_member v s chain.0) chain.1
 
   -- one row after the other
   gone_with : (v : MasterView) (s : ℕ) → gone_row v s ≡ master_result_with h (gone_row v s)
@@ -89,14 +89,14 @@ module _ {M N : Type 0} (h : M → N) where
       (after_gone v s did) (record v { used = with_number s v.used }, [])
       (after_gone v s (mended_chain (v.epoch + 1) s v.chain)) (record v { used = with_number s v.used }, [])
       (ap (after_gone v s) (mended_with (v.epoch + 1) s v.chain)
-      ∙ told_with (without_member v s did.0) did.1 (posts_with h did.1) refl)
+      ∙ reported_with (without_member v s did.0) did.1 (posts_with h did.1) refl)
       refl
 
   joined_with : (v : MasterView) (s : ℕ) → joined_row v s ≡ master_result_with h (joined_row v s)
   unfolding joined_row
   joined_with v s =
       let w : MasterView = record v { joining = None; epoch = v.epoch + 1 } in
-      if_with (is_joining v s) (and_tell_clients w []) (no_effect v) (and_tell_clients w []) (no_effect v) (told_with w [] [] refl) refl
+      if_with (is_joining v s) (and_report_clients w []) (no_effect v) (and_report_clients w []) (no_effect v) (reported_with w [] [] refl) refl
 
   -- Have, by the member that is found before its sender
   have_found : {K : Type 0} → MasterView → ℕ → ℕ → Option ℕ → Option ℕ → MasterResult K

@@ -16,7 +16,7 @@ use Rattle.zprotocol.specs.world.Does.{Standing, Out, Input, Hear, Obey, Stop, E
 use Rattle.zprotocol.specs.declared.traces.trace.Act.{Act}
 use Rattle.zprotocol.specs.declared.traces.trace.Act.TheVariants.{Took, Began, Retried, Ordered, Left, Halted}
 use Rattle.zprotocol.specs.traces.Deeds.{Stamped, is_to_leave, may_drop, may_stop_at, refuses, done, row_of, Row, Deed}
-use Rattle.zprotocol.specs.traces.Deeds.{IsStamped, stamp_of, GoesBy, trace_by, taken_from, takes, stamped, puts, told_by}
+use Rattle.zprotocol.specs.traces.Deeds.{IsStamped, stamp_of, GoesBy, trace_by, taken_from, takes, stamped, puts, reported_by}
 use Rattle.zprotocol.specs.traces.Deeds.{left_by, last_by}
 
 module _ {M : Type 0} where
@@ -40,10 +40,10 @@ module _ {M : Type 0} where
       ap (λ l. stamped d.event.stamp (messages_to to d.posts) ++ l) (puts_append to deeds more)
       ∙ sym (append_assoc (stamped d.event.stamp (messages_to to d.posts)) (puts to deeds) (puts to more))
 
-  pub told_append : (deeds more : List (Deed M)) → told_by (deeds ++ more) ≡ told_by deeds ++ told_by more
-  told_append [] more = refl
-  told_append (d ∷ deeds) more =
-      ap (λ l. d.told ++ l) (told_append deeds more) ∙ sym (append_assoc d.told (told_by deeds) (told_by more))
+  pub reported_append : (deeds more : List (Deed M)) → reported_by (deeds ++ more) ≡ reported_by deeds ++ reported_by more
+  reported_append [] more = refl
+  reported_append (d ∷ deeds) more =
+      ap (λ l. d.reported ++ l) (reported_append deeds more) ∙ sym (append_assoc d.reported (reported_by deeds) (reported_by more))
 
   pub trace_append : (deeds more : List (Deed M)) → trace_by (deeds ++ more) ≡ trace_by deeds ++ trace_by more
   trace_append deeds more = map-append (λ (d : Deed M). d.event) deeds more
@@ -63,8 +63,8 @@ module _ {M : Type 0} where
       ++ stamped d.event.stamp (messages_to to d.posts)
   puts_more to deeds d = puts_append to deeds (d ∷ []) ∙ ap (λ l. puts to deeds ++ l) (append-nil (stamped d.event.stamp (messages_to to d.posts)))
 
-  pub told_more : (deeds : List (Deed M)) (d : Deed M) → told_by (deeds ++ d ∷ []) ≡ told_by deeds ++ d.told
-  told_more deeds d = told_append deeds (d ∷ []) ∙ ap (λ l. told_by deeds ++ l) (append-nil d.told)
+  pub reported_more : (deeds : List (Deed M)) (d : Deed M) → reported_by (deeds ++ d ∷ []) ≡ reported_by deeds ++ d.reported
+  reported_more deeds d = reported_append deeds (d ∷ []) ∙ ap (λ l. reported_by deeds ++ l) (append-nil d.reported)
 
   pub trace_more : (deeds : List (Deed M)) (d : Deed M) → trace_by (deeds ++ d ∷ []) ≡ trace_by deeds ++ d.event ∷ []
   trace_more deeds d = trace_append deeds (d ∷ [])
@@ -78,7 +78,7 @@ module _ {M : Type 0} where
 
   pub goes_more : (machine : Does M) (p : Process) (standing : Standing M) (last : ℕ) (deeds : List (Deed M)) (d : Deed M)
       → GoesBy machine p standing last deeds
-      → Row machine p (left_by standing deeds) d.event.act d.took d.left d.posts d.told
+      → Row machine p (left_by standing deeds) d.event.act d.took d.left d.posts d.reported
       → IsStamped p (last_by last deeds) (stamp_of d.took) d.event.stamp
       → GoesBy machine p standing last (deeds ++ d ∷ [])
   goes_more machine p standing last deeds d goes row is = goes_append machine p standing last deeds (d ∷ []) goes (row, is, tt)
@@ -153,4 +153,4 @@ module _ {M : Type 0} (machine : Does M) where
   out_ends p last [] goes = refl
   out_ends p last (d ∷ deeds) goes =
       absurd (row_has machine p Out (λ did. ⊥) (λ input is. cc (is, out_accepts p input)) (λ from m is. cc (is, out_drops p from m))
-      (λ order is. cc (is, out_refuses p order)) (record { left = d.left; posts = d.posts; told = d.told }) d.event.act d.took goes.0)
+      (λ order is. cc (is, out_refuses p order)) (record { left = d.left; posts = d.posts; reported = d.reported }) d.event.act d.took goes.0)

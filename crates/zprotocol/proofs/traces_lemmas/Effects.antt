@@ -52,19 +52,19 @@ AreInto {M} w p act left posts after =
 
 -- what a row does in the world; what is on links into others that have failed doesn't matter
 pub record HappensIn {M : Type 0} (w : World M) (p : Process) (act : Act) (left : Standing M) (posts : List (Post M))
-    (told : History) (after : World M) : Type 0 where
+    (reported : History) (after : World M) : Type 0 where
   pub stands : (q : Process) → standing_in after q ≡ at_process p left (standing_in w) q
   pub others : (from to : Process) → is_same to p ≡ false → has_failed w to ≡ false → after.links from to ≡ put w.links p posts from to
   pub failed : (q : Process) → is_same q p ≡ false → has_failed after q ≡ has_failed w q
-  pub lives : (left ≡ Out) ⊎ (has_failed after p ≡ false)
+  pub incarnations : (left ≡ Out) ⊎ (has_failed after p ≡ false)
   pub own : AreInto w p act left posts after
-  pub history : after.history ≡ w.history ++ told
+  pub history : after.history ≡ w.history ++ reported
 
 -- and it is in its place
 pub record IsRowOf {M : Type 0} (machine : Does M) (w : World M) (p : Process) (act : Act) (left : Standing M)
-    (posts : List (Post M)) (told : History) : Type 0 where
+    (posts : List (Post M)) (reported : History) : Type 0 where
   pub in_place : is_step_in_place w (event_of p act) ≡ true
-  pub happens : HappensIn w p act left posts told (step_happens machine w (event_of p act))
+  pub happens : HappensIn w p act left posts reported (step_happens machine w (event_of p act))
 
 pub and_false : (b : Bool) → (b && false) ≡ false
 and_false true = refl
@@ -102,7 +102,7 @@ module _ {M : Type 0} (w : World M) where
     stands = stays;
     others = λ x y other alive. fronts_elsewhere act p x y other ∙ put_nothing w.links p x y;
     failed = λ q other. refl;
-    lives = stands_or_out p;
+    incarnations = stands_or_out p;
     own = inr (λ x. put_nothing (fronts w.links act p) p x p);
     history = sym (append-nil w.history);
   }
@@ -121,22 +121,22 @@ module _ {M : Type 0} (w : World M) where
 module _ {M : Type 0} (machine : Does M) (w : World M) where
   -- an act whose event is in its place, and does this
   pub row_by : (p : Process) (act : Act) (e : Event) (did : Effect M) (after : World M) → event_of p act ≡ Some e → is_in_place w e ≡ true
-      → after ≡ happens machine w e → HappensIn w p act did.left did.posts did.told after → IsRowOf machine w p act did.left did.posts did.told
+      → after ≡ happens machine w e → HappensIn w p act did.left did.posts did.reported after → IsRowOf machine w p act did.left did.posts did.reported
   row_by p act e did after is place same does = record {
     in_place = subst (λ o. is_step_in_place w o ≡ true) (sym is) place;
-    happens = subst (λ o. HappensIn w p act did.left did.posts did.told (step_happens machine w o)) (sym is)
-        (subst (HappensIn w p act did.left did.posts did.told) same does);
+    happens = subst (λ o. HappensIn w p act did.left did.posts did.reported (step_happens machine w o)) (sym is)
+        (subst (HappensIn w p act did.left did.posts did.reported) same does);
   }
 
   -- what failed servers held is let go of
-  goes : (p : Process) (act : Act) (did : Effect M) (after : World M) → HappensIn w p act did.left did.posts did.told after
-      → HappensIn w p act did.left did.posts did.told (let_go after)
+  goes : (p : Process) (act : Act) (did : Effect M) (after : World M) → HappensIn w p act did.left did.posts did.reported after
+      → HappensIn w p act did.left did.posts did.reported (let_go after)
   goes p act did after does = record {
     stands = λ q. still q ∙ does.stands q;
     others = λ x y other alive. ap (λ b. if b then [] else after.links x y) (does.failed y other ∙ alive) ∙ does.others x y other alive;
     failed = does.failed;
-    lives = does.lives;
-    own = into does.lives does.own;
+    incarnations = does.incarnations;
+    own = into does.incarnations does.own;
     history = does.history;
   }
     where
@@ -160,7 +160,7 @@ module _ {M : Type 0} (machine : Does M) (w : World M) where
 
   -- one that is enabled
   pub enabled_row : (p : Process) (act : Act) (e : Event) (did : Effect M) → event_of p act ≡ Some e → is_in_place w e ≡ true → is_enabled w e ≡ true
-      → HappensIn w p act did.left did.posts did.told (acts machine w e) → IsRowOf machine w p act did.left did.posts did.told
+      → HappensIn w p act did.left did.posts did.reported (acts machine w e) → IsRowOf machine w p act did.left did.posts did.reported
   enabled_row p act e did is place enabled does =
       row_by p act e did (let_go (acts machine w e)) is place (sym (ap (λ b. if b then let_go (acts machine w e) else w) enabled))
       (goes p act did (acts machine w e) does)
@@ -168,8 +168,8 @@ module _ {M : Type 0} (machine : Does M) (w : World M) where
   -- a delivery
   pub delivered : (p : Process) (act : Act) (from : Process) (m : MessageOf M) (more : List (MessageOf M)) (did : Effect M)
       → event_of p act ≡ Some (event.Take from p) → w.links from p ≡ m ∷ more → has_failed w p ≡ false
-      → HappensIn w p act did.left did.posts did.told (does_in machine (record w { links = without_front w.links from p }) p (Hear from m))
-      → IsRowOf machine w p act did.left did.posts did.told
+      → HappensIn w p act did.left did.posts did.reported (does_in machine (record w { links = without_front w.links from p }) p (Hear from m))
+      → IsRowOf machine w p act did.left did.posts did.reported
   delivered p act from m more did is front alive does =
       row_by p act (event.Take from p) did _ is (rw (front, alive) refl) (sym takes) (goes p act did _ does)
     where
@@ -216,10 +216,10 @@ module _ {M : Type 0} (w : World M) where
   does_fit machine p input accepted = absurd (true≢false (sym accepted))
 
   -- who takes part hasn't failed
-  pub lives : (p : Process) → takes_part w p ≡ true → has_failed w p ≡ false
-  lives Master part = refl
-  lives (Client c) part = refl
-  lives (Server s) part = by (is_server s) (w.failed s) part
+  pub incarnations : (p : Process) → takes_part w p ≡ true → has_failed w p ≡ false
+  incarnations Master part = refl
+  incarnations (Client c) part = refl
+  incarnations (Server s) part = by (is_server s) (w.failed s) part
     where
       by : (a b : Bool) → (a && not b) ≡ true → b ≡ false
       by true false h = refl
@@ -267,21 +267,21 @@ module _ {M : Type 0} (w : World M) where
   moved_lives : (links : Links M) (p : Process) (left : Standing M) → takes_part w p ≡ true → Fits p left
       → (left ≡ Out) ⊎ (has_failed (with_standing (record w { links = links }) p left) p ≡ false)
   moved_lives links (Server s) Out part fits = inl refl
-  moved_lives links (Server s) (AtServer v) part fits = inr (lives (Server s) part)
+  moved_lives links (Server s) (AtServer v) part fits = inr (incarnations (Server s) part)
   moved_lives links Master (AtMaster v) part fits = inr refl
   moved_lives links (Client c) (AtClient v) part fits = inr refl
   moved_lives links p left part fits = absurd fits
 
   -- what a process did, once its message was taken
   did_happens : (p : Process) (act : Act) (did : Effect M) → takes_part w p ≡ true → Fits p did.left
-      → HappensIn w p act did.left did.posts did.told (did_in (record w { links = fronts w.links act p }) p did)
+      → HappensIn w p act did.left did.posts did.reported (did_in (record w { links = fronts w.links act p }) p did)
   did_happens p act did part fits = record {
-    stands = λ q. moved (fronts w.links act p) (put (fronts w.links act p) p did.posts) (goes_on w.history did.told) p did.left part fits q;
+    stands = λ q. moved (fronts w.links act p) (put (fronts w.links act p) p did.posts) (goes_on w.history did.reported) p did.left part fits q;
     others = λ x y other alive. put_elsewhere w act p did.posts x y other;
     failed = λ q other. moved_failed (fronts w.links act p) p did.left fits q other;
-    lives = moved_lives (fronts w.links act p) p did.left part fits;
+    incarnations = moved_lives (fronts w.links act p) p did.left part fits;
     own = inr (λ x. refl);
-    history = goes_on_is w.history did.told;
+    history = goes_on_is w.history did.reported;
   }
 
 module _ {M : Type 0} (machine : Does M) (w : World M) where
@@ -306,22 +306,22 @@ module _ {M : Type 0} (machine : Does M) (w : World M) where
 
   -- then this happens in the world, once its message was taken
   pub does_happen : (p : Process) (act : Act) (input : Input M) (did : Effect M) → DoesSo p input did
-      → HappensIn w p act did.left did.posts did.told (does_in machine (record w { links = fronts w.links act p }) p input)
+      → HappensIn w p act did.left did.posts did.reported (does_in machine (record w { links = fronts w.links act p }) p input)
   does_happen p act input did so =
       let taken : World M = record w { links = fronts w.links act p } in
       let e : Effect M = does machine p input (standing_of w p) in
-      subst (λ (e : Effect M). HappensIn w p act e.left e.posts e.told (does_in machine taken p input)) so.same
+      subst (λ (e : Effect M). HappensIn w p act e.left e.posts e.reported (does_in machine taken p input)) so.same
       (did_happens w p act e so.part (does_fit w machine p input so.accepted))
 
   -- who ends needn't take its message
-  pub ends : (p : Process) (act other : Act) (did : Effect M) (after : World M) → did.left ≡ Out → HappensIn w p act did.left did.posts did.told after
-      → HappensIn w p other did.left did.posts did.told after
+  pub ends : (p : Process) (act other : Act) (did : Effect M) (after : World M) → did.left ≡ Out → HappensIn w p act did.left did.posts did.reported after
+      → HappensIn w p other did.left did.posts did.reported after
   ends p act other did after out happens =
       record {
         stands = happens.stands;
         others = happens.others;
         failed = happens.failed;
-        lives = happens.lives;
+        incarnations = happens.incarnations;
         own =
             inl out;
         history = happens.history;

@@ -8,13 +8,13 @@ use Rattle.std.proofs.Math.Seq.{drop-nil}
 use Rattle.std.proofs.lemmas.List.{get_or_past, get_or-set_same, get_or-set_other, get_or-replicate, length-map, length-replicate}
 use Rattle.std.proofs.lemmas.Bool.Decides.{nat_tests}
 use Rattle.ztree.specs.Tree.{Tree}
-use Rattle.zcalls.specs.Kept.{KeptState}
+use Rattle.zcalls.specs.Cached.{CachedState}
 use Rattle.zcalls.proofs.Among.{test}
 use Rattle.ztree.specs.declared.limits.TheConstants.{MAX_CLIENTS}
 use Rattle.zprotocol.specs.declared.limits.TheConstants.{MAX_SERVERS}
 use Rattle.zprotocol.specs.declared.process.Process.{Process}
 use Rattle.zprotocol.specs.declared.process.Process.TheVariants.{Master, Server, Client}
-use Rattle.zprotocol.specs.server.Machine.{kept_tree}
+use Rattle.zprotocol.specs.server.Machine.{cached_tree}
 use Rattle.zprotocol.specs.Places.{place_of}
 use Rattle.zprotocol.proofs.Places.{place_of-server, place_of-client}
 use Rattle.zprotocol.specs.world.Links.{is_same}
@@ -334,7 +334,7 @@ module _ (t : Traces) where
       ]
 
 -- one event more is replayed
-module _ (t : Traces) (read : List ℕ) (w : World (KeptState Tree)) (best : ℕ × ℕ) (e : TraceEvent) (more : List TraceEvent)
+module _ (t : Traces) (read : List ℕ) (w : World (CachedState Tree)) (best : ℕ × ℕ) (e : TraceEvent) (more : List TraceEvent)
     (replayed : HasReplayed t read w) (least : IsLeast t read (place_count t) (Some best)) (there : best.0 < length read)
     (front : rest_of t read (process_at t best.0) ≡ e ∷ more) (stamp : e.stamp ≡ best.1) where
   abbrev next_step : Step
@@ -346,22 +346,22 @@ module _ (t : Traces) (read : List ℕ) (w : World (KeptState Tree)) (best : ℕ
       (process_at t best.0) e more replayed.1 front
       (next_is_first t read best e least stamp) (rest_moves t read best.0 e more there front)
 
-  pub replayed_more : (after : World (KeptState Tree)) → is_step_in_place w (event_of (process_at t best.0) e.act) ≡ true
-      → step_happens kept_tree w (event_of (process_at t best.0) e.act) ≡ after
+  pub replayed_more : (after : World (CachedState Tree)) → is_step_in_place w (event_of (process_at t best.0) e.act) ≡ true
+      → step_happens cached_tree w (event_of (process_at t best.0) e.act) ≡ after
       → HasReplayed t (set read best.0 (get_or read best.0 0 + 1)) after
   replayed_more after place leads = (
     replayed.0 ++ next_step ∷ [],
     merge_more,
-    replayed_place kept_tree (opening_of t) replayed.0 next_step w replayed.2 replayed.3 ∙ place,
-    replayed_world kept_tree (opening_of t) replayed.0 next_step w replayed.2 replayed.3 after leads,
+    replayed_place cached_tree (opening_of t) replayed.0 next_step w replayed.2 replayed.3 ∙ place,
+    replayed_world cached_tree (opening_of t) replayed.0 next_step w replayed.2 replayed.3 after leads,
   )
 
   pub replayed_fault : is_step_in_place w (event_of (process_at t best.0) e.act) ≡ false
-      → (steps : List Step) × BeginsMerge t steps × (are_in_place kept_tree (opening_of t) steps ≡ false)
+      → (steps : List Step) × BeginsMerge t steps × (are_in_place cached_tree (opening_of t) steps ≡ false)
   replayed_fault place = (
     replayed.0 ++ next_step ∷ [],
     (rest_of t (set read best.0 (get_or read best.0 0 + 1)), merge_more),
-    replayed_place kept_tree (opening_of t) replayed.0 next_step w replayed.2 replayed.3 ∙ place,
+    replayed_place cached_tree (opening_of t) replayed.0 next_step w replayed.2 replayed.3 ∙ place,
   )
 
 -- the element of a list of readings
@@ -390,7 +390,7 @@ each_trace t f none all p = elim (placed t p) [
 ]
 
 -- the next event, as it is read
-module _ (t : Traces) (read : List ℕ) (w : World (KeptState Tree)) (best : ℕ × ℕ) (x : TraceEvent)
+module _ (t : Traces) (read : List ℕ) (w : World (CachedState Tree)) (best : ℕ × ℕ) (x : TraceEvent)
     (replayed : HasReplayed t read w) (least : IsLeast t read (place_count t) (Some best)) (there : best.0 < length read)
     (is : x ≡ get_or (trace_of t (process_at t best.0)) (get_or read best.0 0) x) where
   next_event : (more : List TraceEvent) × (rest_of t read (process_at t best.0) ≡ x ∷ more) × (x.stamp ≡ best.1)
@@ -399,12 +399,12 @@ module _ (t : Traces) (read : List ℕ) (w : World (KeptState Tree)) (best : ℕ
       let same : e ≡ x = sym (front_is t read best.0 e more there front x) ∙ sym is in
       (more, subst (λ y. rest_of t read (process_at t best.0) ≡ y ∷ more) same front, subst (λ (y : TraceEvent). y.stamp ≡ best.1) same stamp)
 
-  pub code_replays : (p : Process) (after : World (KeptState Tree)) → p ≡ process_at t best.0 → is_step_in_place w (event_of p x.act) ≡ true
-      → step_happens kept_tree w (event_of p x.act) ≡ after → HasReplayed t (set read best.0 (get_or read best.0 0 + 1)) after
+  pub code_replays : (p : Process) (after : World (CachedState Tree)) → p ≡ process_at t best.0 → is_step_in_place w (event_of p x.act) ≡ true
+      → step_happens cached_tree w (event_of p x.act) ≡ after → HasReplayed t (set read best.0 (get_or read best.0 0 + 1)) after
   code_replays p after same place leads =
       replayed_more t read w best x next_event.0 replayed least there next_event.1 next_event.2 after
       (subst (λ q. is_step_in_place w (event_of q x.act) ≡ true) same place)
-      (subst (λ q. step_happens kept_tree w (event_of q x.act) ≡ after) same leads)
+      (subst (λ q. step_happens cached_tree w (event_of q x.act) ≡ after) same leads)
 
   pub code_refuses : (p : Process) → p ≡ process_at t best.0 → is_step_in_place w (event_of p x.act) ≡ false → IsReplayFault t
   code_refuses p same place =
@@ -415,7 +415,7 @@ module _ (t : Traces) (read : List ℕ) (w : World (KeptState Tree)) (best : ℕ
   code_reads = unread_less t read best.0 x next_event.0 there next_event.1 (place_count t) least.0
 
 -- nothing was replayed yet
-pub replayed_nothing : (t : Traces) (n : ℕ) (w : World (KeptState Tree)) → opening_of t ≡ w → HasReplayed t (replicate n 0) w
+pub replayed_nothing : (t : Traces) (n : ℕ) (w : World (CachedState Tree)) → opening_of t ≡ w → HasReplayed t (replicate n 0) w
 replayed_nothing t n w is = ([], nothing_read t n, refl, is)
 
 -- a client's record, as it is read

@@ -25,7 +25,7 @@ use Rattle.zprotocol.specs.declared.traces.trace.Act.TheVariants.{Took, Began, R
 use Rattle.zprotocol.specs.traces.Deeds.{Stamped, takes_part, standing_in, is_to_leave, may_drop, done, row_of, Row}
 use Rattle.zprotocol.specs.traces.Traces.{event_of}
 use Rattle.zprotocol.proofs.traces_lemmas.Deeds.{no_delivery}
-use Rattle.zprotocol.proofs.traces_lemmas.Effects.{Arrives, IsRowOf, and_false, idles, row_by, enabled_row, delivered, some_if, lives}
+use Rattle.zprotocol.proofs.traces_lemmas.Effects.{Arrives, IsRowOf, and_false, idles, row_by, enabled_row, delivered, some_if, incarnations}
 use Rattle.zprotocol.proofs.traces_lemmas.Effects.{DoesSo, does_so, does_happen, ends}
 
 -- a query is a request
@@ -46,7 +46,7 @@ either false x y z is = inr (refl, is)
 
 module _ {M : Type 0} (machine : Does M) (w : World M) where
   abbrev IsRow : Process → Act → Effect M → Type 0
-  IsRow p act did = IsRowOf machine w p act did.left did.posts did.told
+  IsRow p act did = IsRowOf machine w p act did.left did.posts did.reported
 
   -- where one choice is none
   does_if : (p : Process) (input : Input M) (did : Effect M) (b : Bool) → (if b then done machine p (standing_in w p) input else None) ≡ Some did
@@ -78,7 +78,7 @@ module _ {M : Type 0} (machine : Does M) (w : World M) where
       → IsRow (Server s) (Took from Unheard) (idle_effect (standing_in w (Server s)))
   drops s from m more front may =
       let part = drops_part s (takes_part w (Server s)) (w.servers s) from m may in
-      let alive : w.failed s ≡ false = lives w (Server s) part.0 in
+      let alive : w.failed s ≡ false = incarnations w (Server s) part.0 in
       let enabled : is_enabled w (event.Ignore from (Server s)) ≡ true = rw (front, alive) (rw part.1 refl) in
       enabled_row machine w (Server s) (Took from Unheard) (event.Ignore from (Server s)) (idle_effect (standing_in w (Server s)))
       refl enabled enabled
@@ -97,11 +97,11 @@ module _ {M : Type 0} (machine : Does M) (w : World M) where
       → Arrives w p act took → IsRow p act did
   happens_so p (Took from Acted) (Some m) did row (more, front) =
       let so = does_unless p (Hear from m.1) did (is_to_leave p from m.1) row in
-      delivered machine w p (Took from Acted) from m.1 more did refl front (lives w p so.part)
+      delivered machine w p (Took from Acted) from m.1 more did refl front (incarnations w p so.part)
       (does_happen machine w p (Took from Acted) (Hear from m.1) did so)
   happens_so (Server s) Left (Some m) did row (more, front) =
       let so = does_if (Server s) (Hear Master m.1) did (is_to_leave (Server s) Master m.1) row in
-      delivered machine w (Server s) Left Master m.1 more did refl front (lives w (Server s) so.part)
+      delivered machine w (Server s) Left Master m.1 more did refl front (incarnations w (Server s) so.part)
       (does_happen machine w (Server s) Left (Hear Master m.1) did so)
   happens_so (Server s) (Took from Unheard) (Some m) did row (more, front) =
       let is = some_if (may_drop machine (Server s) (standing_in w (Server s)) from m.1) (idle_effect (standing_in w (Server s))) did row in
@@ -128,6 +128,6 @@ module _ {M : Type 0} (machine : Does M) (w : World M) where
   happens_so p act (Some m) did row arrives = absurd (cc row)
   happens_so p act None did row arrives = absurd (cc row)
 
-  pub row_happens : (p : Process) (act : Act) (took : Option (Stamped M)) (left : Standing M) (posts : List (Post M)) (told : History)
-      → Row machine p (standing_in w p) act took left posts told → Arrives w p act took → IsRowOf machine w p act left posts told
-  row_happens p act took left posts told row arrives = happens_so p act took (record { left = left; posts = posts; told = told }) row arrives
+  pub row_happens : (p : Process) (act : Act) (took : Option (Stamped M)) (left : Standing M) (posts : List (Post M)) (reported : History)
+      → Row machine p (standing_in w p) act took left posts reported → Arrives w p act took → IsRowOf machine w p act left posts reported
+  row_happens p act took left posts reported row arrives = happens_so p act took (record { left = left; posts = posts; reported = reported }) row arrives

@@ -23,16 +23,16 @@ use Rattle.zprotocol.specs.world.History.{History}
 use Rattle.zprotocol.specs.world.Links.{is_same, messages_to, without_front}
 use Rattle.zprotocol.specs.world.World.{World, opening_world}
 use Rattle.zprotocol.specs.world.Does as given
-use Rattle.zprotocol.specs.world.Does.{Standing, AtMaster, AtServer, AtClient, Input, Hear, Obey, Stop, answer_told, server_effect, stop_effect, does}
+use Rattle.zprotocol.specs.world.Does.{Standing, AtMaster, AtServer, AtClient, Input, Hear, Obey, Stop, answer_reported, server_effect, stop_effect, does}
 use Rattle.zprotocol.specs.world.Events.{has_failed, run}
 use Rattle.zprotocol.specs.declared.traces.trace.Act.{Act}
 use Rattle.zprotocol.specs.declared.traces.trace.Act.TheVariants.{Took, Began, Retried, Ordered, Left, Halted}
 use Rattle.zprotocol.specs.declared.traces.trace.TraceEvent.{TraceEvent}
 use Rattle.zprotocol.specs.declared.traces.trace.Traces.{Traces}
-use Rattle.zprotocol.specs.traces.Deeds.{Stamped, standing_in, Row, Deed, stamp_of, GoesBy, trace_by, taken_from, takes, stamped, puts, told_by}
+use Rattle.zprotocol.specs.traces.Deeds.{Stamped, standing_in, Row, Deed, stamp_of, GoesBy, trace_by, taken_from, takes, stamped, puts, reported_by}
 use Rattle.zprotocol.specs.traces.Traces.{event_of, Step, comes_before, at_process, Merges, IsMerge, BeginsMerge}
 use Rattle.zprotocol.specs.traces.Traces.{is_step_in_place, step_happens, are_in_place, event_list, events_of, client_of}
-use Rattle.zprotocol.specs.traces.Traces.{told_of, trace_of, record_of, client_count, stamps_rise_from, stamps_rise}
+use Rattle.zprotocol.specs.traces.Traces.{reported_of, trace_of, record_of, client_count, stamps_rise_from, stamps_rise}
 use Rattle.zprotocol.specs.traces.Lawful.{AccountFor}
 use Rattle.zprotocol.proofs.traces_lemmas.Deeds.{rises, no_delivery, row_has, out_ends}
 use Rattle.zprotocol.proofs.traces_lemmas.Flows.{Flows, flows_out, flows_put, flows_take, puts_from_front}
@@ -50,7 +50,7 @@ nothing : (b : Bool) → ◌≡◌ {A = History} [] (cond b [] [])
 nothing true = refl
 nothing false = refl
 
-answer_of : (c d : ℕ) (reply : Option (ℕ × Reply)) → told_of c (answer_told d reply) ≡ (if c == d then answer_told d reply else [])
+answer_of : (c d : ℕ) (reply : Option (ℕ × Reply)) → reported_of c (answer_reported d reply) ≡ (if c == d then answer_reported d reply else [])
 answer_of c d None = nothing (c == d)
 answer_of c d (Some reply) = ap (λ b. cond b (call_event.Answer d reply.0 reply.1 ∷ []) []) (swapped c d)
 
@@ -68,7 +68,7 @@ module _ {M : Type 0} (machine : Does M) where
 
   -- the next deed, by stamp
   module _ (w : World M) (last : Process → ℕ) (rest : Process → List (Deed M)) (f : Follows w last rest)
-      (p : Process) (left : Standing M) (posts : List (Post M)) (told : History) (stamp : ℕ) (deeds : List (Deed M))
+      (p : Process) (left : Standing M) (posts : List (Post M)) (reported : History) (stamp : ℕ) (deeds : List (Deed M))
       (goes_on : GoesBy machine p left stamp deeds)
       (put_then : (y : Process) → puts y (rest p) ≡ stamped stamp (messages_to y posts) ++ puts y deeds)
       (next : (q : Process) (e : Deed M) (others : List (Deed M)) → rest q ≡ e ∷ others → nat_lt e.event.stamp stamp ≡ false) where
@@ -117,7 +117,7 @@ module _ {M : Type 0} (machine : Does M) where
         ]
 
     -- what it takes is there
-    there : (act : Act) (took : Option (Stamped M)) → Row machine p (standing_in w p) act took left posts told → stamp_of took < stamp
+    there : (act : Act) (took : Option (Stamped M)) → Row machine p (standing_in w p) act took left posts reported → stamp_of took < stamp
         → ((x : Process) → takes x (rest p) ≡ taken_from x act took ++ takes x deeds) → Arrives w p act took × OwnFlow act
     there (Took from outcome) (Some m) row early taken = took_there from m early taken
     there Left (Some m) row early taken = took_there Master m early taken
@@ -138,7 +138,7 @@ module _ {M : Type 0} (machine : Does M) where
     ]
 
     -- then the world after it is followed by what is left
-    follows : (act : Act) (after : World M) → HappensIn w p act left posts told after → OwnFlow act
+    follows : (act : Act) (after : World M) → HappensIn w p act left posts reported after → OwnFlow act
         → Follows after (at_process p stamp last) (at_process p deeds rest)
     follows act after did own = record { goes = goes; links = links }
       where
@@ -188,7 +188,7 @@ module _ {M : Type 0} (machine : Does M) where
       : Type 0 where
     pub in_place : is_step_in_place w (event_of p d.event.act) ≡ true
     pub follows : Follows (step_happens machine w (event_of p d.event.act)) (at_process p d.event.stamp last) (at_process p deeds rest)
-    pub history : (step_happens machine w (event_of p d.event.act)).history ≡ w.history ++ d.told
+    pub history : (step_happens machine w (event_of p d.event.act)).history ≡ w.history ++ d.reported
 
   goes_on : (w : World M) (last : Process → ℕ) (rest : Process → List (Deed M)) (p : Process) (d : Deed M) (deeds : List (Deed M))
       → Follows w last rest → rest p ≡ d ∷ deeds
@@ -199,41 +199,41 @@ module _ {M : Type 0} (machine : Does M) where
       let put_then : (y : Process) → puts y (rest p) ≡ stamped d.event.stamp (messages_to y d.posts) ++ puts y deeds = λ y. ap (puts y) is in
       let taken : (x : Process) → takes x (rest p) ≡ taken_from x d.event.act d.took ++ takes x deeds = λ x. ap (takes x) is in
       let early = (rises p (last p) (stamp_of d.took) d.event.stamp goes.1).1 in
-      let came = there w last rest f p d.left d.posts d.told d.event.stamp deeds goes.2 put_then next d.event.act d.took goes.0 early taken in
-      let row = row_happens machine w p d.event.act d.took d.left d.posts d.told goes.0 came.0 in
+      let came = there w last rest f p d.left d.posts d.reported d.event.stamp deeds goes.2 put_then next d.event.act d.took goes.0 early taken in
+      let row = row_happens machine w p d.event.act d.took d.left d.posts d.reported goes.0 came.0 in
       record {
         in_place = row.in_place;
-        follows = follows w last rest f p d.left d.posts d.told d.event.stamp deeds goes.2 put_then next d.event.act _ row.happens came.1;
+        follows = follows w last rest f p d.left d.posts d.reported d.event.stamp deeds goes.2 put_then next d.event.act _ row.happens came.1;
         history = row.happens.history;
       }
 
-  -- a caller sees what its own client tells alone
+  -- a caller sees what its own client reports alone
   abbrev IsOwn : ℕ → Process → History → Type 0
-  IsOwn c p told = told_of c told ≡ (if is_same (Client c) p then told else [])
+  IsOwn c p reported = reported_of c reported ≡ (if is_same (Client c) p then reported else [])
 
-  does_told : (c : ℕ) (p : Process) (input : Input M) (standing : Standing M) → IsOwn c p (does machine p input standing).told
-  does_told c Master (Hear from m) (AtMaster v) = refl
-  does_told c Master (Obey order) (AtMaster v) = refl
-  does_told c Master input standing = refl
-  does_told c (Server s) Stop (AtServer v) = refl
-  does_told c (Server s) (Hear from m) (AtServer v) = by (is_retirement from m)
+  does_reported : (c : ℕ) (p : Process) (input : Input M) (standing : Standing M) → IsOwn c p (does machine p input standing).reported
+  does_reported c Master (Hear from m) (AtMaster v) = refl
+  does_reported c Master (Obey order) (AtMaster v) = refl
+  does_reported c Master input standing = refl
+  does_reported c (Server s) Stop (AtServer v) = refl
+  does_reported c (Server s) (Hear from m) (AtServer v) = by (is_retirement from m)
     where
-      by : (b : Bool) → told_of c (if b then stop_effect else server_effect (server_step machine v from m)).told ≡ []
+      by : (b : Bool) → reported_of c (if b then stop_effect else server_effect (server_step machine v from m)).reported ≡ []
       by true = refl
       by false = refl
-  does_told c (Server s) input standing = refl
-  does_told c (Client d) (Hear from m) (AtClient v) = answer_of c d (client.client_step v from m).2
-  does_told c (Client d) (given.Begin call) (AtClient v) = ap
+  does_reported c (Server s) input standing = refl
+  does_reported c (Client d) (Hear from m) (AtClient v) = answer_of c d (client.client_step v from m).2
+  does_reported c (Client d) (given.Begin call) (AtClient v) = ap
       (λ b. cond b (call_event.Begin d (client.begin_step {T = Transfer M} v call).0.number call ∷ []) []) (swapped c d)
-  does_told c (Client d) given.Retry (AtClient v) = nothing (c == d)
-  does_told c (Client d) input standing = nothing (c == d)
+  does_reported c (Client d) given.Retry (AtClient v) = nothing (c == d)
+  does_reported c (Client d) input standing = nothing (c == d)
 
-  row_told : (c : ℕ) (p : Process) (standing : Standing M) (act : Act) (took : Option (Stamped M)) (left : Standing M)
-      (posts : List (Post M)) (told : History)
-      → Row machine p standing act took left posts told → IsOwn c p told
-  row_told c p standing act took left posts told row =
-      row_has machine p standing (λ did. IsOwn c p did.told) (λ input is. does_told c p input standing) (λ from m is. nothing (is_same (Client c) p))
-      (λ order is. nothing (is_same (Client c) p)) (record { left = left; posts = posts; told = told }) act took row
+  row_reported : (c : ℕ) (p : Process) (standing : Standing M) (act : Act) (took : Option (Stamped M)) (left : Standing M)
+      (posts : List (Post M)) (reported : History)
+      → Row machine p standing act took left posts reported → IsOwn c p reported
+  row_reported c p standing act took left posts reported row =
+      row_has machine p standing (λ did. IsOwn c p did.reported) (λ input is. does_reported c p input standing) (λ from m is. nothing (is_same (Client c) p))
+      (λ order is. nothing (is_same (Client c) p)) (record { left = left; posts = posts; reported = reported }) act took row
 
   -- a run of one event and more
   run_step : (w : World M) (e : Option Event) (events : List Event) → run machine w (event_list e ++ events)
@@ -245,8 +245,8 @@ module _ {M : Type 0} (machine : Does M) where
   pub record IsRun (w : World M) (rest : Process → List (Deed M)) (steps : List Step) (end : Process → List TraceEvent) : Type 0 where
     pub in_place : are_in_place machine w steps ≡ true
     -- where no event is left
-    pub told : ((p : Process) → end p ≡ []) → (c : ℕ) → told_of c (run machine w (events_of steps)).history
-        ≡ told_of c w.history ++ told_by (rest (Client c))
+    pub reported : ((p : Process) → end p ≡ []) → (c : ℕ) → reported_of c (run machine w (events_of steps)).history
+        ≡ reported_of c w.history ++ reported_by (rest (Client c))
 
   -- no trace is left, no deed is
   no_trace : (deeds : List (Deed M)) → trace_by deeds ≡ [] → deeds ≡ []
@@ -279,13 +279,13 @@ module _ {M : Type 0} (machine : Does M) where
       let r : IsRun after left steps end = ih after (at_process p d.event.stamp last) left g.follows traced_left in
       subst (λ (ev : TraceEvent). IsRun w rest (record { process = p; event = ev } ∷ steps) end) same (record {
         in_place = both_true _ _ g.in_place r.in_place;
-        told = λ none c.
-            ap (λ (v : World M). told_of c v.history) (run_step w (event_of p d.event.act) (events_of steps))
-            ∙ r.told none c
-            ∙ ap (λ h. told_of c h ++ told_by (left (Client c))) g.history
-            ∙ ap (λ h. h ++ told_by (left (Client c))) (filter-append (λ e. client_of e == c) w.history d.told)
-            ∙ append_assoc (told_of c w.history) (told_of c d.told) (told_by (left (Client c)))
-            ∙ ap (λ h. told_of c w.history ++ h) (told c);
+        reported = λ none c.
+            ap (λ (v : World M). reported_of c v.history) (run_step w (event_of p d.event.act) (events_of steps))
+            ∙ r.reported none c
+            ∙ ap (λ h. reported_of c h ++ reported_by (left (Client c))) g.history
+            ∙ ap (λ h. h ++ reported_by (left (Client c))) (filter-append (λ e. client_of e == c) w.history d.reported)
+            ∙ append_assoc (reported_of c w.history) (reported_of c d.reported) (reported_by (left (Client c)))
+            ∙ ap (λ h. reported_of c w.history ++ h) (reported c);
       })
     where
       left_then : Process → List (Deed M)
@@ -294,11 +294,11 @@ module _ {M : Type 0} (machine : Does M) where
       row : GoesBy machine p (standing_in w p) (last p) (d ∷ deeds)
       row = subst (λ l. GoesBy machine p (standing_in w p) (last p) l) front (f.goes p)
 
-      told : (c : ℕ) → told_of c d.told ++ told_by (left_then (Client c)) ≡ told_by (rest (Client c))
-      told c =
-          ap (λ h. h ++ told_by (left_then (Client c))) (row_told c p (standing_in w p) d.event.act d.took d.left d.posts d.told row.0)
+      reported : (c : ℕ) → reported_of c d.reported ++ reported_by (left_then (Client c)) ≡ reported_by (rest (Client c))
+      reported c =
+          ap (λ h. h ++ reported_by (left_then (Client c))) (row_reported c p (standing_in w p) d.event.act d.took d.left d.posts d.reported row.0)
           ∙ elim (test (is_same (Client c) p)) [
-            | inl t ↦ rw t (sym (ap (λ z. told_by (rest z)) (same_process (Client c) p t) ∙ ap told_by front))
+            | inl t ↦ rw t (sym (ap (λ z. reported_by (rest z)) (same_process (Client c) p t) ∙ ap reported_by front))
             | inr n ↦ rw n refl
           ]
 
@@ -306,9 +306,9 @@ module _ {M : Type 0} (machine : Does M) where
       → Follows w last rest → ((p : Process) → traces p ≡ trace_by (rest p)) → Merges traces steps end → IsRun w rest steps end
   merge_runs [] w last rest traces end f traced merge = record {
     in_place = refl;
-    told = λ none c.
-        sym (append-nil (told_of c w.history))
-        ∙ ap (λ l. told_of c w.history ++ told_by l)
+    reported = λ none c.
+        sym (append-nil (reported_of c w.history))
+        ∙ ap (λ l. reported_of c w.history ++ reported_by l)
         (sym (no_trace (rest (Client c)) (sym (traced (Client c)) ∙ merge (Client c) ∙ none (Client c))));
   }
   merge_runs (step ∷ steps) w last rest traces end f traced merge =
@@ -344,10 +344,10 @@ module _ {M : Type 0} (machine : Does M) where
       → are_in_place machine (opening_of t) steps ≡ true
   lawful_in_place t deeds steps account merge = (runs t deeds steps merge.0 account merge.1).in_place
 
-  -- and the run of all tells of each client what its record does
-  pub lawful_told : (t : Traces) (deeds : Process → List (Deed M)) (steps : List Step) → AccountFor machine t deeds → IsMerge t steps
-      → (c : ℕ) → told_of c (run machine (opening_of t) (events_of steps)).history ≡ record_of t c
-  lawful_told t deeds steps account merge c = (runs t deeds steps (λ p. []) account merge).told (λ p. refl) c ∙ account.recorded c
+  -- and the run of all reports of each client what its record does
+  pub lawful_reported : (t : Traces) (deeds : Process → List (Deed M)) (steps : List Step) → AccountFor machine t deeds → IsMerge t steps
+      → (c : ℕ) → reported_of c (run machine (opening_of t) (events_of steps)).history ≡ record_of t c
+  lawful_reported t deeds steps account merge c = (runs t deeds steps (λ p. []) account merge).reported (λ p. refl) c ∙ account.recorded c
 
   -- and their stamps rise
   stamps_rise_by : (p : Process) (standing : Standing M) (last : ℕ) (deeds : List (Deed M)) → GoesBy machine p standing last deeds

@@ -75,7 +75,7 @@ not_failed front false enabled = refl
 not_failed true true enabled = absurd (true≢false (sym enabled))
 not_failed false true enabled = absurd (true≢false (sym enabled))
 
--- what agrees where the taker has not failed tells alike whether a delivery is enabled
+-- what agrees where the taker has not failed reports alike whether a delivery is enabled
 same_where_alive : (failed front other : Bool) → (failed ≡ false → front ≡ other) → (front && not failed) ≡ (other && not failed)
 same_where_alive false front other same = ap (λ b. b && true) (same refl)
 same_where_alive true true true same = refl
@@ -243,7 +243,7 @@ same_both false false x y same equal = refl
 same_both true false x y same equal = absurd (true≢false same)
 same_both false true x y same equal = absurd (true≢false (sym same))
 
--- a delivery to a server that lives is to the same view
+-- a delivery to a server that incarnations is to the same view
 same_view : {M : Type 0} (v w : World M) → IsAlike v w → (from : Process) (s : ℕ) → is_enabled v (Take from (Server s)) ≡ true
     → v.servers s ≡ w.servers s
 same_view v w alike from s enabled = alike.servers s (not_failed _ (v.failed s) enabled)

@@ -9,7 +9,7 @@ use Rattle.zprotocol.specs.world.Does.{Effect}
 use Rattle.zprotocol.specs.world.Events.{goes_on, did_in}
 
 -- a history that goes on
-pub goes_on_is : (history told : History) → goes_on history told ≡ history ++ told
+pub goes_on_is : (history reported : History) → goes_on history reported ≡ history ++ reported
 goes_on_is history [] = sym (append-nil history)
 goes_on_is history (seen ∷ more) = refl
 

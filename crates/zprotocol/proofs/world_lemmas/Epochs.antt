@@ -7,7 +7,7 @@ use Rattle.zcalls.proofs.Among.{test}
 use Rattle.zprotocol.specs.declared.limits.TheConstants.{MAX_SERVERS}
 use Rattle.zprotocol.specs.declared.process.Process.{Process}
 use Rattle.zprotocol.specs.declared.process.Process.TheVariants.{Master, Server, Client}
-use Rattle.zprotocol.specs.server.Machine.{Does, kept_tree}
+use Rattle.zprotocol.specs.server.Machine.{Does, cached_tree}
 use Rattle.zprotocol.specs.server.View.{Transfer, MessageOf}
 use Rattle.zprotocol.specs.server.Table.{is_retirement, server_step}
 use Rattle.zprotocol.specs.master.Laws.{IsRisingFrom, IsBounded}
@@ -85,7 +85,7 @@ few_used (number ∷ numbers) rising all =
 pub epochs_are_few : EpochsAreFew
 epochs_are_few servers clients events is =
     let bounded : IsBounded (world_after servers clients events).master =
-    run_keeps kept_tree (opening_world kept_tree servers clients) events (opening_is_bounded servers clients) in
+    run_keeps cached_tree (opening_world cached_tree servers clients) events (opening_is_bounded servers clients) in
     let few : length (world_after servers clients events).master.used ≤ MAX_SERVERS =
     few_used (world_after servers clients events).master.used bounded.rising (after_within servers clients events is).used in
     omega (arith, bounded.epochs, few)

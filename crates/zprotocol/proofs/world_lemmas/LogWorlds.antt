@@ -22,7 +22,7 @@ use Rattle.zprotocol.specs.declared.world.event.Event.TheVariants.{Begin, Retry,
 use Rattle.zprotocol.specs.world.Links.{Links, put, without_front, is_same, messages_to}
 use Rattle.zprotocol.specs.world.World.{World, at, opening_world}
 use Rattle.zprotocol.specs.world.Does.{AtClient, Hear, Effect, master_effect, server_effect, stop_effect, client_effect}
-use Rattle.zprotocol.specs.world.Does.{begin_effect, answer_told, last_post}
+use Rattle.zprotocol.specs.world.Does.{begin_effect, answer_reported, last_post}
 use Rattle.zprotocol.specs.declared.world.history.CallEvent.TheVariants as call_event
 use Rattle.zprotocol.specs.world.History.{History}
 use Rattle.zprotocol.specs.world.Events.{front_is, is_request, has_failed, is_enabled, goes_on, did_in, does_in, front_step, acts, let_go, happens, run}
@@ -87,13 +87,13 @@ module _ {M N : Type 0} (h : M → N) where
       → did_in (world_with h w) Master (master_effect (master_with h did)) ≡ world_with h (did_in w Master (master_effect did))
   master_does_with w did = λ i. record (world_with h w) { master = did.0; links = λ from to. put_with w.links Master did.1 from to i }
 
-  client_does_with : (w : World M) (c : ℕ) (view : ClientView) (posts : List (Post M)) (told : History)
-      → did_in (world_with h w) (Client c) (record { left = AtClient view; posts = posts_with h posts; told = told })
-      ≡ world_with h (did_in w (Client c) (record { left = AtClient view; posts = posts; told = told }))
-  client_does_with w c view posts told = λ i. record (world_with h w) {
+  client_does_with : (w : World M) (c : ℕ) (view : ClientView) (posts : List (Post M)) (reported : History)
+      → did_in (world_with h w) (Client c) (record { left = AtClient view; posts = posts_with h posts; reported = reported })
+      ≡ world_with h (did_in w (Client c) (record { left = AtClient view; posts = posts; reported = reported }))
+  client_does_with w c view posts reported = λ i. record (world_with h w) {
     clients = at c view w.clients;
     links = λ from to. put_with w.links (Client c) posts from to i;
-    history = goes_on w.history told;
+    history = goes_on w.history reported;
   }
 
   stops_with : (w : World M) (s : ℕ) → did_in (world_with h w) (Server s) stop_effect ≡ world_with h (did_in w (Server s) stop_effect)
@@ -181,7 +181,7 @@ module _ {M N : Type 0} (h : M → N) where
     takes_with w from (Client c) m =
         let did : client.ClientResult (Transfer M) = client.client_step (w.clients c) from m in
         ap (λ did. did_in (world_with h w) (Client c) (client_effect c did)) (client_takes_with h (w.clients c) from m)
-        ∙ client_does_with w c did.0 did.1 (answer_told c did.2)
+        ∙ client_does_with w c did.0 did.1 (answer_reported c did.2)
 
     takes_front_with : (w : World M) (from to : Process) (link : List (MessageOf M))
         → front_step e (world_with h w) from to (map (message_with h) link) ≡ world_with h (front_step d w from to link)
@@ -197,7 +197,7 @@ module _ {M N : Type 0} (h : M → N) where
         ap (λ did. did_in (world_with h w) (Client c) (begin_effect c call did)) (begins_with h (w.clients c) call)
         ∙ client_does_with w c did.0 did.1 (call_event.Begin c did.0.number call ∷ [])
     acts_with w (Retry c) =
-        ap (λ posts. did_in (world_with h w) (Client c) (record { left = AtClient (w.clients c); posts = posts; told = [] }))
+        ap (λ posts. did_in (world_with h w) (Client c) (record { left = AtClient (w.clients c); posts = posts; reported = [] }))
         (retries_with h (w.clients c))
         ∙ client_does_with w c (w.clients c) (client.retry_posts (w.clients c)) []
     acts_with w (Take from to) = takes_front_with w from to (w.links from to)

@@ -33,7 +33,7 @@ one_beginner c n c' n' call call' e = cc
 made_is_no_count : (m n : ℕ) → name_reply m ≡ count_reply n → ⊥
 made_is_no_count m n e = cc
 
--- what is told of an answer, and nothing of a beginning
+-- what is reported of an answer, and nothing of a beginning
 unfoldable pub AtAnswer : (ℕ → ℕ → Reply → Type 0) → CallEvent → Type 0
 AtAnswer P (Begin c n call) = Unit {0}
 AtAnswer P (Answer c n reply) = P c n reply
@@ -100,7 +100,7 @@ left_out legal = elim ((legal.answered 2 1 (count_reply 2) (inr (inr (inr (inr (
   | inr (inr e) ↦ e
 ]
 
--- what is told of a beginning, and nothing of an answer
+-- what is reported of a beginning, and nothing of an answer
 AtBeginning : (ℕ → ℕ → Call → Type 0) → CallEvent → Type 0
 AtBeginning P (Begin c n call) = P c n call
 AtBeginning P (Answer c n reply) = Unit {0}

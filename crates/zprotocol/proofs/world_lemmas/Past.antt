@@ -17,10 +17,10 @@ use Rattle.zprotocol.specs.world.Events.{is_enabled, with_standing, goes_on, did
 abbrev pub with_past : {M : Type 0} → History → World M → World M
 with_past past w = record w { history = past ++ w.history }
 
--- what is told goes behind both
-told : (past history more : History) → goes_on (past ++ history) more ≡ past ++ goes_on history more
-told past history [] = refl
-told past history (seen ∷ more) = append_assoc past history (seen ∷ more)
+-- what is reported goes behind both
+reported : (past history more : History) → goes_on (past ++ history) more ≡ past ++ goes_on history more
+reported past history [] = refl
+reported past history (seen ∷ more) = append_assoc past history (seen ∷ more)
 
 -- where a process stands has nothing to do with it
 stands : {M : Type 0} (past : History) (w : World M) (p : Process) (left : Standing M)
@@ -36,7 +36,7 @@ stands past w (Client c) left = refl
 did_past : {M : Type 0} (past : History) (w : World M) (p : Process) (did : Effect M) → did_in (with_past past w) p did
     ≡ with_past past (did_in w p did)
 did_past past w p did =
-    λ i. record (stands past w p did.left i) { links = put w.links p did.posts; history = told past w.history did.told i }
+    λ i. record (stands past w p did.left i) { links = put w.links p did.posts; history = reported past w.history did.reported i }
 
 module _ {M : Type 0} (machine : Does M) (past : History) where
   does_past : (w : World M) (p : Process) (input : Input M) → does_in machine (with_past past w) p input ≡ with_past past (does_in machine w p input)

@@ -1,9 +1,9 @@
 -- Events and runs don't hang on where the machines started.
 use Rattle.std.proofs.Common.{◌≡◌, refl, ap, ◌∙◌, if◌then◌else◌, List, [], ◌∷◌}
-use Rattle.zcalls.specs.Kept.{nothing_kept}
+use Rattle.zcalls.specs.Cached.{nothing_cached}
 use Rattle.zprotocol.specs.declared.process.Process.{Process}
 use Rattle.zprotocol.specs.declared.process.Process.TheVariants.{Master, Server, Client}
-use Rattle.zprotocol.specs.server.Machine.{Does, kept_tree}
+use Rattle.zprotocol.specs.server.Machine.{Does, cached_tree}
 use Rattle.zprotocol.specs.server.View.{MessageOf}
 use Rattle.zprotocol.specs.server.Table.{is_retirement}
 use Rattle.zprotocol.proofs.server_lemmas.Starts.{same_table}
@@ -47,7 +47,7 @@ module _ {M : Type 0} (does : Does M) (start : M) where
 
 -- so of trees
 pub events_forget_the_start : EventsForgetTheStart
-events_forget_the_start t w event = same_happens kept_tree (nothing_kept t) w event
+events_forget_the_start t w event = same_happens cached_tree (nothing_cached t) w event
 
 pub runs_forget_the_start : RunsForgetTheStart
-runs_forget_the_start t w events = same_run kept_tree (nothing_kept t) w events
+runs_forget_the_start t w events = same_run cached_tree (nothing_cached t) w events

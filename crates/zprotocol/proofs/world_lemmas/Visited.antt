@@ -12,7 +12,7 @@ use Rattle.zcalls.proofs.Among.{test}
 use Rattle.zprotocol.specs.declared.limits.TheConstants.{MAX_SERVERS}
 use Rattle.zprotocol.specs.declared.process.Process.{Process}
 use Rattle.zprotocol.specs.declared.process.Process.TheVariants.{Master, Server, Client}
-use Rattle.zprotocol.specs.server.Machine.{Does, kept_tree, kept_tree_from}
+use Rattle.zprotocol.specs.server.Machine.{Does, cached_tree, cached_tree_from}
 use Rattle.zprotocol.specs.Places.{is_server, process_at}
 use Rattle.zprotocol.proofs.Places.{process_at-server, process_at-client}
 use Rattle.zprotocol.specs.server.View.{Neighbour, MessageOf, spare, member, opening_server}
@@ -150,14 +150,14 @@ visited clients w from to within (m ∷ more) is =
 
 -- after a run it is so
 pub after_within : (servers clients : ℕ) (events : List Event) → is_server servers ≡ true → IsWithin clients (world_after servers clients events)
-after_within servers clients events is = run_within _ clients kept_tree (opening_world kept_tree servers clients) events
-    (opening_within kept_tree servers clients is)
+after_within servers clients events is = run_within _ clients cached_tree (opening_world cached_tree servers clients) events
+    (opening_within cached_tree servers clients is)
 
 -- also from another tree
 pub after_within_from : (t : Tree) (servers clients : ℕ) (events : List Event) → is_server servers ≡ true
     → IsWithin clients (world_after_from t servers clients events)
 after_within_from t servers clients events is =
-    run_within _ clients (kept_tree_from t) (opening_world_from t servers clients) events (opening_within (kept_tree_from t) servers clients is)
+    run_within _ clients (cached_tree_from t) (opening_world_from t servers clients) events (opening_within (cached_tree_from t) servers clients is)
 
 pub links_are_visited_from : (t : Tree) (servers clients : ℕ) (events : List Event) (from to : Process) → is_server servers ≡ true
     → ((world_after_from t servers clients events).links from to ≡ []) ⊎ Among (Take from to) (deliveries clients)
@@ -194,8 +194,8 @@ quiet_is_quiet servers clients limit events outcomes from to is quiet =
     let within : IsWithin clients w = after_within servers clients events is in
     let done = settling_of w limit outcomes in
     let ended : IsWithin clients done.world =
-    subst (IsWithin clients) (sym (settling_is_a_run kept_tree w limit outcomes)) (run_within _ clients kept_tree w done.events within) in
+    subst (IsWithin clients) (sym (settling_is_a_run cached_tree w limit outcomes)) (run_within _ clients cached_tree w done.events within) in
     let none : list_any (is_enabled done.world) (deliveries clients) ≡ false =
     subst (λ n. list_any (is_enabled done.world) (deliveries n) ≡ false) within.counted
-    (quiet_has_nothing_to_take kept_tree w limit outcomes quiet) in
+    (quiet_has_nothing_to_take cached_tree w limit outcomes quiet) in
     none_is_left clients done.world from to (visited clients done.world from to ended (done.world.links from to) refl) none

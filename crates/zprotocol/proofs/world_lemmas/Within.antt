@@ -30,7 +30,7 @@ use Rattle.zprotocol.specs.Places.{is_server}
 use Rattle.zprotocol.specs.world.History.{History}
 use Rattle.zprotocol.specs.world.Does as given
 use Rattle.zprotocol.specs.declared.world.history.CallEvent.TheVariants as call_event
-use Rattle.zprotocol.specs.world.Does.{AtClient, Hear, server_effect, stop_effect, answer_told}
+use Rattle.zprotocol.specs.world.Does.{AtClient, Hear, server_effect, stop_effect, answer_reported}
 use Rattle.zprotocol.specs.world.Events.{has_failed, is_enabled, did_in, does_in, front_step, acts, let_go, happens, run}
 use Rattle.zprotocol.proofs.world_lemmas.Effects.{by_choice}
 use Rattle.zprotocol.specs.world.support.Within.{is_process, SpeaksWithin, GoesWithin, IsViewWithin, IsClientWithin, AreLinksWithin, IsWithin}
@@ -121,10 +121,10 @@ module _ (M : Type 0) (n : ℕ) where
   }
 
   -- a client acts
-  client_acts : (w : World M) (c : ℕ) (view : ClientView) (posts : List (Post M)) (told : History) → IsWithin n w → nat_lt c n ≡ true
+  client_acts : (w : World M) (c : ℕ) (view : ClientView) (posts : List (Post M)) (reported : History) → IsWithin n w → nat_lt c n ≡ true
       → IsClientWithin n c view → AllByRecursion (GoesWithin n) posts
-      → IsWithin n (did_in w (Client c) (record { left = AtClient view; posts = posts; told = told }))
-  client_acts w c view posts told within is good all = record {
+      → IsWithin n (did_in w (Client c) (record { left = AtClient view; posts = posts; reported = reported }))
+  client_acts w c view posts reported within is good all = record {
     counted = within.counted;
     chain = within.chain;
     used = within.used;
@@ -174,7 +174,7 @@ module _ (M : Type 0) (n : ℕ) where
     taken_within w from (Client c) m within sender taker speaks =
         let did : ClientResult (Transfer M) = client_step (w.clients c) from m in
         let good = client_row c (w.clients c) taker (within.callers c) from m did speaks (client_case (w.clients c) from m) in
-        client_acts w c did.0 did.1 (answer_told c did.2) within taker good.0 good.1
+        client_acts w c did.0 did.1 (answer_reported c did.2) within taker good.0 good.1
 
     front_taken : (w : World M) (from to : Process) (link : List (MessageOf M)) → w.links from to ≡ link → IsWithin n w
         → IsWithin n (front_step machine w from to link)

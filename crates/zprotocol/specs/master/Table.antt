@@ -28,8 +28,8 @@ abbrev pub config_posts : {T : Type 0} → MasterView → List (PostOf T)
 config_posts v = map (λ c. (Client c, message.Config v.epoch (head_of v) (tail_of v))) (range_with_len 0 v.clients)
 
 -- a new view: these messages are sent, and then the configuration to every client
-abbrev pub and_tell_clients : {T : Type 0} → MasterView → List (PostOf T) → MasterResult T
-and_tell_clients v first = (v, first ++ config_posts v)
+abbrev pub and_report_clients : {T : Type 0} → MasterView → List (PostOf T) → MasterResult T
+and_report_clients v first = (v, first ++ config_posts v)
 
 -- a server is joining, and the chain has another member
 abbrev pub is_another_joining : MasterView → Bool
@@ -89,7 +89,7 @@ have_row v s epoch last =
 -- clients are sent the configuration
 unfoldable pub joined_row : {T : Type 0} → MasterView → ℕ → MasterResult T
 joined_row v s =
-    if is_joining v s then and_tell_clients (record v { joining = None; epoch = v.epoch + 1 }) []
+    if is_joining v s then and_report_clients (record v { joining = None; epoch = v.epoch + 1 }) []
     else no_effect v
 
 -- the members that remain in a chain, and the messages to its servers
@@ -139,7 +139,7 @@ without_member v s chain =
 unfoldable pub gone_row : {T : Type 0} → MasterView → ℕ → MasterResult T
 gone_row v s =
     if is_among s (members v) then
-    (let chain = mended_chain (v.epoch + 1) s v.chain in and_tell_clients (without_member v s chain.0) chain.1)
+    (let chain = mended_chain (v.epoch + 1) s v.chain in and_report_clients (without_member v s chain.0) chain.1)
     else (record v { used = with_number s v.used }, [])
 
 -- the table; any other message is ignored

@@ -5,10 +5,10 @@ use Rattle.ztree.specs.Tree.{Tree}
 use Rattle.zcalls.specs.declared.call.Entry.{Entry}
 use Rattle.zcalls.specs.declared.call.Update.{Update}
 use Rattle.zcalls.specs.declared.reply.Reply.{Reply}
-use Rattle.zcalls.specs.Kept.{KeptState, nothing_kept}
+use Rattle.zcalls.specs.Cached.{CachedState, nothing_cached}
 use Rattle.zprotocol.specs.declared.message.Message.TheVariants as message
 use Rattle.zprotocol.specs.declared.process.Process.{Process}
-use Rattle.zprotocol.specs.server.Machine.{Does, kept_tree, kept_tree_from}
+use Rattle.zprotocol.specs.server.Machine.{Does, cached_tree, cached_tree_from}
 use Rattle.zprotocol.specs.server.View.{ServerView, MessageOf, is_tail}
 use Rattle.zprotocol.specs.server.Table.{server_step}
 
@@ -30,11 +30,11 @@ first_entry client update = record { client = client; number = 1; update = updat
 -- the tree and the reply after a client's first update, where no reply is cached
 abbrev pub first_step : Tree → ℕ → Update → Tree × Option Reply
 first_step t client update =
-    let did = kept_tree.apply (nothing_kept t) (first_entry client update) in
+    let did = cached_tree.apply (nothing_cached t) (first_entry client update) in
     (did.0.plain, did.1)
 
 -- what a server does with a message is the same whatever tree its machine began with
 abbrev pub TableForgetsTheStart : Type 0
 TableForgetsTheStart =
-    (t : Tree) (v : ServerView (KeptState Tree)) (from : Process) (m : MessageOf (KeptState Tree))
-    → server_step (kept_tree_from t) v from m ≡ server_step kept_tree v from m
+    (t : Tree) (v : ServerView (CachedState Tree)) (from : Process) (m : MessageOf (CachedState Tree))
+    → server_step (cached_tree_from t) v from m ≡ server_step cached_tree v from m

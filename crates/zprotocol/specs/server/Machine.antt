@@ -5,8 +5,8 @@ use Rattle.ztree.specs.Tree.{Tree}
 use Rattle.zcalls.specs.declared.call.Entry.{Entry}
 use Rattle.zcalls.specs.declared.call.Query.{Query}
 use Rattle.zcalls.specs.declared.reply.Reply.{Reply}
-use Rattle.zcalls.specs.Kept as kept
-use Rattle.zcalls.specs.Kept.{Plain, KeptState, nothing_kept, entry_step}
+use Rattle.zcalls.specs.Cached as kept
+use Rattle.zcalls.specs.Cached.{Plain, CachedState, nothing_cached, entry_step}
 use Rattle.zcalls.specs.PlainTree.{plain_tree}
 
 -- a state machine: its initial state, the effect of an entry with its reply, if any, and the reply
@@ -18,25 +18,25 @@ pub record Does (M : Type 0) : Type 0 where
 
 -- a sequential service with cached replies: entries are applied by the entry step, and queries are
 -- answered from its state
-abbrev pub machine_of : {P : Type 0} → Plain P → Does (KeptState P)
+abbrev pub machine_of : {P : Type 0} → Plain P → Does (CachedState P)
 machine_of plain =
     record {
-      start = nothing_kept plain.opening;
+      start = nothing_cached plain.opening;
       apply = entry_step plain.update;
       ask = λ s query. plain.ask s.plain query;
     }
 
 -- the tree with cached replies
-abbrev pub kept_tree : Does (KeptState Tree)
-kept_tree = machine_of plain_tree
+abbrev pub cached_tree : Does (CachedState Tree)
+cached_tree = machine_of plain_tree
 
 -- the plain tree, beginning with this tree
 abbrev pub plain_from : Tree → Plain Tree
 plain_from t = record plain_tree { opening = t }
 
 -- the machine that begins with this tree, and with no cached reply: for it all clients begin anew
-abbrev pub kept_tree_from : Tree → Does (KeptState Tree)
-kept_tree_from t = machine_of (plain_from t)
+abbrev pub cached_tree_from : Tree → Does (CachedState Tree)
+cached_tree_from t = machine_of (plain_from t)
 
 -- a machine after these entries, one after the other
 abbrev pub after_entries : {M : Type 0} → Does M → M → List Entry → M

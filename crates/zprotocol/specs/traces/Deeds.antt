@@ -79,7 +79,7 @@ row_of machine p standing act took = None
 -- a row: a process, its standing, the event, and the message that it received, if any; then its
 -- standing afterwards, what it sent, and what its caller saw
 abbrev pub Row : {M : Type 0} → Does M → Process → Standing M → Act → Option (Stamped M) → Standing M → List (Post M) → History → Type 0
-Row machine p standing act took left posts told = row_of machine p standing act took ≡ Some (record { left = left; posts = posts; told = told })
+Row machine p standing act took left posts reported = row_of machine p standing act took ≡ Some (record { left = left; posts = posts; reported = reported })
 
 -- a step of a process: an event of its trace, the message that was received, if any, its standing
 -- afterwards, what it sent and what the caller saw
@@ -88,7 +88,7 @@ pub record Deed (M : Type 0) : Type 0 where
   pub took : Option (Stamped M)
   pub left : Standing M
   pub posts : List (Post M)
-  pub told : History
+  pub reported : History
 
 -- the timestamp of a message that was received; 0 if none was
 abbrev pub stamp_of : {M : Type 0} → Option (Stamped M) → ℕ
@@ -105,7 +105,7 @@ IsStamped p last message stamp = stamp ≡ max last message + 1
 abbrev pub GoesBy : {M : Type 0} → Does M → Process → Standing M → ℕ → List (Deed M) → Type 0
 GoesBy machine p standing last [] = Unit {0}
 GoesBy machine p standing last (d ∷ deeds) =
-    Row machine p standing d.event.act d.took d.left d.posts d.told
+    Row machine p standing d.event.act d.took d.left d.posts d.reported
     × IsStamped p last (stamp_of d.took) d.event.stamp
     × GoesBy machine p d.left d.event.stamp deeds
 
@@ -134,9 +134,9 @@ puts to [] = []
 puts to (d ∷ deeds) = stamped d.event.stamp (messages_to to d.posts) ++ puts to deeds
 
 -- what the caller saw
-abbrev pub told_by : {M : Type 0} → List (Deed M) → History
-told_by [] = []
-told_by (d ∷ deeds) = d.told ++ told_by deeds
+abbrev pub reported_by : {M : Type 0} → List (Deed M) → History
+reported_by [] = []
+reported_by (d ∷ deeds) = d.reported ++ reported_by deeds
 
 -- the process's standing after the steps, and its last timestamp then
 abbrev pub left_by : {M : Type 0} → Standing M → List (Deed M) → Standing M

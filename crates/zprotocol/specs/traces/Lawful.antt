@@ -2,13 +2,13 @@
 -- was sent there.
 use Rattle.std.specs.Prelude.{◌≡◌, ℕ, List, ◌++◌}
 use Rattle.ztree.specs.Tree.{Tree}
-use Rattle.zcalls.specs.Kept.{KeptState}
+use Rattle.zcalls.specs.Cached.{CachedState}
 use Rattle.zprotocol.specs.declared.process.Process.{Process}
 use Rattle.zprotocol.specs.declared.process.Process.TheVariants.{Client}
-use Rattle.zprotocol.specs.server.Machine.{Does, kept_tree}
+use Rattle.zprotocol.specs.server.Machine.{Does, cached_tree}
 use Rattle.zprotocol.specs.world.World.{opening_world}
 use Rattle.zprotocol.specs.declared.traces.trace.Traces.{Traces}
-use Rattle.zprotocol.specs.traces.Deeds.{Deed, standing_in, GoesBy, trace_by, takes, puts, told_by}
+use Rattle.zprotocol.specs.traces.Deeds.{Deed, standing_in, GoesBy, trace_by, takes, puts, reported_by}
 use Rattle.zprotocol.specs.traces.Traces.{trace_of, record_of, client_count}
 
 -- the first list is a prefix of the second
@@ -24,8 +24,8 @@ pub record AccountFor {M : Type 0} (machine : Does M) (t : Traces) (deeds : Proc
   -- what was received from each channel is a prefix of what was sent there
   pub linked : (from to : Process) → Begins (takes from (deeds to)) (puts to (deeds from))
   -- what a client's caller saw is its record
-  pub recorded : (c : ℕ) → told_by (deeds (Client c)) ≡ record_of t c
+  pub recorded : (c : ℕ) → reported_by (deeds (Client c)) ≡ record_of t c
 
 -- the traces are lawful: there are such steps
 abbrev pub AreLawful : Traces → Type 0
-AreLawful t = (deeds : Process → List (Deed (KeptState Tree))) × AccountFor kept_tree t deeds
+AreLawful t = (deeds : Process → List (Deed (CachedState Tree))) × AccountFor cached_tree t deeds

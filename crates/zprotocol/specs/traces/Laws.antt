@@ -6,7 +6,7 @@ use Rattle.zprotocol.specs.world.World.{opening_world}
 use Rattle.zprotocol.specs.world.Events.{run}
 use Rattle.zprotocol.specs.declared.traces.trace.Traces.{Traces}
 use Rattle.zprotocol.specs.traces.Deeds.{Deed}
-use Rattle.zprotocol.specs.traces.Traces.{Step, trace_of, record_of, client_count, told_of, IsMerge, BeginsMerge, stamps_rise, are_in_place, events_of}
+use Rattle.zprotocol.specs.traces.Traces.{Step, trace_of, record_of, client_count, reported_of, IsMerge, BeginsMerge, stamps_rise, are_in_place, events_of}
 use Rattle.zprotocol.specs.traces.Lawful.{AccountFor}
 
 -- the timestamps of lawful traces rise
@@ -21,10 +21,10 @@ LawfulEventsAreInPlace {M} machine =
     → are_in_place machine (opening_world machine t.last (client_count t)) steps ≡ true
 
 -- and the history of the whole run agrees with each client's record
-abbrev pub LawfulRunsTellTheRecords : {M : Type 0} → Does M → Type 0
-LawfulRunsTellTheRecords {M} machine =
+abbrev pub LawfulRunsReportTheRecords : {M : Type 0} → Does M → Type 0
+LawfulRunsReportTheRecords {M} machine =
     (t : Traces) (deeds : Process → List (Deed M)) (steps : List Step) → AccountFor machine t deeds → IsMerge t steps
-    → (c : ℕ) → told_of c (run machine (opening_world machine t.last (client_count t)) (events_of steps)).history ≡ record_of t c
+    → (c : ℕ) → reported_of c (run machine (opening_world machine t.last (client_count t)) (events_of steps)).history ≡ record_of t c
 
 -- traces have at most one merge
 abbrev pub MergeIsOne : Type 0

@@ -130,9 +130,9 @@ client_of (call_event.Begin client number call) = client
 client_of (call_event.Answer client number reply) = client
 
 -- what a history holds of a client
-abbrev pub told_of : ℕ → History → History
-told_of c history = filter (λ e. client_of e == c) history
+abbrev pub reported_of : ℕ → History → History
+reported_of c history = filter (λ e. client_of e == c) history
 
 -- the history holds of each client what its record holds
 abbrev pub AgreesWithRecords : Traces → History → Type 0
-AgreesWithRecords t history = (c : ℕ) → nat_lt c (client_count t) ≡ true → told_of c history ≡ record_of t c
+AgreesWithRecords t history = (c : ℕ) → nat_lt c (client_count t) ≡ true → reported_of c history ≡ record_of t c

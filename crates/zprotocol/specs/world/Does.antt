@@ -41,7 +41,7 @@ pub data Input (M : Type 0) : Type 0 where
 pub record Effect (M : Type 0) : Type 0 where
   pub left : Standing M
   pub posts : List (Post M)
-  pub told : History
+  pub reported : History
 
 -- a process of that standing does something with the input, and doesn't refuse it
 abbrev pub accepts : {M : Type 0} → Process → Input M → Standing M → Bool
@@ -56,10 +56,10 @@ accepts process input standing = false
 
 -- the master has this view then, and sends this; so does a server
 abbrev pub master_effect : {M : Type 0} → master.MasterResult (Transfer M) → Effect M
-master_effect did = record { left = AtMaster did.0; posts = did.1; told = [] }
+master_effect did = record { left = AtMaster did.0; posts = did.1; reported = [] }
 
 abbrev pub server_effect : {M : Type 0} → server.ServerResult M → Effect M
-server_effect did = record { left = AtServer did.0; posts = did.1; told = [] }
+server_effect did = record { left = AtServer did.0; posts = did.1; reported = [] }
 
 -- the failure notice of a server, its last message
 abbrev pub last_post : {M : Type 0} → List (Post M)
@@ -68,24 +68,24 @@ last_post = (Master, message.Gone) ∷ []
 -- a server stops for good. What it had sent is still delivered; zlinearizability/specs/Cuts.antt has the
 -- runs in which any end of it is lost
 abbrev pub stop_effect : {M : Type 0} → Effect M
-stop_effect = record { left = Out; posts = last_post; told = [] }
+stop_effect = record { left = Out; posts = last_post; reported = [] }
 
 -- the answer that a client returns, if any, under its call's number, as callers see it
-abbrev pub answer_told : ℕ → Option (ℕ × Reply) → History
-answer_told c None = []
-answer_told c (Some reply) = call_event.Answer c reply.0 reply.1 ∷ []
+abbrev pub answer_reported : ℕ → Option (ℕ × Reply) → History
+answer_reported c None = []
+answer_reported c (Some reply) = call_event.Answer c reply.0 reply.1 ∷ []
 
 -- a client has this view then, sends this, and returns this answer
 abbrev pub client_effect : {M : Type 0} → ℕ → client.ClientResult (Transfer M) → Effect M
-client_effect c did = record { left = AtClient did.0; posts = did.1; told = answer_told c did.2 }
+client_effect c did = record { left = AtClient did.0; posts = did.1; reported = answer_reported c did.2 }
 
 -- a client that invokes a call
 abbrev pub begin_effect : {M : Type 0} → ℕ → Call → ClientView × List (Post M) → Effect M
-begin_effect c call did = record { left = AtClient did.0; posts = did.1; told = call_event.Begin c did.0.number call ∷ [] }
+begin_effect c call did = record { left = AtClient did.0; posts = did.1; reported = call_event.Begin c did.0.number call ∷ [] }
 
 -- nothing changes, nothing is sent, and callers see nothing
 abbrev pub idle_effect : {M : Type 0} → Standing M → Effect M
-idle_effect standing = record { left = standing; posts = []; told = [] }
+idle_effect standing = record { left = standing; posts = []; reported = [] }
 
 -- what a process does with an input that it accepts: it follows its table. A server that receives
 -- the order to leave stops for good
@@ -97,5 +97,5 @@ does machine (Server s) (Hear from m) (AtServer v) =
 does machine (Server s) Stop (AtServer v) = stop_effect
 does machine (Client c) (Hear from m) (AtClient v) = client_effect c (client.client_step v from m)
 does machine (Client c) (Begin call) (AtClient v) = begin_effect c call (client.begin_step v call)
-does machine (Client c) Retry (AtClient v) = record { left = AtClient v; posts = client.retry_posts v; told = [] }
+does machine (Client c) Retry (AtClient v) = record { left = AtClient v; posts = client.retry_posts v; reported = [] }
 does machine process input standing = idle_effect standing

@@ -63,7 +63,7 @@ goes_on history (seen ∷ more) = history ++ seen ∷ more
 
 -- a process did this: its standing then, what it sent, and what callers see
 abbrev pub did_in : {M : Type 0} → World M → Process → Effect M → World M
-did_in w p did = record (with_standing w p did.left) { links = put w.links p did.posts; history = goes_on w.history did.told }
+did_in w p did = record (with_standing w p did.left) { links = put w.links p did.posts; history = goes_on w.history did.reported }
 
 -- a process does with an input what its definition says
 abbrev pub does_in : {M : Type 0} → Does M → World M → Process → Input M → World M

@@ -2,10 +2,10 @@
 -- depends on that. The proof of the chain needs what failed servers held, and preserves it.
 use Rattle.std.specs.Prelude.{◌≡◌, ℕ, true, if◌then◌else◌, List, [], ◌∷◌}
 use Rattle.ztree.specs.Tree.{Tree}
-use Rattle.zcalls.specs.Kept.{KeptState}
+use Rattle.zcalls.specs.Cached.{CachedState}
 use Rattle.zprotocol.specs.declared.message.Message.TheVariants as message
 use Rattle.zprotocol.specs.declared.process.Process.TheVariants.{Master, Server}
-use Rattle.zprotocol.specs.server.Machine.{Does, kept_tree}
+use Rattle.zprotocol.specs.server.Machine.{Does, cached_tree}
 use Rattle.zprotocol.specs.server.View.{MessageOf}
 use Rattle.zprotocol.specs.declared.world.event.Event.{Event}
 use Rattle.zprotocol.specs.declared.world.event.Event.TheVariants.{Take, Fail}
@@ -23,15 +23,15 @@ run_keeping machine w (event ∷ events) = run_keeping machine (keeps machine w 
 -- with that dropped, it is the run of the definition, and has the same history
 abbrev pub KeepingDoesTheSame : Type 0
 KeepingDoesTheSame =
-    (w : World (KeptState Tree)) (events : List Event) → run kept_tree (let_go w) events ≡ let_go (run_keeping kept_tree w events)
+    (w : World (CachedState Tree)) (events : List Event) → run cached_tree (let_go w) events ≡ let_go (run_keeping cached_tree w events)
 
 -- the same events are enabled
 abbrev pub KeepingHasTheSameEnabled : Type 0
-KeepingHasTheSameEnabled = (w : World (KeptState Tree)) (event : Event) → is_enabled (let_go w) event ≡ is_enabled w event
+KeepingHasTheSameEnabled = (w : World (CachedState Tree)) (event : Event) → is_enabled (let_go w) event ≡ is_enabled w event
 
 -- a server that receives an order to retire is as one that failed at that moment
 abbrev pub RetiredHaveFailed : Type 0
 RetiredHaveFailed =
-    (w : World (KeptState Tree)) (s : ℕ) (more : List (MessageOf (KeptState Tree)))
+    (w : World (CachedState Tree)) (s : ℕ) (more : List (MessageOf (CachedState Tree)))
     → w.links Master (Server s) ≡ message.Retire ∷ more → is_enabled w (Fail s) ≡ true
-    → happens kept_tree w (Fail s) ≡ happens kept_tree w (Take Master (Server s))
+    → happens cached_tree w (Fail s) ≡ happens cached_tree w (Take Master (Server s))

@@ -3,9 +3,9 @@
 use Rattle.std.specs.Prelude.{◌≡◌, ◌⊎◌, ◌≤◌, ◌*◌, [], ℕ, ◌+◌, true, false, List, length}
 use Rattle.std.specs.List.{list_any}
 use Rattle.ztree.specs.Tree.{Tree}
-use Rattle.zcalls.specs.Kept.{KeptState}
+use Rattle.zcalls.specs.Cached.{CachedState}
 use Rattle.zcalls.specs.Lists.{Among}
-use Rattle.zprotocol.specs.server.Machine.{kept_tree}
+use Rattle.zprotocol.specs.server.Machine.{cached_tree}
 use Rattle.zprotocol.specs.declared.world.outcome.Outcome.{Outcome}
 use Rattle.zprotocol.specs.declared.world.settled.Settled.TheVariants.{Quiet}
 use Rattle.zprotocol.specs.declared.world.event.Event.{Event}
@@ -19,37 +19,37 @@ use Rattle.zprotocol.specs.world.Events.{is_enabled, run}
 use Rattle.zprotocol.specs.world.Settle.{Settling, settle, settling_end, deliveries}
 
 -- settling the world of the service
-abbrev pub settling_of : World (KeptState Tree) → ℕ → List Outcome → Settling (KeptState Tree)
-settling_of w limit outcomes = settle kept_tree w limit outcomes
+abbrev pub settling_of : World (CachedState Tree) → ℕ → List Outcome → Settling (CachedState Tree)
+settling_of w limit outcomes = settle cached_tree w limit outcomes
 
 -- settling is a run: its events lead to its world
 abbrev pub SettlingIsARun : Type 0
 SettlingIsARun =
-    (w : World (KeptState Tree)) (limit : ℕ) (outcomes : List Outcome)
-    → (settling_of w limit outcomes).world ≡ run kept_tree w (settling_of w limit outcomes).events
+    (w : World (CachedState Tree)) (limit : ℕ) (outcomes : List Outcome)
+    → (settling_of w limit outcomes).world ≡ run cached_tree w (settling_of w limit outcomes).events
 
 -- its events, and those that it might still do, are as many as the limit
 abbrev pub SettlingKeepsItsLimit : Type 0
 SettlingKeepsItsLimit =
-    (w : World (KeptState Tree)) (limit : ℕ) (outcomes : List Outcome)
+    (w : World (CachedState Tree)) (limit : ℕ) (outcomes : List Outcome)
     → (settling_of w limit outcomes).left + length (settling_of w limit outcomes).events ≡ limit
 
 -- where it ends Quiet, no message can be delivered
 abbrev pub QuietHasNothingToTake : Type 0
 QuietHasNothingToTake =
-    (w : World (KeptState Tree)) (limit : ℕ) (outcomes : List Outcome)
+    (w : World (CachedState Tree)) (limit : ℕ) (outcomes : List Outcome)
     → settling_end (settling_of w limit outcomes) ≡ Quiet
     → list_any (is_enabled (settling_of w limit outcomes).world) (deliveries w.master.clients) ≡ false
 
 -- where an outcome fits, the event resolves as it says
 abbrev pub FittingOutcomesAreRead : Type 0
 FittingOutcomesAreRead =
-    (w : World (KeptState Tree)) (event : Event) (outcome : Outcome)
-    → is_fitting kept_tree w event outcome ≡ true → read kept_tree w event outcome ≡ reading_by event outcome
+    (w : World (CachedState Tree)) (event : Event) (outcome : Outcome)
+    → is_fitting cached_tree w event outcome ≡ true → read cached_tree w event outcome ≡ reading_by event outcome
 
 -- the world after events, from the initial world with this many servers and clients
-abbrev pub world_after : ℕ → ℕ → List Event → World (KeptState Tree)
-world_after servers clients events = run kept_tree (opening_world kept_tree servers clients) events
+abbrev pub world_after : ℕ → ℕ → List Event → World (CachedState Tree)
+world_after servers clients events = run cached_tree (opening_world cached_tree servers clients) events
 
 -- from an initial world, every channel that holds a message is among those that settling visits
 abbrev pub LinksAreVisited : Type 0

@@ -6,7 +6,7 @@ use Rattle.ztree.specs.Lawful.{IsLawful}
 use Rattle.zcalls.specs.declared.call.Call.{Call}
 use Rattle.zcalls.specs.declared.call.Call.TheVariants.{Update, Query}
 use Rattle.zcalls.specs.declared.reply.Reply.{Reply}
-use Rattle.zcalls.specs.Kept.{Plain}
+use Rattle.zcalls.specs.Cached.{Plain}
 use Rattle.zcalls.specs.PlainTree.{plain_tree}
 use Rattle.zcalls.specs.Operation.{Operation}
 use Rattle.zprotocol.specs.world.History.{History}

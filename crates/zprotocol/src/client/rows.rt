@@ -11,7 +11,7 @@ ghost use Rattle.zprotocol.specs.client.View.{opening_client};
 ghost use Rattle.zprotocol.specs.client.Table.{begin_fault};
 ghost use Rattle.zprotocol.specs.client.support.Rows.{update_call, query_call, idle, updating};
 ghost use Rattle.zprotocol.specs.client.support.Rows.{asking, newcomer, beginner, outsider, eighth};
-ghost use Rattle.zprotocol.specs.client.support.Rows.{with_calls, headless, told, told_of_none};
+ghost use Rattle.zprotocol.specs.client.support.Rows.{with_calls, headless, reported, reported_of_none};
 ghost use Rattle.zprotocol.specs.client.support.Rows.{submit_to, query_to, Ignores, after_call};
 ghost use Rattle.zprotocol.specs.client.support.Rows.{after_retry, after_answer, hears, hears_of_none};
 
@@ -35,10 +35,10 @@ pub fn answers_are_taken()
     ensures old_answer { Ignores updating (Server 3) (message.Answer 6 Deleted) }
     ensures answer_again { Ignores idle (Server 3) (message.Answer 7 Deleted) }
     ensures answer_of_the_master { Ignores updating Master (message.Answer 7 Deleted) }
-    ensures config_and_update { hears updating 2 4 ≡ (told 2 4 updating, submit_to 2 7 ∷ [], None) }
-    ensures config_and_query { hears asking 2 4 ≡ (told 2 4 asking, query_to 4 7 ∷ [], None) }
-    ensures config_and_no_call { hears idle 2 4 ≡ (told 2 4 idle, [], None) }
-    ensures config_without_chain { hears_of_none asking ≡ (told_of_none asking, [], None) }
+    ensures config_and_update { hears updating 2 4 ≡ (reported 2 4 updating, submit_to 2 7 ∷ [], None) }
+    ensures config_and_query { hears asking 2 4 ≡ (reported 2 4 asking, query_to 4 7 ∷ [], None) }
+    ensures config_and_no_call { hears idle 2 4 ≡ (reported 2 4 idle, [], None) }
+    ensures config_without_chain { hears_of_none asking ≡ (reported_of_none asking, [], None) }
     ensures config_of_same_epoch { Ignores asking Master (message.Config 4 (Some 2) (Some 4)) }
     ensures config_of_a_server { Ignores asking (Server 1) (message.Config 5 (Some 2) (Some 4)) }
     ensures other_message { Ignores asking (Server 1) (message.Ack 4 7) }

@@ -14,7 +14,7 @@ ghost use Rattle.zprotocol.specs.master.support.Rows.{opening_of_two, three, fou
 ghost use Rattle.zprotocol.specs.master.support.Rows.{lost, empty, with_fifth, retiring, with_chain};
 ghost use Rattle.zprotocol.specs.master.support.Rows.{three_without_1, three_without_2, three_without_4};
 ghost use Rattle.zprotocol.specs.master.support.Rows.{four_without_2, four_without_3, growing_without_2};
-ghost use Rattle.zprotocol.specs.master.support.Rows.{without_joining, tells, tells_of_none, passed_on};
+ghost use Rattle.zprotocol.specs.master.support.Rows.{without_joining, reports, reports_of_none, passed_on};
 ghost use Rattle.zprotocol.specs.master.support.Rows.{new_head, new_tail, new_pred, Ignores, after_order};
 ghost use Rattle.zprotocol.specs.master.support.Rows.{after_have, after_joined, after_gone};
 
@@ -26,7 +26,7 @@ pub fn reports_are_passed_on()
     ensures have_of_the_head { Ignores three (Server 1) (message.Have 0 (Some 9)) }
     ensures have_of_a_stranger { Ignores three (Server 3) (message.Have 5 (Some 9)) }
     ensures have_of_a_client { Ignores three (Client 4) (message.Have 5 (Some 9)) }
-    ensures joined { after_joined growing ≡ (without_joining growing, tells 1 4) }
+    ensures joined { after_joined growing ≡ (without_joining growing, reports 1 4) }
     ensures joined_of_another { Ignores growing (Server 2) (message.Joined 5) }
     ensures joined_again { Ignores three (Server 4) (message.Joined 5) }
     ensures order_of_a_server { Ignores three (Server 1) (message.BecomeTail 7) }
@@ -41,7 +41,7 @@ pub fn chain_is_mended()
     ensures second_of_four { after_gone four 2 ≡ (four_without_2, new_pred 3 1 1 4) }
     ensures joining { after_gone growing 4 ≡ (three_without_4, new_tail 1 2) }
     ensures beneath_one_that_joins { after_gone growing 2 ≡ (growing_without_2, new_pred 4 1 1 1) }
-    ensures only { after_gone one 2 ≡ (with_chain [] one, tells_of_none) }
+    ensures only { after_gone one 2 ≡ (with_chain [] one, reports_of_none) }
     ensures outside { Ignores three (Server 3) message.Gone }
     ensures spare { after_gone three 5 ≡ (record three { used = 1 ∷ 2 ∷ 3 ∷ 4 ∷ 5 ∷ [] }, []) }
 {}

@@ -181,7 +181,7 @@ pub fn queries_are_lost_at_a_tail()
 {}
 
 /// Which messages are replies to calls.
-pub fn answers_are_told_apart()
+pub fn answers_are_distinct()
     ensures answer { is_answer {M = ℕ} (message.Answer 18 (number_reply 7)) ≡ true }
     ensures submit { is_answer {M = ℕ} submit ≡ false }
     ensures query { is_answer {M = ℕ} ask ≡ false }

@@ -1,15 +1,15 @@
 //! Laws of the definitions: each function's contract is a law, and its body does nothing.
 
-ghost use Rattle.zprotocol.specs.server.Machine.{kept_tree};
-ghost use Rattle.zprotocol.specs.traces.Laws.{LawfulStampsRise, LawfulEventsAreInPlace, LawfulRunsTellTheRecords};
+ghost use Rattle.zprotocol.specs.server.Machine.{cached_tree};
+ghost use Rattle.zprotocol.specs.traces.Laws.{LawfulStampsRise, LawfulEventsAreInPlace, LawfulRunsReportTheRecords};
 ghost use Rattle.zprotocol.specs.traces.Laws.{EachHasAMerge, MergeGoesByStamps, MergeIsOne};
 
 /// Lawful traces are a run of the world. Along their merge by timestamps each event is allowed. The
 /// run's history agrees with each client's record.
 pub fn lawful_traces_are_a_run()
-    ensures stamps { LawfulStampsRise kept_tree }
-    ensures places { LawfulEventsAreInPlace kept_tree }
-    ensures records { LawfulRunsTellTheRecords kept_tree }
+    ensures stamps { LawfulStampsRise cached_tree }
+    ensures places { LawfulEventsAreInPlace cached_tree }
+    ensures records { LawfulRunsReportTheRecords cached_tree }
 {}
 
 /// Every set of traces has exactly one merge. If the timestamps of each trace rise, they never fall

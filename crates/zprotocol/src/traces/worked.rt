@@ -13,10 +13,10 @@ ghost use Rattle.zprotocol.specs.declared.traces.trace.Act.TheVariants.{Took, Be
 ghost use Rattle.zprotocol.specs.declared.traces.trace.Act.TheVariants.{Left};
 ghost use Rattle.zprotocol.specs.declared.traces.trace.Traces.{Traces};
 ghost use Rattle.zprotocol.specs.traces.Traces.{event_of, comes_before, stamps_rise, is_in_place};
-ghost use Rattle.zprotocol.specs.traces.Traces.{is_step_in_place, told_of, Merges};
+ghost use Rattle.zprotocol.specs.traces.Traces.{is_step_in_place, reported_of, Merges};
 ghost use Rattle.zprotocol.specs.traces.Deeds.{Deed, IsStamped};
 ghost use Rattle.zprotocol.specs.world.Does.{AtServer, Out};
-ghost use Rattle.zprotocol.specs.traces.Deeds.{standing_in, takes, puts, told_by};
+ghost use Rattle.zprotocol.specs.traces.Deeds.{standing_in, takes, puts, reported_by};
 ghost use Rattle.zprotocol.specs.traces.Audit.{is_any_cut};
 ghost use Rattle.zprotocol.specs.traces.support.TraceRows.{s1, c0, write, read, opening, step_of, tick};
 ghost use Rattle.zprotocol.specs.traces.support.TraceRows.{tick_of, both_at_1, written_and_read, seen};
@@ -74,8 +74,8 @@ pub fn stamps_rise_by_events()
 /// the caller sees. A run may lose any request: a server's rows say that it handles each update.
 pub fn written_and_read_is_a_run()
     ensures in_place { runs written_and_read ≡ true }
-    ensures told { told_of 0 (after_steps written_and_read).history ≡ seen }
-    ensures of_nobody_else { told_of 1 (after_steps written_and_read).history ≡ [] }
+    ensures reported { reported_of 0 (after_steps written_and_read).history ≡ seen }
+    ensures of_nobody_else { reported_of 1 (after_steps written_and_read).history ≡ [] }
     ensures without_its_beginning { runs (drop 1 written_and_read) ≡ false }
     ensures answer_before_the_deed { runs (begun write ∷ step_of c0 3 (Took s1 Acted) ∷ [])
         ≡ false }
@@ -139,7 +139,7 @@ pub fn write_goes_by_the_tables()
     ensures answer { takes s1 client_deeds ≡ puts c0 server_deeds }
     ensures answer_is_stamped { puts c0 server_deeds ≡ (2, answer) ∷ [] }
     ensures nothing_from_the_master { takes Master client_deeds ≡ [] }
-    ensures seen { told_by client_deeds ≡ take 2 seen }
+    ensures seen { reported_by client_deeds ≡ take 2 seen }
 {}
 
 /// How a server ends: it stops at a message by which it would grow, it leaves, or it is halted.

@@ -17,9 +17,9 @@ ghost use Rattle.zcalls.specs.Step.{step, query_reply};
 ghost use Rattle.zprotocol.specs.world.PlainTree.{service_of, serve};
 ghost use Rattle.zprotocol.specs.world.Keeping.{KeepingDoesTheSame, KeepingHasTheSameEnabled};
 ghost use Rattle.zprotocol.specs.world.Keeping.{RetiredHaveFailed};
-ghost use Rattle.zprotocol.specs.server.Machine.{kept_tree};
+ghost use Rattle.zprotocol.specs.server.Machine.{cached_tree};
 ghost use Rattle.zprotocol.specs.world.FromTree.{EventsForgetTheStart, RunsForgetTheStart};
-ghost use Rattle.zprotocol.specs.world.Lives.{TwoLivesAreOne, TheSecondLifeLeavesTheTree};
+ghost use Rattle.zprotocol.specs.world.Incarnations.{TwoIncarnationsAreOne, TheSecondIncarnationLeavesTheTree};
 ghost use Rattle.zprotocol.specs.world.support.Learning.{DoneIsLearnt, IdleIsPassed, PassBegins};
 ghost use Rattle.zprotocol.specs.world.support.Learning.{PassesEnd, ReadingIsLearnt};
 ghost use Rattle.zprotocol.specs.world.Laws.{FittingOutcomesAreRead, LinksAreVisited, QuietIsQuiet};
@@ -70,11 +70,11 @@ pub fn epochs_are_few()
 /// outcome when its event is done. The definition, given the outcomes learnt so far and any others,
 /// is where the program is, given those others.
 pub fn outcomes_are_learnt()
-    ensures done { DoneIsLearnt kept_tree }
-    ensures idle { IdleIsPassed kept_tree }
-    ensures begins { PassBegins kept_tree }
-    ensures ends { PassesEnd kept_tree }
-    ensures reading { ReadingIsLearnt kept_tree }
+    ensures done { DoneIsLearnt cached_tree }
+    ensures idle { IdleIsPassed cached_tree }
+    ensures begins { PassBegins cached_tree }
+    ensures ends { PassesEnd cached_tree }
+    ensures reading { ReadingIsLearnt cached_tree }
 {}
 
 /// Where an outcome fits, the event resolves as the outcome says: a server that stops has failed,
@@ -102,7 +102,7 @@ pub fn runs_forget_the_start()
 /// A service ends, and restarts from a snapshot with only the tree that it left. What callers saw
 /// in both incarnations is linearizable over one plain tree, as if there were one. The law joins
 /// the first two, so it holds for any number of incarnations.
-pub fn two_lives_are_one()
-    ensures explained { TwoLivesAreOne }
-    ensures leaves { TheSecondLifeLeavesTheTree }
+pub fn two_incarnations_are_one()
+    ensures explained { TwoIncarnationsAreOne }
+    ensures leaves { TheSecondIncarnationLeavesTheTree }
 {}

@@ -6,7 +6,7 @@ ghost use Rattle.zcalls.specs.declared.call.Lifetime.TheVariants.{Persistent, Wi
 ghost use Rattle.zcalls.specs.declared.call.Expected.TheVariants.{Any, Exactly};
 ghost use Rattle.zrequests.specs.declared.limits.TheConstants.{NO_VERSION, ALL_PERMISSIONS, MAX_PATHS};
 ghost use Rattle.zrequests.specs.Asking.{path_in, data_in, version_in, has_open_acl, kind_in, ttl_in, timed_kind_in};
-ghost use Rattle.zrequests.specs.Timeouts.{ticks_asked, millis_told};
+ghost use Rattle.zrequests.specs.Timeouts.{ticks_asked, millis_reported};
 ghost use Rattle.zrequests.specs.support.Samples.{bad, unimplemented, open_entry};
 
 /// Paths: null and invalid ones are refused.
@@ -78,10 +78,10 @@ pub fn timeouts_of_requests()
     ensures part { ticks_asked 2000 (pos 10001) ≡ 7 }
     ensures none { ticks_asked 2000 (pos 0) ≡ 1 }
     ensures negative { ticks_asked 2000 (negsuc 4) ≡ 1 }
-    ensures told { millis_told 2000 6 ≡ pos 10000 }
-    ensures least { millis_told 2000 2 ≡ pos 2000 }
-    ensures most { millis_told 2000 20 ≡ pos 38000 }
-    ensures bits { millis_told 4294967295 20 ≡ pos 2147483647 }
+    ensures reported { millis_reported 2000 6 ≡ pos 10000 }
+    ensures least { millis_reported 2000 2 ≡ pos 2000 }
+    ensures most { millis_reported 2000 20 ≡ pos 38000 }
+    ensures bits { millis_reported 4294967295 20 ≡ pos 2147483647 }
 {}
 
 /// The limits as numbers.

@@ -23,15 +23,15 @@ abbrev pub too_long : Answer
 too_long = failed code.MarshallingError
 
 -- the text of the answer, or of that error
-abbrev pub text_told : ℕ → ℤ → Answer → List ℕ
-text_told zxid xid answer =
+abbrev pub text_reported : ℕ → ℤ → Answer → List ℕ
+text_reported zxid xid answer =
     if nat_lt MAX_FRAME (length (answer_text zxid xid answer))
     then answer_text zxid xid too_long
     else answer_text zxid xid answer
 
 -- an answer as a frame
 abbrev pub answer_frame : ℕ → ℤ → Answer → List ℕ
-answer_frame zxid xid answer = frame (text_told zxid xid answer)
+answer_frame zxid xid answer = frame (text_reported zxid xid answer)
 
 -- after an answer with this code the connection is closed: the client's identity was refused
 abbrev pub ends_connection : Code → Bool
@@ -39,8 +39,8 @@ ends_connection code.AuthFailed = true
 ends_connection other = false
 
 -- the server isn't read-only; a client that knows the flag gets it
-abbrev pub flag_told : ConnectRequest → Option Bool
-flag_told request = option_map (λ asked. false) request.read_only
+abbrev pub flag_reported : ConnectRequest → Option Bool
+flag_reported request = option_map (λ asked. false) request.read_only
 
 -- the connect response
 abbrev pub response : ConnectRequest → ℤ → ℤ → List ℕ → ConnectResponse
@@ -49,7 +49,7 @@ response request timeout session password = record {
   timeout = timeout;
   session_id = session;
   password = password;
-  read_only = flag_told request;
+  read_only = flag_reported request;
 }
 
 -- as a frame

@@ -5,8 +5,8 @@ use Rattle.std.specs.Option.{option_map_or}
 use lib.Pointwise.{pointwise}
 use Rattle.zjute.specs.declared.connecting.ConnectRequest.{ConnectRequest}
 use Rattle.zresponses.specs.Stats.{long_of}
-use Rattle.zrequests.specs.Timeouts.{millis_told}
-use Rattle.zconnections.specs.Tables.{TablesView, sent, closed, sitting, taken_up}
+use Rattle.zrequests.specs.Timeouts.{millis_reported}
+use Rattle.zconnections.specs.Tables.{TablesView, sent, closed, attachment, taken_up}
 use Rattle.zresponses.specs.effects.Frames.{response_frame}
 
 -- the client has seen changes that this tree doesn't have
@@ -14,14 +14,14 @@ abbrev pub is_ahead : ℕ → ConnectRequest → Bool
 is_ahead zxid request = int_lt (long_of zxid) request.last_zxid_seen
 
 -- a connect response is sent, with the session and its timeout in milliseconds
-abbrev pub session_told : ConnectRequest → ℕ → ℤ → List ℕ → ℕ → TablesView → TablesView
-session_told request session timeout password c t =
+abbrev pub session_reported : ConnectRequest → ℕ → ℤ → List ℕ → ℕ → TablesView → TablesView
+session_reported request session timeout password c t =
     sent c (response_frame request timeout (long_of session) password) t
 
 -- a new session, with the timeout granted in ticks
 abbrev pub welcomed : ℕ → ConnectRequest → ℕ → ℕ → List ℕ → ℕ → TablesView → TablesView
 welcomed tick request session ticks password c t =
-    session_told request session (millis_told tick ticks) password c (sitting session c t)
+    session_reported request session (millis_reported tick ticks) password c (attachment session c t)
 
 -- a client without a session gets a response that says so, and its connection is closed
 abbrev pub turned_away : ConnectRequest → ℕ → TablesView → TablesView
@@ -35,5 +35,5 @@ given request = option_map_or (λ bytes. bytes) request.password []
 abbrev pub came_back : ℕ → ConnectRequest → ℕ → ℕ → List ℕ → ℕ → TablesView → TablesView
 came_back tick request session ticks password c t =
     if pointwise nat_eq (given request) password
-    then session_told request session (millis_told tick ticks) password c (taken_up session c t)
+    then session_reported request session (millis_reported tick ticks) password c (taken_up session c t)
     else turned_away request c t

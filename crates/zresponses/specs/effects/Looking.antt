@@ -26,9 +26,9 @@ node_seen zxid other p stat = []
 abbrev pub seen_at : ℕ → Place → Reply → List Event
 seen_at zxid p (reply.Refused NoNode) = event NodeDeleted p.path ∷ []
 seen_at zxid p (reply.Exists stat) = node_seen zxid p.kind p stat
-seen_at zxid p told = []
+seen_at zxid p reported = []
 
 -- and at all positions
 abbrev pub seen : ℕ → List Place → List Reply → List Event
-seen zxid (p ∷ places) (told ∷ replies) = seen_at zxid p told ++ seen zxid places replies
+seen zxid (p ∷ places) (reported ∷ replies) = seen_at zxid p reported ++ seen zxid places replies
 seen zxid places replies = []

@@ -7,14 +7,14 @@ use Rattle.zcalls.specs.declared.reply.Reply.{Reply}
 use Rattle.zwatches.specs.changes.Events.{events_of}
 use Rattle.zresponses.specs.declared.answer.Answer.{Answer}
 use Rattle.zconnections.specs.Tables.{TablesView, sent, closed}
-use Rattle.zconnections.specs.Telling.{told_all}
+use Rattle.zconnections.specs.Reporting.{reported_all}
 use Rattle.zconnections.specs.Sweeping.{noted}
 use Rattle.zresponses.specs.effects.Frames.{answer_frame, ends_connection}
 
 -- a call has its reply: the events of an update are sent, and an ephemeral node that it made is
 -- noted
 abbrev pub absorbed : Call → Reply → TablesView → TablesView
-absorbed (call.Update update) reply t = told_all (events_of update reply) (record t { sittings = noted update reply t.sittings })
+absorbed (call.Update update) reply t = reported_all (events_of update reply) (record t { attachments = noted update reply t.attachments })
 absorbed (call.Query query) reply t = t
 
 -- the same for calls in order

@@ -6,9 +6,9 @@ use Rattle.ztree.specs.Tree.{Path}
 use Rattle.zwatches.specs.declared.kind.Kind.{Kind}
 use Rattle.zwatches.specs.Watches.{watch, is_full}
 use Rattle.zconnections.specs.Tables.{TablesView, sent}
-use Rattle.zconnections.specs.Telling.{event_frame}
+use Rattle.zconnections.specs.Reporting.{event_frame}
 use Rattle.zresponses.specs.declared.effects.wish.Wish.{Wish}
-use Rattle.zresponses.specs.declared.effects.wish.Wish.TheVariants.{Waits, Tells}
+use Rattle.zresponses.specs.declared.effects.wish.Wish.TheVariants.{Waits, Reports}
 
 -- a watch is set, if there is room for it
 abbrev pub waiting : ℕ → Kind → Path → TablesView → TablesView
@@ -18,12 +18,12 @@ waiting c kind path t =
 -- a wish of a connection is granted: a watch is set, or its event is sent
 abbrev pub granted : ℕ → Wish → TablesView → TablesView
 granted c (Waits kind path) t = waiting c kind path t
-granted c (Tells event) t = sent c (event_frame event) t
+granted c (Reports event) t = sent c (event_frame event) t
 
 -- there is no room for it
 abbrev pub lacks_room : ℕ → Wish → TablesView → Bool
 lacks_room c (Waits kind path) t = is_full t.watches (watch path kind c)
-lacks_room c (Tells event) t = false
+lacks_room c (Reports event) t = false
 
 -- wishes in order
 abbrev pub granted_all : ℕ → List Wish → TablesView → TablesView

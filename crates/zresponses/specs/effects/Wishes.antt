@@ -19,7 +19,7 @@ use Rattle.zresponses.specs.Stats.{long_of}
 use Rattle.zwatches.specs.declared.kind.Kind.{Kind}
 use Rattle.zwatches.specs.declared.kind.Kind.TheVariants.{Data, Missing, Children}
 use Rattle.zresponses.specs.declared.effects.wish.Wish.{Wish}
-use Rattle.zresponses.specs.declared.effects.wish.Wish.TheVariants.{Waits, Tells}
+use Rattle.zresponses.specs.declared.effects.wish.Wish.TheVariants.{Waits, Reports}
 
 -- the watch of a query, from its reply; `exists` watches a node or waits for its creation, and
 -- `getData` and `getChildren` watch an existing node
@@ -28,11 +28,11 @@ query_wish (query.Exists path) (reply.Exists stat) = Waits Data path ∷ []
 query_wish (query.Exists path) (reply.Refused NoNode) = Waits Missing path ∷ []
 query_wish (query.GetData path) (reply.Data bytes stat) = Waits Data path ∷ []
 query_wish (query.GetChildren path) (reply.Children names) = Waits Children path ∷ []
-query_wish query told = []
+query_wish query reported = []
 
 -- the watch of a request for one node: that of its first call
 abbrev pub first_wish : List Call → List Reply → List Wish
-first_wish (Query query ∷ calls) (told ∷ replies) = query_wish query told
+first_wish (Query query ∷ calls) (reported ∷ replies) = query_wish query reported
 first_wish calls replies = []
 
 -- the watch of a request, if it asks for one
@@ -43,23 +43,23 @@ look_wish look calls replies = if look.watch then first_wish calls replies else 
 -- happened meanwhile, the event is sent at once
 abbrev pub wish_again : Kind → ℤ → Path → Reply → List Wish
 wish_again Data seen path (reply.Exists stat) =
-    (if int_lt seen (long_of stat.mzxid) then Tells (event NodeDataChanged path) else Waits Data path) ∷ []
-wish_again Data seen path (reply.Refused NoNode) = Tells (event NodeDeleted path) ∷ []
-wish_again Missing seen path (reply.Exists stat) = Tells (event NodeCreated path) ∷ []
+    (if int_lt seen (long_of stat.mzxid) then Reports (event NodeDataChanged path) else Waits Data path) ∷ []
+wish_again Data seen path (reply.Refused NoNode) = Reports (event NodeDeleted path) ∷ []
+wish_again Missing seen path (reply.Exists stat) = Reports (event NodeCreated path) ∷ []
 wish_again Missing seen path (reply.Refused NoNode) = Waits Missing path ∷ []
 wish_again Children seen path (reply.Exists stat) =
-    (if int_lt seen (long_of stat.pzxid) then Tells (event NodeChildrenChanged path) else Waits Children path) ∷ []
-wish_again Children seen path (reply.Refused NoNode) = Tells (event NodeDeleted path) ∷ []
-wish_again kind seen path told = []
+    (if int_lt seen (long_of stat.pzxid) then Reports (event NodeChildrenChanged path) else Waits Children path) ∷ []
+wish_again Children seen path (reply.Refused NoNode) = Reports (event NodeDeleted path) ∷ []
+wish_again kind seen path reported = []
 
 -- the same from its call, which asks whether the node exists
 abbrev pub call_again : Kind → ℤ → Call → Reply → List Wish
-call_again kind seen (Query (query.Exists path)) told = wish_again kind seen path told
-call_again kind seen call told = []
+call_again kind seen (Query (query.Exists path)) reported = wish_again kind seen path reported
+call_again kind seen call reported = []
 
 -- the watches of one kind
 abbrev pub wishes_again : Kind → ℤ → List Call → List Reply → List Wish
-wishes_again kind seen (call ∷ calls) (told ∷ replies) = call_again kind seen call told ++ wishes_again kind seen calls replies
+wishes_again kind seen (call ∷ calls) (reported ∷ replies) = call_again kind seen call reported ++ wishes_again kind seen calls replies
 wishes_again kind seen calls replies = []
 
 -- all of them: data watches first, then those for a creation, then child watches

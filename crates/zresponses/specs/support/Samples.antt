@@ -4,7 +4,7 @@ use Rattle.ztree.specs.support.Samples.{at_a_b}
 use Rattle.zcalls.specs.declared.call.Create.{Create}
 use Rattle.zcalls.specs.declared.call.Lifetime.TheVariants.{Ephemeral, WithTtl}
 use Rattle.zcalls.specs.Part.{named, sequential}
-use Rattle.zjute.specs.declared.stat.Stat.{Stat as ToldStat}
+use Rattle.zjute.specs.declared.stat.Stat.{Stat as ReportedStat}
 use Rattle.zjute.specs.declared.request.Create.{Create as AskedCreate}
 use Rattle.zjute.specs.declared.request.Look.{Look}
 use Rattle.zresponses.specs.declared.clock.Clock.{Clock}
@@ -19,8 +19,8 @@ abbrev pub now : Now
 now = record { zxid = 20; time = 21 }
 
 -- the stat for a client whose numbers all differ
-abbrev pub told_stat : ToldStat
-told_stat = record {
+abbrev pub reported_stat : ReportedStat
+reported_stat = record {
   czxid = pos 1;
   mzxid = pos 2;
   ctime = pos 1008000;
@@ -42,8 +42,8 @@ abbrev pub timed_b : Create
 timed_b = record { path = at_a_b; kind = named (WithTtl 5); bytes = [] }
 
 -- the stats for a client of the nodes that they made
-abbrev pub told_of_b : ToldStat
-told_of_b = record {
+abbrev pub reported_of_b : ReportedStat
+reported_of_b = record {
   czxid = pos 20;
   mzxid = pos 20;
   ctime = pos 1042000;
@@ -57,8 +57,8 @@ told_of_b = record {
   pzxid = pos 20;
 }
 
-abbrev pub told_of_timed : ToldStat
-told_of_timed = record told_of_b { ephemeral_owner = pos 0; data_length = pos 0 }
+abbrev pub reported_of_timed : ReportedStat
+reported_of_timed = record reported_of_b { ephemeral_owner = pos 0; data_length = pos 0 }
 
 -- the text of /a/b, and requests for it
 abbrev pub text_a_b : List ℕ

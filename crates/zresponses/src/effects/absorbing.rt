@@ -18,7 +18,7 @@ pub fn absorb(alloc: Global, tables: &mut Tables, call: &Call, reply: &Reply) ->
     };
     tables.note(update, reply);
     let events = events_of(alloc, update, reply)?;
-    tables.tell_all(events.as_slice())
+    tables.report_all(events.as_slice())
 }
 
 /// The same for calls in order, each with its reply.

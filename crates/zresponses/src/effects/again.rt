@@ -6,7 +6,7 @@ ghost use Rattle.zresponses.specs.effects.Wishes.{all_again, call_again};
 
 use crate::effects::numbers::long_of;
 use crate::effects::wish::Wish;
-use crate::effects::wishes::{tells, waits};
+use crate::effects::wishes::{reports, waits};
 use zalloc::Memory;
 use zcalls::{Call, Query, Refusal, Reply};
 use zwatches::changes::EventKind;
@@ -93,21 +93,21 @@ fn wish_again(
     match (kind, reply) {
         (Kind::Data, Reply::Exists(stat)) => {
             if *seen < long_of(stat.mzxid.number()) {
-                tells(EventKind::NodeDataChanged, path, list)
+                reports(EventKind::NodeDataChanged, path, list)
             } else {
                 waits(kind, path, list)
             }
         }
         (Kind::Children, Reply::Exists(stat)) => {
             if *seen < long_of(stat.pzxid.number()) {
-                tells(EventKind::NodeChildrenChanged, path, list)
+                reports(EventKind::NodeChildrenChanged, path, list)
             } else {
                 waits(kind, path, list)
             }
         }
-        (Kind::Missing, Reply::Exists(_)) => tells(EventKind::NodeCreated, path, list),
+        (Kind::Missing, Reply::Exists(_)) => reports(EventKind::NodeCreated, path, list),
         (Kind::Missing, Reply::Refused(Refusal::NoNode)) => waits(kind, path, list),
-        (_, Reply::Refused(Refusal::NoNode)) => tells(EventKind::NodeDeleted, path, list),
+        (_, Reply::Refused(Refusal::NoNode)) => reports(EventKind::NodeDeleted, path, list),
         _ => Ok(()),
     }
 }

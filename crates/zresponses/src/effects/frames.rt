@@ -38,13 +38,13 @@ pub(crate) fn answer_frame(
     ensures { IfOk result (λ bytes. bytes.items ≡ table.answer_frame zxid xid answer) }
 {
     let Answer { code, body } = answer;
-    let told = zjute::Reply {
+    let reported = zjute::Reply {
         xid,
         zxid: long_of(zxid.number()),
         code,
         body,
     };
-    match write_reply(alloc, &told) {
+    match write_reply(alloc, &reported) {
         Ok(bytes) => Ok(bytes),
         Err(WriteError::Memory) => Err(Memory),
         Err(WriteError::TooLong) => too_long_frame(alloc, zxid, xid),
@@ -55,13 +55,13 @@ pub(crate) fn answer_frame(
 fn too_long_frame(alloc: Global, zxid: Zxid, xid: i32) -> Result<Vec<u8>, Memory>
     ensures { IfOk result (λ bytes. bytes.items ≡ frame (answer_text zxid xid too_long)) }
 {
-    let told = zjute::Reply {
+    let reported = zjute::Reply {
         xid,
         zxid: long_of(zxid.number()),
         code: Code::MarshallingError,
         body: Body::Nothing,
     };
-    match write_reply(alloc, &told) {
+    match write_reply(alloc, &reported) {
         Ok(bytes) => Ok(bytes),
         Err(WriteError::Memory) => Err(Memory),
         // A bare header is short.
@@ -80,14 +80,14 @@ pub(crate) fn response_frame(
     ensures { IfOk result (λ bytes. bytes.items
         ≡ table.response_frame request.now timeout session_id password.now) }
 {
-    let told = ConnectResponse {
+    let reported = ConnectResponse {
         protocol_version: 0,
         timeout,
         session_id,
         password: Bytes::copied(alloc, password.as_bytes())?,
-        read_only: told_flag(request),
+        read_only: reported_flag(request),
     };
-    match write_connect_response(alloc, &told) {
+    match write_connect_response(alloc, &reported) {
         Ok(bytes) => Ok(bytes),
         Err(WriteError::Memory) => Err(Memory),
         // A password is short.
@@ -96,8 +96,8 @@ pub(crate) fn response_frame(
 }
 
 // Returns that the server isn't read-only, to a client that knows the flag.
-fn told_flag(request: &ConnectRequest) -> Option<bool>
-    ensures { result ≡ table.flag_told request.now }
+fn reported_flag(request: &ConnectRequest) -> Option<bool>
+    ensures { result ≡ table.flag_reported request.now }
 {
     match request.read_only {
         Some(_) => Some(false),

@@ -8,7 +8,7 @@ use crate::effects::frames::response_frame;
 use crate::effects::numbers::long_of;
 use std::alloc::Global;
 use zalloc::Memory;
-use zrequests::{TickLength, millis_told};
+use zrequests::{TickLength, millis_reported};
 use zjute::ConnectRequest;
 use zpasswords::Password;
 use zconnections::Tables;
@@ -46,7 +46,7 @@ pub fn welcome(
         connection tables.old) }
 {
     tables.sit(session.id, connection)?;
-    let timeout = millis_told(tick, session.ticks);
+    let timeout = millis_reported(tick, session.ticks);
     let id = long_of(session.id.number());
     let frame = response_frame(alloc, request, timeout, id, &session.password)?;
     tables.send(connection, frame)
@@ -70,7 +70,7 @@ pub fn come_back(
         return turn_away(alloc, tables, request, connection);
     }
     tables.take_up(session.id, connection)?;
-    let timeout = millis_told(tick, session.ticks);
+    let timeout = millis_reported(tick, session.ticks);
     let id = long_of(session.id.number());
     let frame = response_frame(alloc, request, timeout, id, &session.password)?;
     tables.send(connection, frame)

@@ -6,7 +6,7 @@
 //! change has lost a child in it.
 
 ghost use Rattle.std.specs.Prelude.{◌≡◌, OnOk};
-ghost use Rattle.zconnections.specs.Telling.{told_all};
+ghost use Rattle.zconnections.specs.Reporting.{reported_all};
 ghost use Rattle.zresponses.specs.effects.Looking as table;
 
 use crate::effects::seeing::seen;
@@ -27,8 +27,8 @@ pub fn look(
     replies: &[Reply],
 ) -> Result<(), Memory>
     ensures { OnOk result (tables.new
-        ≡ told_all (table.seen zxid places.now replies.now) tables.old) }
+        ≡ reported_all (table.seen zxid places.now replies.now) tables.old) }
 {
     let events = seen(alloc, zxid, places, replies)?;
-    tables.tell_all(&events)
+    tables.report_all(&events)
 }

@@ -36,7 +36,7 @@ fn grant(tables: &mut Tables, connection: u32, wish: &Wish) -> Result<bool, Memo
 {
     match wish {
         Wish::Waits(kind, path) => wait(tables, connection, *kind, path),
-        Wish::Tells(event) => {
+        Wish::Reports(event) => {
             tables.send_event(connection, event)?;
             Ok(false)
         }

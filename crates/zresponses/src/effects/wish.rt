@@ -10,5 +10,5 @@ pub(crate) enum Wish {
     /// It is set.
     Waits(Kind, Path),
     /// Its event has happened already, and is sent.
-    Tells(Event),
+    Reports(Event),
 }

@@ -107,11 +107,11 @@ pub(crate) fn waits(kind: Kind, path: &Path, list: &mut Vec<Wish>) -> Result<(),
 }
 
 /// Adds that the event of a watch is sent.
-pub(crate) fn tells(kind: EventKind, path: &Path, list: &mut Vec<Wish>) -> Result<(), Memory>
+pub(crate) fn reports(kind: EventKind, path: &Path, list: &mut Vec<Wish>) -> Result<(), Memory>
     ensures { OnOk result
-        (list.new.items ≡ list.old.items ++ wish.Tells (event kind path.now) ∷ []) }
+        (list.new.items ≡ list.old.items ++ wish.Reports (event kind path.now) ∷ []) }
 {
     let path = path.clone()?;
-    list.push(Wish::Tells(Event { kind, path }))?;
+    list.push(Wish::Reports(Event { kind, path }))?;
     Ok(())
 }

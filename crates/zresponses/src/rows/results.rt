@@ -10,7 +10,7 @@ ghost use Rattle.zjute.specs.declared.code.Code.TheVariants as code;
 ghost use Rattle.zjute.specs.declared.part.Part.TheVariants as asked;
 ghost use Rattle.zjute.specs.declared.reply.PartResult.TheVariants as result_of;
 ghost use Rattle.zresponses.specs.Results.{refused_results, part_result, look_result};
-ghost use Rattle.zresponses.specs.support.Samples.{clock, now, told_stat, create_b, told_of_b, text_a_b, asked_b};
+ghost use Rattle.zresponses.specs.support.Samples.{clock, now, reported_stat, create_b, reported_of_b, text_a_b, asked_b};
 
 /// The results of a refused multi of four parts: none was done.
 pub fn refused_multis()
@@ -29,11 +29,11 @@ pub fn done_parts()
     ensures create { part_result clock now (asked.Create asked_b) (part.Create create_b)
         (part_reply.Created at_a_b) ≡ result_of.Create text_a_b }
     ensures create2 { part_result clock now (asked.Create2 asked_b) (part.Create create_b)
-        (part_reply.Created at_a_b) ≡ result_of.Create2 text_a_b told_of_b }
+        (part_reply.Created at_a_b) ≡ result_of.Create2 text_a_b reported_of_b }
     ensures delete { part_result clock now (asked.Create asked_b) (part.Create create_b)
         part_reply.Deleted ≡ result_of.Delete }
     ensures set { part_result clock now (asked.Create asked_b) (part.Create create_b)
-        (part_reply.Set some_stat) ≡ result_of.SetData told_stat }
+        (part_reply.Set some_stat) ≡ result_of.SetData reported_stat }
     ensures check { part_result clock now (asked.Create asked_b) (part.Create create_b)
         part_reply.Checked ≡ result_of.Check }
 {}
@@ -41,7 +41,7 @@ pub fn done_parts()
 /// The results of the parts of a multiRead.
 pub fn done_looks()
     ensures bytes { look_result clock (reply.Data (7 ∷ []) some_stat)
-        ≡ result_of.GetData (Some (7 ∷ [])) told_stat }
+        ≡ result_of.GetData (Some (7 ∷ [])) reported_stat }
     ensures names { look_result clock (reply.Children at_a) ≡ result_of.GetChildren at_a }
     ensures refused { look_result clock (reply.Refused NoNode) ≡ result_of.Error code.NoNode }
     ensures other { look_result clock reply.Pinged ≡ result_of.Error code.SystemError }

@@ -2,8 +2,8 @@
 
 ghost use Rattle.std.specs.Prelude.{◌≡◌, pos, negsuc};
 ghost use Rattle.ztree.specs.support.Samples.{some_stat};
-ghost use Rattle.zresponses.specs.Stats.{int_of, long_of, millis_at, stat_told, made_stat};
-ghost use Rattle.zresponses.specs.support.Samples.{clock, now, told_stat, create_b, timed_b, told_of_b, told_of_timed};
+ghost use Rattle.zresponses.specs.Stats.{int_of, long_of, millis_at, stat_reported, made_stat};
+ghost use Rattle.zresponses.specs.support.Samples.{clock, now, reported_stat, create_b, timed_b, reported_of_b, reported_of_timed};
 
 /// Numbers in 32 and in 64 bits.
 pub fn numbers_in_bits()
@@ -17,8 +17,8 @@ pub fn numbers_in_bits()
 {}
 
 /// The eleven fields of a stat. A node with a TTL has no owner.
-pub fn stats_that_are_told()
-    ensures stat { stat_told clock some_stat ≡ told_stat }
-    ensures made { stat_told clock (made_stat now create_b) ≡ told_of_b }
-    ensures timed { stat_told clock (made_stat now timed_b) ≡ told_of_timed }
+pub fn stats_that_are_reported()
+    ensures stat { stat_reported clock some_stat ≡ reported_stat }
+    ensures made { stat_reported clock (made_stat now create_b) ≡ reported_of_b }
+    ensures timed { stat_reported clock (made_stat now timed_b) ≡ reported_of_timed }
 {}

@@ -62,19 +62,19 @@ pub record LeadsTo (effect : LineEffect) (new : ServiceWorld) (own : Option (ℕ
 -- the effect happened from one world to another, with these outcomes, and was answered this way,
 -- except for the LF
 pub record IsEffectDone (old new : ServiceWorld) (effect : ScriptState → LineEffect) (writes : List ℕ → Type 0) : Type 0 where
-  pub told : List Outcome
+  pub reported : List Outcome
   pub own : Option (ℕ × ℕ)
   pub result : List ℕ
-  pub leads : (later : List Outcome) → LeadsTo (effect (script_state old (told ++ later))) new own result later
+  pub leads : (later : List Outcome) → LeadsTo (effect (script_state old (reported ++ later))) new own result later
   pub written : writes (flat_map (taken_text own) new.history ++ result)
 
 -- where it is strict, no server may run out of memory
-abbrev pub MayTell : Bool → List Outcome → Type 0
-MayTell strict told = strict ≡ true → AreActed told
+abbrev pub MayReport : Bool → List Outcome → Type 0
+MayReport strict reported = strict ≡ true → AreActed reported
 
 -- the same, strictly or not
 abbrev pub IsEffectDoneBy : Bool → (old new : ServiceWorld) → (ScriptState → LineEffect) → (List ℕ → Type 0) → Type 0
-IsEffectDoneBy strict old new effect writes = (done : IsEffectDone old new effect writes) × MayTell strict done.told
+IsEffectDoneBy strict old new effect writes = (done : IsEffectDone old new effect writes) × MayReport strict done.reported
 
 -- the effect happened on a world, and its answer was written, except for the LF
 abbrev pub Plays : {A : Type 0} → Bool → (ScriptState → LineEffect) → WorldView → WorldView → String A → String A → Type 0

@@ -31,11 +31,11 @@ after_all state (line ∷ lines) = after_all (after state line) lines
 -- Lines were executed, one after the other, and this was written: these outcomes occurred at them,
 -- whatever comes after them.
 pub record AreLinesDone (old : ServiceWorld) (lines : List (List ℕ)) (new : ServiceWorld) (writes : List ℕ → Type 0) : Type 0 where
-  pub told : List Outcome
+  pub reported : List Outcome
   pub text : List ℕ
   pub written : writes text
-  pub left : (later : List Outcome) → after_all (script_state old (told ++ later)) lines ≡ script_state new later
-  pub answered : (later : List Outcome) → answers (script_state old (told ++ later)) lines ≡ text
+  pub left : (later : List Outcome) → after_all (script_state old (reported ++ later)) lines ≡ script_state new later
+  pub answered : (later : List Outcome) → answers (script_state old (reported ++ later)) lines ≡ text
 
 -- These bytes have no LF.
 abbrev pub IsPart : List ℕ → Type 0

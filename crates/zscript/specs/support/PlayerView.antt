@@ -38,7 +38,7 @@ unfoldable pub kept_front : List ℕ → List ℕ
 kept_front line = take KEPT line
 
 -- The beginning of a text was written, and the rest is held.
-pub record Tells (took : List ℕ → Type 0) (text held : List ℕ) : Type 0 where
+pub record Reports (took : List ℕ → Type 0) (text held : List ℕ) : Type 0 where
   pub front : List ℕ
   pub taken : took front
   pub split : text ≡ front ++ held

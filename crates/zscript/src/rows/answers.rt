@@ -37,8 +37,8 @@ pub fn chain_calls()
 
 /// A response that a client received is written under the client's name, except the one to the
 /// line's own call.
-pub fn answers_are_told()
-    ensures told { taken_text None (Answer 1 2 (Children [])) ≡ text_line "c1 ok 0" }
+pub fn answers_are_reported()
+    ensures reported { taken_text None (Answer 1 2 (Children [])) ≡ text_line "c1 ok 0" }
     ensures other_call { taken_text call_3 (Answer 1 2 Deleted) ≡ text_line "c1 ok deleted" }
     ensures own_call { taken_text call_2 (Answer 1 2 (Children [])) ≡ [] }
     ensures own_reply { reply_in call_2 (Answer 1 1 Pinged ∷ Answer 1 2 Deleted ∷ [])

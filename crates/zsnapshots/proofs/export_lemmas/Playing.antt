@@ -27,7 +27,7 @@ use Rattle.ztree.proofs.Sorted.{paths_total, same_path}
 use Rattle.zstore.specs.RestoredLaws.{IsRebuilt}
 use Rattle.zstore.proofs.Left.{Left, left_all, left_before, left_done, left_fewer, left_free, left_is, left_next}
 use Rattle.zstore.proofs.Rebuilt.{rebuilt}
-use Rattle.zstore.proofs.parts.Kept.{has-inserted}
+use Rattle.zstore.proofs.parts.Cached.{has-inserted}
 use Rattle.zcalls.specs.declared.call.Create.{Create}
 use Rattle.zcalls.specs.declared.call.Expected.TheVariants.{Any}
 use Rattle.zcalls.specs.declared.call.Lifetime.{Lifetime}

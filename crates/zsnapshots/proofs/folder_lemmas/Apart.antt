@@ -8,7 +8,7 @@ use Rattle.zsnapshots.specs.folder.Entries.{Entry, entries_text, records_of}
 use Rattle.zsnapshots.specs.folder.States.{after}
 use Rattle.zsnapshots.specs.folder.Texts.{IsKeepable, row_bytes, row_record, snapshot_text}
 use Rattle.zsnapshots.specs.folder.support.Reading.{BeginNoRow}
-use Rattle.zsnapshots.specs.folder.Laws.{NothingIsTheOpening, SnapshotsKeepTheirs, TextsGoOn, TextsTellApart}
+use Rattle.zsnapshots.specs.folder.Laws.{NothingIsTheOpening, SnapshotsKeepTheirs, TextsGoOn, TextsAreDistinct}
 use Rattle.zsnapshots.proofs.folder_lemmas.Records.{entries_are_theirs, entries_both, entries_same, rows_end, says_apart, without-rows}
 use Rattle.zsnapshots.proofs.folder_lemmas.States.{go_on}
 use Rattle.zsnapshots.proofs.folder_lemmas.Texts.{IsWhole, whole}
@@ -41,8 +41,8 @@ both_whole text a b one two =
     let entries = entries_same one.entries two.entries both.1 in
     one.leaves ∙ (λ i. after (start i) (entries i)) ∙ sym two.leaves
 
-pub tell_apart : TextsTellApart
-tell_apart text a b is also = both_whole text a b (whole a text is) (whole b text also)
+pub are_distinct : TextsAreDistinct
+are_distinct text a b is also = both_whole text a b (whole a text is) (whole b text also)
 
 pub nothing_is : NothingIsTheOpening
 nothing_is = record {

@@ -8,7 +8,7 @@ use Rattle.zwire.specs.declared.records.record.Record.TheVariants.{Password, Upd
 use Rattle.zwire.specs.records.Records.{AllFit, Fits, HasNoRecord, line_of, text_of}
 use Rattle.zwire.proofs.records_lemmas.Texts.{fit_more, line_some, one_record, text_more, texts_join}
 use Rattle.zcalls.specs.declared.call.Update.{Update as Act}
-use Rattle.zsnapshots.specs.folder.Entries.{Entry, IsOfNoEntries, Says, TellsPasswords, entry_record, has_password, is_password, records_of}
+use Rattle.zsnapshots.specs.folder.Entries.{Entry, IsOfNoEntries, Says, ReportsPasswords, entry_record, has_password, is_password, records_of}
 use Rattle.zsnapshots.specs.folder.Entries.{without_passwords}
 use Rattle.zsnapshots.specs.folder.Texts.{row_record}
 use Rattle.zsnapshots.specs.folder.support.Reading.{BeginNoRow, HasNoRow, IsRead}
@@ -24,7 +24,7 @@ or_true true = refl
 or_true false = refl
 
 pub read_none : (text : List ℕ) → IsRead [] false text text
-read_none text = record { records = []; fit = tt; split = refl; said = refl; told = refl }
+read_none text = record { records = []; fit = tt; split = refl; said = refl; reported = refl }
 
 module _ (what : List Record) (had : Bool) (text rest : List ℕ) (read : IsRead what had text rest) where
   -- ---- one record more
@@ -44,8 +44,8 @@ module _ (what : List Record) (had : Bool) (text rest : List ℕ) (read : IsRead
           fit = fit_more read.records r read.fit fits;
           split = split_more;
           said = without-append read.records (r ∷ []) ∙ (λ i. read.said i ++ stays i);
-          told =
-              read.told ∙ sym (or_false (has_password read.records)) ∙ ap (λ (b : Bool). has_password read.records || b) (sym own)
+          reported =
+              read.reported ∙ sym (or_false (has_password read.records)) ∙ ap (λ (b : Bool). has_password read.records || b) (sym own)
               ∙ sym (has-append read.records (r ∷ []));
         }
 
@@ -69,7 +69,7 @@ module _ (what : List Record) (had : Bool) (text rest : List ℕ) (read : IsRead
           split = split_more;
           said =
               without-append read.records (r ∷ []) ∙ (λ i. read.said i ++ nothing i) ∙ append-nil what;
-          told =
+          reported =
               sym (has-append read.records (r ∷ []) ∙ ap (λ (b : Bool). has_password read.records || b) own
               ∙ or_true (has_password read.records));
         }
@@ -94,12 +94,12 @@ module _ (what : List Record) (had : Bool) (text rest : List ℕ) (read : IsRead
     said = read.said;
   }
 
-  pub tells_all : rest ≡ [] → TellsPasswords text had
-  tells_all none = record {
+  pub reports_all : rest ≡ [] → ReportsPasswords text had
+  reports_all none = record {
     records = read.records;
     fit = read.fit;
     is = read.split ∙ ap (λ (t : List ℕ). text_of read.records ++ t) none ∙ append-nil (text_of read.records);
-    told = read.told;
+    reported = read.reported;
   }
 
 -- ---- what stands in front
@@ -158,13 +158,13 @@ row_more rows after had text rest read r more fits front row is is_after =
     subst (λ (rs : List Record). IsRead rs had text more) (sym (ap (map row_record) is_after ∙ map-append row_record rows (row ∷ [])))
     (read_row (map row_record rows) had text rest read r more fits front row is)
 
--- what was told of two parts is told of both
-pub tells_both : (a b : Bool) (x y : List ℕ) → TellsPasswords x a → TellsPasswords y b → TellsPasswords (x ++ y) (a || b)
-tells_both a b x y first second = record {
+-- what was reported of two parts is reported of both
+pub reports_both : (a b : Bool) (x y : List ℕ) → ReportsPasswords x a → ReportsPasswords y b → ReportsPasswords (x ++ y) (a || b)
+reports_both a b x y first second = record {
   records = first.records ++ second.records;
   fit = fit_join first.records second.records first.fit second.fit;
   is = (λ i. first.is i ++ second.is i) ∙ sym (texts_join first.records second.records);
-  told = (λ i. first.told i || second.told i) ∙ sym (has-append first.records second.records);
+  reported = (λ i. first.reported i || second.reported i) ∙ sym (has-append first.records second.records);
 }
 
 pub something_left : (rest : List ℕ) → 0 < length rest → rest ≢ []

@@ -11,7 +11,7 @@ use Rattle.zwire.specs.records.Records.{AllFit, line_of, text_of}
 use Rattle.zwire.proofs.records_lemmas.Texts.{line_some, one_record, texts_apart, texts_join}
 use Rattle.zsnapshots.specs.folder.Entries.{AreEntries, Entry, IsEntriesText, Says, behind, entries_of, has_password, is_password, records_of}
 use Rattle.zsnapshots.specs.folder.Entries.{entry_record, without_passwords}
-use Rattle.zsnapshots.specs.folder.Laws.{EntriesAreTheirs, EntriesComeBack, EntriesTellApart, RecordsComeBack}
+use Rattle.zsnapshots.specs.folder.Laws.{EntriesAreTheirs, EntriesComeBack, EntriesAreDistinct, RecordsComeBack}
 use Rattle.zsnapshots.specs.folder.Texts.{row_record}
 use Rattle.zsnapshots.specs.folder.support.Reading.{BeginNoRow}
 
@@ -160,8 +160,8 @@ no_other (d ∷ a) (e ∷ b) r x same none =
     let both : Update d ∷ (records_of a ++ r ∷ x) ≡ Update e ∷ records_of b = same in
     no_other a b r x (cc both) none
 
-pub entries_tell_apart : EntriesTellApart
-entries_tell_apart text a b first second = entries_same a b (says_apart (records_of a) (records_of b) text first second)
+pub entries_are_distinct : EntriesAreDistinct
+entries_are_distinct text a b first second = entries_same a b (says_apart (records_of a) (records_of b) text first second)
 
 pub entries_come_back : EntriesComeBack
 entries_come_back [] = refl

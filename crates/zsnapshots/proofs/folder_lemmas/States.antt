@@ -21,7 +21,7 @@ pub after_more : (t : Tree) (entries : List Entry) (entry : Entry) → after_ent
 after_more t entries entry = sym (go_on t entries (entry ∷ []))
 
 -- where an update acted, the tree is the one after the entry
-pub entry_acts : (old new : Tree) (told : Reply) (entry : Entry) → ◌≡◌ {A = Tree × Reply} (new, told) (serve old 0 (call.Update entry))
+pub entry_acts : (old new : Tree) (reported : Reply) (entry : Entry) → ◌≡◌ {A = Tree × Reply} (new, reported) (serve old 0 (call.Update entry))
     → new ≡ after_entry old entry
 unfolding after_entry
-entry_acts old new told entry is = ap (λ (did : Tree × Reply). did.0) is
+entry_acts old new reported entry is = ap (λ (did : Tree × Reply). did.0) is

@@ -15,12 +15,12 @@ use Rattle.zsnapshots.specs.States.{IsReadable, rows_of, spelled}
 use Rattle.zsnapshots.proofs.Apart.{rows_apart}
 use Rattle.zsnapshots.specs.declared.folder.fault.ReadFault.{ReadFault}
 use Rattle.zsnapshots.specs.declared.folder.fault.ReadFault.TheVariants.{Memory, NotRecords}
-use Rattle.zsnapshots.specs.folder.Entries.{Entry, IsEntriesText, Says, TellsPasswords, records_of, without_passwords}
+use Rattle.zsnapshots.specs.folder.Entries.{Entry, IsEntriesText, Says, ReportsPasswords, records_of, without_passwords}
 use Rattle.zsnapshots.specs.folder.Faults.{IsReadFault}
 use Rattle.zsnapshots.specs.folder.States.{after}
 use Rattle.zsnapshots.specs.folder.Texts.{IsFrontOf, IsKeepable, IsNoText, IsTextOf, row_bytes, row_record, row_records}
 use Rattle.zsnapshots.specs.folder.support.Reading.{AreApplied, AreOfNoTree, Begins, HasNoRow, HasTree, IsEntriesFault, IsLoaded, IsRead}
-use Rattle.zsnapshots.proofs.folder_lemmas.ReadSoFar.{ahead_of, first_is, says_more, tells_both}
+use Rattle.zsnapshots.proofs.folder_lemmas.ReadSoFar.{ahead_of, first_is, says_more, reports_both}
 use Rattle.zsnapshots.proofs.folder_lemmas.Records.{fit_without, rows_end, rows_more, says_join}
 
 -- what all of a text says that keeps a tree
@@ -98,7 +98,7 @@ begins_bare rows had text rest loaded = record {
   front = [];
   begins = inl (refl, refl);
   split = refl;
-  told = record { records = []; fit = tt; is = refl; told = refl };
+  reported = record { records = []; fit = tt; is = refl; reported = refl };
   only = λ t is.
       let w = whole t text is in
       let none : w.rows ≡ [] = sym (rows_same rows had text rest loaded.read loaded.last t w).0 ∙ loaded.some in (
@@ -124,7 +124,7 @@ module _ (rows : List (List ℕ)) (had : Bool) (text rest : List ℕ) (loaded : 
           record { records = read.records; fit = read.fit; is = refl; said = said },
         );
         split = read.split;
-        told = record { records = read.records; fit = read.fit; is = refl; told = read.told };
+        reported = record { records = read.records; fit = read.fit; is = refl; reported = read.reported };
         only = λ t is.
             let w = whole t text is in
             (w.entries, (rows_same rows had text rest read loaded.last t w).1);
@@ -181,6 +181,6 @@ module _ (old new : LocalTreeView) (text rest : List ℕ) (first second : Bool) 
         omega (arith, all),
       )
 
-  pub tells : TellsPasswords text (first || second)
-  tells = subst (λ (t : List ℕ). TellsPasswords t (first || second)) (sym begun.split)
-      (tells_both first second begun.front rest begun.told applied.told)
+  pub reports : ReportsPasswords text (first || second)
+  reports = subst (λ (t : List ℕ). ReportsPasswords t (first || second)) (sym begun.split)
+      (reports_both first second begun.front rest begun.reported applied.reported)

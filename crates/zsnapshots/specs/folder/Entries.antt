@@ -75,11 +75,11 @@ pub record Says (what : List Record) (text : List ℕ) : Type 0 where
   pub said : without_passwords records ≡ what
 
 -- the text is that of records, and the flag says whether a password is among them
-pub record TellsPasswords (text : List ℕ) (has : Bool) : Type 0 where
+pub record ReportsPasswords (text : List ℕ) (has : Bool) : Type 0 where
   pub records : List Record
   pub fit : AllFit records
   pub is : text ≡ text_of records
-  pub told : has ≡ has_password records
+  pub reported : has ≡ has_password records
 
 -- the text is that of these entries
 abbrev pub IsEntriesText : List Entry → List ℕ → Type 0

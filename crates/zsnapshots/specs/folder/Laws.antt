@@ -7,7 +7,7 @@ use Rattle.zwire.specs.declared.records.record.Record.{Record}
 use Rattle.zsnapshots.specs.folder.Entries.{Entry, AreEntries, calls_again, entries_of, entries_text, records_of, without_passwords, IsEntriesText}
 use Rattle.zsnapshots.specs.folder.States.{after}
 use Rattle.zsnapshots.specs.folder.Texts.{IsKeepable, IsTextOf, snapshot_text}
-use Rattle.zsnapshots.specs.folder.Shortening.{IsAllWritten, IsPiece, ShorteningView, text_left}
+use Rattle.zsnapshots.specs.folder.Compaction.{IsAllWritten, IsChunk, CompactionView, text_left}
 
 -- ---- entries
 
@@ -21,8 +21,8 @@ RecordsComeBack =
     (records : List Record) (entries : List Entry) → entries_of records ≡ Some entries → records_of entries ≡ without_passwords records
 
 -- a text is that of one list of entries
-abbrev pub EntriesTellApart : Type 0
-EntriesTellApart = (text : List ℕ) (a b : List Entry) → IsEntriesText a text → IsEntriesText b text → a ≡ b
+abbrev pub EntriesAreDistinct : Type 0
+EntriesAreDistinct = (text : List ℕ) (a b : List Entry) → IsEntriesText a text → IsEntriesText b text → a ≡ b
 
 -- the text of entries is theirs
 abbrev pub EntriesAreTheirs : Type 0
@@ -41,8 +41,8 @@ TreesAreTheirCalls = (t : Tree) (entries : List Entry) → after t entries ≡ t
 -- ---- texts
 
 -- a text represents one tree
-abbrev pub TextsTellApart : Type 0
-TextsTellApart = (text : List ℕ) (a b : Tree) → IsTextOf a text → IsTextOf b text → a ≡ b
+abbrev pub TextsAreDistinct : Type 0
+TextsAreDistinct = (text : List ℕ) (a b : Tree) → IsTextOf a text → IsTextOf b text → a ≡ b
 
 -- an empty text represents the initial tree, and that of a snapshot its own
 abbrev pub NothingIsTheOpening : Type 0
@@ -53,14 +53,14 @@ SnapshotsKeepTheirs = (t : Tree) → IsKeepable t → IsTextOf t (snapshot_text 
 
 -- what is left of a snapshot's text is the next chunk and then the rest. At first that is all of
 -- it, and after the last chunk it is nothing
-abbrev pub PiecesJoin : Type 0
-PiecesJoin = (old new : ShorteningView) (piece : List ℕ) → IsPiece old new piece → text_left old ≡ piece ++ text_left new
+abbrev pub ChunksJoin : Type 0
+ChunksJoin = (old new : CompactionView) (chunk : List ℕ) → IsChunk old new chunk → text_left old ≡ chunk ++ text_left new
 
-abbrev pub PiecesAreAll : Type 0
-PiecesAreAll = (t : Tree) → text_left (record { tree = t; written = 0 }) ≡ snapshot_text t
+abbrev pub ChunksAreAll : Type 0
+ChunksAreAll = (t : Tree) → text_left (record { tree = t; written = 0 }) ≡ snapshot_text t
 
 abbrev pub NothingIsLeft : Type 0
-NothingIsLeft = (s : ShorteningView) → IsAllWritten s → text_left s ≡ []
+NothingIsLeft = (s : CompactionView) → IsAllWritten s → text_left s ≡ []
 
 -- with entries after it, a text represents the tree to which they lead
 abbrev pub TextsGoOn : Type 0

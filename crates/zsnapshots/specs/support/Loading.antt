@@ -19,15 +19,15 @@ coded_loading =
     (λ l. (l.header, l.reading)) (λ p. record { header = p.0; reading = p.1 }) (λ _. refl)
 
 -- a readable state whose bytes begin with those of these rows begins with these rows
-abbrev pub TellTheState : List StateRow → Type 0
-TellTheState rows =
+abbrev pub ReportTheState : List StateRow → Type 0
+ReportTheState rows =
     (s : MachineState) (rest : List (List ℕ)) → IsReadable s →
     map spelled (rows_of s) ≡ map spelled rows ++ rest →
     (more : List StateRow) × (rows_of s ≡ rows ++ more) × (map spelled more ≡ rest)
 
 -- the rows that were taken
 abbrev pub AreLoaded : List StateRow → Type 0
-AreLoaded rows = AllByRecursion Fits rows × TellTheState rows
+AreLoaded rows = AllByRecursion Fits rows × ReportTheState rows
 
 abbrev pub IsLoading : Option Header → Option ReadingView → Type 0
 IsLoading header reading = AreLoaded (rows_from header reading)

@@ -3,7 +3,7 @@ use Rattle.std.specs.Prelude.{ℕ, [], ◌∷◌}
 use Rattle.ztree.specs.declared.node.Node.{Node}
 use Rattle.ztree.specs.declared.session.Session.{Session}
 use Rattle.ztree.specs.Tree.{Path}
-use Rattle.zcalls.specs.Kept.{Kept}
+use Rattle.zcalls.specs.Cached.{Cached}
 use Rattle.zcalls.specs.declared.reply.Reply.TheVariants.{Deleted}
 use Rattle.zsnapshots.specs.declared.header.Header.{Header}
 use Rattle.zsnapshots.specs.Rows.{kept_of}
@@ -36,5 +36,5 @@ node = (
 )
 
 -- call 7 of client 2 was a delete
-abbrev pub reply : ℕ × Kept
+abbrev pub reply : ℕ × Cached
 reply = (2, kept_of 7 Deleted)

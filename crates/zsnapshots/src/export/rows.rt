@@ -52,7 +52,7 @@ pub fn trees_are_counted()
 {}
 
 /// What is printed.
-pub fn numbers_are_told()
+pub fn numbers_are_reported()
     ensures left_out { left_out_text owned_counts
         ≡ codes "zk: export: ephemeral nodes left out: 1\n"
         ++ codes "zk: export: sessions left out: 1\n"

@@ -1,10 +1,10 @@
 //! Laws of the definitions. Each function's contract is a law; its body is empty.
 
 ghost use Rattle.zsnapshots.specs.folder.Laws.{EntriesAreTheirs, EntriesComeBack, EntriesGoOn};
-ghost use Rattle.zsnapshots.specs.folder.Laws.{EntriesTellApart, RecordsComeBack};
+ghost use Rattle.zsnapshots.specs.folder.Laws.{EntriesAreDistinct, RecordsComeBack};
 ghost use Rattle.zsnapshots.specs.folder.Laws.{KeptTreesCanStart, NothingIsLeft, NothingIsTheOpening};
-ghost use Rattle.zsnapshots.specs.folder.Laws.{PiecesAreAll, PiecesJoin};
-ghost use Rattle.zsnapshots.specs.folder.Laws.{SnapshotsKeepTheirs, TextsGoOn, TextsTellApart};
+ghost use Rattle.zsnapshots.specs.folder.Laws.{ChunksAreAll, ChunksJoin};
+ghost use Rattle.zsnapshots.specs.folder.Laws.{SnapshotsKeepTheirs, TextsGoOn, TextsAreDistinct};
 ghost use Rattle.zsnapshots.specs.folder.Laws.{TreesAreTheirCalls};
 
 /// Entries are written as records, and read back from them. Records that are entries are the
@@ -13,7 +13,7 @@ pub fn entries_come_back()
     ensures entries { EntriesComeBack }
     ensures records { RecordsComeBack }
     ensures theirs { EntriesAreTheirs }
-    ensures texts { EntriesTellApart }
+    ensures texts { EntriesAreDistinct }
 {}
 
 /// Entries lead to one tree, whether they are applied as one list or as two: the one that their
@@ -24,8 +24,8 @@ pub fn entries_lead_on()
 {}
 
 /// A text represents one tree.
-pub fn texts_tell_apart()
-    ensures { TextsTellApart }
+pub fn texts_are_distinct()
+    ensures { TextsAreDistinct }
 {}
 
 /// An empty text represents the initial tree, and a snapshot its own. With entries after it, a text
@@ -37,9 +37,9 @@ pub fn texts_go_on()
 {}
 
 /// The chunks of a snapshot, joined in order, are its text.
-pub fn pieces_join()
-    ensures join { PiecesJoin }
-    ensures all { PiecesAreAll }
+pub fn chunks_join()
+    ensures join { ChunksJoin }
+    ensures all { ChunksAreAll }
     ensures end { NothingIsLeft }
 {}
 

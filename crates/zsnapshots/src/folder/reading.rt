@@ -1,7 +1,7 @@
 //! A tree, read from a text.
 
 ghost use Rattle.std.specs.Prelude.{◌≡◌, ◌||◌, false, length, IfErr, IfOk};
-ghost use Rattle.zsnapshots.specs.folder.Entries.{TellsPasswords};
+ghost use Rattle.zsnapshots.specs.folder.Entries.{ReportsPasswords};
 ghost use Rattle.zsnapshots.specs.folder.Faults.{IsReadFault};
 ghost use Rattle.zsnapshots.specs.folder.Texts.{IsTextOf};
 ghost use Rattle.zsnapshots.specs.folder.support.Reading.{AreApplied, IsEntriesFault};
@@ -17,7 +17,7 @@ use ztree_service::LocalTree;
 pub fn read(alloc: Global, text: &[u8]) -> Result<Found, ReadFault>
     ensures found { IfOk result (λ found. (is : IsTextOf found.tree.tree text.now)
         × (found.snapshot ≡ length is.front)) }
-    ensures passwords { IfOk result (λ found. TellsPasswords text.now found.had_passwords) }
+    ensures passwords { IfOk result (λ found. ReportsPasswords text.now found.had_passwords) }
     ensures whole { IfOk result (λ found. found.tree.is_broken ≡ false) }
     ensures fault { IfErr result (IsReadFault text.now) }
 {

@@ -31,8 +31,8 @@ pub fn passwords_say_nothing()
         → without_passwords (Row r ∷ Password p ∷ Password p ∷ Update Tick ∷ Password p ∷ [])
         ≡ Row r ∷ Update Tick ∷ [] }
     ensures none { (r : List ℕ) → without_passwords (Row r ∷ Fail 1 ∷ []) ≡ Row r ∷ Fail 1 ∷ [] }
-    ensures told { (p : List ℕ) → has_password (Update Tick ∷ Password p ∷ []) ≡ true }
-    ensures none_told { has_password (Update Tick ∷ Fail 1 ∷ []) ≡ false }
+    ensures reported { (p : List ℕ) → has_password (Update Tick ∷ Password p ∷ []) ≡ true }
+    ensures none_reported { has_password (Update Tick ∷ Fail 1 ∷ []) ≡ false }
 {}
 
 /// Entries are applied in order.

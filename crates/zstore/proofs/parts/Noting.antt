@@ -18,7 +18,7 @@ use Rattle.zstore.specs.support.Stored.{IsStored}
 use Rattle.zstore.proofs.ids.Naming.{path_there}
 use Rattle.zstore.proofs.parts.Maps.{remove-insert}
 use Rattle.zstore.proofs.parts.Undone.{undone-gone}
-use Rattle.zstore.proofs.parts.Kept.{forgets_gone}
+use Rattle.zstore.proofs.parts.Cached.{forgets_gone}
 use Rattle.zstore.proofs.parts.Noted.{with_held}
 use Rattle.zstore.proofs.parts.Steps.{taken_back, taken_held, taken_stored, written_back, written_held, written_stored}
 

@@ -20,7 +20,7 @@ use Rattle.znodes.specs.NodesView.{NodesView, IsOpening, Adds}
 use Rattle.zstore.specs.Restored.{rooted_tree, CanBeRoot, CanPut, CanPutSession}
 use Rattle.zstore.specs.support.Undoing.{Places, Owners, Notes, undos_of, release_all, AllHeld}
 use Rattle.zstore.specs.support.Stored.{tree_of, NamesNodes, IsKept, AreOwners, IsStored}
-use Rattle.zstore.proofs.parts.Kept.{names_with, kept_with}
+use Rattle.zstore.proofs.parts.Cached.{names_with, kept_with}
 use Rattle.zstore.proofs.parts.Alive.{owners_opened}
 use Rattle.zstore.proofs.parts.Noted.{with_held, stored_plain, notes_held, none_held}
 

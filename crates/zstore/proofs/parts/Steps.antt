@@ -14,7 +14,7 @@ use Rattle.zstore.specs.declared.undo.Undo.TheVariants as undo
 use Rattle.zstore.specs.support.Undoing.{Owners, Parts, parts_of, undone, with_change_of, CanGo, CanComeBack, Fits, returning, AllHeld, Notes, undos_of, add_note, held_after}
 use Rattle.zstore.specs.support.Stored.{IsKept, AreOwners, IsStored}
 use Rattle.zstore.proofs.parts.Undone.{parts_with, parts_without, parts_changed, undone-added, undone-taken, changed_back}
-use Rattle.zstore.proofs.parts.Kept.{node_or_none, kept_with, kept_without, kept_changed, can_go, can_come_back, apart_with, apart_without}
+use Rattle.zstore.proofs.parts.Cached.{node_or_none, kept_with, kept_without, kept_changed, can_go, can_come_back, apart_with, apart_without}
 use Rattle.zstore.proofs.parts.Noted.{with_held, noted_held, stored_noted}
 
 module _ (old new : NodesView) (sessions : Sessions) (time zxid : ℕ) (notes : Option Notes)

@@ -14,7 +14,7 @@ fn opens_sessions(rt: HostRuntime) {
 
 // Deadlines that are 32 apart share a bucket.
 #[test]
-fn tells_the_sessions_that_are_due(rt: HostRuntime) {
+fn reports_the_sessions_that_are_due(rt: HostRuntime) {
     let sessions = opened(
         &rt,
         rt.alloc(),
@@ -26,7 +26,7 @@ fn tells_the_sessions_that_are_due(rt: HostRuntime) {
 }
 
 #[test]
-fn tells_a_renewed_session_at_its_new_tick(rt: HostRuntime) {
+fn reports_a_renewed_session_at_its_new_tick(rt: HostRuntime) {
     let mut sessions = opened(&rt, rt.alloc(), 40, &[(1, 41), (2, 40), (3, 72)]);
     renew(&rt, &mut sessions, 40, 1, 72);
     renew(&rt, &mut sessions, 40, 1, 40);

@@ -37,7 +37,7 @@ some_node =
       ttl = 12;
     }
 
--- what is told of it where it has eleven children
+-- what is reported of it where it has eleven children
 abbrev pub some_stat : Stat
 some_stat =
     record { czxid = 1; mzxid = 2; pzxid = 3; ctime = 4; mtime = 5; version = 6; cversion = 8; owner = 9; length = 2; children = 11 }

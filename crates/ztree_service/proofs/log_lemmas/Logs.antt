@@ -15,13 +15,13 @@ pub last_reply : (log : Log) (t : Tree) (call : Call) (reply : Reply)
     → replies_of (log ++ (call, reply) ∷ []) ≡ served t (calls_of (log ++ (call, reply) ∷ []))
     → reply ≡ (serve (tree_after t (calls_of log)) 0 call).1
 last_reply [] t call reply is = cc is
-last_reply (told ∷ log) t call reply is =
-    last_reply log (serve t 0 told.0).0 call reply
-    (rest_of told.1 (serve t 0 told.0).1 (replies_of (log ++ (call, reply) ∷ []))
-    (served (serve t 0 told.0).0 (calls_of (log ++ (call, reply) ∷ []))) is)
+last_reply (reported ∷ log) t call reply is =
+    last_reply log (serve t 0 reported.0).0 call reply
+    (rest_of reported.1 (serve t 0 reported.0).1 (replies_of (log ++ (call, reply) ∷ []))
+    (served (serve t 0 reported.0).0 (calls_of (log ++ (call, reply) ∷ []))) is)
 
 -- and the tree after it is the one that it leaves
 pub last_tree : (log : Log) (t : Tree) (call : Call) (reply : Reply)
     → tree_after t (calls_of (log ++ (call, reply) ∷ [])) ≡ (serve (tree_after t (calls_of log)) 0 call).0
 last_tree [] t call reply = refl
-last_tree (told ∷ log) t call reply = last_tree log (serve t 0 told.0).0 call reply
+last_tree (reported ∷ log) t call reply = last_tree log (serve t 0 reported.0).0 call reply

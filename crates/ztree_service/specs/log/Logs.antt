@@ -13,10 +13,10 @@ Log = List (Call × Reply)
 
 -- the calls of a log, and its replies
 abbrev pub calls_of : Log → List Call
-calls_of log = map (λ told. told.0) log
+calls_of log = map (λ reported. reported.0) log
 
 abbrev pub replies_of : Log → List Reply
-replies_of log = map (λ told. told.1) log
+replies_of log = map (λ reported. reported.1) log
 
 -- the replies of a tree that serves these calls of client 0 in order
 abbrev pub served : Tree → List Call → List Reply

@@ -4,7 +4,7 @@ use Rattle.std.specs.List.{AllByRecursion}
 use Rattle.std.specs.FinMap.{get}
 use Rattle.ztree.specs.declared.node.Node.{Node}
 use Rattle.ztree.specs.Tree.{Path, Tree}
-use Rattle.zcalls.specs.Kept.{last_of}
+use Rattle.zcalls.specs.Cached.{last_of}
 use Rattle.zstore.specs.Restored.{with_rows}
 use Rattle.zops.specs.Machine.{MachineState, MachineView}
 use Rattle.zops.specs.Restored.{with_plain}

@@ -1,4 +1,4 @@
--- Every change that an update makes is told.
+-- Every change that an update makes is reported.
 use Rattle.std.proofs.Common.{◌≡◌, ◌≢◌, ◌+◌, ℕ, Bool, true, false, List, [], ◌∷◌, ◌++◌, Option, Some, None, Result, Ok, Err, refl, sym, ap, inl, inr, ◌∙◌, if◌then◌else◌}
 use Rattle.std.specs.Option.{option_map, option_map_or}
 use Rattle.std.specs.FinMap as finite
@@ -24,14 +24,14 @@ use Rattle.zcalls.specs.declared.reply.PartReply.{PartReply}
 use Rattle.zcalls.specs.declared.reply.PartReply.TheVariants as part_reply
 use Rattle.zcalls.specs.declared.reply.Reply.{Reply}
 use Rattle.zcalls.specs.declared.reply.Reply.TheVariants as reply
-use Rattle.zcalls.specs.Part.{create_step, delete_step, set_step, check_step, part_step, told_as_part, create_refusals, delete_refusals, unless_refused, made_path, owner_of, ttl_of, on_version, has_other_version, with_node_set}
+use Rattle.zcalls.specs.Part.{create_step, delete_step, set_step, check_step, part_step, reported_as_part, create_refusals, delete_refusals, unless_refused, made_path, owner_of, ttl_of, on_version, has_other_version, with_node_set}
 use Rattle.zcalls.specs.Multi.{Run, run, behind, and_then}
 use Rattle.zcalls.specs.Step.{step, is_exhausted, update_result, change_result, multi_result}
 use Rattle.zjute.specs.declared.event.EventKind.{EventKind}
 use Rattle.zwatches.specs.declared.changes.event.Event.{Event}
 use Rattle.zjute.specs.declared.event.EventKind.TheVariants.{NodeCreated, NodeDeleted, NodeDataChanged}
 use Rattle.zwatches.specs.changes.Events.{event, with_parent, events_of, part_events, parts_events}
-use Rattle.zwatches.specs.changes.Laws.{but_children, data_at, children_at, tells_data, tells_children, Misses, takes_away, TellsChanges, EventsTellEveryChange}
+use Rattle.zwatches.specs.changes.Laws.{but_children, data_at, children_at, reports_data, reports_children, Misses, takes_away, ReportsChanges, EventsReportEveryChange}
 
 -- what is read of the node at a path
 abbrev read_at : {X : Type 0} → (Node → X) → Nodes → Path → Option X
@@ -140,59 +140,59 @@ set_did t set path = by (finite.get t.nodes set.path) refl
     by None is = tt
     by (Some n) is = chosen n is (has_other_version set.version n)
 
--- where nothing changed, nothing is to be told
-untouched : (nodes : Nodes) (path : Path) (events : List Event) → TellsChanges nodes nodes path events
+-- where nothing changed, nothing is to be reported
+untouched : (nodes : Nodes) (path : Path) (events : List Event) → ReportsChanges nodes nodes path events
 untouched nodes path events = record { of_data = λ misses. refl; of_children = λ misses. refl }
 
 -- the two events of a node that came or went
-told_with_parent : (kind : EventKind) (at : Path) (nodes changed : Nodes) (path : Path) → tells_data kind ≡ true → tells_children kind ≡ true
-    → IsChangedAt at nodes changed path → TellsChanges nodes changed path (with_parent kind at)
-told_with_parent kind at nodes changed path by_data by_children is = record {
+reported_with_parent : (kind : EventKind) (at : Path) (nodes changed : Nodes) (path : Path) → reports_data kind ≡ true → reports_children kind ≡ true
+    → IsChangedAt at nodes changed path → ReportsChanges nodes changed path (with_parent kind at)
+reported_with_parent kind at nodes changed path by_data by_children is = record {
   of_data = λ misses. is.same_data (λ e. misses.0 by_data (sym e));
   of_children = λ misses. is.same_children (λ e. misses.0 by_children (sym e)) (λ e. misses.1.0 refl (sym e));
 }
 
 -- the event of a write
-told_write : (t : Tree) (set : SetData) (u : Tree) (path : Path)
+reported_write : (t : Tree) (set : SetData) (u : Tree) (path : Path)
     → (path ≢ set.path → data_at u.nodes path ≡ data_at t.nodes path) × (children_at u.nodes path ≡ children_at t.nodes path)
-    → TellsChanges t.nodes u.nodes path (event NodeDataChanged set.path ∷ [])
-told_write t set u path did = record { of_data = λ misses. did.0 (λ e. misses.0 refl (sym e)); of_children = λ misses. did.1 }
+    → ReportsChanges t.nodes u.nodes path (event NodeDataChanged set.path ∷ [])
+reported_write t set u path did = record { of_data = λ misses. did.0 (λ e. misses.0 refl (sym e)); of_children = λ misses. did.1 }
 
 -- one change after another
-misses-append : (tells : EventKind → Bool) (path : Path) (events more : List Event) → Misses tells path (events ++ more) → Misses tells path events × Misses tells path more
-misses-append tells path [] more misses = (tt, misses)
-misses-append tells path (e ∷ events) more misses =
-    let rest = misses-append tells path events more misses.1 in
+misses-append : (reports : EventKind → Bool) (path : Path) (events more : List Event) → Misses reports path (events ++ more) → Misses reports path events × Misses reports path more
+misses-append reports path [] more misses = (tt, misses)
+misses-append reports path (e ∷ events) more misses =
+    let rest = misses-append reports path events more misses.1 in
     ((misses.0, rest.0), rest.1)
 
-joined : (first second third : Nodes) (path : Path) (events more : List Event) → TellsChanges first second path events → TellsChanges second third path more → TellsChanges first third path (events ++ more)
+joined : (first second third : Nodes) (path : Path) (events more : List Event) → ReportsChanges first second path events → ReportsChanges second third path more → ReportsChanges first third path (events ++ more)
 joined first second third path events more d e = record {
-  of_data = λ misses. let parts = misses-append tells_data path events more misses in e.of_data parts.1 ∙ d.of_data parts.0;
-  of_children = λ misses. let parts = misses-append tells_children path events more misses in e.of_children parts.1 ∙ d.of_children parts.0;
+  of_data = λ misses. let parts = misses-append reports_data path events more misses in e.of_data parts.1 ∙ d.of_data parts.0;
+  of_children = λ misses. let parts = misses-append reports_children path events more misses in e.of_children parts.1 ∙ d.of_children parts.0;
 }
 
 -- what a part did
 abbrev PartDid : Tree → Part → Path → Result (Tree × PartReply) Refusal → Type 0
 PartDid t p path (Err refusal) = Unit {0}
-PartDid t p path (Ok (u, told)) = TellsChanges t.nodes u.nodes path (part_events p told)
+PartDid t p path (Ok (u, reported)) = ReportsChanges t.nodes u.nodes path (part_events p reported)
 
-part_create : (t : Tree) (create : Create) (path : Path) (r : Result (Tree × ChangeReply) Refusal) → CreateDid t path r → PartDid t (part.Create create) path (told_as_part r)
+part_create : (t : Tree) (create : Create) (path : Path) (r : Result (Tree × ChangeReply) Refusal) → CreateDid t path r → PartDid t (part.Create create) path (reported_as_part r)
 part_create t create path (Err refusal) did = tt
-part_create t create path (Ok (u, Created made)) did = told_with_parent NodeCreated made t.nodes u.nodes path refl refl did
+part_create t create path (Ok (u, Created made)) did = reported_with_parent NodeCreated made t.nodes u.nodes path refl refl did
 part_create t create path (Ok (u, Deleted)) did = absurd did
 part_create t create path (Ok (u, Set stat)) did = absurd did
 
-part_delete : (t : Tree) (delete : Delete) (path : Path) (r : Result (Tree × ChangeReply) Refusal) → DeleteDid t delete path r → PartDid t (part.Delete delete) path (told_as_part r)
+part_delete : (t : Tree) (delete : Delete) (path : Path) (r : Result (Tree × ChangeReply) Refusal) → DeleteDid t delete path r → PartDid t (part.Delete delete) path (reported_as_part r)
 part_delete t delete path (Err refusal) did = tt
 part_delete t delete path (Ok (u, Created made)) did = absurd did
-part_delete t delete path (Ok (u, Deleted)) did = told_with_parent NodeDeleted delete.path t.nodes u.nodes path refl refl did
+part_delete t delete path (Ok (u, Deleted)) did = reported_with_parent NodeDeleted delete.path t.nodes u.nodes path refl refl did
 part_delete t delete path (Ok (u, Set stat)) did = absurd did
 
-part_set : (t : Tree) (set : SetData) (path : Path) (r : Result (Tree × ChangeReply) Refusal) → SetDid t set path r → PartDid t (part.SetData set) path (told_as_part r)
+part_set : (t : Tree) (set : SetData) (path : Path) (r : Result (Tree × ChangeReply) Refusal) → SetDid t set path r → PartDid t (part.SetData set) path (reported_as_part r)
 part_set t set path (Err refusal) did = tt
 part_set t set path (Ok (u, Created made)) did = absurd did
 part_set t set path (Ok (u, Deleted)) did = absurd did
-part_set t set path (Ok (u, Set stat)) did = told_write t set u path did
+part_set t set path (Ok (u, Set stat)) did = reported_write t set u path did
 
 part_check : (t : Tree) (check : Check) (path : Path) → PartDid t (part.Check check) path (check_step t check)
 unfolding check_step
@@ -215,12 +215,12 @@ part_did t client (part.Check check) path = part_check t check path
 -- what the parts of a multi did
 abbrev RunDid : Tree → List Part → Path → Run → Type 0
 RunDid t parts path (Err refused) = Unit {0}
-RunDid t parts path (Ok (u, told)) = TellsChanges t.nodes u.nodes path (parts_events parts told)
+RunDid t parts path (Ok (u, reported)) = ReportsChanges t.nodes u.nodes path (parts_events parts reported)
 
 run_behind : (t v : Tree) (p : Part) (parts : List Part) (path : Path) (first : PartReply) (r : Run)
-    → TellsChanges t.nodes v.nodes path (part_events p first) → RunDid v parts path r → RunDid t (p ∷ parts) path (behind first r)
+    → ReportsChanges t.nodes v.nodes path (part_events p first) → RunDid v parts path r → RunDid t (p ∷ parts) path (behind first r)
 run_behind t v p parts path first (Err (number, refusal)) did rest = tt
-run_behind t v p parts path first (Ok (u, told)) did rest = joined t.nodes v.nodes u.nodes path (part_events p first) (parts_events parts told) did rest
+run_behind t v p parts path first (Ok (u, reported)) did rest = joined t.nodes v.nodes u.nodes path (part_events p first) (parts_events parts reported) did rest
 
 run_then : (t : Tree) (client : ℕ) (p : Part) (parts : List Part) (path : Path) (r : Result (Tree × PartReply) Refusal)
     → PartDid t p path r → ((v : Tree) → RunDid v parts path (run v client parts)) → RunDid t (p ∷ parts) path (and_then r (λ v. run v client parts))
@@ -235,51 +235,51 @@ run_did t client (p ∷ parts) path =
 
 -- what an update did
 abbrev Did : Tree → Update → Path → Tree × Reply → Type 0
-Did t update path s = TellsChanges t.nodes s.0.nodes path (events_of update s.1)
+Did t update path s = ReportsChanges t.nodes s.0.nodes path (events_of update s.1)
 
-create_told : (t : Tree) (create : Create) (path : Path) (r : Result (Tree × ChangeReply) Refusal) → CreateDid t path r → Did t (act.Create create) path (change_result t r)
-create_told t create path (Err refusal) did = untouched t.nodes path []
-create_told t create path (Ok (u, Created made)) did = told_with_parent NodeCreated made t.nodes u.nodes path refl refl did
-create_told t create path (Ok (u, Deleted)) did = absurd did
-create_told t create path (Ok (u, Set stat)) did = absurd did
+create_reported : (t : Tree) (create : Create) (path : Path) (r : Result (Tree × ChangeReply) Refusal) → CreateDid t path r → Did t (act.Create create) path (change_result t r)
+create_reported t create path (Err refusal) did = untouched t.nodes path []
+create_reported t create path (Ok (u, Created made)) did = reported_with_parent NodeCreated made t.nodes u.nodes path refl refl did
+create_reported t create path (Ok (u, Deleted)) did = absurd did
+create_reported t create path (Ok (u, Set stat)) did = absurd did
 
-delete_told : (t : Tree) (delete : Delete) (path : Path) (r : Result (Tree × ChangeReply) Refusal) → DeleteDid t delete path r → Did t (act.Delete delete) path (change_result t r)
-delete_told t delete path (Err refusal) did = untouched t.nodes path []
-delete_told t delete path (Ok (u, Created made)) did = absurd did
-delete_told t delete path (Ok (u, Deleted)) did = told_with_parent NodeDeleted delete.path t.nodes u.nodes path refl refl did
-delete_told t delete path (Ok (u, Set stat)) did = absurd did
+delete_reported : (t : Tree) (delete : Delete) (path : Path) (r : Result (Tree × ChangeReply) Refusal) → DeleteDid t delete path r → Did t (act.Delete delete) path (change_result t r)
+delete_reported t delete path (Err refusal) did = untouched t.nodes path []
+delete_reported t delete path (Ok (u, Created made)) did = absurd did
+delete_reported t delete path (Ok (u, Deleted)) did = reported_with_parent NodeDeleted delete.path t.nodes u.nodes path refl refl did
+delete_reported t delete path (Ok (u, Set stat)) did = absurd did
 
-set_told : (t : Tree) (set : SetData) (path : Path) (r : Result (Tree × ChangeReply) Refusal) → SetDid t set path r → Did t (act.SetData set) path (change_result t r)
-set_told t set path (Err refusal) did = untouched t.nodes path []
-set_told t set path (Ok (u, Created made)) did = absurd did
-set_told t set path (Ok (u, Deleted)) did = absurd did
-set_told t set path (Ok (u, Set stat)) did = told_write t set u path did
+set_reported : (t : Tree) (set : SetData) (path : Path) (r : Result (Tree × ChangeReply) Refusal) → SetDid t set path r → Did t (act.SetData set) path (change_result t r)
+set_reported t set path (Err refusal) did = untouched t.nodes path []
+set_reported t set path (Ok (u, Created made)) did = absurd did
+set_reported t set path (Ok (u, Deleted)) did = absurd did
+set_reported t set path (Ok (u, Set stat)) did = reported_write t set u path did
 
-multi_told : (t : Tree) (parts : List Part) (path : Path) (r : Run) → RunDid t parts path r → Did t (act.Multi parts) path (multi_result t r)
-multi_told t parts path (Err (number, refusal)) did = untouched t.nodes path []
-multi_told t parts path (Ok (u, told)) did = did
+multi_reported : (t : Tree) (parts : List Part) (path : Path) (r : Run) → RunDid t parts path r → Did t (act.Multi parts) path (multi_result t r)
+multi_reported t parts path (Err (number, refusal)) did = untouched t.nodes path []
+multi_reported t parts path (Ok (u, reported)) did = did
 
 -- either of two results
 either : (t : Tree) (update : Update) (path : Path) (test : Bool) (r s : Tree × Reply) → Did t update path r → Did t update path s → Did t update path (if test then r else s)
 either t update path true r s first second = first
 either t update path false r s first second = second
 
-update_told : (t : Tree) (client : ℕ) (update : Update) (path : Path) → takes_away update ≡ false → Did t update path (update_result t client update)
-update_told t client (act.Create create) path stays = create_told t create path (create_step t client create) (create_did t client create path)
-update_told t client (act.Delete delete) path stays = delete_told t delete path (delete_step t delete) (delete_did t delete path)
-update_told t client (act.SetData set) path stays = set_told t set path (set_step t set) (set_did t set path)
-update_told t client (act.Multi parts) path stays = multi_told t parts path (run t client parts) (run_did t client parts path)
-update_told t client (act.Open ticks) path stays = either t (act.Open ticks) path _ _ _ (untouched t.nodes path []) (untouched t.nodes path [])
-update_told t client (act.Ping session) path stays = either t (act.Ping session) path _ _ _ (untouched t.nodes path []) (untouched t.nodes path [])
-update_told t client (act.Close session) path stays = cc
-update_told t client act.Tick path stays = cc
+update_reported : (t : Tree) (client : ℕ) (update : Update) (path : Path) → takes_away update ≡ false → Did t update path (update_result t client update)
+update_reported t client (act.Create create) path stays = create_reported t create path (create_step t client create) (create_did t client create path)
+update_reported t client (act.Delete delete) path stays = delete_reported t delete path (delete_step t delete) (delete_did t delete path)
+update_reported t client (act.SetData set) path stays = set_reported t set path (set_step t set) (set_did t set path)
+update_reported t client (act.Multi parts) path stays = multi_reported t parts path (run t client parts) (run_did t client parts path)
+update_reported t client (act.Open ticks) path stays = either t (act.Open ticks) path _ _ _ (untouched t.nodes path []) (untouched t.nodes path [])
+update_reported t client (act.Ping session) path stays = either t (act.Ping session) path _ _ _ (untouched t.nodes path []) (untouched t.nodes path [])
+update_reported t client (act.Close session) path stays = cc
+update_reported t client act.Tick path stays = cc
 
 -- an update that is refused for good has no events
 no_events : (t : Tree) (update : Update) (path : Path) (refusal : Refusal) → Did t update path (t, reply.Refused refusal)
 no_events t update path refusal = untouched t.nodes path (events_of update (reply.Refused refusal))
 
-pub events_tell_every_change : EventsTellEveryChange
+pub events_report_every_change : EventsReportEveryChange
 unfolding step
-events_tell_every_change t client update path stays =
+events_report_every_change t client update path stays =
     either t update path (is_exhausted t update) (t, reply.Refused Exhausted) (update_result t client update)
-    (no_events t update path Exhausted) (update_told t client update path stays)
+    (no_events t update path Exhausted) (update_reported t client update path stays)

@@ -27,22 +27,22 @@ abbrev pub children_at : Nodes → Path → Option ℕ
 children_at nodes path = option_map (λ n. n.pzxid) (get nodes path)
 
 -- the event reports a change of the node's data or existence
-abbrev pub tells_data : EventKind → Bool
-tells_data kind.NodeCreated = true
-tells_data kind.NodeDeleted = true
-tells_data kind.NodeDataChanged = true
-tells_data other = false
+abbrev pub reports_data : EventKind → Bool
+reports_data kind.NodeCreated = true
+reports_data kind.NodeDeleted = true
+reports_data kind.NodeDataChanged = true
+reports_data other = false
 
 -- the event reports a change of the node's children, or of its existence
-abbrev pub tells_children : EventKind → Bool
-tells_children kind.NodeCreated = true
-tells_children kind.NodeDeleted = true
-tells_children kind.NodeChildrenChanged = true
-tells_children other = false
+abbrev pub reports_children : EventKind → Bool
+reports_children kind.NodeCreated = true
+reports_children kind.NodeDeleted = true
+reports_children kind.NodeChildrenChanged = true
+reports_children other = false
 
 -- no event reports this of the path
 abbrev pub Misses : (EventKind → Bool) → Path → List Event → Type 0
-Misses tells path events = AllByRecursion (λ e. tells e.kind ≡ true → e.path ≢ path) events
+Misses reports path events = AllByRecursion (λ e. reports e.kind ≡ true → e.path ≢ path) events
 
 -- the update ends a session or moves the clock: its reply doesn't name the deleted nodes
 abbrev pub takes_away : Update → Bool
@@ -56,12 +56,12 @@ takes_away (Close session) = true
 takes_away Tick = true
 
 -- the events report each change of the node at a path, of its data and of its children
-pub record TellsChanges (nodes changed : Nodes) (path : Path) (events : List Event) : Type 0 where
-  pub of_data : Misses tells_data path events → data_at changed path ≡ data_at nodes path
-  pub of_children : Misses tells_children path events → children_at changed path ≡ children_at nodes path
+pub record ReportsChanges (nodes changed : Nodes) (path : Path) (events : List Event) : Type 0 where
+  pub of_data : Misses reports_data path events → data_at changed path ≡ data_at nodes path
+  pub of_children : Misses reports_children path events → children_at changed path ≡ children_at nodes path
 
 -- every change of an update has its event, unless the update ends a session or moves the clock
-abbrev pub EventsTellEveryChange : Type 0
-EventsTellEveryChange =
+abbrev pub EventsReportEveryChange : Type 0
+EventsReportEveryChange =
     (t : Tree) (client : ℕ) (update : Update) (path : Path) → takes_away update ≡ false
-    → TellsChanges t.nodes (step t client update).0.nodes path (events_of update (step t client update).1)
+    → ReportsChanges t.nodes (step t client update).0.nodes path (events_of update (step t client update).1)

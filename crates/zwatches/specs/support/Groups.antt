@@ -32,10 +32,10 @@ pub record IsGroup (test : Watch → Bool) (rows : List Watch) (first end : ℕ)
   pub after : AllWithin (λ w. test w ≡ false) rows end (length rows)
 
 -- the connections of the rows at each position, one position after the other
-abbrev pub told_by : List Watch → List Place → List ℕ
-told_by rows [] = []
-told_by rows (at ∷ places) =
-    map (λ w. w.connection) (filter (is_at at) rows) ++ told_by rows places
+abbrev pub reported_by : List Watch → List Place → List ℕ
+reported_by rows [] = []
+reported_by rows (at ∷ places) =
+    map (λ w. w.connection) (filter (is_at at) rows) ++ reported_by rows places
 
 -- the rows without those at each position
 abbrev pub kept : List Watch → List Place → List Watch

@@ -1,9 +1,9 @@
 //! Laws of the definitions. Each function's contract is a law; its body does nothing.
 
-ghost use Rattle.zwatches.specs.changes.Laws.{EventsTellEveryChange};
+ghost use Rattle.zwatches.specs.changes.Laws.{EventsReportEveryChange};
 
 /// The events of an update report every change that it made to a node's data or children.
 /// Exceptions are a tick and the end of a session: their replies don't name the deleted nodes.
-pub fn events_tell_every_change()
-    ensures { EventsTellEveryChange }
+pub fn events_report_every_change()
+    ensures { EventsReportEveryChange }
 {}

@@ -112,10 +112,10 @@ path_bad text fault (inr some) other = path_fault text fault some
 
 pub path_unread : (text : List ℕ) (fault : PathFault) (error : ReadError) → IsMemoryOr (fault_of text) fault
     → (fault ≡ Memory → error ≡ errors.Memory) → ((fault ≡ Memory → ⊥) → error ≡ errors.Fault Invalid) → Fails error (path_from text)
-path_unread text Memory error told memory other = subst (λ (e : ReadError). Fails e (path_from text)) (sym (memory refl)) tt
-path_unread text fault error told memory other =
+path_unread text Memory error reported memory other = subst (λ (e : ReadError). Fails e (path_from text)) (sym (memory refl)) tt
+path_unread text fault error reported memory other =
     let is_other : fault ≡ Memory → ⊥ = λ same. cc in
-    subst (λ (e : ReadError). Fails e (path_from text)) (sym (other is_other)) (path_bad text fault told is_other)
+    subst (λ (e : ReadError). Fails e (path_from text)) (sym (other is_other)) (path_bad text fault reported is_other)
 
 pub is_path : IsForm path
 unfolding path

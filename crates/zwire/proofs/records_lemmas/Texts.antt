@@ -7,7 +7,7 @@ use Rattle.zcodec.proofs.Whole.{one_spelling}
 use Rattle.zjournal.specs.Blocks.{IsText}
 use Rattle.zwire.specs.declared.records.record.Record.{Record}
 use Rattle.zwire.specs.records.Records.{logged, Fits, AllFit, line_of, text_of}
-use Rattle.zwire.specs.records.Laws.{TextsTellApart, TextsJoin, OneRecordInFront, EndsLine, AreLines}
+use Rattle.zwire.specs.records.Laws.{TextsAreDistinct, TextsJoin, OneRecordInFront, EndsLine, AreLines}
 use Rattle.zwire.proofs.records_lemmas.Records.{is_logged}
 use Rattle.zwire.proofs.records_lemmas.Lines.{AreHigh, HasNoEnd, high_no_end, one_end, encoded_high, one_encoding}
 
@@ -46,7 +46,7 @@ shorter r text rest same = rw same (omega (arith, length-append (letters r ++ 10
 text-cons : (r : Record) (rs : List Record) → text_of (r ∷ rs) ≡ line_of r ++ text_of rs
 text-cons r rs = flat_map-cons line_of r rs
 
-pub texts_apart : TextsTellApart
+pub texts_apart : TextsAreDistinct
 texts_apart [] [] fit also same = refl
 texts_apart [] (b ∷ bs) fit also same = absurd (line_some b (text_of bs) (sym (same ∙ text-cons b bs)))
 texts_apart (a ∷ first) [] fit also same = absurd (line_some a (text_of first) (sym (text-cons a first) ∙ same))

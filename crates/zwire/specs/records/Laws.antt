@@ -10,8 +10,8 @@ OneRecordInFront =
     (a b : Record) (x y : List ℕ) → Fits a → Fits b → line_of a ++ x ≡ line_of b ++ y → (a ≡ b) × (x ≡ y)
 
 -- no two lists of records share their text
-abbrev pub TextsTellApart : Type 0
-TextsTellApart = (a b : List Record) → AllFit a → AllFit b → text_of a ≡ text_of b → a ≡ b
+abbrev pub TextsAreDistinct : Type 0
+TextsAreDistinct = (a b : List Record) → AllFit a → AllFit b → text_of a ≡ text_of b → a ≡ b
 
 -- one text followed by another is that of the records of both
 abbrev pub TextsJoin : Type 0

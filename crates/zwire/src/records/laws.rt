@@ -1,12 +1,12 @@
 //! Laws of the definitions. Each function's contract is a law; its body is empty.
 
-ghost use Rattle.zwire.specs.records.Laws.{OneRecordInFront, TextsTellApart, TextsJoin, AreLines};
+ghost use Rattle.zwire.specs.records.Laws.{OneRecordInFront, TextsAreDistinct, TextsJoin, AreLines};
 
 /// A text begins with the line of at most one record, and is the text of at most one list of
 /// records.
-pub fn texts_tell_apart()
+pub fn texts_are_distinct()
     ensures first { OneRecordInFront }
-    ensures all { TextsTellApart }
+    ensures all { TextsAreDistinct }
 {}
 
 /// The text of some records, followed by that of others, is the text of them all.

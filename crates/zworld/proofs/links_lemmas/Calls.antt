@@ -13,7 +13,7 @@ use Rattle.zprotocol.proofs.world_lemmas.Processes.{same_itself}
 use Rattle.zworld.specs.links.Places.{Queues, Channel, Sent, messages, is_between, messages_at, sent_of}
 use Rattle.zworld.specs.links.Places.{with_link, with_last, without_first, without_receiver}
 use Rattle.zworld.specs.links.support.Order.{Holds, AreSorted, IsFound, IsGap, longer, is_for_others}
-use Rattle.zworld.proofs.links_lemmas.Kept.{links_with, links_without}
+use Rattle.zworld.proofs.links_lemmas.Cached.{links_with, links_without}
 use Rattle.zworld.proofs.links_lemmas.Noted.{fails_second}
 use Rattle.zworld.proofs.links_lemmas.Places.{by_place}
 use Rattle.zworld.proofs.links_lemmas.Sorted.{around_item, removed_set, sorted_at}

@@ -46,7 +46,7 @@ process_at-place_of Master few = refl
 process_at-place_of (Server s) few = let at = server_place s few in ap process_at at.0 ∙ process_at-server s at.2 at.1
 process_at-place_of (Client c) few = process_at-client c (place_of (Client c)) (client_place c few)
 
--- whether a process is another is told by its place
+-- whether a process is another is reported by its place
 pub by_place : (p q : Process) (place : ℕ) → place ≡ place_of q → place < PROCESSES → (place == place_of p) ≡ is_same p q
 by_place p q place is small = elim (test (is_same p q)) [
   | inl same ↦ eq-eqb place (place_of p) (is ∙ ap place_of (sym (same_process p q same))) ∙ sym same

@@ -12,7 +12,7 @@ use Rattle.zprotocol.specs.Places.{place_of}
 use Rattle.zworld.specs.declared.links.turn.Turn.{Turn}
 use Rattle.zworld.specs.links.Places.{Channel, Sent, is_between, messages_at, sent_of, holds, Between, Precedes, Reaches}
 use Rattle.zworld.specs.links.support.Order.{IsFrom, IsCountFrom}
-use Rattle.zworld.proofs.links_lemmas.Kept.{not_among, behind_others}
+use Rattle.zworld.proofs.links_lemmas.Cached.{not_among, behind_others}
 use Rattle.zworld.proofs.links_lemmas.Order.{before_elsewhere, behind_elsewhere, places_between}
 use Rattle.zworld.proofs.links_lemmas.Sorted.{each}
 

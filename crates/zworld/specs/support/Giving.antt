@@ -5,7 +5,7 @@ use Rattle.zcalls.specs.declared.reply.Reply.{Reply}
 use Rattle.zprotocol.specs.declared.process.Process.{Process}
 use Rattle.zprotocol.specs.declared.process.Process.TheVariants.{Client}
 use Rattle.zprotocol.specs.Places.{place_of}
-use Rattle.zactor.specs.Acting.{TreeStanding, can_come, can_stand, effect_of, has_stopped, input_of, read, refusal_of, told_by}
+use Rattle.zactor.specs.Acting.{TreeStanding, can_come, can_stand, effect_of, has_stopped, input_of, read, refusal_of, reported_by}
 use Rattle.zactor.specs.declared.act_fault.ActFault.{ActFault}
 use Rattle.zactor.specs.declared.act_fault.ActFault.TheVariants.{Refused, Memory}
 use Rattle.zactor.specs.declared.done.Done.{Done}
@@ -36,7 +36,7 @@ pub record IsGiven (old new : Held) (process : Process) (input : Input) (done : 
   -- the world of the definition is this one, whatever the history before it
   pub leads : (history : History)
       → IsAlike (did_in (kept_world old history) process (effect_of process (held_standing old process) input done))
-      (kept_world new (history ++ told_by process input done))
+      (kept_world new (history ++ reported_by process input done))
 
 -- a process wasn't given an input: it refused it, and nothing changed; or memory ran out, and the
 -- input was one that it accepts, and not a request to stop
@@ -58,10 +58,10 @@ did_of done.Stopped = did.Stopped
 did_of other = did.Done
 
 -- what callers see of a delivery, where this reply was returned
-abbrev pub told_with : Process → Done → Option Reply → History
-told_with (Client c) (done.Answered number) (Some reply) = call_event.Answer c number reply ∷ []
-told_with to end given = []
+abbrev pub reported_with : Process → Done → Option Reply → History
+reported_with (Client c) (done.Answered number) (Some reply) = call_event.Answer c number reply ∷ []
+reported_with to end given = []
 
 -- what callers see of a delivery was appended, and this became of it
-abbrev pub IsToldOf : History → Done → History → History → Did → Type 0
-IsToldOf told end before after became = (after ≡ before ++ told) × (became ≡ did_of end)
+abbrev pub IsReportedOf : History → Done → History → History → Did → Type 0
+IsReportedOf reported end before after became = (after ≡ before ++ reported) × (became ≡ did_of end)

@@ -1,8 +1,8 @@
 -- What a world holds of its past, and runs, one event after the other.
 use Rattle.std.specs.Prelude.{◌≡◌, ℕ, Bool, true, false, List, [], ◌∷◌, ◌++◌}
 use Rattle.ztree.specs.Tree.{Tree, opening_tree}
-use Rattle.zcalls.specs.Kept.{KeptState}
-use Rattle.zprotocol.specs.server.Machine.{kept_tree}
+use Rattle.zcalls.specs.Cached.{CachedState}
+use Rattle.zprotocol.specs.server.Machine.{cached_tree}
 use Rattle.zprotocol.specs.declared.world.event.Event.{Event}
 use Rattle.zprotocol.specs.declared.world.outcome.Outcome.{Outcome}
 use Rattle.zprotocol.specs.world.History.{History}
@@ -27,11 +27,11 @@ pub record HasPast (is_restored has_forgotten is_broken : Bool) (held : Held) (h
   pub past : History
   pub opens : is_server servers ≡ true
   pub whole : has_forgotten ≡ false → past ≡ []
-  pub told : (world_after_from tree servers clients events).history ≡ past ++ history
+  pub reported : (world_after_from tree servers clients events).history ≡ past ++ history
   pub stands : is_broken ≡ false → world_after_from tree servers clients events ≡ world_of held (past ++ history)
 
 -- the events lead from one world to another, one after the other, each resolved by some outcome
-abbrev pub LeadRead : World (KeptState Tree) → List Event → World (KeptState Tree) → Type 0
+abbrev pub LeadRead : World (CachedState Tree) → List Event → World (CachedState Tree) → Type 0
 LeadRead v [] w = v ≡ w
 LeadRead v (event ∷ events) w =
-    (outcome : Outcome) × LeadRead (happens kept_tree v (read kept_tree v event outcome)) events w
+    (outcome : Outcome) × LeadRead (happens cached_tree v (read cached_tree v event outcome)) events w

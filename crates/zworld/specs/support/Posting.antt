@@ -2,7 +2,7 @@
 -- server.
 use Rattle.std.specs.Prelude.{◌≡◌, ℕ, ◌+◌, ◌-◌, ◌<◌, ◌≤◌, Bool, true, false, List}
 use Rattle.ztree.specs.Tree.{Tree}
-use Rattle.zcalls.specs.Kept.{KeptState}
+use Rattle.zcalls.specs.Cached.{CachedState}
 use Rattle.zprotocol.specs.declared.limits.TheConstants.{PROCESSES}
 use Rattle.zprotocol.specs.declared.message.Message.TheVariants.{Gone}
 use Rattle.zprotocol.specs.declared.process.Process.{Process}
@@ -21,7 +21,7 @@ is_lost actors (Server s) = has_stopped (standing_at actors (Server s))
 is_lost actors other = false
 
 -- on the channels to those that have not stopped, this was sent
-abbrev pub IsPosted : List TreeStanding → HeldChannels → Process → List (Post (KeptState Tree)) → HeldChannels → Type 0
+abbrev pub IsPosted : List TreeStanding → HeldChannels → Process → List (Post (CachedState Tree)) → HeldChannels → Type 0
 IsPosted actors old sender posts new =
     (from to : Process) → is_lost actors to ≡ false → links_of new from to ≡ put (links_of old) sender posts from to
 

@@ -1,8 +1,8 @@
 -- A world that settled, strictly or not.
 use Rattle.std.specs.Prelude.{ℕ, Bool, List, ◌++◌}
 use Rattle.ztree.specs.Tree.{Tree}
-use Rattle.zcalls.specs.Kept.{KeptState}
-use Rattle.zprotocol.specs.server.Machine.{kept_tree}
+use Rattle.zcalls.specs.Cached.{CachedState}
+use Rattle.zprotocol.specs.server.Machine.{cached_tree}
 use Rattle.zprotocol.specs.declared.world.outcome.Outcome.{Outcome}
 use Rattle.zprotocol.specs.declared.world.settled.Settled.{Settled}
 use Rattle.zprotocol.specs.world.Settle.{settle}
@@ -12,9 +12,9 @@ use Rattle.zworld.specs.support.Settling.{MayLearn}
 
 -- settling led from one world to another, and ended this way; where it was strict, no server ran
 -- out of memory
-abbrev pub HasSettledBy : Bool → World (KeptState Tree) → ℕ → Settled → World (KeptState Tree) → Type 0
+abbrev pub HasSettledBy : Bool → World (CachedState Tree) → ℕ → Settled → World (CachedState Tree) → Type 0
 HasSettledBy strict v limit settled w =
-    (outcomes : List Outcome) × MayLearn strict outcomes × ((later : List Outcome) → Ends (settle kept_tree v limit (outcomes ++ later)) settled later w)
+    (outcomes : List Outcome) × MayLearn strict outcomes × ((later : List Outcome) → Ends (settle cached_tree v limit (outcomes ++ later)) settled later w)
 
 -- the same, of the program's worlds
 abbrev pub IsSettledBy : Bool → WorldView → WorldView → ℕ → Settled → Type 0

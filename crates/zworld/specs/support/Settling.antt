@@ -3,8 +3,8 @@
 -- learnt so far.
 use Rattle.std.specs.Prelude.{◌≡◌, ◌⊎◌, ℕ, Bool, true, List, [], ◌++◌, map, flat_map}
 use Rattle.ztree.specs.Tree.{Tree}
-use Rattle.zcalls.specs.Kept.{KeptState}
-use Rattle.zprotocol.specs.server.Machine.{kept_tree}
+use Rattle.zcalls.specs.Cached.{CachedState}
+use Rattle.zprotocol.specs.server.Machine.{cached_tree}
 use Rattle.zprotocol.specs.declared.process.Process.{Process}
 use Rattle.zprotocol.specs.declared.world.event.Event.{Event}
 use Rattle.zprotocol.specs.declared.world.event.Event.TheVariants.{Take}
@@ -18,7 +18,7 @@ use Rattle.zworld.specs.support.Stepped.{Seen}
 
 -- a settling of the world of kept trees
 abbrev pub TreeSettling : Type 0
-TreeSettling = Settling (KeptState Tree)
+TreeSettling = Settling (CachedState Tree)
 
 -- a settling is where the processes are: this many more events may be done, and these are the
 -- outcomes to come
@@ -35,16 +35,16 @@ pub record Point : Type 0 where
 
 -- where it is strict, no server may run out of memory
 abbrev pub MayLearn : Bool → List Outcome → Type 0
-MayLearn strict told = strict ≡ true → AreActed told
+MayLearn strict reported = strict ≡ true → AreActed reported
 
 -- from one point to another, outcomes were learnt and the history grew: one function, of a settling
 -- at the first point, equals the other, of one at the second
 abbrev pub GoesOn : Bool → (TreeSettling → TreeSettling) → (TreeSettling → TreeSettling) → Point → Point → Type 0
 GoesOn strict whole rest before after =
-    (told : List Outcome) × (given : History) × (after.seen ≡ before.seen ++ given)
-    × ((history : History) (outcomes : List Outcome) (s : TreeSettling) → StandsAt before.held history before.left (told ++ outcomes) s
+    (reported : List Outcome) × (given : History) × (after.seen ≡ before.seen ++ given)
+    × ((history : History) (outcomes : List Outcome) (s : TreeSettling) → StandsAt before.held history before.left (reported ++ outcomes) s
     → (t : TreeSettling) × StandsAt after.held (history ++ given) after.left outcomes t × (whole s ≡ rest t))
-    × MayLearn strict told
+    × MayLearn strict reported
 
 -- from one point to another, a function of settlings was done
 abbrev pub Does : Bool → (TreeSettling → TreeSettling) → Point → Point → Type 0
@@ -52,7 +52,7 @@ Does strict done before after = GoesOn strict done (λ s. s) before after
 
 -- the same, of events that were tried
 abbrev pub Tries : Bool → List Event → Point → Point → Type 0
-Tries strict events before after = Does strict (λ s. with_tries kept_tree s events) before after
+Tries strict events before after = Does strict (λ s. with_tries cached_tree s events) before after
 
 -- the same, from what was held and seen to what is, with this many events left before and after
 abbrev pub TriesBy : Bool → List Event → Held → Held → (before after : Seen) → (left more : ℕ) → Type 0
@@ -67,7 +67,7 @@ TriesUnseen events old new left more =
 -- the same, of passes over the channels of this many clients
 abbrev pub PassesBy : Bool → (clients limit : ℕ) → Held → Held → (before after : Seen) → (left more : ℕ) → Type 0
 PassesBy strict clients limit old new before after left more =
-    Does strict (passes kept_tree (deliveries clients) limit)
+    Does strict (passes cached_tree (deliveries clients) limit)
     (record { held = old; left = left; seen = before.items }) (record { held = new; left = more; seen = after.items })
 
 -- a delivery on each channel from one process

@@ -1,7 +1,7 @@
 -- What holds of all processes between events.
 use Rattle.std.specs.Prelude.{◌≡◌, ℕ, Bool, true, false, is_some, List, [], length}
 use Rattle.ztree.specs.Tree.{Tree}
-use Rattle.zcalls.specs.Kept.{KeptState}
+use Rattle.zcalls.specs.Cached.{CachedState}
 use Rattle.zprotocol.specs.declared.limits.TheConstants.{PROCESSES}
 use Rattle.zprotocol.specs.declared.process.Process.{Process}
 use Rattle.zprotocol.specs.server.View.{Post}
@@ -17,7 +17,7 @@ waits (AtClient v) = is_some v.outstanding
 waits standing = false
 
 -- what holds of the processes
-pub record IsFull (actors : List TreeStanding) (links : HeldChannels) (posts : List (Post (KeptState Tree))) (waiting : ℕ) : Type 0 where
+pub record IsFull (actors : List TreeStanding) (links : HeldChannels) (posts : List (Post (CachedState Tree))) (waiting : ℕ) : Type 0 where
   -- all are there, each of its kind
   pub all : length actors ≡ PROCESSES
   pub stand : (p : Process) → can_stand p (standing_at actors p) ≡ true

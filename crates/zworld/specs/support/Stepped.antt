@@ -3,7 +3,7 @@
 use Rattle.std.specs.Prelude.{◌≡◌, ℕ, Bool, true, not, List, [], ◌++◌}
 use Rattle.std.specs.declared.alloc.Global.{Global}
 use Rattle.std.specs.declared.vec.Vec.{Vec}
-use Rattle.zprotocol.specs.server.Machine.{kept_tree}
+use Rattle.zprotocol.specs.server.Machine.{cached_tree}
 use Rattle.zprotocol.specs.declared.world.event.Event.{Event}
 use Rattle.zprotocol.specs.declared.world.history.CallEvent.{CallEvent}
 use Rattle.zprotocol.specs.declared.world.outcome.Outcome.{Outcome}
@@ -31,19 +31,19 @@ CanHappen held event = is_enabled (kept_world held []) event ≡ true
 -- the event leads from what was held to what is held, whatever the history before it, and the
 -- history continues with this
 abbrev pub Leads : Held → Event → History → Held → Type 0
-Leads old event told new =
-    (history : History) → IsAlike (happens kept_tree (kept_world old history) event) (kept_world new (history ++ told))
+Leads old event reported new =
+    (history : History) → IsAlike (happens cached_tree (kept_world old history) event) (kept_world new (history ++ reported))
 
 -- the event was done, and the history continues with this
-pub record HasStepped (old new : Held) (event : Event) (did : Did) (told : History) : Type 0 where
+pub record HasStepped (old new : Held) (event : Event) (did : Did) (reported : History) : Type 0 where
   -- it is idle exactly where it wasn't enabled, and then nothing changed
   pub idle : is_idle did ≡ not (is_enabled (kept_world old []) event)
   pub same : is_idle did ≡ true → new ≡ old
   pub caused : HasCause old event did
   -- the outcome fits the event
-  pub fits : is_fitting kept_tree (kept_world old []) event (outcome_of did) ≡ true
+  pub fits : is_fitting cached_tree (kept_world old []) event (outcome_of did) ≡ true
   -- it is the event of the definition, resolved by its outcome
-  pub leads : Leads old (read kept_tree (kept_world old []) event (outcome_of did)) told new
+  pub leads : Leads old (read cached_tree (kept_world old []) event (outcome_of did)) reported new
 
 -- it can't be done, for this reason
 abbrev pub IsIdle : Held → Event → IdleCause → Type 0
@@ -51,26 +51,26 @@ IsIdle held event why = HasStepped held held event (became.Idle why) []
 
 -- the event was done, and the history continues with what it recorded
 abbrev pub GoesBy : Held → Held → Event → (before after : History) → Did → Type 0
-GoesBy old new event before after did = (told : History) × (after ≡ before ++ told) × HasStepped old new event did told
+GoesBy old new event before after did = (reported : History) × (after ≡ before ++ reported) × HasStepped old new event did reported
 
 -- the same, as what callers saw is passed on
 abbrev pub Goes : Held → Held → Event → (before after : Seen) → Did → Type 0
 Goes old new event before after did = GoesBy old new event before.items after.items did
 
 -- settling came to this: it learnt these outcomes, and the history continues with this
-pub record SettlesBy (old new : Held) (limit : ℕ) (settled : Settled) (learnt : List Outcome) (told : History) : Type 0 where
+pub record SettlesBy (old new : Held) (limit : ℕ) (settled : Settled) (learnt : List Outcome) (reported : History) : Type 0 where
   -- it ended as the definition does, whatever outcomes would follow, and used none of those
   pub ended : (history : History) (rest : List Outcome)
-      → settled ≡ settling_end (settle kept_tree (world_of old history) limit (learnt ++ rest))
+      → settled ≡ settling_end (settle cached_tree (world_of old history) limit (learnt ++ rest))
   pub left : (history : History) (rest : List Outcome)
-      → (settle kept_tree (world_of old history) limit (learnt ++ rest)).outcomes ≡ rest
+      → (settle cached_tree (world_of old history) limit (learnt ++ rest)).outcomes ≡ rest
   -- it leads to what is held
   pub leads : (history : History) (rest : List Outcome)
-      → IsAlike (settle kept_tree (world_of old history) limit (learnt ++ rest)).world (kept_world new (history ++ told))
+      → IsAlike (settle cached_tree (world_of old history) limit (learnt ++ rest)).world (kept_world new (history ++ reported))
 
 -- settling came to this, and the history continues with the responses that clients received; where
 -- it was strict, no server ran out of memory
 abbrev pub Settles : Bool → Held → Held → ℕ → (before after : History) → Settled → Type 0
 Settles strict old new limit before after settled =
-    (learnt : List Outcome) × (told : History) × (after ≡ before ++ told) × SettlesBy old new limit settled learnt told
+    (learnt : List Outcome) × (reported : History) × (after ≡ before ++ reported) × SettlesBy old new limit settled learnt reported
     × (strict ≡ true → AreActed learnt)

@@ -5,7 +5,7 @@ use mathlib.Core.Bool.{true≢false}
 use Rattle.zprotocol.specs.declared.process.Process.TheVariants.{Master, Server, Client}
 use Rattle.zprotocol.specs.client.Table.{client_step}
 use Rattle.zprotocol.specs.declared.world.history.CallEvent.TheVariants as call_event
-use Rattle.zprotocol.specs.world.Does.{AtClient, answer_told}
+use Rattle.zprotocol.specs.world.Does.{AtClient, answer_reported}
 use Rattle.zactor.specs.Acting.{with_reply}
 use Rattle.zactor.proofs.Replies.{handed_out}
 use Rattle.zactor.proofs.hearing.hear_as_client.Goals as goal
@@ -31,7 +31,7 @@ returns-in-Some-clause-acted c (Client n) is =
       stands = refl;
       puts = c.in-Ok-Some.ensures.puts;
       owed = λ e. absurd (true≢false (sym e));
-      told = ap (λ o. answer_told n o) handed
+      reported = ap (λ o. answer_reported n o) handed
           ∙ sym (ap (λ o. option_to_list (option_map (λ r. call_event.Answer n c.in-Some.number r) o)) given.3);
     }
 returns-in-Some-clause-acted c Master is = absurd (true≢false (sym is))

@@ -16,7 +16,7 @@ returns-in-Err c =
     let is = c.in_ok-command.ensures in
     let simple = ap is_simple_and_free is ∙ simple_and_free name options in
     asked-faulty (app_of c.in_ok-command.command) name options (texts_of c.args.words.now) c.in-Err.error is (c.in-Err.ensures.kinds simple)
-    (λ memory. c.in_ok-told_apart-in-Err.ensures.words refl (c.kind.ensures ∙ memory))
+    (λ memory. c.in_ok-distinct-in-Err.ensures.words refl (c.kind.ensures ∙ memory))
 
 pub returns-in-Some : goal.returns-in-Some
 returns-in-Some c =

@@ -40,7 +40,7 @@ use denote.Memory.{lone}
 use borrow.Table.OneValue.{part_out}
 use denote.Triple.Clauses.{ensured}
 use Rattle.zc_library.proofs.service.Service.TheLaws as S'
-use Rattle.bytes.proofs.Walks.{tells}
+use Rattle.bytes.proofs.Walks.{reports}
 
 abbrev stayed : Stays (f.ended).signature.params (f.ended).kept
 stayed = (stay_none (λ _. RawPtr) yes, tt)
@@ -91,7 +91,7 @@ module _ {M : Type 1} {𝓤 : Ura M} (𝓛 : Logic 𝓤) (at_mem : Memory → SP
         use1 𝓛 (some (λ (v : Val). ‵ (fat full_share (lone S.mir) b o v) ⊛ ‵ (S.own_val h (v ∷ [])))) (part_out 𝓛 S refl full_share h b o) $
         pick ! (λ v. split ! $
         move ! (1 ∷ []) $
-        tells ! S S'.the_row_laws h (v ∷ []) (λ w is good. rewrite ! 1 (λ (u : Val). ‵ (fat full_share (lone S.mir) b o u)) (ap only is) refl $
+        reports ! S S'.the_row_laws h (v ∷ []) (λ w is good. rewrite ! 1 (λ (u : Val). ‵ (fat full_share (lone S.mir) b o u)) (ap only is) refl $
         move ! (1 ∷ []) $
         sets ! (of_opd ! (load ! (through ! refl (stop !)) (look ! 0 refl))) refl good $
         -- finish(..)

@@ -101,8 +101,8 @@ module _ {M : Type 1} {𝓤 : Ura M} (𝓛 : Logic 𝓤) (at_mem : Memory → SP
     abbrev Counted : Fml
     Counted = fsep (feq ℕ n n) (bytes q xs c i)
 
-    abbrev Told : Service → ℕ → SProp 𝓤
-    Told new r = sep 𝓤 (sem 𝓛 (part_at S full_share new b o)) (sep 𝓤 (sem 𝓛 (part_at (Array u8 n) q xs c i)) (fact 𝓤 (HearsAs h new xs r)))
+    abbrev Reported : Service → ℕ → SProp 𝓤
+    Reported new r = sep 𝓤 (sem 𝓛 (part_at S full_share new b o)) (sep 𝓤 (sem 𝓛 (part_at (Array u8 n) q xs c i)) (fact 𝓤 (HearsAs h new xs r)))
 
     exits : (new : Service) (r : ℕ) (v : Val) → HearsAs h new xs r
         → ent 𝓤 (sep 𝓤 (sem 𝓛 Counted) (sep 𝓤 (sem 𝓛 (part_at S full_share new b o)) (sep 𝓤 (sem 𝓛 (u32.own_val r (v ∷ []))) (Entry at from n))))
@@ -113,7 +113,7 @@ module _ {M : Type 1} {𝓤 : Ura M} (𝓛 : Logic 𝓤) (at_mem : Memory → SP
         use1 𝓛 (‵ (part_at (Array u8 n) q xs c i)) (bytes_whole 𝓛 q n xs c i) $
         suffices ! _ (ends_at 𝓛 f.ended stayed (f.clauses 𝓛 at_mem run) (bound at from n) v r (tt, (tt, (tt, tt))) (tt, (tt, (tt, tt)))) $
         move ! (3 ∷ []) $ split ! $ move ! (1 ∷ 4 ∷ []) $ join ! $ move ! (1 ∷ 0 ∷ []) $ join ! $ frame ! $
-        show ! (λ (w : Service). Told w r) new $ move ! (1 ∷ []) $ frame ! $ says ! e $ done !
+        show ! (λ (w : Service). Reported w r) new $ move ! (1 ∷ []) $ frame ! $ says ! e $ done !
 
     walk : n < 2 ^ 63 → ent 𝓤 (sep 𝓤 (sem 𝓛 Counted) (sep 𝓤 (sem 𝓛 (part_at S full_share h b o)) (Entry at from n))) (Runs at from n)
     walk low =

@@ -56,7 +56,7 @@ use Rattle.std_heap.proofs.Handle.{handle, heap_val, heap_Tells}
 use Rattle.std_heap.specs.contracts.Global as HP
 use Rattle.std_heap.proofs.Global.TheLaws as HP'
 use Rattle.zc_library.proofs.service.Service.TheLaws as S'
-use Rattle.bytes.proofs.Walks.{tells}
+use Rattle.bytes.proofs.Walks.{reports}
 
 abbrev stayed : Stays (f.ended).signature.params (f.ended).kept
 stayed = (stay_none (λ _. HP.the_row) yes, (stay_none (λ _. u8) yes, (stay_none (λ _. RawPtr) yes, tt)))
@@ -105,8 +105,8 @@ module _ {M : Type 1} {𝓤 : Ura M} (𝓛 : Logic 𝓤) (at_mem : Memory → SP
     abbrev at : Ptr
     at = block_ptr b o
 
-    abbrev Told : ℕ → Service → SProp 𝓤
-    Told r new = sep 𝓤 (sem 𝓛 (part_at S full_share new b o)) (fact 𝓤 (OpensAs m new r))
+    abbrev Reported : ℕ → Service → SProp 𝓤
+    Reported r new = sep 𝓤 (sem 𝓛 (part_at S full_share new b o)) (fact 𝓤 (OpensAs m new r))
 
     exits : (new : Service) (r : ℕ) (v : Val) → OpensAs m new r
         → ent 𝓤 (sep 𝓤 (sem 𝓛 (part_at S full_share new b o)) (sep 𝓤 (sem 𝓛 (u32.own_val r (v ∷ []))) (Entry at))) (Post at v)
@@ -115,7 +115,7 @@ module _ {M : Type 1} {𝓤 : Ura M} (𝓛 : Logic 𝓤) (at_mem : Memory → SP
         ∷ (‵ ftrue ⊛ ‵ (owns (HP.the_row ∷ u8 ∷ RawPtr ∷ []) (args at) (passed at))) ∷ []) ∵
         suffices ! _ (ends_at 𝓛 f.ended stayed (f.clauses 𝓛 at_mem run) (bound at) v r (tt, (tt, (tt, tt))) (tt, (tt, (tt, tt)))) $
         move ! (2 ∷ []) $ split ! $ move ! (1 ∷ 3 ∷ []) $ join ! $ move ! (1 ∷ 0 ∷ []) $ join ! $ frame ! $
-        show ! (Told r) new $ says ! e $ done !
+        show ! (Reported r) new $ says ! e $ done !
 
     walk : ent 𝓤 (sep 𝓤 (Entry at) (sem 𝓛 (froom (lone S.mir) b o))) (Runs at)
     walk =
@@ -133,7 +133,7 @@ module _ {M : Type 1} {𝓤 : Ura M} (𝓛 : Logic 𝓤) (at_mem : Memory → SP
         ⊛ some (λ (ws : Lasts of.ended tt (handle, (m, tt))). ‵ (lasts of.ended tt (handle, (m, tt)) ws) ⊛ raw (fact 𝓤 (IsOpened m r))))))
         (id⊢ 𝓤 _) $ await ! tt $ pick ! (λ r.
         split ! $ move ! (1 ∷ []) $ pick ! (λ ws. split ! $ move ! (1 ∷ []) $ heard ! (IsOpened m r) (λ e. drop ! $ split ! $ drop ! $
-        tells ! S S'.the_row_laws r (v ∷ []) (λ w is good. lands_as ! (ap only is) refl good $
+        reports ! S S'.the_row_laws r (v ∷ []) (λ w is good. lands_as ! (ap only is) refl good $
         -- at.write(..)
         assigns ! (of_opd ! (get ! refl)) (through ! refl (stop !)) (init ! 2 refl good) $
         move ! (2 ∷ 0 ∷ []) $ use2 𝓛 (‵ (part_at S full_share r b o)) (part_in 𝓛 S refl full_share r b o w) $

@@ -41,7 +41,7 @@ use denote.Triple.Entry.{on_entry}
 use denote.Triple.Spec.{Meets, triple_of}
 use denote.Triple.Table.{entered}
 use denote.Triple.Walked.{says, Stays, stay_none, walk_of, Goes-none, ends_at, walked, walk_Meets}
-use Rattle.zc_library.specs.Service.{Tells}
+use Rattle.zc_library.specs.Service.{Reports}
 use Rattle.zc_library.specs.declared.service.Service.{Service}
 use Rattle.zc_library.specs.contracts.service.Service as service
 use Rattle.zc_library.specs.contracts.service.tell as of
@@ -104,11 +104,11 @@ module _ {M : Type 1} {𝓤 : Ura M} (𝓛 : Logic 𝓤) (at_mem : Memory → SP
     abbrev Counted : List ℕ → Fml
     Counted ys = (Arr (mem u8) n).own_at ys c i
 
-    abbrev Told : ℕ → Service → List ℕ → SProp 𝓤
-    Told r new ys = sep 𝓤 (sem 𝓛 (part_at S full_share new b o)) (sep 𝓤 (sem 𝓛 (part_at (Array u8 n) full_share ys c i))
-        (fact 𝓤 (Tells h new xs ys r)))
+    abbrev Reported : ℕ → Service → List ℕ → SProp 𝓤
+    Reported r new ys = sep 𝓤 (sem 𝓛 (part_at S full_share new b o)) (sep 𝓤 (sem 𝓛 (part_at (Array u8 n) full_share ys c i))
+        (fact 𝓤 (Reports h new xs ys r)))
 
-    exits : (new : Service) (ys : List ℕ) (r : ℕ) (v : Val) → Tells h new xs ys r
+    exits : (new : Service) (ys : List ℕ) (r : ℕ) (v : Val) → Reports h new xs ys r
         → ent 𝓤 (sep 𝓤 (sem 𝓛 (Counted ys)) (sep 𝓤 (sem 𝓛 (part_at S full_share new b o))
         (sep 𝓤 (sem 𝓛 (usize.own_val r (v ∷ []))) (Entry at from n)))) (Post at from n v)
     exits new ys r v e =
@@ -118,7 +118,7 @@ module _ {M : Type 1} {𝓤 : Ura M} (𝓛 : Logic 𝓤) (at_mem : Memory → SP
         use1 𝓛 (‵ (part_at (Array u8 n) full_share ys c i)) (Array-whole 𝓛 u8 full_share n ys c i) $
         suffices ! _ (ends_at 𝓛 f.ended stayed (f.clauses 𝓛 at_mem run) (bound at from n) v r (tt, (tt, (tt, tt))) (tt, (tt, (tt, tt)))) $
         move ! (3 ∷ []) $ split ! $ move ! (1 ∷ 4 ∷ []) $ join ! $ move ! (1 ∷ 0 ∷ []) $ join ! $ frame ! $
-        show ! (λ (w : Service). ex 𝓤 (Told r w)) new $ show ! (Told r new) ys $ move ! (1 ∷ []) $ frame ! $ says ! e $ done !
+        show ! (λ (w : Service). ex 𝓤 (Reported r w)) new $ show ! (Reported r new) ys $ move ! (1 ∷ []) $ frame ! $ says ! e $ done !
 
     walk : n < 2 ^ 63 → ent 𝓤 (sep 𝓤 (sem 𝓛 (cells (mem u8) xs c i)) (sep 𝓤 (sem 𝓛 (part_at S full_share h b o)) (Entry at from n))) (Runs at from n)
     walk low =
@@ -151,8 +151,8 @@ module _ {M : Type 1} {𝓤 : Ura M} (𝓛 : Logic 𝓤) (at_mem : Memory → SP
         calls_at ! fm (Of 𝓛 at_mem run) known y (and_then ! (get ! refl) (and_then ! (get ! refl) (no_more !))) (λ v.
         use1 𝓛 (later (some (λ (r : ℕ). ((‵ (flft μ full_share) ⊛ (‵ (flft κ full_share) ⊛ ‵ ftrue)) ⊛ ‵ (usize.own_val r (v ∷ [])))
         ⊛ some (λ (ws : Lasts of.ended (μ, (κ, tt)) (x, (s, tt))). ‵ (lasts of.ended (μ, (κ, tt)) (x, (s, tt)) ws) ⊛
-        raw (fact 𝓤 (Tells h ws.0 xs ws.1.0 r)))))) (id⊢ 𝓤 _) $ await ! tt $ pick ! (λ r.
-        split ! $ move ! (1 ∷ []) $ pick ! (λ ws. split ! $ move ! (1 ∷ []) $ heard ! (Tells h ws.0 xs ws.1.0 r) (λ e.
+        raw (fact 𝓤 (Reports h ws.0 xs ws.1.0 r)))))) (id⊢ 𝓤 _) $ await ! tt $ pick ! (λ r.
+        split ! $ move ! (1 ∷ []) $ pick ! (λ ws. split ! $ move ! (1 ∷ []) $ heard ! (Reports h ws.0 xs ws.1.0 r) (λ e.
         -- [the last values; the tokens and the result; the right to the service; the right to the bytes; what the parameters own; the locals]
         fsplit ! $ fsplit ! $ move ! (3 ∷ []) $ split ! $ split ! $
         -- [its token; the other token; the result; the name; ..; the slice's; the right to the service; the right to the bytes; ..]

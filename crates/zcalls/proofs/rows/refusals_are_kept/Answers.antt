@@ -2,7 +2,7 @@ use Rattle.std.proofs.Common.{refl}
 use Rattle.zcalls.specs.declared.refusal.Refusal.TheVariants.{NoNode}
 use Rattle.zcalls.specs.declared.reply.Reply.TheVariants.{Refused}
 use Rattle.zcalls.specs.support.Counting.{number_reply, creates, deletes, one, created}
-use Rattle.zcalls.proofs.KeptReplies.{entered_first, entered_again}
+use Rattle.zcalls.proofs.CachedReplies.{entered_first, entered_again}
 use Rattle.zcalls.proofs.rows.refusals_are_kept.Goals as goal
 
 pub returns : goal.returns

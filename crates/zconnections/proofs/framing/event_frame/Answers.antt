@@ -5,4 +5,4 @@ use Rattle.zconnections.proofs.framing.event_frame.Goals as goal
 
 pub unreachable-requires : goal.unreachable-requires
 unreachable-requires c =
-    omega (arith, c.in-Err-TooLong.ensures.long c.in-Err-TooLong.field-0-is, event_is_short (neg 1) c.in_ok-told.told c.in_ok-told.ensures.short)
+    omega (arith, c.in-Err-TooLong.ensures.long c.in-Err-TooLong.field-0-is, event_is_short (neg 1) c.in_ok-reported.reported c.in_ok-reported.ensures.short)

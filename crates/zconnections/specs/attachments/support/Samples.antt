@@ -1,11 +1,11 @@
 -- Samples for the worked examples.
 use Rattle.std.specs.FinMap.{empty, insert}
-use Rattle.zconnections.specs.declared.attachments.sitting.Sitting.{Sitting}
-use Rattle.zconnections.specs.attachments.Sittings.{SittingsView, new_sitting}
+use Rattle.zconnections.specs.declared.attachments.attachment.Attachment.{Attachment}
+use Rattle.zconnections.specs.attachments.Attachments.{AttachmentsView, new_attachment}
 
 -- session 7, opened by connection 3, and no other
-abbrev pub some_sitting : Sitting
-some_sitting = new_sitting 3
+abbrev pub some_attachment : Attachment
+some_attachment = new_attachment 3
 
-abbrev pub some_sittings : SittingsView
-some_sittings = insert empty 7 some_sitting
+abbrev pub some_attachments : AttachmentsView
+some_attachments = insert empty 7 some_attachment

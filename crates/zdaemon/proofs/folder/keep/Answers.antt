@@ -1,11 +1,11 @@
-use Rattle.zdurable.specs.Kept.{made_in, more_if}
+use Rattle.zdurable.specs.DurableFront.{made_in, more_if}
 use Rattle.zdaemon.proofs.folder.keep.Goals as goal
 
 pub returns-then-is_long-clause-keeps : goal.returns-then-is_long-clause-keeps
 returns-then-is_long-clause-keeps g c = record {
-  taken = c.in_ok-shorten.ensures.taken;
+  taken = c.in_ok-compact.ensures.taken;
   keeps = λ servers batches t serving.
-      let next = c.in_ok-shorten.ensures.kept servers batches t c.requires.0 serving in
+      let next = c.in_ok-compact.ensures.kept servers batches t c.requires.0 serving in
       (next.0, next.1);
 }
 

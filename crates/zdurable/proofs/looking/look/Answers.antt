@@ -1,6 +1,6 @@
 use Rattle.std.proofs.Common.{◌≡◌, ℕ, List, length, sym, subst, ◌∙◌}
-use Rattle.zjournal.specs.Journal.{StandsFor}
-use Rattle.zsnapshots.specs.folder.Entries.{TellsPasswords}
+use Rattle.zjournal.specs.Journal.{Represents}
+use Rattle.zsnapshots.specs.folder.Entries.{ReportsPasswords}
 use Rattle.zsnapshots.specs.folder.Faults.{IsReadFault}
 use Rattle.zsnapshots.specs.folder.Texts.{IsTextOf}
 use Rattle.zdurable.specs.Faults.{IsSuchFile}
@@ -12,7 +12,7 @@ returns-in-Ok-read-clause-keeps g c =
     let read = c.in-Ok.ensures.text in
     record {
       batches = read.0;
-      stands = subst (λ n. StandsFor n read.0 (g.D.Device.seen c.args.device.now)) c.number.ensures.same read.1;
+      stands = subst (λ n. Represents n read.0 (g.D.Device.seen c.args.device.now)) c.number.ensures.same read.1;
       text = subst (IsTextOf c.in-Ok-read.found.tree.tree) (c.deref.ensures.value ∙ read.2) c.in-Ok-read.ensures.found.0;
     }
 
@@ -23,7 +23,7 @@ returns-in-Ok-read-clause-look g c =
     (c.deref.ensures.value ∙ read.2) c.in-Ok-read.ensures.found in
     record {
       batches = read.0;
-      stands = subst (λ n. StandsFor n read.0 (g.D.Device.seen c.args.device.now)) c.number.ensures.same read.1;
+      stands = subst (λ n. Represents n read.0 (g.D.Device.seen c.args.device.now)) c.number.ensures.same read.1;
       text = found.0;
       begins = found.1;
     }
@@ -32,8 +32,8 @@ pub returns-in-Ok-read-clause-passwords : goal.returns-in-Ok-read-clause-passwor
 returns-in-Ok-read-clause-passwords g c =
     let read = c.in-Ok.ensures.text in (
       read.0,
-      subst (λ n. StandsFor n read.0 (g.D.Device.seen c.args.device.now)) c.number.ensures.same read.1,
-      subst (λ (text : List ℕ). TellsPasswords text c.in-Ok-read.found.had_passwords) (c.deref.ensures.value ∙ read.2) c.in-Ok-read.ensures.passwords,
+      subst (λ n. Represents n read.0 (g.D.Device.seen c.args.device.now)) c.number.ensures.same read.1,
+      subst (λ (text : List ℕ). ReportsPasswords text c.in-Ok-read.found.had_passwords) (c.deref.ensures.value ∙ read.2) c.in-Ok-read.ensures.passwords,
     )
 
 pub returns-clause-fault : goal.returns-clause-fault

@@ -18,7 +18,7 @@ returns-in-Unopened-clause-text g c =
 pub returns-clause-text : goal.returns-clause-text
 returns-clause-text g c =
     let found = found_of c.args.servers c.deref.result.now (g.D.Device.seen c.args.device.now) c.in_ok-look.field-0 _
-    (c.deref.ensures.value ∙ c.in_ok-bytes.ensures.bytes) c.in-Kept.is c.in_ok-look.ensures.ok in
+    (c.deref.ensures.value ∙ c.in_ok-bytes.ensures.bytes) c.in-Cached.is c.in_ok-look.ensures.ok in
     (found.0, inl (keeps c.args.servers found.0 (g.D.Device.seen c.args.device.now) _ found.1), found.2)
 
 pub returns-in_err-bytes-clause-durable : goal.returns-in_err-bytes-clause-durable

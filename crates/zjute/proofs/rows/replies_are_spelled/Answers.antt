@@ -12,10 +12,10 @@ returns c =
     record {
       created = refl;
       refused = refl;
-      told_data = refl;
-      told_null = refl;
-      told_names = refl;
-      told_acl = refl;
+      reported_data = refl;
+      reported_null = refl;
+      reported_names = refl;
+      reported_acl = refl;
       multi_done = refl;
       multi_refused = refl;
       multi_kinds = refl;

@@ -47,7 +47,7 @@ last_by : (Past : Place → Type 0) (fresh : Bool) (pred new : Place) (turn : Op
 last_by Past fresh pred new None e past = cc
 last_by Past fresh pred new (Some next) e past = (past, cc e)
 
--- orders that led to a predecessor that is past lead, with one more, to the one that it tells
+-- orders that led to a predecessor that is past lead, with one more, to the one that it reports
 pub one_more_order : (Past : Place → Type 0) (fresh : Bool) (pred : Place) (orders : List LogMessage) (target new : Place) (m : LogMessage)
     → turn_of m ≡ Some new → Past target → LeadsTo Past fresh pred orders target → LeadsTo Past fresh pred (orders ++ m ∷ []) new
 one_more_order Past fresh pred [] target new m turn past h = last_by Past fresh pred new (turn_of m) turn (inr (subst Past (sym h) past))
@@ -59,7 +59,7 @@ one_more_order Past fresh pred (o ∷ orders) target new m turn past h =
 pub first_order : (Past : Place → Type 0) (pred new : Place) (m : LogMessage) → turn_of m ≡ Some new → LeadsTo Past true pred (m ∷ []) new
 first_order Past pred new m turn = last_by Past true pred new (turn_of m) turn (inl refl)
 
--- an order that tells no predecessor
+-- an order that reports no predecessor
 pub unread_order : (Past : Place → Type 0) (fresh : Bool) (pred : Place) (orders : List LogMessage) (target : Place) (m : LogMessage)
     → turn_of m ≡ None → LeadsTo Past fresh pred orders target → LeadsTo Past fresh pred (orders ++ m ∷ []) target
 unread_order Past fresh pred [] target m turn h = unread (turn_of m) turn
@@ -108,7 +108,7 @@ pub record StandsBefore (chain : List Neighbour) (p t k : ℕ) : Type 0 where
   pub rest : List Neighbour
   pub is : chain ≡ front ++ (p, epoch) ∷ (t, k) ∷ rest
 
--- the place of a server tells its neighbour
+-- the place of a server reports its neighbour
 place_splits : (b : Neighbour) (chain : List Neighbour) (p t k : ℕ) → place_from (Some b.0) chain t ≡ Some (Some (p, k))
     → StandsBefore (b ∷ chain) p t k
 place_splits b [] p t k h = cc

@@ -7,7 +7,7 @@ use Rattle.std.proofs.Common.{eqb-true, eq-eqb, le-ltb, ne_eqb}
 use Rattle.std.proofs.lemmas.Bool.Decides.{nat_tests}
 use Rattle.zcalls.specs.declared.call.Entry.{Entry}
 use Rattle.zcalls.specs.Lists.{Among, NoTwo}
-use Rattle.zcalls.specs.Kept.{Plain}
+use Rattle.zcalls.specs.Cached.{Plain}
 use Rattle.zcalls.proofs.Among.{test}
 use Rattle.zprotocol.specs.server.View.{ServerView, Neighbour, spare, member}
 use Rattle.zprotocol.specs.master.View.{is_among, members}

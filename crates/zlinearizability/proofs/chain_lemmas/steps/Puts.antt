@@ -1,7 +1,7 @@
 -- A server puts one message: what nobody reads changes nothing, and an entry of its own log keeps the order of the chain.
 use Rattle.std.proofs.Common.{◌≡◌, ◌⊎◌, ℕ, List, [], ◌∷◌, ◌++◌, Option, Some, None, refl, sym, ap, ◌∙◌, subst, inl, inr, append-nil}
 use Rattle.zcalls.specs.declared.call.Entry.{Entry}
-use Rattle.zcalls.specs.Kept.{Plain}
+use Rattle.zcalls.specs.Cached.{Plain}
 use Rattle.zcalls.proofs.Among.{test}
 use Rattle.zprotocol.specs.declared.message.Message.TheVariants as message
 use Rattle.zprotocol.specs.declared.process.Process.{Process}

@@ -2,7 +2,7 @@
 use Rattle.std.proofs.Common.{◌≡◌, ℕ, List, [], ◌∷◌, ◌==◌, append-nil, Option, Some, None, refl, sym, ap, ◌∙◌, subst, inl, inr}
 use Rattle.zcalls.specs.declared.call.Entry.{Entry}
 use Rattle.zcalls.specs.Lists.{ComesBefore}
-use Rattle.zcalls.specs.Kept.{Plain}
+use Rattle.zcalls.specs.Cached.{Plain}
 use Rattle.zcalls.specs.Operation.{operation_of}
 use Rattle.zcalls.proofs.Among.{test}
 use Rattle.zprotocol.specs.declared.message.Message.TheVariants as message
@@ -110,10 +110,10 @@ module _ (w : LogWorld) (line : OrdersLead w) (apart : AreDistinct w) (ordered :
   ordered_sent a b before log h = ahead_put w x (Server t) m a log (sent_by a b before (w.servers b).pred refl log h)
 
 -- an entry of the sender's own log, in an epoch that the receiver has taken: all stays sound
-pub put_sent : {P : Type 0} (plain : Plain P) (told : Account) (x : ℕ) → IsMember told.world x → (own : List Entry) → log_at told.world x ≡ Some own
-    → (t k n : ℕ) (e : Entry) → IsEntry own n e → IsOpened told.world t k → HasBegun told.world.history (operation_of e)
-    → IsSound plain told → IsSound plain (account_with_put told x (Server t) (message.Update k n e))
-put_sent plain told x x_in own holds t k n e entry opened begun s = record {
+pub put_sent : {P : Type 0} (plain : Plain P) (reported : Account) (x : ℕ) → IsMember reported.world x → (own : List Entry) → log_at reported.world x ≡ Some own
+    → (t k n : ℕ) (e : Entry) → IsEntry own n e → IsOpened reported.world t k → HasBegun reported.world.history (operation_of e)
+    → IsSound plain reported → IsSound plain (account_with_put reported x (Server t) (message.Update k n e))
+put_sent plain reported x x_in own holds t k n e entry opened begun s = record {
   distinct = s.distinct;
   used = s.used;
   blank = s.blank;
@@ -122,13 +122,13 @@ put_sent plain told x x_in own holds t k n e entry opened begun s = record {
   successors = s.successors;
   epochs = s.epochs;
   tail_orders = s.tail_orders;
-  ordered = ordered_sent told.world s.line s.distinct s.ordered x x_in own holds t k n e entry;
-  committed = λ y log member is. s.committed y log member (sym (first_log_put told.world x (Server t) (message.Update k n e) (λ epoch. refl) y) ∙ is);
+  ordered = ordered_sent reported.world s.line s.distinct s.ordered x x_in own holds t k n e entry;
+  committed = λ y log member is. s.committed y log member (sym (first_log_put reported.world x (Server t) (message.Update k n e) (λ epoch. refl) y) ∙ is);
   tail = s.tail;
   sent = s.sent;
   begun = s.begun;
   committed_begun = s.committed_begun;
-  justified = justified_put told.world told.items x (Server t) (message.Update k n e) (opened, begun) s.justified;
+  justified = justified_put reported.world reported.items x (Server t) (message.Update k n e) (opened, begun) s.justified;
   acted = s.acted;
   replays = s.replays;
   rising = s.rising;

@@ -1,6 +1,6 @@
 -- A server stops for good: it has failed, and Gone is put.
 use Rattle.std.proofs.Common.{◌≡◌, ℕ, true, false, refl}
-use Rattle.zcalls.specs.Kept.{Plain}
+use Rattle.zcalls.specs.Cached.{Plain}
 use Rattle.zprotocol.specs.declared.message.Message.TheVariants as message
 use Rattle.zprotocol.specs.declared.process.Process.TheVariants.{Master, Server}
 use Rattle.zprotocol.specs.world.World.{at}

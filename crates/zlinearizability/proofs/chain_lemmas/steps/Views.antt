@@ -3,7 +3,7 @@ use Rattle.std.specs.Prelude.{◌&&◌, is_none}
 use Rattle.std.proofs.Common.{◌≡◌, ℕ, Bool, true, false, List, Some, sym, ap, ◌∙◌, subst}
 use Rattle.zcalls.specs.declared.call.Entry.{Entry}
 use Rattle.zcalls.specs.Lists.{Among, ComesBefore}
-use Rattle.zcalls.specs.Kept.{Plain}
+use Rattle.zcalls.specs.Cached.{Plain}
 use Rattle.zprotocol.specs.declared.message.Message.TheVariants as message
 use Rattle.zprotocol.specs.declared.process.Process.{Process}
 use Rattle.zprotocol.specs.declared.process.Process.TheVariants.{Master, Server}

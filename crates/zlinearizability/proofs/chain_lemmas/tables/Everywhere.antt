@@ -17,7 +17,7 @@ use Rattle.zprotocol.specs.declared.world.event.Event.TheVariants.{Begin, Retry,
 use Rattle.zprotocol.specs.world.Links.{Links, put, without_front}
 use Rattle.zprotocol.specs.world.World.{World}
 use Rattle.zprotocol.specs.world.History.{History}
-use Rattle.zprotocol.specs.world.Does.{AtClient, Hear, server_effect, stop_effect, answer_told, last_post}
+use Rattle.zprotocol.specs.world.Does.{AtClient, Hear, server_effect, stop_effect, answer_reported, last_post}
 use Rattle.zprotocol.specs.declared.world.history.CallEvent.TheVariants as call_event
 use Rattle.zprotocol.specs.world.Events.{is_enabled, did_in, does_in, front_step, acts}
 use Rattle.zprotocol.specs.world.Keeping.{keeps, run_keeping}
@@ -43,9 +43,9 @@ module _ {M : Type 0} (does : Does M) (V : ServerView M → Type 0) (Q : Message
       [ inl b ↦ old from to m b | inr p ↦ new (to, m) p.1 ]
 
   -- a client does something
-  client_does_all : (w : World M) (c : ℕ) (view : ClientView) (posts : List (Post M)) (told : History) → AllPosts Q posts → Everywhere V Q w
-      → Everywhere V Q (did_in w (Client c) (record { left = AtClient view; posts = posts; told = told }))
-  client_does_all w c view posts told new h = record { views = h.views; under_way = put_all w.links (Client c) posts new h.under_way }
+  client_does_all : (w : World M) (c : ℕ) (view : ClientView) (posts : List (Post M)) (reported : History) → AllPosts Q posts → Everywhere V Q w
+      → Everywhere V Q (did_in w (Client c) (record { left = AtClient view; posts = posts; reported = reported }))
+  client_does_all w c view posts reported new h = record { views = h.views; under_way = put_all w.links (Client c) posts new h.under_way }
 
   asked_all : (posts : List (Post M)) → AllPosts IsRequest posts → AllPosts Q posts
   asked_all posts h post a = requests post.1 (h post a)
@@ -79,7 +79,7 @@ module _ {M : Type 0} (does : Does M) (V : ServerView M → Type 0) (Q : Message
       })
   takes_all w from (Client c) m q h =
       let did : client.ClientResult (Transfer M) = client.client_step (w.clients c) from m in
-      client_does_all w c did.0 did.1 (answer_told c did.2) (asked_all did.1 (client_requests (w.clients c) from m)) h
+      client_does_all w c did.0 did.1 (answer_reported c did.2) (asked_all did.1 (client_requests (w.clients c) from m)) h
 
   popped_all : (w : World M) (from to : Process) → Everywhere V Q w → Everywhere V Q (record w { links = without_front w.links from to })
   popped_all w from to h = record { views = h.views; under_way = λ p q m a. h.under_way p q m (front_among w.links from to p q m a) }

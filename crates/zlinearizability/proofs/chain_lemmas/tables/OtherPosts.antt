@@ -35,8 +35,8 @@ IsRequest other = ⊥
 
 module _ {M : Type 0} where
   -- the master's
-  told_orders : (v : MasterView) (first : List (Post M)) → AllPosts IsOrder first → AllPosts IsOrder (master.and_tell_clients v first).1
-  told_orders v first h =
+  reported_orders : (v : MasterView) (first : List (Post M)) → AllPosts IsOrder first → AllPosts IsOrder (master.and_report_clients v first).1
+  reported_orders v first h =
       all_append IsOrder first (master.config_posts v) h (all_map IsOrder (λ c. (Client c, message.Config v.epoch (head_of v) (tail_of v)))
       (range_with_len 0 v.clients) (λ c. tt))
 
@@ -78,14 +78,14 @@ module _ {M : Type 0} where
   takes_joined_orders : (v : MasterView) (s : ℕ) → AllPosts IsOrder (master.joined_row {T = Transfer M} v s).1
   unfolding master.joined_row
   takes_joined_orders v s = elim (test (is_joining v s)) [
-    | inl t ↦ rw t (told_orders (record v { joining = None; epoch = v.epoch + 1 }) [] (all_none IsOrder))
+    | inl t ↦ rw t (reported_orders (record v { joining = None; epoch = v.epoch + 1 }) [] (all_none IsOrder))
     | inr f ↦ rw f (all_none IsOrder)
   ]
 
   takes_gone_orders : (v : MasterView) (s : ℕ) → AllPosts IsOrder (master.gone_row {T = Transfer M} v s).1
   unfolding master.gone_row
   takes_gone_orders v s = elim (test (is_among s (members v))) [
-    | inl t ↦ rw t (told_orders (master.without_member v s (master.mended_chain {T = Transfer M} (v.epoch + 1) s v.chain).0)
+    | inl t ↦ rw t (reported_orders (master.without_member v s (master.mended_chain {T = Transfer M} (v.epoch + 1) s v.chain).0)
         (master.mended_chain (v.epoch + 1) s v.chain).1 (mended_orders (v.epoch + 1) s v.chain))
     | inr f ↦ rw f (all_none IsOrder)
   ]

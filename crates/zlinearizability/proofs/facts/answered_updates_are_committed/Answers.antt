@@ -1,4 +1,4 @@
-use Rattle.zlinearizability.proofs.Told.{answered_updates_are_committed}
+use Rattle.zlinearizability.proofs.Reported.{answered_updates_are_committed}
 use Rattle.zlinearizability.proofs.facts.answered_updates_are_committed.Goals as goal
 
 pub returns : goal.returns

@@ -5,7 +5,7 @@ use Rattle.zcalls.specs.declared.call.Call.{Call}
 use Rattle.zcalls.specs.declared.call.Call.TheVariants.{Update, Query}
 use Rattle.zcalls.specs.declared.call.Entry.{Entry}
 use Rattle.zcalls.specs.declared.reply.Reply.{Reply}
-use Rattle.zcalls.specs.Kept.{Plain, KeptState, nothing_kept, entry_step}
+use Rattle.zcalls.specs.Cached.{Plain, CachedState, nothing_cached, entry_step}
 use Rattle.zcalls.specs.Operation.{Operation}
 use Rattle.zcalls.specs.Acts.{after_log, acts_from, acts_of}
 use Rattle.zcalls.proofs.ActedLogs.{after, acted_more}
@@ -21,7 +21,7 @@ module _ {P : Type 0} (plain : Plain P) where
   pub acted_begins : (old new : List Entry) → IsPrefix old new
       → acts_of plain new ≡ acts_of plain old ++ acts_from plain.update (after_log plain old) (drop (length old) new)
   acted_begins old new (rest, e) =
-      ap (acts_of plain) e ∙ acted_more plain.update (nothing_kept plain.opening) old rest
+      ap (acts_of plain) e ∙ acted_more plain.update (nothing_cached plain.opening) old rest
       ∙ ap (λ l. acts_of plain old ++ acts_from plain.update (after_log plain old) l) (sym (front_rest new old rest e))
 
   -- the state after calls
@@ -35,27 +35,27 @@ module _ {P : Type 0} (plain : Plain P) where
   after_items p (i ∷ is) = after_items (operation_step (service_of plain) p i.operation).0 is
 
   -- what acts gives each call its reply, and leads to the state
-  now_replays : (s : KeptState P) (e : Entry) (now : List (Operation × Reply)) (r : KeptState P × Option Reply) → Outcome plain.update s e now r
+  now_replays : (s : CachedState P) (e : Entry) (now : List (Operation × Reply)) (r : CachedState P × Option Reply) → Outcome plain.update s e now r
       → (time : ℕ) (more : List (Operation × Reply)) → Replays (service_of plain) r.0.plain (all_at_time time more)
       → Replays (service_of plain) s.plain (all_at_time time (now ++ more))
   now_replays s e now r (Acts low) time more h = (refl, h)
   now_replays s e now r (Stays high) time more h = h
 
   -- what acts of entries replays from the state before them
-  pub acted_replays : (time : ℕ) (s : KeptState P) (es : List Entry)
+  pub acted_replays : (time : ℕ) (s : CachedState P) (es : List Entry)
       → Replays (service_of plain) s.plain (all_at_time time (acts_from plain.update s es))
   acted_replays time s [] = tt
   acted_replays time s (e ∷ es) =
       let s' = (entry_step plain.update s e).0 in
       now_replays s e _ _ (outcome plain.update s e) time (acts_from plain.update s' es) (acted_replays time s' es)
 
-  now_leads : (s : KeptState P) (e : Entry) (now : List (Operation × Reply)) (r : KeptState P × Option Reply) → Outcome plain.update s e now r
+  now_leads : (s : CachedState P) (e : Entry) (now : List (Operation × Reply)) (r : CachedState P × Option Reply) → Outcome plain.update s e now r
       → (more : List (Operation × Reply)) → after_calls s.plain (now ++ more) ≡ after_calls r.0.plain more
   now_leads s e now r (Acts low) more = refl
   now_leads s e now r (Stays high) more = refl
 
   -- and leads to the state after them
-  pub acted_leads : (s : KeptState P) (es : List Entry) → after_calls s.plain (acts_from plain.update s es) ≡ (after plain.update s es).plain
+  pub acted_leads : (s : CachedState P) (es : List Entry) → after_calls s.plain (acts_from plain.update s es) ≡ (after plain.update s es).plain
   acted_leads s [] = refl
   acted_leads s (e ∷ es) =
       let s' = (entry_step plain.update s e).0 in

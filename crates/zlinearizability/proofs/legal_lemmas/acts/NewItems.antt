@@ -2,7 +2,7 @@
 use Rattle.std.proofs.Common.{◌≡◌, ℕ, ◌≤◌, List, [], ◌∷◌, ◌++◌, length, take, drop, Option, refl, sym, ap, ◌∙◌, subst, inl, inr, arith}
 use Rattle.zcalls.specs.declared.call.Entry.{Entry}
 use Rattle.zcalls.specs.declared.reply.Reply.{Reply}
-use Rattle.zcalls.specs.Kept.{KeptState, nothing_kept, entry_step, Plain}
+use Rattle.zcalls.specs.Cached.{CachedState, nothing_cached, entry_step, Plain}
 use Rattle.zcalls.specs.Lists.{Among}
 use Rattle.zcalls.specs.Operation.{Operation, operation_of}
 use Rattle.zcalls.specs.Acts.{after_log, acts_from}
@@ -54,13 +54,13 @@ timed_rises time (x ∷ xs) =
 
 module _ {P : Type 0} (plain : Plain P) where
   -- what acts is an update
-  now_updates : (s : KeptState P) (e : Entry) (now : List (Operation × Reply)) (r : KeptState P × Option Reply) → Outcome plain.update s e now r
+  now_updates : (s : CachedState P) (e : Entry) (now : List (Operation × Reply)) (r : CachedState P × Option Reply) → Outcome plain.update s e now r
       → (time : ℕ) (more : List (Operation × Reply)) → updates_of (all_at_time time more) ≡ more
       → updates_of (all_at_time time (now ++ more)) ≡ now ++ more
   now_updates s e now r (Acts low) time more is = ap (λ l. (operation_of e, (plain.update s.plain e.client e.update).1) ∷ l) is
   now_updates s e now r (Stays high) time more is = is
 
-  updates_acted : (time : ℕ) (s : KeptState P) (es : List Entry) → updates_of (all_at_time time (acts_from plain.update s es))
+  updates_acted : (time : ℕ) (s : CachedState P) (es : List Entry) → updates_of (all_at_time time (acts_from plain.update s es))
       ≡ acts_from plain.update s es
   updates_acted time s [] = refl
   updates_acted time s (e ∷ es) =
@@ -82,7 +82,7 @@ module _ {P : Type 0} (plain : Plain P) where
 
     leads : AreCommitted plain old items → after_items plain plain.opening items ≡ (after_log plain old).plain
     leads acted = items_lead plain plain.opening items ∙ ap (after_calls plain plain.opening) acted
-        ∙ acted_leads plain (nothing_kept plain.opening) old
+        ∙ acted_leads plain (nothing_cached plain.opening) old
 
     -- the items replay
     pub grown_replays : AreCommitted plain old items → Replays (service_of plain) plain.opening items

@@ -5,7 +5,7 @@ use Rattle.zcalls.specs.declared.call.Call.{Call}
 use Rattle.zcalls.specs.declared.call.Call.TheVariants.{Update, Query}
 use Rattle.zcalls.specs.Lists.{Among, ComesBefore}
 use Rattle.zcalls.specs.Operation.{Operation}
-use Rattle.zcalls.specs.Kept.{Plain}
+use Rattle.zcalls.specs.Cached.{Plain}
 use Rattle.zcalls.proofs.Among.{test}
 use Rattle.zprotocol.specs.world.LegalOrder.{Service, operation_step, replies_from, states_from}
 use Rattle.zprotocol.specs.world.PlainTree.{service_of, call_step}

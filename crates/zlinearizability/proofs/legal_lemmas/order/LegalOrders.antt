@@ -5,7 +5,7 @@ use Rattle.zcalls.specs.declared.call.Call.TheVariants.{Update, Query}
 use Rattle.zcalls.specs.declared.reply.Reply.{Reply}
 use Rattle.zcalls.specs.Lists.{Among, ComesBefore, NoTwo}
 use Rattle.zcalls.specs.Operation.{AreOneUpdate, Operation, IsSameCall}
-use Rattle.zcalls.specs.Kept.{Plain}
+use Rattle.zcalls.specs.Cached.{Plain}
 use Rattle.zprotocol.specs.declared.world.history.CallEvent.{CallEvent}
 use Rattle.zprotocol.specs.declared.world.history.CallEvent.TheVariants.{Begin, Answer}
 use Rattle.zprotocol.specs.world.History.{History, IsUpdate, HasBegun, IsAnswered, EndsBefore}

@@ -4,7 +4,7 @@ use Rattle.std.proofs.Common.{◌≡◌, ◌⊎◌, ℕ, ◌+◌, ◌≤◌, tru
 use Rattle.std.proofs.Common.{sym, ap, ◌∙◌, subst, inl, inr, append-nil, arith, eqb-true}
 use Rattle.zcalls.specs.declared.call.Entry.{Entry}
 use Rattle.zcalls.specs.Lists.{Among, ComesBefore, NoTwo}
-use Rattle.zcalls.specs.Kept.{Plain}
+use Rattle.zcalls.specs.Cached.{Plain}
 use Rattle.zcalls.proofs.Among.{test}
 use Rattle.zprotocol.specs.declared.message.Message.TheVariants as message
 use Rattle.zprotocol.specs.declared.process.Process.TheVariants.{Master, Server}
@@ -23,11 +23,11 @@ use Rattle.zlinearizability.specs.chain.Sound.{IsSound}
 use Rattle.zlinearizability.proofs.chain_lemmas.places.Orders.{leads_more, one_more_order, unread_order}
 use Rattle.zlinearizability.proofs.chain_lemmas.steps.Opening.{among_tested}
 use Rattle.zlinearizability.proofs.master_lemmas.chain.Moves.{world_with_move, IsGoodPost, IsGoodMove, move_sound}
-use Rattle.zlinearizability.proofs.master_lemmas.chain.StandingChains.{addressed_told, told_among}
+use Rattle.zlinearizability.proofs.master_lemmas.chain.StandingChains.{addressed_reported, reported_among}
 use Rattle.zlinearizability.proofs.master_lemmas.chain.MendedChains.{ids, ids_append, Stands, stands, repair, mended_is}
 use Rattle.zlinearizability.proofs.master_lemmas.chain.MendedChains.{mended_ids, place_cases, place_in, apart_of, gone_of}
 use Rattle.zlinearizability.proofs.master_lemmas.chain.MendedChains.{last_in, nobody_behind}
-use Rattle.zlinearizability.proofs.master_lemmas.chain.RepairOrders.{IsTold, Heads, Ends, Turns, told_one, told_turned}
+use Rattle.zlinearizability.proofs.master_lemmas.chain.RepairOrders.{IsReported, Heads, Ends, Turns, reported_one, reported_turned}
 use Rattle.zlinearizability.proofs.master_lemmas.chain.RepairOrders.{repair_justified, IsTurned, IsElsewhere, repair_place}
 use Rattle.zlinearizability.proofs.master_lemmas.chain.UsedNumbers.{used_is, used_stays}
 
@@ -149,20 +149,20 @@ module _ {P : Type 0} (plain : Plain P) (t : Account) (s : IsSound plain t) (x :
         | inr f ↦ f
       ]
 
-  -- what is told
-  told_is : (z : ℕ) → (messages_to (Server z) posts ≡ []) ⊎ ((m : LogMessage) × (messages_to (Server z) posts ≡ m ∷ []) × IsTold before e rest z m)
-  told_is z = elim (told_one before e rest z) [
-    | inl none ↦ inl (addressed_told z v (repair before e rest).1 ∙ none)
-    | inr one ↦ inr (one.0, addressed_told z v (repair before e rest).1 ∙ one.1, one.2)
+  -- what is reported
+  reported_is : (z : ℕ) → (messages_to (Server z) posts ≡ []) ⊎ ((m : LogMessage) × (messages_to (Server z) posts ≡ m ∷ []) × IsReported before e rest z m)
+  reported_is z = elim (reported_one before e rest z) [
+    | inl none ↦ inl (addressed_reported z v (repair before e rest).1 ∙ none)
+    | inr one ↦ inr (one.0, addressed_reported z v (repair before e rest).1 ∙ one.1, one.2)
   ]
 
-  good_told : (z : ℕ) (m : LogMessage) → IsTold before e rest z m → IsGoodPost w v z m
-  good_told z m (Heads r more is next here order) = record {
+  good_reported : (z : ℕ) (m : LogMessage) → IsReported before e rest z m → IsGoodPost w v z m
+  good_reported z m (Heads r more is next here order) = record {
     is_used = s.used z (was_member z (among_right z (ids front) (ids rest) (subst (λ l. Among z (ids l)) (sym next) (inl (sym here)))));
     new_epoch = λ k p same. let not : ◌≡◌ {A = LogMessage} (message.BecomeHead e) (message.NewPred k p) = sym order ∙ same in cc not;
     is_last = λ k same. let not : ◌≡◌ {A = LogMessage} (message.BecomeHead e) (message.BecomeTail k) = sym order ∙ same in cc not;
   }
-  good_told z m (Ends p is none here order) = record {
+  good_reported z m (Ends p is none here order) = record {
     is_used = elim (last_in None (ids front) p is) [
       | inl not ↦ cc not
       | inr a ↦ s.used z (was_member z (among_left z (ids front) (ids rest) (subst (λ y. Among y (ids front)) (sym here) a)))
@@ -173,7 +173,7 @@ module _ {P : Type 0} (plain : Plain P) (t : Account) (s : IsSound plain t) (x :
         nobody_behind None (ids front) p y is (subst (NoTwo (λ (a b : ℕ). a ≡ b)) only are_apart)
         (subst (λ c. ComesBefore c y (ids front)) here (subst (ComesBefore z y) (are ∙ only) b));
   }
-  good_told z m (Turns p r more is next here order) = record {
+  good_reported z m (Turns p r more is next here order) = record {
     is_used = s.used z (was_member z (among_right z (ids front) (ids rest) (subst (λ l. Among z (ids l)) (sym next) (inl (sym here)))));
     new_epoch = λ k q same.
         let pair : ◌≡◌ {A = LogMessage} (message.NewPred e p) (message.NewPred k q) = sym order ∙ same in
@@ -181,11 +181,11 @@ module _ {P : Type 0} (plain : Plain P) (t : Account) (s : IsSound plain t) (x :
     is_last = λ k same. let not : ◌≡◌ {A = LogMessage} (message.NewPred e p) (message.BecomeTail k) = sym order ∙ same in cc not;
   }
 
-  -- whom no turn is told
-  unread_told : (z : ℕ) (m : LogMessage) → IsElsewhere rest z → IsTold before e rest z m → turn_of m ≡ None
-  unread_told z m apart (Heads r more is next here order) = absurd (apart r more next here)
-  unread_told z m apart (Ends p is none here order) = ap turn_of order
-  unread_told z m apart (Turns p r more is next here order) = absurd (apart r more next here)
+  -- whom no turn is reported
+  unread_reported : (z : ℕ) (m : LogMessage) → IsElsewhere rest z → IsReported before e rest z m → turn_of m ≡ None
+  unread_reported z m apart (Heads r more is next here order) = absurd (apart r more next here)
+  unread_reported z m apart (Ends p is none here order) = ap turn_of order
+  unread_reported z m apart (Turns p r more is next here order) = absurd (apart r more next here)
 
   leads : (z : ℕ) (place : Place) → place_from None w.master.chain z ≡ Some place
       → LeadsTo (IsPast w1) (is_fresh w z) (w.servers z).pred (queue w z) place
@@ -195,16 +195,16 @@ module _ {P : Type 0} (plain : Plain P) (t : Account) (s : IsSound plain t) (x :
   line : (z : ℕ) (place : Place) → place_from None v.chain z ≡ Some place
       → LeadsTo (IsPast w1) (is_fresh w z) (w.servers z).pred (queue w z ++ messages_to (Server z) posts) place
   line z place is = elim (places z place is) [
-    | inl old ↦ elim (told_is z) [
+    | inl old ↦ elim (reported_is z) [
       | inl none ↦ subst (λ l. LeadsTo (IsPast w1) (is_fresh w z) (w.servers z).pred (queue w z ++ l) place) (sym none)
           (subst (λ l. LeadsTo (IsPast w1) (is_fresh w z) (w.servers z).pred l place) (sym (append-nil (queue w z))) (leads z place old.0))
       | inr one ↦ subst (λ l. LeadsTo (IsPast w1) (is_fresh w z) (w.servers z).pred (queue w z ++ l) place) (sym one.1)
-          (unread_order (IsPast w1) (is_fresh w z) (w.servers z).pred (queue w z) place one.0 (unread_told z one.0 old.1 one.2) (leads z place old.0))
+          (unread_order (IsPast w1) (is_fresh w z) (w.servers z).pred (queue w z) place one.0 (unread_reported z one.0 old.1 one.2) (leads z place old.0))
     ]
     | inr turned ↦
-        let one = told_turned before e turned.next turned.more z turned.here in
+        let one = reported_turned before e turned.next turned.more z turned.here in
         let there : messages_to (Server z) posts ≡ one.0 ∷ [] =
-        addressed_told z v (repair before e rest).1 ∙ ap (λ l. messages_to (Server z) (repair before e l).1) turned.is ∙ one.1 in
+        addressed_reported z v (repair before e rest).1 ∙ ap (λ l. messages_to (Server z) (repair before e l).1) turned.is ∙ one.1 in
         subst (λ l. LeadsTo (IsPast w1) (is_fresh w z) (w.servers z).pred (queue w z ++ l) place) (sym there)
         (one_more_order (IsPast w1) (is_fresh w z) (w.servers z).pred (queue w z) (Some (x, turned.next.1)) place one.0
         (one.2 ∙ ap (λ p. Some p) turned.place_is)
@@ -236,8 +236,8 @@ module _ {P : Type 0} (plain : Plain P) (t : Account) (s : IsSound plain t) (x :
     pairs = pairs;
     ordered = λ a b h. inl (subst (ComesBefore a b) (sym were) (before_insert a b x (ids front) (ids rest) (subst (ComesBefore a b) are h)));
     members_were = λ z a. inl (was_member z (subst (Among z) are a));
-    orders = λ z. elim (told_is z) [ inl none ↦ inl none | inr one ↦ inr (one.0, one.1, good_told z one.0 one.2) ];
-    justified = λ to m a. elim (told_among v (repair before e rest).1 (to, m) a) [
+    orders = λ z. elim (reported_is z) [ inl none ↦ inl none | inr one ↦ inr (one.0, one.1, good_reported z one.0 one.2) ];
+    justified = λ to m a. elim (reported_among v (repair before e rest).1 (to, m) a) [
       | inl b ↦ repair_justified before e rest w1 t.items (to, m) b
       | inr c ↦ subst (IsJustified w1 t.items Master to) (sym c) tt
     ];

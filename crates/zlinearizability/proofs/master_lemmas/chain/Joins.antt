@@ -1,11 +1,11 @@
--- A server joins: it stands behind the last of the chain, and is told so.
+-- A server joins: it stands behind the last of the chain, and is reported so.
 use Rattle.std.specs.Prelude.{◌&&◌, is_none}
 use Rattle.std.specs.List.{last_or}
 use Rattle.std.proofs.Common.{◌≡◌, ◌⊎◌, ℕ, ◌+◌, true, ◌==◌, List, [], ◌∷◌, ◌++◌, Option, Some, None, refl, sym, ap, ◌∙◌}
 use Rattle.std.proofs.Common.{subst, inl, inr, append-nil, arith, eqb-true, eq-eqb}
 use Rattle.zcalls.specs.declared.call.Entry.{Entry}
 use Rattle.zcalls.specs.Lists.{Among, ComesBefore, NoTwo}
-use Rattle.zcalls.specs.Kept.{Plain}
+use Rattle.zcalls.specs.Cached.{Plain}
 use Rattle.zcalls.proofs.Among.{test}
 use Rattle.zprotocol.specs.declared.message.Message.TheVariants as message
 use Rattle.zprotocol.specs.declared.process.Process.TheVariants.{Master, Server}
@@ -26,7 +26,7 @@ use Rattle.zlinearizability.proofs.chain_lemmas.places.Orders.{leads_more, first
 use Rattle.zlinearizability.proofs.master_lemmas.chain.Moves.{world_with_move, IsGoodPost, IsGoodMove, move_sound}
 use Rattle.zlinearizability.proofs.master_lemmas.chain.StandingChains.{unheard}
 use Rattle.zlinearizability.proofs.master_lemmas.chain.MendedChains.{ids_append, place_cases, place_in}
-use Rattle.zlinearizability.proofs.master_lemmas.chain.RepairOrders.{one_told}
+use Rattle.zlinearizability.proofs.master_lemmas.chain.RepairOrders.{one_reported}
 use Rattle.zlinearizability.proofs.master_lemmas.chain.UsedNumbers.{used_is, used_stays, used_now}
 
 -- the place of the last
@@ -94,13 +94,13 @@ module _ {P : Type 0} (plain : Plain P) (t : Account) (s : IsSound plain t) (x :
         inr (new.0, sym (ap (λ b. place_behind b e) is_last) ∙ new.1)
   ]
 
-  told_is : (z : ℕ) → (messages_to (Server z) posts ≡ []) ⊎ ((z ≡ x) × (messages_to (Server z) posts ≡ order ∷ []))
-  told_is z = one_told x order z
+  reported_is : (z : ℕ) → (messages_to (Server z) posts ≡ []) ⊎ ((z ≡ x) × (messages_to (Server z) posts ≡ order ∷ []))
+  reported_is z = one_reported x order z
 
   line : (z : ℕ) (place : Place) → place_from None v.chain z ≡ Some place
       → LeadsTo (IsPast w1) (is_fresh w z) (w.servers z).pred (queue w z ++ messages_to (Server z) posts) place
   line z place is = elim (places z place is) [
-    | inl old ↦ elim (told_is z) [
+    | inl old ↦ elim (reported_is z) [
       | inl none ↦ subst (λ l. LeadsTo (IsPast w1) (is_fresh w z) (w.servers z).pred (queue w z ++ l) place) (sym none)
           (subst (λ l. LeadsTo (IsPast w1) (is_fresh w z) (w.servers z).pred l place) (sym (append-nil (queue w z)))
           (leads_more (IsPast w) (IsPast w1) (is_fresh w z) (is_fresh w z) (w.servers z).pred (queue w z) place past_later
@@ -147,7 +147,7 @@ module _ {P : Type 0} (plain : Plain P) (t : Account) (s : IsSound plain t) (x :
     ordered = λ a b h. elim (before_last a b (members w.master) x (subst (ComesBefore a b) are h))
         [ inl old ↦ inl old | inr same ↦ inr (no_final_log b same) ];
     members_were = λ z a. elim (member_cases z a) [ inl b ↦ inl b | inr same ↦ inr (no_first_log z same) ];
-    orders = λ z. elim (told_is z) [ inl none ↦ inl none | inr one ↦ inr (order, one.1, good_post z one.0) ];
+    orders = λ z. elim (reported_is z) [ inl none ↦ inl none | inr one ↦ inr (order, one.1, good_post z one.0) ];
     justified = one_justified;
   }
     where

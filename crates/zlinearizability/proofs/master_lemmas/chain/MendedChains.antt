@@ -1,4 +1,4 @@
--- A chain from which a member is taken out: who is left, in which places, and what its servers are told. Lists only.
+-- A chain from which a member is taken out: who is left, in which places, and what its servers are reported. Lists only.
 use Rattle.std.specs.List.{last_or}
 use Rattle.std.proofs.Common.{◌≡◌, ◌⊎◌, ℕ, true, false, ◌==◌, List, [], ◌∷◌, ◌++◌, map, Option, Some, None, refl, ap, ◌∙◌, inl, inr, eqb-true, eq-eqb}
 use Rattle.zcalls.specs.declared.call.Entry.{Entry}
@@ -50,7 +50,7 @@ stands (a ∷ chain) x h = elim (test (a.0 == x)) [
     apart f front none (inl e) = let t : (a.0 == x) ≡ true = eq-eqb a.0 x e in absurd (cc (f, t))
     apart f front none (inr b) = none b
 
--- who is left behind one, or as the first, and what is told
+-- who is left behind one, or as the first, and what is reported
 abbrev pub repair : Option ℕ → ℕ → List Neighbour → List Neighbour × List (Post (List Entry))
 repair None epoch rest = master.without_first epoch rest
 repair (Some p) epoch rest = master.without_next epoch p rest

@@ -2,7 +2,7 @@
 use Rattle.std.proofs.Common.{◌≡◌, ◌⊎◌, ℕ, ◌<◌, ◌≤◌, true, false, List, [], ◌∷◌, ◌++◌, Option, Some, None, refl, sym, ap, ◌∙◌, subst, inl, inr, arith}
 use Rattle.zcalls.specs.declared.call.Entry.{Entry}
 use Rattle.zcalls.specs.Lists.{Among, ComesBefore, NoTwo}
-use Rattle.zcalls.specs.Kept.{Plain}
+use Rattle.zcalls.specs.Cached.{Plain}
 use Rattle.zcalls.proofs.Among.{among_cases}
 use Rattle.zprotocol.specs.declared.message.Message.TheVariants as message
 use Rattle.zprotocol.specs.declared.process.Process.{Process}
@@ -28,9 +28,9 @@ world_with_move w v posts = record w { master = v; links = put w.links Master po
 -- what is shown of an order that is put to a server
 pub record IsGoodPost (w : LogWorld) (v : MasterView) (z : ℕ) (m : LogMessage) : Type 0 where
   pub is_used : is_among z v.used ≡ true
-  -- a predecessor is told in a new epoch
+  -- a predecessor is reported in a new epoch
   pub new_epoch : (k p : ℕ) → m ≡ message.NewPred k p → (w.master.epoch < k) × (k ≤ v.epoch)
-  -- only the last is told to become the tail
+  -- only the last is reported to become the tail
   pub is_last : (k : ℕ) → m ≡ message.BecomeTail k → (t : ℕ) → ComesBefore z t (members v) → ⊥
 
 -- what is shown of the new view and the posts

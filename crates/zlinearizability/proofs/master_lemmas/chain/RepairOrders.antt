@@ -1,4 +1,4 @@
--- What servers are told when a member is taken out of the chain, and who has another place then. Lists and messages only.
+-- What servers are reported when a member is taken out of the chain, and who has another place then. Lists and messages only.
 use Rattle.std.proofs.Common.{◌≡◌, ◌⊎◌, ℕ, true, false, ◌==◌, List, [], ◌∷◌, Option, Some, None, refl, sym, ap, ◌∙◌}
 use Rattle.std.proofs.Common.{subst, inl, inr, eqb-true, eq-eqb}
 use Rattle.zcalls.specs.declared.call.Entry.{Entry}
@@ -13,35 +13,35 @@ use Rattle.zlinearizability.specs.chain.Chain.{Place, place_behind, place_from, 
 use Rattle.zlinearizability.specs.chain.Messages.{IsJustified}
 use Rattle.zlinearizability.proofs.master_lemmas.chain.MendedChains.{repair}
 
--- what a server is told
-pub data IsTold (before : Option ℕ) (e : ℕ) (rest : List Neighbour) (z : ℕ) (m : LogMessage) : Type 0 where
-  Heads : (r : Neighbour) (more : List Neighbour) → before ≡ None → rest ≡ r ∷ more → z ≡ r.0 → m ≡ message.BecomeHead e → IsTold before e rest z m
-  Ends : (p : ℕ) → before ≡ Some p → rest ≡ [] → z ≡ p → m ≡ message.BecomeTail e → IsTold before e rest z m
+-- what a server is reported
+pub data IsReported (before : Option ℕ) (e : ℕ) (rest : List Neighbour) (z : ℕ) (m : LogMessage) : Type 0 where
+  Heads : (r : Neighbour) (more : List Neighbour) → before ≡ None → rest ≡ r ∷ more → z ≡ r.0 → m ≡ message.BecomeHead e → IsReported before e rest z m
+  Ends : (p : ℕ) → before ≡ Some p → rest ≡ [] → z ≡ p → m ≡ message.BecomeTail e → IsReported before e rest z m
   Turns : (p : ℕ) (r : Neighbour) (more : List Neighbour) → before ≡ Some p → rest ≡ r ∷ more → z ≡ r.0 → m ≡ message.NewPred e p
-      → IsTold before e rest z m
+      → IsReported before e rest z m
 
--- a server is told one order, or nothing
-pub one_told : (y : ℕ) (o : LogMessage) (z : ℕ) → (messages_to (Server z) ((Server y, o) ∷ []) ≡ [])
+-- a server is reported one order, or nothing
+pub one_reported : (y : ℕ) (o : LogMessage) (z : ℕ) → (messages_to (Server z) ((Server y, o) ∷ []) ≡ [])
     ⊎ ((z ≡ y) × (messages_to (Server z) ((Server y, o) ∷ []) ≡ o ∷ []))
-one_told y o z = elim (test (z == y)) [ inl t ↦ inr (eqb-true _ _ t, rw t refl) | inr f ↦ inl (rw f refl) ]
+one_reported y o z = elim (test (z == y)) [ inl t ↦ inr (eqb-true _ _ t, rw t refl) | inr f ↦ inl (rw f refl) ]
 
 -- so of a repair
-pub told_one : (before : Option ℕ) (e : ℕ) (rest : List Neighbour) (z : ℕ)
+pub reported_one : (before : Option ℕ) (e : ℕ) (rest : List Neighbour) (z : ℕ)
     → (messages_to (Server z) (repair before e rest).1 ≡ [])
-    ⊎ ((m : LogMessage) × (messages_to (Server z) (repair before e rest).1 ≡ m ∷ []) × IsTold before e rest z m)
-told_one None e [] z = inl refl
-told_one None e (r ∷ more) z = elim (one_told r.0 (message.BecomeHead e) z)
+    ⊎ ((m : LogMessage) × (messages_to (Server z) (repair before e rest).1 ≡ m ∷ []) × IsReported before e rest z m)
+reported_one None e [] z = inl refl
+reported_one None e (r ∷ more) z = elim (one_reported r.0 (message.BecomeHead e) z)
     [ inl n ↦ inl n | inr o ↦ inr (message.BecomeHead e, o.1, Heads r more refl refl o.0 refl) ]
-told_one (Some p) e [] z = elim (one_told p (message.BecomeTail e) z)
+reported_one (Some p) e [] z = elim (one_reported p (message.BecomeTail e) z)
     [ inl n ↦ inl n | inr o ↦ inr (message.BecomeTail e, o.1, Ends p refl refl o.0 refl) ]
-told_one (Some p) e (r ∷ more) z = elim (one_told r.0 (message.NewPred e p) z)
+reported_one (Some p) e (r ∷ more) z = elim (one_reported r.0 (message.NewPred e p) z)
     [ inl n ↦ inl n | inr o ↦ inr (message.NewPred e p, o.1, Turns p r more refl refl o.0 refl) ]
 
--- the next one is told its new place
-pub told_turned : (before : Option ℕ) (e : ℕ) (r : Neighbour) (more : List Neighbour) (z : ℕ) → z ≡ r.0
+-- the next one is reported its new place
+pub reported_turned : (before : Option ℕ) (e : ℕ) (r : Neighbour) (more : List Neighbour) (z : ℕ) → z ≡ r.0
     → (m : LogMessage) × (messages_to (Server z) (repair before e (r ∷ more)).1 ≡ m ∷ []) × (turn_of m ≡ Some (place_behind before e))
-told_turned None e r more z is = let t : (z == r.0) ≡ true = eq-eqb z r.0 is in (message.BecomeHead e, rw t refl, refl)
-told_turned (Some p) e r more z is = let t : (z == r.0) ≡ true = eq-eqb z r.0 is in (message.NewPred e p, rw t refl, refl)
+reported_turned None e r more z is = let t : (z == r.0) ≡ true = eq-eqb z r.0 is in (message.BecomeHead e, rw t refl, refl)
+reported_turned (Some p) e r more z is = let t : (z == r.0) ≡ true = eq-eqb z r.0 is in (message.NewPred e p, rw t refl, refl)
 
 -- all of it is justified
 pub repair_justified : (before : Option ℕ) (e : ℕ) (rest : List Neighbour) (w : LogWorld) (items : List _) (post : Post (List Entry))

@@ -5,7 +5,7 @@ use Rattle.std.proofs.Common.{◌≡◌, ◌⊎◌, ℕ, ◌+◌, ◌≤◌, tru
 use Rattle.std.proofs.Common.{sym, ap, subst, inl, inr, append-nil, arith, eqb-true}
 use Rattle.zcalls.specs.declared.call.Entry.{Entry}
 use Rattle.zcalls.specs.Lists.{Among}
-use Rattle.zcalls.specs.Kept.{Plain}
+use Rattle.zcalls.specs.Cached.{Plain}
 use Rattle.zcalls.proofs.Among.{test, among_cases}
 use Rattle.zprotocol.specs.declared.message.Message.TheVariants as message
 use Rattle.zprotocol.specs.declared.process.Process.{Process}
@@ -23,7 +23,7 @@ use Rattle.zlinearizability.specs.chain.Sound.{IsSound}
 use Rattle.zlinearizability.proofs.chain_lemmas.places.Orders.{unread_order}
 use Rattle.zlinearizability.proofs.master_lemmas.chain.Moves.{world_with_move, IsGoodPost, IsGoodMove, move_sound}
 
--- an order that tells no predecessor and that isn't one to become the tail, also one to leave; or a configuration
+-- an order that reports no predecessor and that isn't one to become the tail, also one to leave; or a configuration
 abbrev pub IsStanding : LogWorld → LogMessage → Type 0
 IsStanding w (message.NewSucc k t n) = IsOpened w t k
 IsStanding w (message.Config epoch head tail) = Unit {0}
@@ -42,24 +42,24 @@ not_pred w k p m e h = subst (IsStanding w) e h
 not_tail : (w : LogWorld) (k : ℕ) (m : LogMessage) → m ≡ message.BecomeTail k → IsStanding w m → ⊥
 not_tail w k m e h = subst (IsStanding w) e h
 
--- what clients are told is nothing to servers
+-- what clients are reported is nothing to servers
 pub addressed_clients : (z : ℕ) (m : LogMessage) (cs : List ℕ) → messages_to (Server z) (map (λ c. (Client c, m)) cs) ≡ []
 addressed_clients z m [] = refl
 addressed_clients z m (c ∷ cs) = addressed_clients z m cs
 
--- with the clients told, servers are put what they were
-pub addressed_told : (z : ℕ) (v : MasterView) (first : List (Post (List Entry))) → messages_to (Server z) (first ++ master.config_posts v)
+-- with the clients reported, servers are put what they were
+pub addressed_reported : (z : ℕ) (v : MasterView) (first : List (Post (List Entry))) → messages_to (Server z) (first ++ master.config_posts v)
     ≡ messages_to (Server z) first
-addressed_told z v [] = addressed_clients z (message.Config v.epoch (head_of v) (tail_of v)) (range_with_len 0 v.clients)
-addressed_told z v (post ∷ first) = elim (test (is_same (Server z) post.0)) [
-  | inl t ↦ rw t (ap (λ l. post.1 ∷ l) (addressed_told z v first))
-  | inr f ↦ rw f (addressed_told z v first)
+addressed_reported z v [] = addressed_clients z (message.Config v.epoch (head_of v) (tail_of v)) (range_with_len 0 v.clients)
+addressed_reported z v (post ∷ first) = elim (test (is_same (Server z) post.0)) [
+  | inl t ↦ rw t (ap (λ l. post.1 ∷ l) (addressed_reported z v first))
+  | inr f ↦ rw f (addressed_reported z v first)
 ]
 
 -- each is a configuration
-pub told_among : (v : MasterView) (first : List (Post (List Entry))) (post : Post (List Entry)) → Among post (first ++ master.config_posts v)
+pub reported_among : (v : MasterView) (first : List (Post (List Entry))) (post : Post (List Entry)) → Among post (first ++ master.config_posts v)
     → Among post first ⊎ (post.1 ≡ message.Config v.epoch (head_of v) (tail_of v))
-told_among v first post a = elim (among_cases post first (master.config_posts v) a) [
+reported_among v first post a = elim (among_cases post first (master.config_posts v) a) [
   | inl b ↦ inl b
   | inr c ↦ inr (each (range_with_len 0 v.clients) c)
 ]
@@ -187,8 +187,8 @@ module _ {P : Type 0} (plain : Plain P) (t : Account) (s : IsSound plain t) wher
   joined_heard x = elim (test (is_joining t.world.master x)) [
     | inl joins ↦ rw joins (standing_sound plain t s None t.world.master.retiring (t.world.master.epoch + 1) (omega arith)
         (master.config_posts settled)
-        (λ post a. elim (told_among settled [] post a) [ inl b ↦ absurd b | inr c ↦ subst (IsStanding t.world) (sym c) tt ])
-        (λ z. inl (addressed_told z settled [])))
+        (λ post a. elim (reported_among settled [] post a) [ inl b ↦ absurd b | inr c ↦ subst (IsStanding t.world) (sym c) tt ])
+        (λ z. inl (addressed_reported z settled [])))
     | inr f ↦ rw f unheard
   ]
 

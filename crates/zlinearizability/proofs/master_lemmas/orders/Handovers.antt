@@ -3,7 +3,7 @@ use Rattle.std.specs.Prelude.{is_none}
 use Rattle.std.proofs.Common.{◌≡◌, ◌⊎◌, ℕ, false, ◌==◌, List, [], ◌∷◌, drop, Option, Some, None, refl, sym, ap, ◌∙◌, subst, inl, inr, eqb-true}
 use Rattle.zcalls.specs.declared.call.Entry.{Entry}
 use Rattle.zcalls.specs.Lists.{ComesBefore}
-use Rattle.zcalls.specs.Kept.{Plain}
+use Rattle.zcalls.specs.Cached.{Plain}
 use Rattle.zcalls.proofs.Among.{test}
 use Rattle.zprotocol.specs.declared.message.Message.TheVariants as message
 use Rattle.zprotocol.specs.declared.process.Process.TheVariants.{Master, Server}
@@ -67,11 +67,11 @@ whole_of epoch k transfer log h = elim (test (epoch == k)) [
   | inr f ↦ let is : ◌≡◌ {A = Log} None (Some log) = rw f at h in cc is
 ]
 
-module _ {P : Type 0} (plain : Plain P) (told : Account) (s : IsSound plain told) (x : ℕ) (x_in : IsMember told.world x) (own : List Entry)
-    (holds : log_at told.world x ≡ Some own) (follows : is_none (told.world.servers x).succ ≡ false) (t k last : ℕ)
-    (stays : IsPair told.world x t k → HasNoTailOrder (queue told.world x)) where
+module _ {P : Type 0} (plain : Plain P) (reported : Account) (s : IsSound plain reported) (x : ℕ) (x_in : IsMember reported.world x) (own : List Entry)
+    (holds : log_at reported.world x ≡ Some own) (follows : is_none (reported.world.servers x).succ ≡ false) (t k last : ℕ)
+    (stays : IsPair reported.world x t k → HasNoTailOrder (queue reported.world x)) where
   abbrev w : LogWorld
-  w = told.world
+  w = reported.world
 
   abbrev transfer : Transfer (List Entry)
   transfer = record { last = last; machine = own }
@@ -80,7 +80,7 @@ module _ {P : Type 0} (plain : Plain P) (told : Account) (s : IsSound plain told
   m = message.Snapshot k transfer
 
   abbrev w1 : LogWorld
-  w1 = with_put told.world x (Server t) m
+  w1 = with_put reported.world x (Server t) m
 
   -- whoever stands before the receiver is ahead of the sender's log, where it is a pair with the receiver
   ahead_of_whole : IsPair w x t k → (a : ℕ) → ComesBefore a t (members w.master) → IsAhead w a own
@@ -126,7 +126,7 @@ module _ {P : Type 0} (plain : Plain P) (told : Account) (s : IsSound plain told
 
   shows_by : (y : ℕ) → IsMember w y → (pred : Option Neighbour) → (w.servers y).pred ≡ pred → (log : List Entry)
       → or_else (log_at w y) (first_snapshot_by w1 y pred) ≡ Some log
-      → IsPrefix told.committed log
+      → IsPrefix reported.committed log
   shows_by y y_in None is log h = s.committed y log y_in (ap (λ p. or_else (log_at w y) (first_snapshot_by w y p)) is ∙ h)
   shows_by y y_in (Some pred) is log h = elim (put_one w.links (Server x) (Server t) m (Server pred.0) (Server y)) [
     | inl e ↦ s.committed y log y_in (ap (λ p. or_else (log_at w y) (first_snapshot_by w y p)) is
@@ -137,16 +137,16 @@ module _ {P : Type 0} (plain : Plain P) (told : Account) (s : IsSound plain told
         (ap (or_else (log_at w y)) (sym (first_more pred.1 link (m ∷ [])))
         ∙ sym (ap (λ l. or_else (log_at w y) (first_snapshot pred.1 l)) p.2) ∙ h)) [
           | inl e ↦ s.committed y log y_in (ap (λ q. or_else (log_at w y) (first_snapshot_by w y q)) is ∙ e)
-          | inr e ↦ subst (IsPrefix told.committed) (whole_of pred.1 k transfer log e)
+          | inr e ↦ subst (IsPrefix reported.committed) (whole_of pred.1 k transfer log e)
               (s.committed x own x_in (ap (λ l. or_else l (first_snapshot_by w x (w.servers x).pred)) holds))
         ]
   ]
 
-  shows : AllShowCommitted w1 told.committed
+  shows : AllShowCommitted w1 reported.committed
   shows y log y_in h = shows_by y y_in (w.servers y).pred refl log h
 
   -- all facts hold with the snapshot put
-  pub put_whole : IsOpened told.world t k → IsSound plain (account_with_put told x (Server t) m)
+  pub put_whole : IsOpened reported.world t k → IsSound plain (account_with_put reported x (Server t) m)
   put_whole opened = record {
     distinct = s.distinct;
     used = s.used;
@@ -162,7 +162,7 @@ module _ {P : Type 0} (plain : Plain P) (told : Account) (s : IsSound plain told
     sent = s.sent;
     begun = s.begun;
     committed_begun = s.committed_begun;
-    justified = justified_put told.world told.items x (Server t) m (opened, s.begun x own holds) s.justified;
+    justified = justified_put reported.world reported.items x (Server t) m (opened, s.begun x own holds) s.justified;
     acted = s.acted;
     replays = s.replays;
     rising = s.rising;

@@ -1,7 +1,7 @@
 -- The new view of a server with a log that hears of a new successor, whatever the successor has.
 use Rattle.std.proofs.Common.{◌≡◌, ℕ, false, List, ◌∷◌, Option, Some, refl, sym, ap, ◌∙◌, subst, inl}
 use Rattle.zcalls.specs.declared.call.Entry.{Entry}
-use Rattle.zcalls.specs.Kept.{Plain}
+use Rattle.zcalls.specs.Cached.{Plain}
 use Rattle.zcalls.specs.Lists.{Among}
 use Rattle.zprotocol.specs.declared.message.Message.TheVariants as message
 use Rattle.zprotocol.specs.declared.process.Process.TheVariants.{Master, Server}

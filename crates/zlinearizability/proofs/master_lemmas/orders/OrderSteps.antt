@@ -5,7 +5,7 @@ use Rattle.std.proofs.Common.{subst, inl, inr, eqb-true, append-nil}
 use Rattle.std.proofs.Math.Seq.{drop-length}
 use Rattle.zcalls.specs.declared.call.Entry.{Entry}
 use Rattle.zcalls.specs.Lists.{Among, ComesBefore}
-use Rattle.zcalls.specs.Kept.{Plain}
+use Rattle.zcalls.specs.Cached.{Plain}
 use Rattle.zcalls.specs.Acts.{after_log, acts_from}
 use Rattle.zcalls.proofs.Among.{test}
 use Rattle.zprotocol.specs.declared.message.Message.TheVariants as message

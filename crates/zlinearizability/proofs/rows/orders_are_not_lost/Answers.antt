@@ -6,5 +6,5 @@ pub returns : goal.returns
 unfolding all_tables
 returns c = record {
   head = refl;
-  told = refl;
+  reported = refl;
 }

@@ -4,7 +4,7 @@ use Rattle.ztree.specs.Tree.{stat_at, with_data_at}
 use Rattle.zcalls.specs.declared.change.ChangeReply.TheVariants.{Set}
 use Rattle.zcalls.specs.Part.{set_step}
 use Rattle.zcalls.proofs.Tables.{absent-on_version, stale-on_version, node_there}
-use Rattle.zcalls.proofs.Told.{set_step-done}
+use Rattle.zcalls.proofs.Reported.{set_step-done}
 use Rattle.zops.proofs.Marks.{mark_steps}
 use Rattle.zops.proofs.change.set.Goals as goal
 
@@ -26,9 +26,9 @@ returns-clause-done c =
     let there = node_there (finite.get t.nodes set.path) (sym c.in-Some.ensures.node) in
     let tree = c.in_ok-put_data.ensures.tree set.path c.in-Some.ensures.found ∙ ap (with_data_at t set.path) c.in_ok-clone.ensures.cases in
     let still = ap (λ places. finite.get places c.in-Some.id) c.in_ok-put_data.ensures.same.0 ∙ c.in-Some.ensures.found in
-    let told = sym (ap (λ u. stat_at u.nodes set.path) tree) ∙ c.in-Some-stat.ensures.stat set.path still in
+    let reported = sym (ap (λ u. stat_at u.nodes set.path) tree) ∙ c.in-Some-stat.ensures.stat set.path still in
     record {
-      step_is = set_step-done t set there.0 c.in-Some-stat.stat there.1 fresh told ∙ (λ i. Ok (sym tree i, Set c.in-Some-stat.stat));
+      step_is = set_step-done t set there.0 c.in-Some-stat.stat there.1 fresh reported ∙ (λ i. Ok (sym tree i, Set c.in-Some-stat.stat));
       given = let same = c.in_ok-put_data.ensures.same.1 in omega (arith, same);
       mark = mark_steps 1 c.args.store.now c.put_data.new.self (omega arith) c.in_ok-put_data.ensures.marked;
     }

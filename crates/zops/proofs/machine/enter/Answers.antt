@@ -1,7 +1,7 @@
 use Rattle.std.proofs.Common.{◌≡◌, ◌<◌, true, nat_lt, Some, sym, ap, subst, ◌∙◌, arith, rules}
 use Rattle.std.proofs.lemmas.Bool.Decides.{nat_tests}
 use Rattle.std.specs.FinMap.{get, insert}
-use Rattle.zcalls.specs.Kept.{last_of, entry_step}
+use Rattle.zcalls.specs.Cached.{last_of, entry_step}
 use Rattle.zops.specs.Restored.{IsOfUpdate}
 use Rattle.zops.proofs.OfUpdate.{made-of_update}
 use Rattle.zops.proofs.machine.enter.Goals as goal

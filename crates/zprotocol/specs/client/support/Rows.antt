@@ -69,11 +69,11 @@ headless v = record v { head = None }
 
 -- a client that has received this head and this tail in epoch 5, and one that has received that
 -- there is no chain
-abbrev pub told : ℕ → ℕ → ClientView → ClientView
-told head tail v = record v { epoch = 5; head = Some head; tail = Some tail }
+abbrev pub reported : ℕ → ℕ → ClientView → ClientView
+reported head tail v = record v { epoch = 5; head = Some head; tail = Some tail }
 
-abbrev pub told_of_none : ClientView → ClientView
-told_of_none v = record v { epoch = 5; head = None; tail = None }
+abbrev pub reported_of_none : ClientView → ClientView
+reported_of_none v = record v { epoch = 5; head = None; tail = None }
 
 -- a client's update and its query, on their way to a server
 abbrev pub submit_to : ℕ → ℕ → Post ℕ

@@ -7,7 +7,7 @@ use Rattle.zprotocol.specs.declared.process.Process.{Process}
 use Rattle.zprotocol.specs.declared.process.Process.TheVariants.{Server}
 use Rattle.zprotocol.specs.server.View.{Neighbour}
 use Rattle.zprotocol.specs.master.View.{MasterView, is_among, with_number, members}
-use Rattle.zprotocol.specs.master.Table.{MasterResult, and_tell_clients, before, MendedChain, without_member}
+use Rattle.zprotocol.specs.master.Table.{MasterResult, and_report_clients, before, MendedChain, without_member}
 
 -- a chain from which a server has failed: the only one, the first, the last, or one between two
 -- others
@@ -31,8 +31,8 @@ pub data IsMasterRow {T : Type 0} (v : MasterView) : Process → Message T → M
   Reports : (s epoch : ℕ) (last : Option ℕ) (p : ℕ) → before s epoch v.chain ≡ Some p
       → IsMasterRow v (Server s) (message.Have epoch last) (v, (Server p, message.NewSucc epoch s last) ∷ [])
   Joins : (s epoch : ℕ) → v.joining ≡ Some s
-      → IsMasterRow v (Server s) (message.Joined epoch) (and_tell_clients (record v { joining = None; epoch = v.epoch + 1 }) [])
+      → IsMasterRow v (Server s) (message.Joined epoch) (and_report_clients (record v { joining = None; epoch = v.epoch + 1 }) [])
   LeavesOutside : (s : ℕ) → is_among s (members v) ≡ false
       → IsMasterRow v (Server s) message.Gone (record v { used = with_number s v.used }, [])
   Leaves : (s : ℕ) (chain : MendedChain T) → is_among s (members v) ≡ true → IsMended (v.epoch + 1) s v.chain chain
-      → IsMasterRow v (Server s) message.Gone (and_tell_clients (after_gone v s chain) chain.1)
+      → IsMasterRow v (Server s) message.Gone (and_report_clients (after_gone v s chain) chain.1)

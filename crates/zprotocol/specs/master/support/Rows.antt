@@ -54,11 +54,11 @@ abbrev pub empty : MasterView
 empty = master [] None
 
 -- both clients receive this head and this tail in epoch 7, or that there is no chain
-abbrev pub tells : ℕ → ℕ → List (Post ℕ)
-tells head tail = (Client 0, message.Config 7 (Some head) (Some tail)) ∷ (Client 1, message.Config 7 (Some head) (Some tail)) ∷ []
+abbrev pub reports : ℕ → ℕ → List (Post ℕ)
+reports head tail = (Client 0, message.Config 7 (Some head) (Some tail)) ∷ (Client 1, message.Config 7 (Some head) (Some tail)) ∷ []
 
-abbrev pub tells_of_none : List (Post ℕ)
-tells_of_none = (Client 0, message.Config 7 None None) ∷ (Client 1, message.Config 7 None None) ∷ []
+abbrev pub reports_of_none : List (Post ℕ)
+reports_of_none = (Client 0, message.Config 7 None None) ∷ (Client 1, message.Config 7 None None) ∷ []
 
 -- what the master does with a message, between servers whose machine is a number
 abbrev pub after : MasterView → Process → MessageOf ℕ → MasterResult (Transfer ℕ)
@@ -118,10 +118,10 @@ passed_on last = (Server 2, message.NewSucc 5 4 last)
 -- what is sent when the chain is repaired. In epoch 7 a server becomes the head or the tail, or
 -- gets a new predecessor. The clients receive the head and the tail
 abbrev pub new_head : ℕ → ℕ → List (Post ℕ)
-new_head head tail = (Server head, message.BecomeHead 7) ∷ tells head tail
+new_head head tail = (Server head, message.BecomeHead 7) ∷ reports head tail
 
 abbrev pub new_tail : ℕ → ℕ → List (Post ℕ)
-new_tail head tail = (Server tail, message.BecomeTail 7) ∷ tells head tail
+new_tail head tail = (Server tail, message.BecomeTail 7) ∷ reports head tail
 
 abbrev pub new_pred : ℕ → ℕ → ℕ → ℕ → List (Post ℕ)
-new_pred s pred head tail = (Server s, message.NewPred 7 pred) ∷ tells head tail
+new_pred s pred head tail = (Server s, message.NewPred 7 pred) ∷ reports head tail

@@ -6,8 +6,8 @@ use Rattle.zprotocol.specs.declared.process.Process.TheVariants.{Master, Server,
 use Rattle.zprotocol.specs.declared.traces.trace.TraceEvent.{TraceEvent}
 use Rattle.zprotocol.specs.declared.traces.trace.Traces.{Traces}
 use Rattle.ztree.specs.Tree.{Tree}
-use Rattle.zcalls.specs.Kept.{KeptState}
-use Rattle.zprotocol.specs.server.Machine.{kept_tree}
+use Rattle.zcalls.specs.Cached.{CachedState}
+use Rattle.zprotocol.specs.server.Machine.{cached_tree}
 use Rattle.zprotocol.specs.world.World.{World}
 use Rattle.zprotocol.specs.traces.Traces.{Step, trace_of, Merges, BeginsMerge, are_in_place}
 use Rattle.zprotocol.specs.traces.Audit.{opening_of, world_after_steps}
@@ -60,9 +60,9 @@ unread t read zero = 0
 unread t read (suc n) = (length (trace_of t (process_at t n)) - get_or read n 0) + unread t read n
 
 -- so far these steps were replayed, each was allowed, and they led to this world
-abbrev pub HasReplayed : Traces → List ℕ → World (KeptState Tree) → Type 0
+abbrev pub HasReplayed : Traces → List ℕ → World (CachedState Tree) → Type 0
 HasReplayed t read w =
-    (steps : List Step) × Merges (trace_of t) steps (rest_of t read) × (are_in_place kept_tree (opening_of t) steps ≡ true)
+    (steps : List Step) × Merges (trace_of t) steps (rest_of t read) × (are_in_place cached_tree (opening_of t) steps ≡ true)
     × (world_after_steps t steps ≡ w)
 
 -- no event is left
@@ -71,4 +71,4 @@ IsAllRead t read = (p : Process) → rest_of t read p ≡ []
 
 -- an event of a prefix of the merge isn't allowed
 abbrev pub IsReplayFault : Traces → Type 0
-IsReplayFault t = (steps : List Step) × BeginsMerge t steps × (are_in_place kept_tree (opening_of t) steps ≡ false)
+IsReplayFault t = (steps : List Step) × BeginsMerge t steps × (are_in_place cached_tree (opening_of t) steps ≡ false)

@@ -198,14 +198,14 @@ client_deeds =
       took = None;
       left = AtClient waiting_client;
       posts = (s1, request) ∷ [];
-      told = call_event.Begin 0 1 write ∷ [];
+      reported = call_event.Begin 0 1 write ∷ [];
     }
     ∷ record {
       event = event_at 3 (Took s1 Acted);
       took = Some (2, answer);
       left = AtClient (idle_client 1);
       posts = [];
-      told = call_event.Answer 0 1 (number_reply 1) ∷ [];
+      reported = call_event.Answer 0 1 (number_reply 1) ∷ [];
     }
     ∷ []
 
@@ -216,6 +216,6 @@ server_deeds =
       took = Some (1, request);
       left = AtServer (server_with 1);
       posts = (c0, answer) ∷ [];
-      told = [];
+      reported = [];
     }
     ∷ []

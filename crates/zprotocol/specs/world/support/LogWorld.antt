@@ -3,7 +3,7 @@
 -- to.
 use Rattle.std.specs.Prelude.{◌≡◌, ℕ, List, map}
 use Rattle.zcalls.specs.declared.call.Entry.{Entry}
-use Rattle.zprotocol.specs.server.Machine.{kept_tree, log_of, replay}
+use Rattle.zprotocol.specs.server.Machine.{cached_tree, log_of, replay}
 use Rattle.zprotocol.specs.server.support.Homomorphism.{message_with, view_with}
 use Rattle.zprotocol.specs.declared.world.event.Event.{Event}
 use Rattle.zprotocol.specs.world.World.{World, opening_world}
@@ -25,9 +25,9 @@ world_with h w = record {
 abbrev pub LogWorldStandsForWorld : Type 0
 LogWorldStandsForWorld =
     (servers clients : ℕ) (events : List Event)
-    → run kept_tree (opening_world kept_tree servers clients) events
-    ≡ world_with (replay kept_tree) (run (log_of kept_tree) (opening_world (log_of kept_tree) servers clients) events)
+    → run cached_tree (opening_world cached_tree servers clients) events
+    ≡ world_with (replay cached_tree) (run (log_of cached_tree) (opening_world (log_of cached_tree) servers clients) events)
 
 -- and the same events are enabled in both
 abbrev pub LogWorldHasTheSameEnabled : Type 0
-LogWorldHasTheSameEnabled = (w : World (List Entry)) (event : Event) → is_enabled (world_with (replay kept_tree) w) event ≡ is_enabled w event
+LogWorldHasTheSameEnabled = (w : World (List Entry)) (event : Event) → is_enabled (world_with (replay cached_tree) w) event ≡ is_enabled w event

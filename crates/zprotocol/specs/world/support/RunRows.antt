@@ -71,18 +71,18 @@ other_entry = record { client = 0; number = 1; update = create_update }
 abbrev pub began : ℕ → ℕ → CallEvent
 began client number = saw.Begin client number create
 
-abbrev pub told : ℕ → ℕ → ℕ → CallEvent
-told client number name = saw.Answer client number (name_reply name)
+abbrev pub reported : ℕ → ℕ → ℕ → CallEvent
+reported client number name = saw.Answer client number (name_reply name)
 
 -- what callers see of client 1's calls: one update, two of them, and an update and then a query
 abbrev pub one_create : History
-one_create = began 1 1 ∷ told 1 1 0 ∷ []
+one_create = began 1 1 ∷ reported 1 1 0 ∷ []
 
 abbrev pub two_creates : History
-two_creates = began 1 1 ∷ told 1 1 0 ∷ began 1 2 ∷ told 1 2 1 ∷ []
+two_creates = began 1 1 ∷ reported 1 1 0 ∷ began 1 2 ∷ reported 1 2 1 ∷ []
 
 abbrev pub create_and_exists : History
-create_and_exists = began 1 1 ∷ told 1 1 0 ∷ saw.Begin 1 2 exists ∷ saw.Answer 1 2 (count_reply 1) ∷ []
+create_and_exists = began 1 1 ∷ reported 1 1 0 ∷ saw.Begin 1 2 exists ∷ saw.Answer 1 2 (count_reply 1) ∷ []
 
 -- its request of that update on a channel, and two answers to it
 abbrev pub request : List (MessageOf Counting)

@@ -81,8 +81,8 @@ lost_state = Join 2 ∷ Fail 1 ∷ Begin 1 exists ∷ []
 abbrev pub new_head : List Event
 new_head = Fail 1 ∷ Take s1 m ∷ []
 
-abbrev pub new_head_told : List Event
-new_head_told = new_head ++ Take m s2 ∷ []
+abbrev pub new_head_reported : List Event
+new_head_reported = new_head ++ Take m s2 ∷ []
 
 -- a server joins after the only one, which is no tail any more when a client's query reaches it
 abbrev pub query_at_old_tail : List Event

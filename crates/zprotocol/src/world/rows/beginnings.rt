@@ -12,7 +12,7 @@ ghost use Rattle.ztree.specs.Tree.{Tree, opening_tree};
 ghost use Rattle.ztree.specs.declared.session.Session.{Session};
 ghost use Rattle.zcalls.specs.declared.call.Query.{Query};
 ghost use Rattle.zcalls.specs.declared.reply.Reply.{Reply};
-ghost use Rattle.zcalls.specs.Kept.{nothing_kept};
+ghost use Rattle.zcalls.specs.Cached.{nothing_cached};
 ghost use Rattle.zcalls.specs.Step.{query_reply, step};
 ghost use Rattle.zcalls.specs.declared.call.Call.{Call};
 ghost use Rattle.zcalls.specs.declared.call.Call.TheVariants as call;
@@ -20,8 +20,8 @@ ghost use Rattle.zcalls.specs.declared.call.Update.{Update};
 ghost use Rattle.zcalls.specs.PlainTree.{plain_tree};
 ghost use Rattle.zprotocol.specs.declared.world.history.CallEvent.TheVariants.{Answer, Begin};
 ghost use Rattle.zprotocol.specs.world.History.{History};
-ghost use Rattle.zprotocol.specs.world.Lives.{state_after, later_history, later_order};
-ghost use Rattle.zprotocol.specs.world.Lives.{CountsFromOne, CountsUpTo};
+ghost use Rattle.zprotocol.specs.world.Incarnations.{state_after, later_history, later_order};
+ghost use Rattle.zprotocol.specs.world.Incarnations.{CountsFromOne, CountsUpTo};
 ghost use Rattle.zprotocol.specs.world.PlainTree.{IsExplained, service_of};
 ghost use Rattle.zprotocol.specs.world.FromTree.{CanStart, IsExplainedFrom};
 ghost use Rattle.zprotocol.specs.world.FromTree.{opening_world_from, world_after_from};
@@ -41,7 +41,7 @@ pub fn trees_can_start()
 /// and no reply. A spare server holds nothing.
 pub fn servers_hold_the_tree()
     ensures member { (t : Tree)
-        → ((opening_world_from t 3 1).servers 2).machine ≡ Some (nothing_kept t) }
+        → ((opening_world_from t 3 1).servers 2).machine ≡ Some (nothing_cached t) }
     ensures spare { (t : Tree) → ((opening_world_from t 3 1).servers 4).machine ≡ None }
     ensures no_event { (t : Tree) → world_after_from t 3 1 [] ≡ opening_world_from t 3 1 }
 {}

@@ -18,7 +18,7 @@ pub fn joining_server_is_handed_the_state()
     ensures one_joins { order_fault (after 1 (take 4 state_is_handed_over)).master (order.Join 3)
         ≡ Some Joining }
     ensures silent { link 1 (take 9 state_is_handed_over) s1 c1 ≡ [] }
-    ensures told { link 1 (take 11 state_is_handed_over) m c1 ≡ config 2 1 2 }
+    ensures reported { link 1 (take 11 state_is_handed_over) m c1 ≡ config 2 1 2 }
     ensures handed_over { (view 1 (take 10 state_is_handed_over) 2).last ≡ 1 }
     ensures seen { seen 1 state_is_handed_over ≡ create_and_exists }
 {}

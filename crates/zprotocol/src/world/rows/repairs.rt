@@ -12,7 +12,7 @@ ghost use Rattle.zprotocol.specs.world.support.RunRows.{one_create, request, two
 /// answered.
 pub fn head_fails_after_it_forwarded()
     ensures gone { link 3 (take 4 head_fails) s1 m ≡ message.Gone ∷ [] }
-    ensures told { link 3 (take 5 head_fails) m s2 ≡ message.BecomeHead 1 ∷ [] }
+    ensures reported { link 3 (take 5 head_fails) m s2 ≡ message.BecomeHead 1 ∷ [] }
     ensures head { (view 3 (take 6 head_fails) 2).pred ≡ None }
     ensures seen { seen 3 head_fails ≡ one_create }
 {}
@@ -20,7 +20,7 @@ pub fn head_fails_after_it_forwarded()
 /// The same, where the client also sends to the new head: the update acts once, and is answered
 /// once.
 pub fn new_head_is_asked_again()
-    ensures told { link 3 (take 6 head_fails_and_is_asked_again) m c1 ≡ config 1 2 3 }
+    ensures reported { link 3 (take 6 head_fails_and_is_asked_again) m c1 ≡ config 1 2 3 }
     ensures asked { link 3 (take 7 head_fails_and_is_asked_again) c1 s2 ≡ request }
     ensures two_answers { link 3 (take 10 head_fails_and_is_asked_again) s3 c1 ≡ two_answers }
     ensures seen { seen 3 head_fails_and_is_asked_again ≡ one_create }
@@ -37,7 +37,7 @@ pub fn messages_outlive_their_sender()
 /// The tail fails before it answered: its predecessor becomes the tail, and answers with its cached
 /// reply.
 pub fn tail_fails_before_it_answered()
-    ensures told { link 3 (take 5 tail_fails) m s2 ≡ message.BecomeTail 1 ∷ [] }
+    ensures reported { link 3 (take 5 tail_fails) m s2 ≡ message.BecomeTail 1 ∷ [] }
     ensures tail { (view 3 (take 6 tail_fails) 2).succ ≡ None }
     ensures processed { (view 3 (take 6 tail_fails) 2).sent ≡ [] }
     ensures silent { link 3 (take 6 tail_fails) s2 c1 ≡ [] }

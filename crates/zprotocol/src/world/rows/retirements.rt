@@ -31,7 +31,7 @@ pub fn head_retires_after_it_forwarded()
     ensures failed { (after 3 (take 5 head_retires)).failed 1 ≡ true }
     ensures takes_nothing_more { CannotHappen 3 (take 5 head_retires ++ Retry 1 ∷ []) (Take c1 s1) }
     ensures fails_no_more { CannotHappen 3 (take 5 head_retires) (Fail 1) }
-    ensures told { link 3 (take 6 head_retires) m s2 ≡ message.BecomeHead 1 ∷ [] }
+    ensures reported { link 3 (take 6 head_retires) m s2 ≡ message.BecomeHead 1 ∷ [] }
     ensures head { (view 3 (take 7 head_retires) 2).pred ≡ None }
     ensures seen { seen 3 head_retires ≡ one_create }
 {}
@@ -48,7 +48,7 @@ pub fn middle_retires_before_it_forwarded()
 
 /// The tail is ordered to leave: its predecessor becomes the tail, and the call is answered once.
 pub fn tail_retires_before_it_answered()
-    ensures told { link 3 (take 6 tail_retires) m s2 ≡ message.BecomeTail 1 ∷ [] }
+    ensures reported { link 3 (take 6 tail_retires) m s2 ≡ message.BecomeTail 1 ∷ [] }
     ensures tail { (view 3 (take 7 tail_retires) 2).succ ≡ None }
     ensures acted_once { (view 3 (take 10 tail_retires) 2).last ≡ 2 }
     ensures seen { seen 3 tail_retires ≡ one_create }

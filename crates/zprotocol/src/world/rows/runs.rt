@@ -6,7 +6,7 @@ ghost use Rattle.zprotocol.specs.world.Orders.{Join};
 ghost use Rattle.zprotocol.specs.server.View.{spare};
 ghost use Rattle.zprotocol.specs.world.support.Counter.{create, exists};
 ghost use Rattle.zprotocol.specs.world.support.RunRows.{seen, link, view, CanHappen, CannotHappen, s1, s2, c1};
-ghost use Rattle.zprotocol.specs.world.support.RunRows.{began, told, create_begun, first_entry, update_in_turn};
+ghost use Rattle.zprotocol.specs.world.support.RunRows.{began, reported, create_begun, first_entry, update_in_turn};
 ghost use Rattle.zprotocol.specs.world.support.RunRows.{two_updates, other_then_first, retried_update, late_answer};
 ghost use Rattle.zprotocol.specs.world.support.RunRows.{one_create, two_creates, request, two_answers};
 
@@ -26,7 +26,7 @@ pub fn update_is_answered_by_the_tail()
 /// is received first.
 pub fn links_keep_order()
     ensures under_way { link 3 (take 4 two_updates) s1 s2 ≡ other_then_first }
-    ensures seen { seen 3 two_updates ≡ began 0 1 ∷ began 1 1 ∷ told 1 1 1 ∷ told 0 1 0 ∷ [] }
+    ensures seen { seen 3 two_updates ≡ began 0 1 ∷ began 1 1 ∷ reported 1 1 1 ∷ reported 0 1 0 ∷ [] }
 {}
 
 /// An update that arrives twice acts once. Its cached reply is sent again, and the client receives
@@ -34,7 +34,7 @@ pub fn links_keep_order()
 pub fn retried_update_counts_once()
     ensures two_answers { link 2 (take 6 retried_update) s2 c1 ≡ two_answers }
     ensures one_is_taken { seen 2 (take 8 retried_update) ≡ one_create }
-    ensures stale_answer { seen 2 late_answer ≡ began 1 1 ∷ told 1 1 0 ∷ began 1 2 ∷ [] }
+    ensures stale_answer { seen 2 late_answer ≡ began 1 1 ∷ reported 1 1 0 ∷ began 1 2 ∷ [] }
     ensures next_count { seen 2 retried_update ≡ two_creates }
 {}
 

@@ -17,10 +17,10 @@ ghost use Rattle.zprotocol.specs.world.support.Counter.{counting_machine, create
 ghost use Rattle.zprotocol.specs.declared.world.outcome.Outcome.TheVariants.{Acted, Stopped, Unheard};
 ghost use Rattle.zprotocol.specs.world.Reading.{is_fitting};
 ghost use Rattle.zprotocol.specs.world.Settle.{settling_end};
-ghost use Rattle.zprotocol.specs.world.support.RunRows.{after, m, s1, s2, c1, began, told};
+ghost use Rattle.zprotocol.specs.world.support.RunRows.{after, m, s1, s2, c1, began, reported};
 ghost use Rattle.zprotocol.specs.world.support.SettleRows.{settled_after, read_after, two_begin, two_settle};
 ghost use Rattle.zprotocol.specs.world.support.SettleRows.{StayThemselves, asked_again, lost_query};
-ghost use Rattle.zprotocol.specs.world.support.SettleRows.{news_and_retry, new_head_told};
+ghost use Rattle.zprotocol.specs.world.support.SettleRows.{news_and_retry, new_head_reported};
 ghost use Rattle.zprotocol.specs.world.support.SettleRows.{lost_request, lost_state, new_head, query_at_old_tail};
 ghost use Rattle.zprotocol.specs.world.support.RunRows.{one_create, create_begun, create_taken, create_answered};
 ghost use Rattle.zprotocol.specs.world.support.RunRows.{exists_begun, exists_taken};
@@ -32,7 +32,7 @@ pub fn settling_goes_link_by_link()
     ensures events { settled_events 3 two_begin [] ≡ two_settle }
     ensures quiet { settling_end (settled_after 3 two_begin 100 []) ≡ Quiet }
     ensures seen { settled_history 3 two_begin ≡
-        began 0 1 ∷ began 1 1 ∷ told 0 1 0 ∷ told 1 1 1 ∷ [] }
+        began 0 1 ∷ began 1 1 ∷ reported 0 1 0 ∷ reported 1 1 1 ∷ [] }
 {}
 
 /// The limit ends settling as soon as that many events were done, even where nothing would have
@@ -72,7 +72,7 @@ pub fn events_are_read()
     ensures nothing_to_stop_at { StayThemselves 1 (Take c1 s1 ∷ []) (Stopped ∷ []) }
     ensures client_does_not_stop { StayThemselves 1 create_answered
         (Stopped ∷ Acted ∷ Stopped ∷ []) }
-    ensures new_head_goes_on { StayThemselves 2 new_head_told (Acted ∷ Acted ∷ Stopped ∷ []) }
+    ensures new_head_goes_on { StayThemselves 2 new_head_reported (Acted ∷ Acted ∷ Stopped ∷ []) }
 {}
 
 /// Which outcomes fit: a server can stop at a message that makes it grow, unless it is a query.

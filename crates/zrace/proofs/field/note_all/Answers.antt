@@ -5,9 +5,9 @@ use Rattle.zrace.proofs.field.note_all.Goals as goal
 pub loop-at-preserved : goal.loop-at-preserved
 loop-at-preserved c = (
   c.note.ensures.nodes ∙ c.loop-at.invariant.0,
-  (λ run told all.
+  (λ run reported all.
       let lt : c.loop-at.at < length c.args.seen.now.items = omega arith in
-      c.note.ensures.told run (c.loop-at.invariant.1 run told all)
+      c.note.ensures.reported run (c.loop-at.invariant.1 run reported all)
       (subst (λ (it : ℕ × ℕ). IsSeenIn run it.0 it.1) (sym c.index.ensures) (all c.loop-at.at c.index.result.now lt))),
   refl,
 )

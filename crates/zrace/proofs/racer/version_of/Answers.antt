@@ -4,8 +4,8 @@ use Rattle.zrace.specs.declared.racer.TheConstants.{PATIENCE}
 use Rattle.zrun.specs.Asked.{CalledPatientlyUntil}
 use Rattle.zrace.proofs.racer.version_of.Goals as goal
 
-pub returns-in-Exists-clause-told : goal.returns-in-Exists-clause-told
-returns-in-Exists-clause-told c = λ node is. (
+pub returns-in-Exists-clause-reported : goal.returns-in-Exists-clause-reported
+returns-in-Exists-clause-reported c = λ node is. (
   PATIENCE,
   c.exists.result,
   c.in-Exists.stat,

@@ -1,5 +1,5 @@
 use Rattle.std.proofs.Common.{ℕ, subst, ◌∙◌}
-use Rattle.zrun.specs.Members.{AreTold}
+use Rattle.zrun.specs.Members.{AreReported}
 use Rattle.zrace.proofs.racing.run.Goals as goal
 
 pub returns-clause-run : goal.returns-clause-run
@@ -8,15 +8,15 @@ returns-clause-run g c =
     let traces = c.in_ok-traces.traces in
     let last = c.in_ok-cluster.ensures.numbers.0 in
     let clients = c.in_ok-cluster.ensures.numbers.1 in
-    let told = c.in_ok-traces.ensures in
+    let reported = c.in_ok-traces.ensures in
     record {
       over = record {
-        last = told.last ∙ last;
-        servers = told.servers;
-        clients = told.clients ∙ clients;
-        lawful = told.lawful;
+        last = reported.last ∙ last;
+        servers = reported.servers;
+        clients = reported.clients ∙ clients;
+        lawful = reported.lawful;
       };
       clients = field.clients;
-      told = subst (λ (n : ℕ). AreTold n traces field.clients) clients told.told;
-      seen = field.told;
+      reported = subst (λ (n : ℕ). AreReported n traces field.clients) clients reported.reported;
+      seen = field.reported;
     }

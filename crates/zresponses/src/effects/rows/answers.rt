@@ -19,8 +19,8 @@ ghost use Rattle.zresponses.specs.support.Samples.{clock};
 ghost use Rattle.zwatches.specs.declared.kind.Kind.TheVariants.{Data};
 ghost use Rattle.zwatches.specs.Watches.{watch, is_full};
 ghost use Rattle.zconnections.specs.Tables.{TablesView, closed, sent};
-ghost use Rattle.zconnections.specs.Telling.{event_frame, told, told_all};
-ghost use Rattle.zresponses.specs.declared.effects.wish.Wish.TheVariants.{Waits, Tells};
+ghost use Rattle.zconnections.specs.Reporting.{event_frame, reported, reported_all};
+ghost use Rattle.zresponses.specs.declared.effects.wish.Wish.TheVariants.{Waits, Reports};
 ghost use Rattle.zresponses.specs.effects.Frames.{answer_frame};
 ghost use Rattle.zresponses.specs.effects.Replying.{absorbed, absorbed_all, replied};
 ghost use Rattle.zresponses.specs.effects.Watching.{granted, granted_all, lacks_room, some_lacked};
@@ -30,20 +30,20 @@ ghost use Rattle.zresponses.specs.effects.support.Samples.{look_a, exists_a, now
 /// The events of each call are sent.
 pub fn calls_are_absorbed()
     ensures set { (t : TablesView) → absorbed (Update (act.SetData set_a_b)) (reply.Set some_stat) t
-        ≡ told (event NodeDataChanged at_a_b) t }
+        ≡ reported (event NodeDataChanged at_a_b) t }
     ensures refused { (t : TablesView)
         → absorbed (Update (act.Create create_a_b)) (reply.Refused NoNode) t ≡ t }
     ensures query { (t : TablesView) → absorbed exists_a (reply.Exists some_stat) t ≡ t }
     ensures both { (t : TablesView)
         → absorbed_all (Update (act.SetData set_a_b) ∷ Update (act.Delete delete_a_b) ∷ [])
         (reply.Set some_stat ∷ reply.Deleted ∷ []) t
-        ≡ told_all gone_a_b (told (event NodeDataChanged at_a_b) t) }
+        ≡ reported_all gone_a_b (reported (event NodeDataChanged at_a_b) t) }
     ensures no_reply { (t : TablesView)
         → absorbed_all (Update (act.SetData set_a_b) ∷ []) [] t ≡ t }
 {}
 
 /// An answer is sent. After AuthFailed the connection is closed.
-pub fn answers_are_told()
+pub fn answers_are_reported()
     ensures done { (t : TablesView) → replied 8 1 (pos 9) (done body.Nothing) t
         ≡ sent 1 (answer_frame 8 (pos 9) (done body.Nothing)) t }
     ensures auth { (t : TablesView) → replied 8 1 (pos 9) (failed code.AuthFailed) t
@@ -59,13 +59,13 @@ pub fn wishes_are_granted()
         → lacks_room 1 (Waits Data at_a) t ≡ false }
     ensures full { (t : TablesView) → is_full t.watches (watch at_a Data 1) ≡ true
         → granted 1 (Waits Data at_a) t ≡ t }
-    ensures tells { (t : TablesView) → granted 1 (Tells (event NodeCreated at_a)) t
+    ensures reports { (t : TablesView) → granted 1 (Reports (event NodeCreated at_a)) t
         ≡ sent 1 (event_frame (event NodeCreated at_a)) t }
     ensures no_room { (t : TablesView) → is_full t.watches (watch at_a Data 1) ≡ true
         → some_lacked 1 (Waits Data at_a ∷ []) t ≡ true }
     ensures none { (t : TablesView) → some_lacked 1 [] t ≡ false }
     ensures order { (t : TablesView)
-        → granted_all 1 (Tells (event NodeDeleted at_a) ∷ Tells (event NodeCreated at_a) ∷ []) t
+        → granted_all 1 (Reports (event NodeDeleted at_a) ∷ Reports (event NodeCreated at_a) ∷ []) t
         ≡ sent 1 (event_frame (event NodeCreated at_a))
         (sent 1 (event_frame (event NodeDeleted at_a)) t) }
 {}
@@ -78,7 +78,7 @@ pub fn requests_are_answered()
     ensures events { (t : TablesView) → answered clock now 1
         (request_9 (asked.Delete (record { path = (look_a false).path; version = pos 0 })))
         (Update (act.Delete delete_a_b) ∷ []) (reply.Deleted ∷ []) t
-        ≡ replied 8 1 (pos 9) (done body.Nothing) (told_all gone_a_b t) }
+        ≡ replied 8 1 (pos 9) (done body.Nothing) (reported_all gone_a_b t) }
     ensures full { (t : TablesView) → is_full t.watches (watch at_a Data 1) ≡ true
         → answered clock now 1 (request_9 (asked.Exists (look_a true))) (exists_a ∷ [])
         (reply.Exists some_stat ∷ []) t

@@ -7,8 +7,8 @@ ghost use Rattle.zjute.specs.declared.code.Code.TheVariants as code;
 ghost use Rattle.zjute.specs.declared.reply.Body.TheVariants as body;
 ghost use Rattle.zresponses.specs.declared.answer.Answer.{Answer};
 ghost use Rattle.zresponses.specs.Answers.{done, failed};
-ghost use Rattle.zresponses.specs.effects.Frames.{answer_text, too_long, text_told, answer_frame, ends_connection};
-ghost use Rattle.zresponses.specs.effects.Frames.{flag_told, response_frame};
+ghost use Rattle.zresponses.specs.effects.Frames.{answer_text, too_long, text_reported, answer_frame, ends_connection};
+ghost use Rattle.zresponses.specs.effects.Frames.{flag_reported, response_frame};
 ghost use Rattle.zresponses.specs.effects.support.Samples.{greeting, some_password};
 
 /// The answer to a ping, after change 8: its xid is -2.
@@ -22,9 +22,9 @@ pub fn a_ping_is_answered()
 /// An answer that no frame can hold.
 pub fn long_answers()
     ensures error { too_long ≡ failed code.MarshallingError }
-    ensures told { (zxid : ℕ) (xid : ℤ) (answer : Answer)
+    ensures reported { (zxid : ℕ) (xid : ℤ) (answer : Answer)
         → MAX_FRAME < length (answer_text zxid xid answer)
-        → text_told zxid xid answer ≡ answer_text zxid xid too_long }
+        → text_reported zxid xid answer ≡ answer_text zxid xid too_long }
 {}
 
 /// The codes after which a connection is closed.
@@ -40,6 +40,6 @@ pub fn a_first_frame_is_answered()
     ensures frame { response_frame greeting (pos 8000) (pos 7) some_password
         ≡ 0 ∷ 0 ∷ 0 ∷ 37 ∷ 0 ∷ 0 ∷ 0 ∷ 0 ∷ 0 ∷ 0 ∷ 31 ∷ 64
         ∷ 0 ∷ 0 ∷ 0 ∷ 0 ∷ 0 ∷ 0 ∷ 0 ∷ 7 ∷ 0 ∷ 0 ∷ 0 ∷ 16 ∷ (some_password ++ 0 ∷ []) }
-    ensures old { flag_told (record greeting { read_only = None }) ≡ None }
-    ensures reads { flag_told (record greeting { read_only = Some true }) ≡ Some false }
+    ensures old { flag_reported (record greeting { read_only = None }) ≡ None }
+    ensures reads { flag_reported (record greeting { read_only = Some true }) ≡ Some false }
 {}

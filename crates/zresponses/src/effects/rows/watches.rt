@@ -10,7 +10,7 @@ ghost use Rattle.zjute.specs.declared.event.EventKind.TheVariants.{NodeCreated, 
 ghost use Rattle.zjute.specs.declared.request.Asked.TheVariants as asked;
 ghost use Rattle.zwatches.specs.changes.Events.{event};
 ghost use Rattle.zwatches.specs.declared.kind.Kind.TheVariants.{Data, Missing, Children};
-ghost use Rattle.zresponses.specs.declared.effects.wish.Wish.TheVariants.{Waits, Tells};
+ghost use Rattle.zresponses.specs.declared.effects.wish.Wish.TheVariants.{Waits, Reports};
 ghost use Rattle.zresponses.specs.effects.Wishes.{query_wish, first_wish, wishes, wish_again, call_again, wishes_again};
 ghost use Rattle.zresponses.specs.effects.support.Samples.{look_a, exists_a, exists_a_b, set_again};
 
@@ -48,19 +48,19 @@ pub fn watches_of_requests()
 pub fn watches_set_again()
     ensures seen { wish_again Data (pos 2) at_a (reply.Exists some_stat) ≡ Waits Data at_a ∷ [] }
     ensures written { wish_again Data (pos 1) at_a (reply.Exists some_stat)
-        ≡ Tells (event NodeDataChanged at_a) ∷ [] }
+        ≡ Reports (event NodeDataChanged at_a) ∷ [] }
     ensures gone { wish_again Data (pos 9) at_a (reply.Refused NoNode)
-        ≡ Tells (event NodeDeleted at_a) ∷ [] }
+        ≡ Reports (event NodeDeleted at_a) ∷ [] }
     ensures made { wish_again Missing (pos 9) at_a (reply.Exists some_stat)
-        ≡ Tells (event NodeCreated at_a) ∷ [] }
+        ≡ Reports (event NodeCreated at_a) ∷ [] }
     ensures missing { wish_again Missing (pos 0) at_a (reply.Refused NoNode)
         ≡ Waits Missing at_a ∷ [] }
     ensures children_seen { wish_again Children (pos 3) at_a (reply.Exists some_stat)
         ≡ Waits Children at_a ∷ [] }
     ensures children { wish_again Children (pos 2) at_a (reply.Exists some_stat)
-        ≡ Tells (event NodeChildrenChanged at_a) ∷ [] }
+        ≡ Reports (event NodeChildrenChanged at_a) ∷ [] }
     ensures children_gone { wish_again Children (pos 9) at_a (reply.Refused NoNode)
-        ≡ Tells (event NodeDeleted at_a) ∷ [] }
+        ≡ Reports (event NodeDeleted at_a) ∷ [] }
     ensures no_query { call_again Data (pos 9) (Query (GetData at_a)) (reply.Refused NoNode) ≡ [] }
 {}
 
@@ -68,9 +68,9 @@ pub fn watches_set_again()
 pub fn all_watches_set_again()
     ensures each { wishes_again Missing (pos 1) (exists_a ∷ exists_a_b ∷ [])
         (reply.Refused NoNode ∷ reply.Exists some_stat ∷ [])
-        ≡ Waits Missing at_a ∷ Tells (event NodeCreated at_a_b) ∷ [] }
+        ≡ Waits Missing at_a ∷ Reports (event NodeCreated at_a_b) ∷ [] }
     ensures all { wishes (asked.SetWatches set_again) (exists_a ∷ exists_a ∷ exists_a_b ∷ [])
         (reply.Exists some_stat ∷ reply.Refused NoNode ∷ reply.Exists some_stat ∷ [])
-        ≡ Tells (event NodeDataChanged at_a) ∷ Waits Missing at_a
-        ∷ Tells (event NodeChildrenChanged at_a_b) ∷ [] }
+        ≡ Reports (event NodeDataChanged at_a) ∷ Waits Missing at_a
+        ∷ Reports (event NodeChildrenChanged at_a_b) ∷ [] }
 {}

@@ -2,15 +2,15 @@ use Rattle.std.proofs.Common.{◌≡◌, ◌||◌, Bool, true, false, true≢fal
 use Rattle.std.specs.List.{list_any}
 use Rattle.zprotocol.specs.declared.traces.trace.Trace.{Trace}
 use Rattle.zprotocol.specs.declared.traces.trace.ClientTrace.{ClientTrace}
-use Rattle.zthreads.specs.declared.desk.Ending.{Ending}
+use Rattle.zthreads.specs.declared.endpoint.Ending.{Ending}
 use Rattle.zthreads.proofs.Endings.{neither}
 use Rattle.zrun.specs.Left.{by_place, client_trace_of, is_left_cut}
 use Rattle.zrun.proofs.Whole.{any_map, are_linked, kept_all, lawful, wired_lists}
 use Rattle.zrun.proofs.gathering.gather.Goals as goal
-use Rattle.zrun.proofs.gathering.gather.Goals.{then-is_cut, else-is_cut, then-not-is_told, else-not-is_told}
+use Rattle.zrun.proofs.gathering.gather.Goals.{then-is_cut, else-is_cut, then-not-is_reported, else-not-is_reported}
 
-pub are_told-is_told-requires : goal.are_told-is_told-requires
-are_told-is_told-requires c =
+pub are_reported-is_reported-requires : goal.are_reported-is_reported-requires
+are_reported-is_reported-requires c =
     let m = c.args.master in
     let ss = c.args.servers.items in
     let cs = c.args.clients.items in
@@ -37,7 +37,7 @@ returns-clause-lawful c whole =
     c.keep_servers.new.mesh.ins.items c.keep_clients.new.mesh.ins.items
     c.new-ins.ensures.items c.in-Ok.ensures.ins c.in-Ok-keep_servers.ensures.ins c.in-Ok-keep_clients.ensures.ins in
     let test : Ending → Bool = λ e. e.trace.is_cut in
-    let first = neither c.if-not-is_told.trace.is_cut
+    let first = neither c.if-not-is_reported.trace.is_cut
     (list_any (λ (trace : Trace). trace.is_cut) c.in-Ok-keep_servers.servers.items
     || list_any (λ (client : ClientTrace). client.trace.is_cut) c.in-Ok-keep_clients.clients.items) whole in
     let rest = neither (list_any (λ (trace : Trace). trace.is_cut) c.in-Ok-keep_servers.servers.items)
@@ -48,10 +48,10 @@ returns-clause-lawful c whole =
     let in_clients : list_any test cs ≡ false =
     sym (any_map (λ (client : ClientTrace). client.trace.is_cut) client_trace_of cs)
     ∙ ap (λ l. list_any (λ (client : ClientTrace). client.trace.is_cut) l) (sym c.in-Ok-keep_clients.ensures.traces) ∙ rest.1 in
-    elim c.if-not-is_told.branch [
-      | then-not-is_told w ↦ absurd (true≢false (ap (λ (t : Trace). t.is_cut) (sym w.trace-is) ∙ first.0))
-      | else-not-is_told w ↦
-          let kept : c.if-not-is_told.trace ≡ m.trace = w.trace-is ∙ ap (λ (k : ClientTrace). k.trace) c.in-Ok.ensures.trace in
+    elim c.if-not-is_reported.branch [
+      | then-not-is_reported w ↦ absurd (true≢false (ap (λ (t : Trace). t.is_cut) (sym w.trace-is) ∙ first.0))
+      | else-not-is_reported w ↦
+          let kept : c.if-not-is_reported.trace ≡ m.trace = w.trace-is ∙ ap (λ (k : ClientTrace). k.trace) c.in-Ok.ensures.trace in
           let in_master : m.trace.is_cut ≡ false = ap (λ (t : Trace). t.is_cut) (sym kept) ∙ first.0 in
           let uncut : is_left_cut m ss cs ≡ false =
           subst (λ (b : Bool × Bool × Bool). (b.0 || (b.1 || b.2)) ≡ false) (λ k. (sym in_master k, sym in_servers k, sym in_clients k)) refl in
@@ -61,11 +61,11 @@ returns-clause-lawful c whole =
           elim c.if-is_cut.branch [
             | then-is_cut v ↦ absurd (true≢false (sym v.if-is_cut.true ∙ flags))
             | else-is_cut v ↦
-                let told : v.are_told-is_told.result ≡ true = sym v.is_told-is ∙ w.if-not-is_told.false in
+                let reported : v.are_reported-is_reported.result ≡ true = sym v.is_reported-is ∙ w.if-not-is_reported.false in
                 lawful c.args.last m ss cs
                 record {
                   last = c.args.last;
-                  master = c.if-not-is_told.trace;
+                  master = c.if-not-is_reported.trace;
                   servers = c.in-Ok-keep_servers.servers;
                   clients = c.in-Ok-keep_clients.clients;
                   few_servers = c.result-1.given.0;
@@ -73,7 +73,7 @@ returns-clause-lawful c whole =
                 }
                 c.requires.servers refl (ap (λ (t : Trace). t.events) kept) c.in-Ok-keep_servers.ensures.traces c.in-Ok-keep_clients.ensures.traces
                 (are_linked (by_place m ss cs) (c.requires.wired uncut) c.keep_clients.new.mesh.outs.items
-                c.keep_clients.new.mesh.ins.items outs ins (v.are_told-is_told.ensures told))
+                c.keep_clients.new.mesh.ins.items outs ins (v.are_reported-is_reported.ensures reported))
                 c.requires.left uncut
           ]
     ]

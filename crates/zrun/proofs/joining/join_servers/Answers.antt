@@ -1,8 +1,8 @@
 use Rattle.std.proofs.Common.{◌++◌, ◌∷◌, [], List, length, map, sym, ap, subst, ◌∙◌, append_assoc, length-append, arith}
 use Rattle.std.proofs.lemmas.List.{map-append}
-use Rattle.zthreads.specs.Owned.{server_desk}
-use Rattle.zthreads.specs.declared.desk.Desk.{Desk}
-use Rattle.zthreads.specs.declared.desk.Ending.{Ending}
+use Rattle.zthreads.specs.Owned.{server_endpoint}
+use Rattle.zthreads.specs.declared.endpoint.Endpoint.{Endpoint}
+use Rattle.zthreads.specs.declared.endpoint.Ending.{Ending}
 use Rattle.zrun.specs.Handles.{given_server}
 use Rattle.zrun.specs.Runs.{AreLeftBy, IsLeftBy}
 use Rattle.zrun.proofs.Leavings.{left_by}
@@ -24,11 +24,11 @@ loop-server-preserved g c =
     let room = i.1 in
     let same = c.push_reserved.ensures.capacity in
     let wide = i.2 in
-    let left = left_by (given_server server) (server_desk c.join.result) e c.join.ensures c.into_ending.ensures.ended
+    let left = left_by (given_server server) (server_endpoint c.join.result) e c.join.ensures c.into_ending.ensures.ended
     c.into_ending.ensures.wires c.into_ending.ensures.untraced in
     let all = pairs_push IsLeftBy (map given_server yielded) endings (given_server server) e i.3 left in (
       i.0 ∙ ap (λ l. yielded ++ l) step ∙ sym (append_assoc yielded (server ∷ []) rest),
       omega (arith, longer, shorter, room),
       omega (arith, same, wide),
-      subst (λ (w : List Desk × List Ending). AreLeftBy w.0 w.1) (λ k. (sym (map-append given_server yielded (server ∷ [])) k, sym grown k)) all,
+      subst (λ (w : List Endpoint × List Ending). AreLeftBy w.0 w.1) (λ k. (sym (map-append given_server yielded (server ∷ [])) k, sym grown k)) all,
     )

@@ -1,11 +1,11 @@
 use Rattle.std.proofs.Common.{rules, ◌≡◌, ◌||◌, Bool, false, sym, subst}
-use Rattle.zthreads.specs.declared.desk.Ending.{Ending}
+use Rattle.zthreads.specs.declared.endpoint.Ending.{Ending}
 use Rattle.zrun.specs.Left.{by_place, is_left_lost}
 use Rattle.zrun.proofs.Whole.{are_linked, gone, kept_all, wired_lists}
 use Rattle.zrun.proofs.knowing.is_known.Goals as goal
 
-pub are_told-requires : goal.are_told-requires
-are_told-requires c =
+pub are_reported-requires : goal.are_reported-requires
+are_reported-requires c =
     let m = c.args.master in
     let ss = c.args.servers.items in
     let cs = c.args.clients.items in
@@ -35,7 +35,7 @@ returns-clause-lawful c is last left =
     subst (λ (b : Bool × Bool). (m.is_lost || (b.0 || b.1)) ≡ false) (λ k. (c.is_any_lost.ensures k, c.is_any_lost-2.ensures k))
     c.if-master-is_any_lost.false in
     let linked = are_linked (by_place m ss cs) (c.requires kept) c.keep_clients.new.mesh.outs.items c.keep_clients.new.mesh.ins.items
-    outs ins (c.are_told.ensures is) in
+    outs ins (c.are_reported.ensures is) in
     gone last m ss cs linked kept left
 
 pub returns-clause-lost : goal.returns-clause-lost

@@ -14,8 +14,8 @@ overflow_sub-start c =
     let few : length (decimal c.args.number) ≤ 20 = few_digits c.args.number c.ranges.number.fits in
     omega (arith, few, c.requires.room, c.write_digits-start.ensures.start)
 
-pub returns-clause-told : goal.returns-clause-told
-returns-clause-told c =
+pub returns-clause-reported : goal.returns-clause-reported
+returns-clause-reported c =
     let digits = c.write_digits-start in
     let few : length (decimal c.args.number) ≤ 20 = few_digits c.args.number c.ranges.number.fits in
     let some : 1 ≤ digits.result = omega (arith, few, c.requires.room, digits.ensures.start) in

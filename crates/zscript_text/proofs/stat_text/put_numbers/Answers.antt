@@ -14,8 +14,8 @@ loop-left-preserved c =
     let next : suc (c.loop-left.left - 1) ≡ c.loop-left.left = omega (arith, c.loop-left-test.true) in
     let more = drop-cons numbers before 0 within ∙ ap (λ k. get_or numbers before 0 ∷ drop k numbers) next in
     record {
-      told = put.told ∙ ap (λ rest. spaced_number (get_or numbers before 0) ++ rest) so_far.told ∙ ap (flat_map spaced_number) (sym more);
-      ascii = ascii_before (spaced_number (get_or numbers before 0)) (drop c.loop-left.start c.loop-left.place) _ put.told put.ascii so_far.ascii;
+      reported = put.reported ∙ ap (λ rest. spaced_number (get_or numbers before 0) ++ rest) so_far.reported ∙ ap (flat_map spaced_number) (sym more);
+      ascii = ascii_before (spaced_number (get_or numbers before 0)) (drop c.loop-left.start c.loop-left.place) _ put.reported put.ascii so_far.ascii;
       len = put.len ∙ so_far.len;
       room = omega (arith, put.len, put.room, so_far.room, next);
       within = omega (arith, put.len, put.before, so_far.within);

@@ -6,7 +6,7 @@ use Rattle.zscript_text.proofs.stat_text.put_numbers.Given as goal
 
 abbrev pub invariant-loop-left : goal.invariant-loop-left
 invariant-loop-left l = record {
-  told : drop l.start l.place ≡ flat_map spaced_number (drop l.left l.numbers);
+  reported : drop l.start l.place ≡ flat_map spaced_number (drop l.left l.numbers);
   ascii : IsAscii (drop l.start l.place);
   len : length l.place ≡ length l.initial.place;
   room : length l.place + 21 * l.left ≤ l.start + 21 * length l.numbers;

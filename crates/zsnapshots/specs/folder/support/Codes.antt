@@ -4,7 +4,7 @@ use Rattle.std.specs.Prelude.{ℕ, refl}
 use Rattle.std.specs.Coded.{Coded, code_by, coded×, coded_ℕ}
 use Rattle.ztree.specs.Tree.{Tree}
 use Rattle.ztree.specs.support.Codes.{coded_tree}
-use Rattle.zsnapshots.specs.folder.Shortening.{ShorteningView}
+use Rattle.zsnapshots.specs.folder.Compaction.{CompactionView}
 
-abbrev pub coded_shortening : Coded ShorteningView
-coded_shortening = code_by (Tree × ℕ) (coded× coded_tree coded_ℕ) (λ s. (s.tree, s.written)) (λ p. record { tree = p.0; written = p.1 }) (λ _. refl)
+abbrev pub coded_compaction : Coded CompactionView
+coded_compaction = code_by (Tree × ℕ) (coded× coded_tree coded_ℕ) (λ s. (s.tree, s.written)) (λ p. record { tree = p.0; written = p.1 }) (λ _. refl)

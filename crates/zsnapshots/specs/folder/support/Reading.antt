@@ -10,7 +10,7 @@ use Rattle.ztree_service.specs.Machines.{IsBare, machine_of, tree_in}
 use Rattle.zsnapshots.specs.States.{IsReadable}
 use Rattle.zsnapshots.specs.declared.folder.fault.ReadFault.{ReadFault}
 use Rattle.zsnapshots.specs.declared.folder.fault.ReadFault.TheVariants.{Memory, NotRecords}
-use Rattle.zsnapshots.specs.folder.Entries.{Entry, IsEntriesText, IsOfNoEntries, TellsPasswords, has_password, without_passwords}
+use Rattle.zsnapshots.specs.folder.Entries.{Entry, IsEntriesText, IsOfNoEntries, ReportsPasswords, has_password, without_passwords}
 use Rattle.zsnapshots.specs.folder.States.{after}
 use Rattle.zsnapshots.specs.folder.Texts.{IsFrontOf, IsTextOf, row_bytes, row_record}
 
@@ -22,7 +22,7 @@ pub record IsRead (what : List Record) (had : Bool) (text rest : List ℕ) : Typ
   pub fit : AllFit records
   pub split : text ≡ text_of records ++ rest
   pub said : without_passwords records ≡ what
-  pub told : had ≡ has_password records
+  pub reported : had ≡ has_password records
 
 -- records of which the first isn't a row
 abbrev pub BeginNoRow : List Record → Type 0
@@ -63,14 +63,14 @@ pub record Begins (start : Tree) (had : Bool) (text rest : List ℕ) : Type 0 wh
   pub front : List ℕ
   pub begins : IsFrontOf start front
   pub split : text ≡ front ++ rest
-  pub told : TellsPasswords front had
+  pub reported : ReportsPasswords front had
   pub only : (t : Tree) → IsTextOf t text → (entries : List Entry) × IsEntriesText entries rest
 
 -- all entries of the text were applied
 pub record AreApplied (text : List ℕ) (old new : LocalTreeView) (had : Bool) : Type 0 where
   pub entries : List Entry
   pub read : IsEntriesText entries text
-  pub told : TellsPasswords text had
+  pub reported : ReportsPasswords text had
   pub view : new ≡ record { tree = after old.tree entries; is_broken = false }
 
 abbrev pub IsEntriesFault : List ℕ → ReadFault → Type 0

@@ -6,19 +6,19 @@ use Rattle.zactor.specs.declared.done.Done.{Done}
 use Rattle.zactor.specs.declared.handed.Handed.{Handed}
 use Rattle.zactor.specs.declared.handed.Handed.TheVariants.{Message}
 use Rattle.zactor.specs.declared.input.Input.TheVariants.{Hear}
-use Rattle.zthreads.specs.Desks.{Stands, pending, TreePost, TreeStanding, TreeTaken}
+use Rattle.zthreads.specs.Endpoints.{Stands, pending, TreePost, TreeStanding, TreeTaken}
 use Rattle.zactor.specs.Acting.{handed_by, message_handed}
 use Rattle.zthreads.proofs.acting.hear.Goals as goal
 
 pub returns-in-Ok-clause-stands : goal.returns-in-Ok-clause-stands
 returns-in-Ok-clause-stands c h =
-    subst (λ (x : TreeTaken). Stands c.act.new.desk c.act.new.actor x (pending c.act.new.desk)) (sym c.requires.front) (c.in-Ok.ensures.goes None h)
+    subst (λ (x : TreeTaken). Stands c.act.new.endpoint c.act.new.actor x (pending c.act.new.endpoint)) (sym c.requires.front) (c.in-Ok.ensures.goes None h)
 
 pub returns-in-Some-clause-stands : goal.returns-in-Some-clause-stands
 returns-in-Some-clause-stands c h =
     let s = c.args.actor.now in
     let t : TreeTaken = Some (c.args.from, (c.args.stamp, c.args.message)) in
-    let b = c.act.new.desk in
+    let b = c.act.new.endpoint in
     let new = c.act.new.actor in
     let fault = c.in-Err-Memory in
     let undone = fault.ensures.undone in

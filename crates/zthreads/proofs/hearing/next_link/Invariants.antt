@@ -1,6 +1,6 @@
-use Rattle.zthreads.specs.Desks.{SameDesk}
+use Rattle.zthreads.specs.Endpoints.{SameEndpoint}
 use Rattle.zthreads.specs.Hosts.{DidIdle}
 use Rattle.zthreads.proofs.hearing.next_link.Given as goal
 
 abbrev pub invariant-loop : goal.invariant-loop
-invariant-loop l = DidIdle l.initial.host l.host × SameDesk l.initial.host.desk l.host.desk
+invariant-loop l = DidIdle l.initial.host l.host × SameEndpoint l.initial.host.endpoint l.host.endpoint

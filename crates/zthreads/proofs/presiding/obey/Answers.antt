@@ -1,7 +1,7 @@
 use Rattle.std.proofs.Common.{◌≡◌, ◌++◌, [], ◌∷◌, None, map, sym, ap, ◌∙◌, subst, option_to_list}
 use Rattle.std.proofs.lemmas.List.{append_cancel_right}
 use Rattle.zchannels.specs.Outcomes.{order_of}
-use Rattle.zthreads.specs.Desks.{trace_of}
+use Rattle.zthreads.specs.Endpoints.{trace_of}
 use Rattle.zprotocol.specs.declared.traces.trace.Act.TheVariants.{Ordered}
 use Rattle.zthreads.specs.Acts as acts
 use Rattle.zthreads.specs.Outcomes.{outcome_at, unfollowed, unsaid}
@@ -14,8 +14,8 @@ use Rattle.zthreads.proofs.presiding.obey.Goals as goal
 
 pub returns-in-Some-clause-followed : goal.returns-in-Some-clause-followed
 returns-in-Some-clause-followed c received followed =
-    let a = c.args.chief.now.host.desk in
-    let b = c.follow.new.self.host.desk in
+    let a = c.args.chief.now.host.endpoint in
+    let b = c.follow.new.self.host.endpoint in
     let order = c.in-Deed.order in
     let is : option_to_list (unfollowed c.args.owed) ≡ acts.order_of (Ordered order) ++ [] =
     ap (λ o. option_to_list (unfollowed o)) c.in-Deed.is in
@@ -31,8 +31,8 @@ returns-in-Some-clause-unsaid c =
 pub returns-in-Some-clause-said : goal.returns-in-Some-clause-said
 returns-in-Some-clause-said c before followed were =
     let t = c.args.chief.now in
-    let a = t.host.desk in
-    let b = c.follow.new.self.host.desk in
+    let a = t.host.endpoint in
+    let b = c.follow.new.self.host.endpoint in
     let view = master_view t in
     let order = c.in-Deed.order in
     let outcome = c.in-Some.outcome in
@@ -61,7 +61,7 @@ returns-in-Some-clause-said c before followed were =
 
 pub returns-in-None-clause-said : goal.returns-in-None-clause-said
 returns-in-None-clause-said c before followed were =
-    let a = c.args.chief.now.host.desk in
-    let b = c.follow.new.self.host.desk in
+    let a = c.args.chief.now.host.endpoint in
+    let b = c.follow.new.self.host.endpoint in
     all_still_said a b [] before c.follow.ensures.same (goes_same a b c.in-None.ensures.idle)
     (subst (λ os. WereSaid a [] os) (ap (λ o. spoken before o) c.in-Deed.is) were)

@@ -2,8 +2,8 @@ use Rattle.std.proofs.Common.{[], sym, subst, ap, ◌∙◌}
 use Rattle.zchannels.specs.Console.{said, taken_of}
 use Rattle.zchannels.specs.Outcomes.{AreSaid}
 use Rattle.zchannels.proofs.Same.{same_inbox}
-use Rattle.zthreads.specs.Desks.{trace_of}
-use Rattle.zthreads.proofs.Wires.{same_desk}
+use Rattle.zthreads.specs.Endpoints.{trace_of}
+use Rattle.zthreads.proofs.Wires.{same_endpoint}
 use Rattle.zthreads.specs.Acts.{HasFollowed, orders_in}
 use Rattle.zthreads.specs.Outcomes.{unfollowed, unsaid}
 use Rattle.zthreads.specs.Said.{spoken, WereSaid}
@@ -14,22 +14,22 @@ use Rattle.zthreads.proofs.presiding.preside.Goals as goal
 pub loop-preserved : goal.loop-preserved
 loop-preserved g c =
     let i = c.loop.invariant in
-    let start = c.args.chief.host.desk in
-    let a = c.loop.chief.host.desk in
-    let m = c.go_round.new.host.desk in
-    let b = c.obey-owed.new.chief.host.desk in
+    let start = c.args.chief.host.endpoint in
+    let a = c.loop.chief.host.endpoint in
+    let m = c.go_round.new.host.endpoint in
+    let b = c.obey-owed.new.chief.host.endpoint in
     let old = c.loop.inbox in
     let flushed = c.flush.new.self in
     let taken = c.next_order-owed.new.inbox in
-    let told = c.say-owed.new.inbox in
+    let reported = c.say-owed.new.inbox in
     let round = c.go_round.ensures in
     let next = c.next_order-owed in
     let obeyed = c.obey-owed in
     let say = c.say-owed in
     let first = c.args.inbox in (
-      same_desk start m b (same_desk start a m i.0 round.went.same) obeyed.ensures.same,
+      same_endpoint start m b (same_endpoint start a m i.0 round.went.same) obeyed.ensures.same,
       round.seat,
-      same_inbox first taken told (same_inbox first flushed taken (same_inbox first old flushed i.2 c.flush.ensures.ends) next.ensures.ends)
+      same_inbox first taken reported (same_inbox first flushed taken (same_inbox first old flushed i.2 c.flush.ensures.ends) next.ensures.ends)
           say.ensures.ends,
       λ before cut.
           say.ensures.taken
@@ -62,8 +62,8 @@ returns-in_default-clause-outcomes g c before = (unsaid c.loop.owed, few_unsaid 
 
 pub returns-in_default-clause-said : goal.returns-in_default-clause-said
 returns-in_default-clause-said g c followed are were =
-    let a = c.loop.chief.host.desk in
-    let m = c.go_round.new.host.desk in
+    let a = c.loop.chief.host.endpoint in
+    let m = c.go_round.new.host.endpoint in
     let round = c.go_round.ensures.went in
     let outcomes = said c.loop.inbox in
     words_said m outcomes c.loop.owed

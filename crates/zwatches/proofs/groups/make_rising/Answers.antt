@@ -1,6 +1,6 @@
 use Rattle.std.proofs.Common.{eqb}
 use Rattle.std.proofs.lemmas.List.Filters.{dedup_is}
-use Rattle.zwatches.proofs.Telling.{rising_lists}
+use Rattle.zwatches.proofs.Reporting.{rising_lists}
 use Rattle.zwatches.proofs.groups.make_rising.Goals as goal
 
 pub returns : goal.returns

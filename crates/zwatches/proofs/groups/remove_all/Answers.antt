@@ -1,7 +1,7 @@
 use Rattle.std.proofs.Common.{sym, subst, not, eqb}
 use Rattle.zwatches.specs.declared.watch.Watch.{Watch}
 use Rattle.zwatches.specs.support.Groups.{AreRows}
-use Rattle.zwatches.proofs.Telling.{kept_sorted, others_rows}
+use Rattle.zwatches.proofs.Reporting.{kept_sorted, others_rows}
 use Rattle.zwatches.proofs.groups.remove_all.Goals as goal
 
 pub returns : goal.returns

@@ -3,7 +3,7 @@ use Rattle.zwatches.specs.declared.kind.Kind.TheVariants.{Data}
 use Rattle.zwatches.specs.Watches.{place}
 use Rattle.zwatches.specs.Events.{is_at}
 use Rattle.zwatches.specs.support.Groups.{AreRows}
-use Rattle.zwatches.proofs.Telling.{kept_sorted}
+use Rattle.zwatches.proofs.Reporting.{kept_sorted}
 use Rattle.zwatches.proofs.groups.remove_each.Goals as goal
 
 pub remove_at-requires-in-NodeCreated : goal.remove_at-requires-in-NodeCreated

@@ -1,7 +1,7 @@
 use Rattle.std.proofs.Common.{sym, subst}
 use Rattle.zwatches.specs.Events.{fired_at}
 use Rattle.zwatches.specs.support.Groups.{AreRows}
-use Rattle.zwatches.proofs.Telling.{kept_all_sorted, unfired_rows}
+use Rattle.zwatches.proofs.Reporting.{kept_all_sorted, unfired_rows}
 use Rattle.zwatches.proofs.groups.remove_fired.Goals as goal
 
 pub returns : goal.returns

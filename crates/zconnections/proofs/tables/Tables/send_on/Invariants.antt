@@ -1,5 +1,5 @@
 use Rattle.std.proofs.Common.{◌≡◌, drop}
-use Rattle.zconnections.specs.Telling.{event_frame, sent_on}
+use Rattle.zconnections.specs.Reporting.{event_frame, sent_on}
 use Rattle.zconnections.proofs.tables.Tables.send_on.Given as goal
 
 -- the connections that are left lead to what all lead to

@@ -6,7 +6,7 @@ use Rattle.zdaemon.proofs.pipe.serving.serve_blocks.Goals as goal
 
 pub loop-count-init : goal.loop-count-init
 loop-count-init g c = (
-  all_begins g.V.Service.took g.V.Service.kept g.V.Service.told g.V.Service.has_told
+  all_begins g.V.Service.took g.V.Service.kept g.V.Service.reported g.V.Service.has_reported
       (Between g.S.Source.gave c.args.source.now c.args.source.now) (Between g.K.Sink.took c.args.sink.now c.args.sink.now)
       c.new-begun.result.items c.args.service.now c.new-begun.ensures.items (g.met.S.Source.gave_nothing c.args.source.now)
       (g.met.K.Sink.took_nothing c.args.sink.now),
@@ -15,7 +15,7 @@ loop-count-init g c = (
 
 pub returns-in_default-clause-some : goal.returns-in_default-clause-some
 returns-in_default-clause-some g c =
-    going_fails g.V.Service.took g.V.Service.kept g.V.Service.told g.V.Service.has_told
+    going_fails g.V.Service.took g.V.Service.kept g.V.Service.reported g.V.Service.has_reported
     (Between g.S.Source.gave c.args.source.now c.loop-count.source) (Between g.K.Sink.took c.args.sink.now c.loop-count.sink)
     c.loop-count.begun.items c.args.service.now c.loop-count.service c.loop-count.invariant.0
 
@@ -23,7 +23,7 @@ pub returns-then-count-eq0-clause-all : goal.returns-then-count-eq0-clause-all
 returns-then-count-eq0-clause-all g c =
     let nothing : g.S.Source.gave c.loop-count.source [] c.read.new.self =
     subst (λ (n : ℕ). g.S.Source.gave c.loop-count.source (take n c.read.new.buffer) c.read.new.self) c.if-count-eq0.true c.in-Ok.ensures.gave in
-    going_ends g.V.Service.took g.V.Service.kept g.V.Service.told g.V.Service.has_told
+    going_ends g.V.Service.took g.V.Service.kept g.V.Service.reported g.V.Service.has_reported
     (Between g.S.Source.gave c.args.source.now c.loop-count.source) (Between g.S.Source.gave c.loop-count.source c.read.new.self)
     (Between g.S.Source.gave c.args.source.now c.read.new.self) (Between g.K.Sink.took c.args.sink.now c.loop-count.sink)
     c.loop-count.begun.items c.args.service.now c.loop-count.service (λ a b. g.met.S.Source.gave_both _ _ _ a b) c.loop-count.invariant.0 nothing
@@ -31,7 +31,7 @@ returns-then-count-eq0-clause-all g c =
 pub returns-in_err-extend_from_slice-clause-some : goal.returns-in_err-extend_from_slice-clause-some
 returns-in_err-extend_from_slice-clause-some g c =
     let p = err_from_is_err_and c.from_residual.result c.from_residual.ensures.1 in
-    rw p.1 (going_fails g.V.Service.took g.V.Service.kept g.V.Service.told g.V.Service.has_told
+    rw p.1 (going_fails g.V.Service.took g.V.Service.kept g.V.Service.reported g.V.Service.has_reported
     (Between g.S.Source.gave c.args.source.now c.loop-count.source) (Between g.K.Sink.took c.args.sink.now c.loop-count.sink)
     c.loop-count.begun.items c.args.service.now c.loop-count.service c.loop-count.invariant.0)
 
@@ -41,7 +41,7 @@ take_all-requires g c = c.loop-count.invariant.1
 pub returns-in_err-begun-clause-some : goal.returns-in_err-begun-clause-some
 returns-in_err-begun-clause-some g c =
     let p = err_from_is_err_and c.from_residual-in_err-begun.result c.from_residual-in_err-begun.ensures.1 in
-    rw p.1 (going_stops g.V.Service.took g.V.Service.kept g.V.Service.told g.V.Service.has_told
+    rw p.1 (going_stops g.V.Service.took g.V.Service.kept g.V.Service.reported g.V.Service.has_reported
     (Between g.S.Source.gave c.args.source.now c.loop-count.source) (Between g.K.Sink.took c.args.sink.now c.loop-count.sink)
     (Between g.K.Sink.took c.loop-count.sink c.take_all.new.sink) (Between g.K.Sink.took c.args.sink.now c.take_all.new.sink)
     c.loop-count.begun.items c.args.service.now c.loop-count.service (λ a b. g.met.K.Sink.took_both _ _ _ a b)
@@ -49,7 +49,7 @@ returns-in_err-begun-clause-some g c =
 
 pub loop-count-preserved : goal.loop-count-preserved
 loop-count-preserved g c = (
-  going_on g.V.Service.took g.V.Service.kept g.V.Service.told g.V.Service.has_told
+  going_on g.V.Service.took g.V.Service.kept g.V.Service.reported g.V.Service.has_reported
       (Between g.S.Source.gave c.args.source.now c.loop-count.source) (Between g.S.Source.gave c.loop-count.source c.read.new.self)
       (Between g.S.Source.gave c.args.source.now c.read.new.self)
       (Between g.K.Sink.took c.args.sink.now c.loop-count.sink) (Between g.K.Sink.took c.loop-count.sink c.take_all.new.sink)

@@ -8,7 +8,7 @@ use Rattle.zdaemon.proofs.pipe.serving.take_whole.Goals as goal
 
 pub loop-message-init : goal.loop-message-init
 loop-message-init g c = (
-  front_begins g.V.Service.took g.V.Service.kept g.V.Service.told g.V.Service.has_told (Between g.K.Sink.took c.args.sink.now c.args.sink.now)
+  front_begins g.V.Service.took g.V.Service.kept g.V.Service.reported g.V.Service.has_reported (Between g.K.Sink.took c.args.sink.now c.args.sink.now)
       c.args.bytes.now c.args.service.now (g.met.K.Sink.took_nothing c.args.sink.now),
   c.requires,
 )
@@ -19,7 +19,7 @@ take-requires g c = c.loop-message.invariant.1
 pub returns-in_err-take-in-Ok-clause-some : goal.returns-in_err-take-in-Ok-clause-some
 returns-in_err-take-in-Ok-clause-some g c =
     let p = err_from_is_err_and c.from_residual.result c.from_residual.ensures.1 in
-    rw p.1 (front_stops g.V.Service.took g.V.Service.kept g.V.Service.told g.V.Service.has_told
+    rw p.1 (front_stops g.V.Service.took g.V.Service.kept g.V.Service.reported g.V.Service.has_reported
     (Between g.K.Sink.took c.args.sink.now c.loop-message.sink) (Between g.K.Sink.took c.loop-message.sink c.take.new.sink)
     (Between g.K.Sink.took c.args.sink.now c.take.new.sink)
     c.args.bytes.now c.loop-message.rest.now c.args.service.now c.loop-message.service (λ a b. g.met.K.Sink.took_both _ _ _ a b)
@@ -30,7 +30,7 @@ loop-message-smaller g c = shorter (message_of c.in-Ok.message) c.loop-message.r
 
 pub loop-message-preserved : goal.loop-message-preserved
 loop-message-preserved g c = (
-  front_more g.V.Service.took g.V.Service.kept g.V.Service.told g.V.Service.has_told (Between g.K.Sink.took c.args.sink.now c.loop-message.sink)
+  front_more g.V.Service.took g.V.Service.kept g.V.Service.reported g.V.Service.has_reported (Between g.K.Sink.took c.args.sink.now c.loop-message.sink)
       (Between g.K.Sink.took c.loop-message.sink c.take.new.sink) (Between g.K.Sink.took c.args.sink.now c.take.new.sink)
       c.args.bytes.now c.loop-message.rest.now c.in-Ok.more.now (message_of c.in-Ok.message) c.args.service.now c.loop-message.service
       c.take.new.service (λ a b. g.met.K.Sink.took_both _ _ _ a b)
@@ -48,7 +48,7 @@ pub returns-in-Err : goal.returns-in-Err
 returns-in-Err g c = record {
   front = tt;
   sound = tt;
-  some = front_fails g.V.Service.took g.V.Service.kept g.V.Service.told g.V.Service.has_told
+  some = front_fails g.V.Service.took g.V.Service.kept g.V.Service.reported g.V.Service.has_reported
       (Between g.K.Sink.took c.args.sink.now c.loop-message.sink) c.args.bytes.now c.loop-message.rest.now c.args.service.now
       c.loop-message.service c.loop-message.invariant.0;
 }

@@ -1,6 +1,6 @@
 use Rattle.std.proofs.Common.{sym, subst}
 use Rattle.zjournal.specs.Device.{LeavesOnly}
-use Rattle.zjournal.specs.Journal.{StandsFor, device_of}
+use Rattle.zjournal.specs.Journal.{Represents, device_of}
 use Rattle.zdurable.specs.declared.stored.Stored.{Stored}
 use Rattle.zdurable.proofs.Opening.{read_then}
 use Rattle.zdurable.proofs.Storing.{stores}
@@ -10,23 +10,23 @@ pub returns-in-Ok-open-clause-any_moment : goal.returns-in-Ok-open-clause-any_mo
 returns-in-Ok-open-clause-any_moment g c batches stands =
     read_then g.D.Device.moment g.D.Device.left_since c.args.device c.look.new.device (device_of c.in-Ok-open.journal)
     (g.D.Device.seen c.args.device) c.look.ensures.any_moment
-    (StandsFor c.args.servers batches) stands
-    (subst (λ n. LeavesOnly g.D.Device.moment g.D.Device.left_since c.look.new.device (device_of c.in-Ok-open.journal) (StandsFor n batches))
+    (Represents c.args.servers batches) stands
+    (subst (λ n. LeavesOnly g.D.Device.moment g.D.Device.left_since c.look.new.device (device_of c.in-Ok-open.journal) (Represents n batches))
     c.number.ensures.same
     (c.in-Ok-open.ensures.any_moment batches
-    (subst (λ n. StandsFor n batches (g.D.Device.seen c.look.new.device)) (sym c.number.ensures.same)
-    (subst (StandsFor c.args.servers batches) (sym c.look.ensures.seen) stands))))
+    (subst (λ n. Represents n batches (g.D.Device.seen c.look.new.device)) (sym c.number.ensures.same)
+    (subst (Represents c.args.servers batches) (sym c.look.ensures.seen) stands))))
 
 pub returns-clause-any_moment_err : goal.returns-clause-any_moment_err
 returns-clause-any_moment_err g c batches stands =
     read_then g.D.Device.moment g.D.Device.left_since c.args.device c.look.new.device c.in-Err-open.device
     (g.D.Device.seen c.args.device) c.look.ensures.any_moment
-    (StandsFor c.args.servers batches) stands
-    (subst (λ n. LeavesOnly g.D.Device.moment g.D.Device.left_since c.look.new.device c.in-Err-open.device (StandsFor n batches))
+    (Represents c.args.servers batches) stands
+    (subst (λ n. LeavesOnly g.D.Device.moment g.D.Device.left_since c.look.new.device c.in-Err-open.device (Represents n batches))
     c.number.ensures.same
     (c.in-Err-open.ensures.any_moment_err batches
-    (subst (λ n. StandsFor n batches (g.D.Device.seen c.look.new.device)) (sym c.number.ensures.same)
-    (subst (StandsFor c.args.servers batches) (sym c.look.ensures.seen) stands))))
+    (subst (λ n. Represents n batches (g.D.Device.seen c.look.new.device)) (sym c.number.ensures.same)
+    (subst (Represents c.args.servers batches) (sym c.look.ensures.seen) stands))))
 
 pub returns-in-Ok-open-clause-stored : goal.returns-in-Ok-open-clause-stored
 returns-in-Ok-open-clause-stored g c =

@@ -16,7 +16,7 @@ returns g c =
     let connections = subst (λ n. Writes one two (number_line (codes "zk_num_alive_connections\t") n)) (c.connections.ensures
     ∙ ap (λ (v : FrontView). finite.len v.tables.streams) c.self.view_is) c.in_ok-write_number.ensures in
     let sessions = subst (λ n. Writes two three (number_line (codes "zk_global_sessions\t") n)) (c.sessions.ensures
-    ∙ ap (λ (v : FrontView). finite.len v.tables.sittings) c.self.view_is) c.in_ok-write_number-2.ensures in
+    ∙ ap (λ (v : FrontView). finite.len v.tables.attachments) c.self.view_is) c.in_ok-write_number-2.ensures in
     on_ok c.write_number-3.result
     (λ wrote.
     writes_more c.args.out.now one end _ _ c.in_ok-push_str.ensures.bytes

@@ -1,4 +1,4 @@
-use Rattle.zjournal.proofs.Kept.{elapses_to}
+use Rattle.zjournal.proofs.Cached.{elapses_to}
 use Rattle.zjournal.proofs.memory.MemoryFile.pass.Goals as goal
 
 pub returns-then-self-eq0-clause-time : goal.returns-then-self-eq0-clause-time

@@ -1,5 +1,5 @@
 use Rattle.std.proofs.Common.{rules}
-use Rattle.zjournal.proofs.Kept.{elapses_to}
+use Rattle.zjournal.proofs.Cached.{elapses_to}
 use Rattle.zjournal.proofs.memory.MemoryFileDevice.sync.Goals as goal
 
 pub returns-then-self-eq0-clause-time : goal.returns-then-self-eq0-clause-time

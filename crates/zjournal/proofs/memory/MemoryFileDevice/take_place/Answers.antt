@@ -1,5 +1,5 @@
 use Rattle.std.proofs.Common.{◌∙◌}
-use Rattle.zjournal.proofs.Kept.{taken_either, sync_and_name, all_three}
+use Rattle.zjournal.proofs.Cached.{taken_either, sync_and_name, all_three}
 use Rattle.zjournal.proofs.memory.MemoryFileDevice.take_place.Goals as goal
 
 pub returns-in_err-take_name-clause-time : goal.returns-in_err-take_name-clause-time

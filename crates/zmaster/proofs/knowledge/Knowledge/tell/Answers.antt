@@ -7,8 +7,8 @@ use Rattle.zmaster.proofs.knowledge.Knowledge.tell.Goals as goal
 pub put_reserved-requires : goal.put_reserved-requires
 put_reserved-requires g c =
     let room = rw (← c.self.view_is) at c.requires in
-    let told = config_count g.row.T.Denot c.args.self.now c.loop-number.number in
-    omega (arith, room, told, c.loop-number.invariant.room)
+    let reported = config_count g.row.T.Denot c.args.self.now c.loop-number.number in
+    omega (arith, room, reported, c.loop-number.invariant.room)
 
 pub loop-number-preserved : goal.loop-number-preserved
 loop-number-preserved g c =

@@ -1,5 +1,5 @@
 use Rattle.zprotocol.specs.Posts.{PutsInRoom}
-use Rattle.zmaster.specs.support.Telling.{config_posts_to}
+use Rattle.zmaster.specs.support.Reporting.{config_posts_to}
 use Rattle.zmaster.proofs.knowledge.Knowledge.tell.Given as goal
 
 abbrev pub invariant-loop-number : goal.invariant-loop-number

@@ -1,6 +1,6 @@
 use Rattle.std.proofs.Common.{nat_eq, arith, ap, ◌∙◌}
 use lib.Pointwise.{pointwise}
-use Rattle.zpasswords.proofs.Differences.{other_length, told_all, told_more}
+use Rattle.zpasswords.proofs.Differences.{other_length, reported_all, reported_more}
 use Rattle.zpasswords.proofs.password.Password.is_given.Goals as goal
 
 pub returns-then-given-own : goal.returns-then-given-own
@@ -12,13 +12,13 @@ pub bytes-preserved : goal.bytes-preserved
 bytes-preserved c =
     let within = c.bytes-test.true in
     let long = c.if-given-own.false in
-    told_more c.bytes.difference c.args.given.now c.as_bytes-own.result.now c.bytes.i 0 0 (omega (arith, within, long)) within
+    reported_more c.bytes.difference c.args.given.now c.as_bytes-own.result.now c.bytes.i 0 0 (omega (arith, within, long)) within
     ∙ c.bytes.invariant
 
 pub returns : goal.returns
 returns c =
     let end = c.bytes-test.false in
     let long = c.if-given-own.false in
-    told_all c.bytes.difference c.args.given.now c.as_bytes-own.result.now c.bytes.i (omega (arith, end, long)) end
+    reported_all c.bytes.difference c.args.given.now c.as_bytes-own.result.now c.bytes.i (omega (arith, end, long)) end
     ∙ c.bytes.invariant
     ∙ ap (pointwise nat_eq c.args.given.now) c.as_bytes-own.ensures.bytes

@@ -1,8 +1,8 @@
 use Rattle.std.proofs.Common.{◌≡◌, drop, nat_eq}
 use lib.Pointwise.{pointwise}
-use Rattle.zpasswords.proofs.Differences.{told}
+use Rattle.zpasswords.proofs.Differences.{reported}
 use Rattle.zpasswords.proofs.password.Password.is_given.Given as goal
 
--- what is told so far, and the rests, tell whether all are the same
+-- what is reported so far, and the rests, tell whether all are the same
 abbrev pub invariant-bytes : goal.invariant-bytes
-invariant-bytes l = told l.difference (drop l.i l.given) (drop l.i l.own) ≡ pointwise nat_eq l.given l.own
+invariant-bytes l = reported l.difference (drop l.i l.given) (drop l.i l.own) ≡ pointwise nat_eq l.given l.own

@@ -3,16 +3,16 @@ use Rattle.std.specs.Ordering.{nat_cmp}
 use Rattle.std.specs.FinMap.{get-empty}
 use Rattle.ztree.specs.Tree.{Tree}
 use Rattle.zcalls.specs.declared.call.Update.{Update}
-use Rattle.zcalls.specs.Kept.{nothing_kept, entry_by, act_result, entry_step}
+use Rattle.zcalls.specs.Cached.{nothing_cached, entry_by, act_result, entry_step}
 use Rattle.zcalls.specs.Step.{step}
 use Rattle.zprotocol.specs.server.Laws.{first_entry}
 use Rattle.zprotocol.proofs.server.laws.machine_does_the_plain_step.Goals as goal
 
 -- a client's first entry acts, since nothing is kept
 acts : (t : Tree) (client : ℕ) (update : Update)
-    → entry_step step (nothing_kept t) (first_entry client update) ≡ act_result step (nothing_kept t) (first_entry client update)
+    → entry_step step (nothing_cached t) (first_entry client update) ≡ act_result step (nothing_cached t) (first_entry client update)
 unfolding entry_step
-acts t client update = ap (entry_by step (nothing_kept t) (first_entry client update)) (get-empty nat_cmp client)
+acts t client update = ap (entry_by step (nothing_cached t) (first_entry client update)) (get-empty nat_cmp client)
 
 pub returns : goal.returns
 returns c = record {

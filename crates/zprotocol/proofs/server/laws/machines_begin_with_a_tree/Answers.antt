@@ -1,7 +1,7 @@
-use Rattle.zcalls.specs.Kept.{nothing_kept}
-use Rattle.zprotocol.specs.server.Machine.{kept_tree}
+use Rattle.zcalls.specs.Cached.{nothing_cached}
+use Rattle.zprotocol.specs.server.Machine.{cached_tree}
 use Rattle.zprotocol.proofs.server_lemmas.Starts.{same_table}
 use Rattle.zprotocol.proofs.server.laws.machines_begin_with_a_tree.Goals as goal
 
 pub returns-clause-table : goal.returns-clause-table
-returns-clause-table c t = same_table kept_tree (nothing_kept t)
+returns-clause-table c t = same_table cached_tree (nothing_cached t)

@@ -6,9 +6,9 @@ pub returns-clause-in_place : goal.returns-clause-in_place
 unfolding all_tables
 returns-clause-in_place c = refl
 
-pub returns-clause-told : goal.returns-clause-told
+pub returns-clause-reported : goal.returns-clause-reported
 unfolding all_tables
-returns-clause-told c = refl
+returns-clause-reported c = refl
 
 pub returns-clause-begun_twice : goal.returns-clause-begun_twice
 unfolding all_tables

@@ -29,8 +29,8 @@ invariant_of-self g c =
     let left = c.pop.new.self.items in
     let split = All-pop (λ (h : Handle). BelongsTo run (given_client h)) field.handles.items left (Some handle) c.in-Some.ensures.items field.own in
     let belongs = still_belongs run (given_client handle) racer.client split.1 c.join-client.ensures in
-    let told = c.note_all.ensures.told run field.told (all_seen_in_run run racer.client racer.seen.items belongs racer.told) in
+    let reported = c.note_all.ensures.reported run field.reported (all_seen_in_run run racer.client racer.seen.items belongs racer.reported) in
     record {
       own = subst (λ (r : Run). All (λ (h : Handle). BelongsTo r (given_client h)) left) (sym c.put.ensures.run) split.0;
-      told = subst (λ (r : Run). AreSeenIn r c.note_all.new.versions.items) (sym c.put.ensures.run) told;
+      reported = subst (λ (r : Run). AreSeenIn r c.note_all.new.versions.items) (sym c.put.ensures.run) reported;
     }

@@ -1,7 +1,7 @@
 use Rattle.zrun.specs.Clients.{BelongsTo}
 use Rattle.zrun.specs.Members.{clients_run}
 use Rattle.zrace.specs.Runners.{given_client, Handle}
-use Rattle.zrace.proofs.Kept.{all_of_none}
+use Rattle.zrace.proofs.Cached.{all_of_none}
 use Rattle.zrace.proofs.Seen.{none_seen}
 use Rattle.zrace.proofs.field.Field.new.Goals as goal
 
@@ -10,5 +10,5 @@ invariant_of-field c =
     let run = clients_run c.args.clients in
     record {
       own = all_of_none (λ (h : Handle). BelongsTo run (given_client h)) c.args.room.handles.items c.args.room.none_runs;
-      told = none_seen run c.args.room.versions.items c.args.room.none_told;
+      reported = none_seen run c.args.room.versions.items c.args.room.none_reported;
     }

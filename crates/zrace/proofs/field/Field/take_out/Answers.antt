@@ -11,5 +11,5 @@ invariant_of-self c =
     let field = c.args.self.now in
     record {
       own = subst (λ (run : Run). All (λ (h : Handle). BelongsTo run (given_client h)) field.handles.items) (sym c.racer.ensures.run) field.own;
-      told = subst (λ (run : Run). AreSeenIn run field.versions.items) (sym c.racer.ensures.run) field.told;
+      reported = subst (λ (run : Run). AreSeenIn run field.versions.items) (sym c.racer.ensures.run) field.reported;
     }

@@ -4,12 +4,12 @@ use Rattle.zrace.proofs.racer.Racer.lap.Goals as goal
 pub invariant_of-self : goal.invariant_of-self
 invariant_of-self c =
     let racer = c.args.self.now in
-    record { told = all_still_seen racer.client c.call_thrice.new.client racer.seen.items c.call_thrice.ensures.same racer.told }
+    record { reported = all_still_seen racer.client c.call_thrice.new.client racer.seen.items c.call_thrice.ensures.same racer.reported }
 
 pub invariant_of-self-2 : goal.invariant_of-self-2
 invariant_of-self-2 c =
     let racer = c.args.self.now in
     record {
-      told = all_seen_now racer.client c.call_thrice.new.client racer.seen.items c.keep.new.all.items c.args.node c.in-Some.version
-          c.call_thrice.ensures.same c.in-Some.ensures.told c.keep.ensures racer.told;
+      reported = all_seen_now racer.client c.call_thrice.new.client racer.seen.items c.keep.new.all.items c.args.node c.in-Some.version
+          c.call_thrice.ensures.same c.in-Some.ensures.reported c.keep.ensures racer.reported;
     }

@@ -6,12 +6,12 @@ use Rattle.std.specs.declared.option.Option.{Option}
 use Rattle.std.proofs.lemmas.List.{nil_from_length}
 use Rattle.std.proofs.lemmas.List.Elements.{All-push, All-same}
 use Rattle.zthreads.specs.declared.caller.Caller.{Caller}
-use Rattle.zthreads.specs.Callers.{caller_desk, caller_id}
+use Rattle.zthreads.specs.Callers.{caller_endpoint, caller_id}
 use Rattle.ztree.proofs.Maps.{same_some}
 use Rattle.zrun.specs.declared.client.Client.{Client}
 use Rattle.zrun.specs.declared.posts.ClientPost.{ClientPost}
 use Rattle.zrun.specs.Clients.{AreIn, BelongsTo, number_of}
-use Rattle.zrun.specs.Origins.{desk_wiring, IsOneOf}
+use Rattle.zrun.specs.Origins.{endpoint_wiring, IsOneOf}
 use Rattle.zrun.proofs.Places.{each_push, next_number, next_one}
 use Rattle.zrun.proofs.clients.Clients.new.Goals as goal
 
@@ -29,7 +29,7 @@ loop-post-preserved c =
     let grown = c.in_ok-push.ensures.items in
     let made : client.caller ≡ post.caller = c.introduce.ensures in
     let here : BelongsTo run client =
-    subst (λ (x : Caller). IsOneOf run (caller_id x) (desk_wiring (caller_desk x))) (sym made) (next_one run yielded rest post c.requires all) in
+    subst (λ (x : Caller). IsOneOf run (caller_id x) (endpoint_wiring (caller_endpoint x))) (sym made) (next_one run yielded rest post c.requires all) in
     let number : number_of client ≡ length places = ap caller_id made ∙ next_number run yielded rest post c.requires all ∙ sym i.1 in (
       all ∙ sym (append_assoc yielded (post ∷ []) rest),
       ap length grown ∙ length-append places (Some client ∷ []) ∙ ap (λ n. n + 1) i.1 ∙ sym (length-append yielded (post ∷ [])),

@@ -6,7 +6,7 @@ use Rattle.std.proofs.lemmas.List.Elements.{All-pop}
 use Rattle.zchannels.specs.declared.rings.Tx.{Tx}
 use Rattle.zchannels.specs.declared.rings.Rx.{Rx}
 use Rattle.zchannels.specs.Rings.{put_of, taken_of}
-use Rattle.zthreads.specs.Desks.{TreeStamped}
+use Rattle.zthreads.specs.Endpoints.{TreeStamped}
 use Rattle.zrun.proofs.Openings.{all_each}
 use Rattle.zrun.proofs.supply.Supply.next.Goals as goal
 

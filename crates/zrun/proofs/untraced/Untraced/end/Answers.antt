@@ -2,7 +2,7 @@ use Rattle.std.proofs.Common.{◌≡◌, ◌<◌, true, false, length, sym, ap, 
 use Rattle.std.specs.Prelude.{Result, Ok, Err, IfOk}
 use Rattle.zrun.specs.Gone.{GoesIfLeft}
 use Rattle.zrun.specs.Left.{by_place, is_left_lost}
-use Rattle.zrun.specs.Clusters.{cluster_desks}
+use Rattle.zrun.specs.Clusters.{cluster_endpoints}
 use Rattle.zrun.specs.Members.{HasAll}
 use Rattle.zrun.specs.Untraced.{RanLawfully, untraced_count}
 use Rattle.zrun.proofs.Leavings.{wired_unlost}
@@ -18,7 +18,7 @@ pub is_known-requires : goal.is_known-requires
 is_known-requires g c =
     let s = c.args.self.cluster in
     let l = c.in_ok-master in
-    wired_unlost s.opening.last s.opening.clients (cluster_desks s) l.master l.servers.items l.clients.items s.wired.0 l.ensures.left
+    wired_unlost s.opening.last s.opening.clients (cluster_endpoints s) l.master l.servers.items l.clients.items s.wired.0 l.ensures.left
 
 pub returns-clause-lawful : goal.returns-clause-lawful
 returns-clause-lawful g c =

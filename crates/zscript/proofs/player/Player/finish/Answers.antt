@@ -5,14 +5,14 @@ use Rattle.std.proofs.lemmas.Result.{err_from_is_err_and}
 use Rattle.zdevices.specs.Device.{Between}
 use Rattle.zscript.specs.support.PlayerView.{PlayerView, world_now}
 use Rattle.zdevices.proofs.Beginnings.{failed_after}
-use Rattle.zscript.proofs.Stops.{line-stopped, line-cut, last_line-some, line-told, none-told}
+use Rattle.zscript.proofs.Stops.{line-stopped, line-cut, last_line-some, line-reported, none-reported}
 use Rattle.zscript.proofs.player.Player.finish.Goals as goal
 
 pub returns-then-is_empty-clause-done : goal.returns-then-is_empty-clause-done
 returns-then-is_empty-clause-done g c =
     let line : c.self.inside.line.items ≡ c.args.self.now.line = ap (λ (p : PlayerView). p.line) c.self.view_is in
     let none : length c.self.inside.line.items ≡ 0 = grind (arith, nat_tests) in
-    none-told _ (world_now c.args.self.now) c.args.self.now.line (omega (arith, none, ap length line)) (g.met.K.Sink.took_nothing _)
+    none-reported _ (world_now c.args.self.now) c.args.self.now.line (omega (arith, none, ap length line)) (g.met.K.Sink.took_nothing _)
 
 pub returns-in_err-end_line-clause-stopped : goal.returns-in_err-end_line-clause-stopped
 returns-in_err-end_line-clause-stopped g c =
@@ -49,7 +49,7 @@ returns-clause-done g c =
     let last = last_line-some c.args.self.now.line (omega (arith, ap length line)) in
     let world = ap world_now c.in_ok-write_replies.ensures.written in
     let done = rw append-nil at c.in_ok-end_line.ensures.done in
-    rw (last, world) (line-told
+    rw (last, world) (line-reported
     (Between g.K.Sink.took c.args.sink.now c.end_line.new.sink)
     (Between g.K.Sink.took c.end_line.new.sink c.write_replies.new.sink)
     (Between g.K.Sink.took c.args.sink.now c.write_replies.new.sink)

@@ -2,7 +2,7 @@ use Rattle.std.proofs.Common.{◌≡◌, ◌-◌, ◌++◌, length, take, min, s
 use Rattle.std.proofs.lemmas.Bool.Decides.{nat_tests}
 use Rattle.zscript.specs.declared.limits.TheConstants.{KEPT}
 use Rattle.zscript.specs.support.PlayerView.{PlayerView}
-use Rattle.zscript.proofs.Kept.{kept-none, kept-room}
+use Rattle.zscript.proofs.Cached.{kept-none, kept-room}
 use Rattle.zscript.proofs.player.Player.keep.Goals as goal
 
 pub returns-then-is_empty-clause-line : goal.returns-then-is_empty-clause-line

@@ -5,7 +5,7 @@ use Rattle.zwire.proofs.records_lemmas.Texts.{shorter}
 use Rattle.ztree_service.specs.Local.{LocalTreeView}
 use Rattle.zsnapshots.specs.folder.Entries.{records_of}
 use Rattle.zsnapshots.specs.folder.States.{after, after_entry}
-use Rattle.zsnapshots.proofs.folder_lemmas.ReadSoFar.{entry_more, no_entries, no_entry, read_none, read_password, says_all, something_left, tells_all}
+use Rattle.zsnapshots.proofs.folder_lemmas.ReadSoFar.{entry_more, no_entries, no_entry, read_none, read_password, says_all, something_left, reports_all}
 use Rattle.zsnapshots.proofs.folder_lemmas.States.{after_more, entry_acts}
 use Rattle.zsnapshots.proofs.folder.reading.apply_all.Goals as goal
 
@@ -68,6 +68,6 @@ returns-clause-applied c =
     record {
       entries = so_far.0;
       read = says_all (records_of so_far.0) c.loop-rest.had_passwords c.args.text.now c.loop-rest.rest.now so_far.1 none;
-      told = tells_all (records_of so_far.0) c.loop-rest.had_passwords c.args.text.now c.loop-rest.rest.now so_far.1 none;
+      reported = reports_all (records_of so_far.0) c.loop-rest.had_passwords c.args.text.now c.loop-rest.rest.now so_far.1 none;
       view = so_far.2;
     }

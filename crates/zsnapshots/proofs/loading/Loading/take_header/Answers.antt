@@ -6,7 +6,7 @@ use Rattle.zsnapshots.specs.States.StateRow.{OfHeader}
 use Rattle.zsnapshots.specs.Loading.{LoadingView, rows_from, rows_loaded, IsLoaded}
 use Rattle.zsnapshots.specs.support.Loading.{AreLoaded, NeverRefusesNext}
 use Rattle.zsnapshots.specs.support.Faults.{of_frame}
-use Rattle.zsnapshots.proofs.Loaded.{header_never_refused, header_never_taken_wrong, header_loaded, loaded_next, tell_at_first}
+use Rattle.zsnapshots.proofs.Loaded.{header_never_refused, header_never_taken_wrong, header_loaded, loaded_next, report_at_first}
 use Rattle.zsnapshots.proofs.loading.Loading.take_header.Goals as goal
 
 pub returns-in-Err-clause-only : goal.returns-in-Err-clause-only
@@ -48,6 +48,6 @@ invariant_of-self c =
     let none : i.reading ≡ None = ap (λ (l : LoadingView). l.reading) (c.self.view_is ∙ c.requires.nothing) in
     subst (λ (r : Option ReadingView). AreLoaded (rows_from (Some c.of.result) r)) (sym none)
     (subst (λ (h : Header). AreLoaded (rows_from (Some h) None)) (sym c.of.ensures)
-    (loaded_next [] (OfHeader h ∷ []) c.args.row.now (tt, tell_at_first) (header_loaded c.args.row.now c.in-Ok.read.1.now
+    (loaded_next [] (OfHeader h ∷ []) c.args.row.now (tt, report_at_first) (header_loaded c.args.row.now c.in-Ok.read.1.now
     c.requires.alone h found.0 found.1)
     (header_never_taken_wrong h c.args.row.now c.in-Ok.read.1.now found.0 found.1)))

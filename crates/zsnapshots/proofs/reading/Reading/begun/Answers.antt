@@ -6,7 +6,7 @@ use Rattle.zsnapshots.specs.States.{ReadingView, Fits, spelled, IsRootTaken, IsR
 use Rattle.zsnapshots.specs.States.StateRow.{OfNode}
 use Rattle.zsnapshots.proofs.RowForms.{is_node_text}
 use Rattle.zsnapshots.proofs.Rooted.{root_taken}
-use Rattle.zsnapshots.proofs.Told.{read_is, refused_told}
+use Rattle.zsnapshots.proofs.Reported.{read_is, refused_reported}
 use Rattle.zsnapshots.proofs.reading.Reading.begun.Goals as goal
 
 pub returns-then-not-is_root-clause-fault : goal.returns-then-not-is_root-clause-fault
@@ -30,5 +30,5 @@ returns-in-Err-rooted-clause-fault c =
     let e : Path × Node = (c.in-Ok.read.0, c.in-Ok.read.1) in
     let found = c.in-Ok.ensures.found in
     subst (IsRootFault c.args.header c.args.bytes.now) (sym c.from-in-Err-rooted.ensures)
-    (refused_told node_text is_node_text _ _ c.args.bytes.now e c.in-Ok.read.2.now found.0 found.1 (c.if-not-is_root.ensures.yes refl)
+    (refused_reported node_text is_node_text _ _ c.args.bytes.now e c.in-Ok.read.2.now found.0 found.1 (c.if-not-is_root.ensures.yes refl)
     c.in-Err-rooted.fault c.in-Err-rooted.ensures.fault)

@@ -1,7 +1,7 @@
 use Rattle.std.proofs.Common.{subst}
 use Rattle.zsnapshots.specs.States.{ReadingView}
 use Rattle.zsnapshots.specs.support.Reading.{IsReading}
-use Rattle.zsnapshots.proofs.Told.{never_refuses}
+use Rattle.zsnapshots.proofs.Reported.{never_refuses}
 use Rattle.zsnapshots.proofs.reading.Reading.take.Goals as goal
 
 pub returns-clause-only : goal.returns-clause-only

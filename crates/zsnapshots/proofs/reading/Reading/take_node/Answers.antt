@@ -9,8 +9,8 @@ use Rattle.zsnapshots.specs.States.{ReadingView, IsNodeFault, IsAbove, IsTaken, 
 use Rattle.zsnapshots.specs.support.Reading.{IsReading}
 use Rattle.zsnapshots.proofs.RowForms.{is_node_text}
 use Rattle.zsnapshots.proofs.Keys.{map_above, not_above}
-use Rattle.zsnapshots.proofs.Kept.{view, node_kept, node_taken}
-use Rattle.zsnapshots.proofs.Told.{read_is, refused_told}
+use Rattle.zsnapshots.proofs.Cached.{view, node_kept, node_taken}
+use Rattle.zsnapshots.proofs.Reported.{read_is, refused_reported}
 use Rattle.zsnapshots.proofs.reading.Reading.take_node.Goals as goal
 
 pub returns-then-not-is_path_above-clause-fault : goal.returns-then-not-is_path_above-clause-fault
@@ -35,7 +35,7 @@ returns-in-Err-put_node-clause-fault c =
     (sym c.is_path_above.ensures ∙ c.if-not-is_path_above.false) in
     subst (λ (r : ReadingView). IsNodeFault r.state c.args.bytes.now c.from-in-Err-put_node.result) c.self.view_is
     (subst (IsNodeFault i.restoring c.args.bytes.now) (sym c.from-in-Err-put_node.ensures)
-    (refused_told node_text is_node_text _ _ c.args.bytes.now e c.in-Ok.read.2.now found.0 found.1 above c.in-Err-put_node.fault
+    (refused_reported node_text is_node_text _ _ c.args.bytes.now e c.in-Ok.read.2.now found.0 found.1 above c.in-Err-put_node.fault
     c.in-Err-put_node.ensures.fault))
 
 pub invariant_of-self-2 : goal.invariant_of-self-2

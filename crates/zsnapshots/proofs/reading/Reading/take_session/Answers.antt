@@ -7,8 +7,8 @@ use Rattle.zsnapshots.specs.States.{ReadingView, IsSessionFault, IsAbove, IsTake
 use Rattle.zsnapshots.specs.support.Reading.{IsReading}
 use Rattle.zsnapshots.proofs.RowForms.{is_session_text}
 use Rattle.zsnapshots.proofs.Keys.{map_above, not_above}
-use Rattle.zsnapshots.proofs.Kept.{view, session_kept, session_taken}
-use Rattle.zsnapshots.proofs.Told.{read_is, refused_told}
+use Rattle.zsnapshots.proofs.Cached.{view, session_kept, session_taken}
+use Rattle.zsnapshots.proofs.Reported.{read_is, refused_reported}
 use Rattle.zsnapshots.proofs.reading.Reading.take_session.Goals as goal
 
 pub returns-then-not-is_session_above-clause-fault : goal.returns-then-not-is_session_above-clause-fault
@@ -33,7 +33,7 @@ returns-in-Err-put_session-clause-fault c =
     (sym c.is_session_above.ensures ∙ c.if-not-is_session_above.false) in
     subst (λ (r : ReadingView). IsSessionFault r.state c.args.bytes.now c.from-in-Err-put_session.result) c.self.view_is
     (subst (IsSessionFault i.restoring c.args.bytes.now) (sym c.from-in-Err-put_session.ensures)
-    (refused_told session_text is_session_text _ _ c.args.bytes.now e c.in-Ok.read.2.now found.0 found.1 above
+    (refused_reported session_text is_session_text _ _ c.args.bytes.now e c.in-Ok.read.2.now found.0 found.1 above
     c.in-Err-put_session.fault c.in-Err-put_session.ensures.fault))
 
 pub invariant_of-self-2 : goal.invariant_of-self-2

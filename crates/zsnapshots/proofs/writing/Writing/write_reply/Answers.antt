@@ -3,7 +3,7 @@ use Rattle.std.specs.Cmp.{nat_cmp_total}
 use Rattle.std.specs.Prelude.{OnOk}
 use Rattle.std.specs.Ordering.{nat_cmp}
 use Rattle.std.specs.FinMap as finite
-use Rattle.zcalls.specs.Kept.{Kept}
+use Rattle.zcalls.specs.Cached.{Cached}
 use Rattle.zsnapshots.specs.States.{WritingView, replies_of, written_of}
 use Rattle.zsnapshots.specs.States.StateRow.{OfReply}
 use Rattle.zsnapshots.specs.support.Writing.{IsItem}
@@ -18,7 +18,7 @@ unreachable-requires c =
     let s = written_of i.is_alone i.machine.now.state in
     let within = subst (λ (v : WritingView). c.args.place < length (replies_of v.state)) (sym c.self.view_is) c.requires in
     let kept = kept_is i.is_alone i.machine.now.state c.args.place within in
-    let none = ap (λ (m : finite.FinMap nat_cmp Kept). finite.get m c.index-client.result.now) kept ∙ c.in-None.ensures.none in
+    let none = ap (λ (m : finite.FinMap nat_cmp Cached). finite.get m c.index-client.result.now) kept ∙ c.in-None.ensures.none in
     entry_there_at nat_cmp_total s.service.kept i.clients.items c.args.place c.index-client.result.now c.self.invariant.clients
     within c.index-client.ensures none
 
@@ -28,7 +28,7 @@ returns-clause-ok c =
     let s = written_of i.is_alone i.machine.now.state in
     let within = subst (λ (v : WritingView). c.args.place < length (replies_of v.state)) (sym c.self.view_is) c.requires in
     let kept = kept_is i.is_alone i.machine.now.state c.args.place within in
-    let there = ap (λ (m : finite.FinMap nat_cmp Kept). finite.get m c.index-client.result.now) kept ∙ c.in-Some.ensures.kept in
+    let there = ap (λ (m : finite.FinMap nat_cmp Cached). finite.get m c.index-client.result.now) kept ∙ c.in-Some.ensures.kept in
     let at = entry_at nat_cmp_total s.service.kept i.clients.items c.args.place c.index-client.result.now c.self.invariant.clients
     within c.index-client.ensures (kept_of c.in-Some.kept.0 c.in-Some.kept.1.now) there in
     subst (λ (v : WritingView). OnOk c.write_reply_row.result (IsItem OfReply (replies_of v.state) c.args.place

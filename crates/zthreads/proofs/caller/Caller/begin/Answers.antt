@@ -18,7 +18,7 @@ returns-in-Ok-clause-began c =
     let gave = subst (λ (done : Done). Gave a b (Begin call) done) c.number_of.ensures
     (gave_before a r b c.reserve.ensures.idle c.reserve.ensures.same c.in-Ok.done (Begin call) c.in-Ok.ensures.gave) in
     let did = gave.did in (
-      client_begins_call me.id a.desk b.desk a.actor b.actor me.is_client a.hosted.fits call number did.acted did.entered,
+      client_begins_call me.id a.endpoint b.endpoint a.actor b.actor me.is_client a.hosted.fits call number did.acted did.entered,
       did.stamp,
-      λ whole. behind b.desk.stamp (host_stamp a) did.stamp (did.entered whole).early,
+      λ whole. behind b.endpoint.stamp (host_stamp a) did.stamp (did.entered whole).early,
     )

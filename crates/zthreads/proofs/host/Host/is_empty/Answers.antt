@@ -1,5 +1,5 @@
 use Rattle.std.proofs.Common.{sym, subst}
-use Rattle.zthreads.specs.Desks.{Stands, pending}
+use Rattle.zthreads.specs.Endpoints.{Stands, pending}
 use Rattle.zthreads.proofs.Hosted.{hosted_still}
 use Rattle.zthreads.proofs.Pending.{pending_same}
 use Rattle.zthreads.proofs.host.Host.is_empty.Goals as goal
@@ -11,7 +11,7 @@ invariant_of-self c =
     let same = c.is_empty.ensures.same in
     record {
       hosted =
-          hosted_still t.desk d t.actor t.learnt t.front t.front same.desk t.hosted
-          (subst (λ w. Stands d t.actor t.front w) (sym (pending_same t.desk d same.held same.out))
-          (c.is_empty.ensures.keeps t.actor t.front (pending t.desk) t.hosted.at));
+          hosted_still t.endpoint d t.actor t.learnt t.front t.front same.endpoint t.hosted
+          (subst (λ w. Stands d t.actor t.front w) (sym (pending_same t.endpoint d same.held same.out))
+          (c.is_empty.ensures.keeps t.actor t.front (pending t.endpoint) t.hosted.at));
     }

@@ -9,5 +9,5 @@ invariant_of-self c =
     let t = c.args.self.now.hosted in
     record {
       hosted =
-          record { fits = t.fits; at = t.at; told = λ other. absurd (true≢false (subst (λ (p : Process). is_client p ≡ false) c.requires.1 other)) };
+          record { fits = t.fits; at = t.at; reported = λ other. absurd (true≢false (subst (λ (p : Process). is_client p ≡ false) c.requires.1 other)) };
     }

@@ -1,4 +1,4 @@
-use Rattle.zthreads.specs.Desks.{process_of}
+use Rattle.zthreads.specs.Endpoints.{process_of}
 use Rattle.zthreads.proofs.Hosted.{learns_nothing}
 use Rattle.zthreads.proofs.host.Host.new.Goals as goal
 
@@ -6,5 +6,5 @@ pub invariant_of-result : goal.invariant_of-result
 invariant_of-result c =
     record {
       hosted =
-          record { fits = c.requires.fits; at = c.requires.at; told = learns_nothing (process_of c.args.desk) c.zero.result c.zero.ensures };
+          record { fits = c.requires.fits; at = c.requires.at; reported = learns_nothing (process_of c.args.endpoint) c.zero.result c.zero.ensures };
     }

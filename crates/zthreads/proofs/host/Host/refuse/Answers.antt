@@ -1,11 +1,11 @@
 use Rattle.std.proofs.Common.{[], List, None, refl, sym, ◌∙◌, subst}
 use Rattle.zprotocol.specs.declared.traces.trace.Act.TheVariants.{Ordered}
-use Rattle.zthreads.specs.Desks.{IsEvent, Stands, IsSettled, process_of, TreePost}
+use Rattle.zthreads.specs.Endpoints.{IsEvent, Stands, IsSettled, process_of, TreePost}
 use Rattle.zthreads.proofs.ActorRows.{master_refuses}
 use Rattle.zthreads.proofs.Entered.{entered_before, is_entered}
 use Rattle.zthreads.proofs.Hosted.{hosted_still, stamped_given}
 use Rattle.zthreads.proofs.Pending.{nothing_waits, pending_same}
-use Rattle.zthreads.proofs.Wires.{same_desk}
+use Rattle.zthreads.proofs.Wires.{same_endpoint}
 use Rattle.zthreads.proofs.host.Host.refuse.Goals as goal
 
 pub invariant_of-self : goal.invariant_of-self
@@ -13,7 +13,7 @@ invariant_of-self c =
     let t = c.args.self.now in
     record {
       hosted =
-          hosted_still t.desk c.settle.new.self t.actor t.learnt t.front t.front c.settle.ensures.same t.hosted
+          hosted_still t.endpoint c.settle.new.self t.actor t.learnt t.front t.front c.settle.ensures.same t.hosted
           (c.settle.ensures.stands t.actor t.front t.hosted.at);
     }
 
@@ -31,11 +31,11 @@ invariant_of-self-2 c =
     (c.settle.ensures.stands s t.front t.hosted.at) in
     let stands = c.enter.ensures.beside s s t.front [] settled
     (λ below. subst (λ p. IsEvent p a.stamp s None (Ordered order) next s [] []) (sym c.settle.ensures.same.me)
-    (master_refuses (process_of t.desk) a.stamp s order next c.requires
-    (stamped_given (process_of t.desk) a.stamp t.learnt next t.hosted.told c.next_stamp-stamp.ensures below))) in
+    (master_refuses (process_of t.endpoint) a.stamp s order next c.requires
+    (stamped_given (process_of t.endpoint) a.stamp t.learnt next t.hosted.reported c.next_stamp-stamp.ensures below))) in
     record {
       hosted =
-          hosted_still t.desk b s t.learnt t.front t.front (same_desk t.desk a b c.settle.ensures.same c.enter.ensures.same) t.hosted
+          hosted_still t.endpoint b s t.learnt t.front t.front (same_endpoint t.endpoint a b c.settle.ensures.same c.enter.ensures.same) t.hosted
           (subst (λ (w : List TreePost). Stands b s t.front w) (sym (pending_same a b rest.0 rest.1 ∙ nothing_waits a all)) stands);
     }
 
@@ -47,7 +47,7 @@ returns-clause-refused c is =
     record {
       stands = refl;
       entered = λ whole.
-          is_entered t.desk b c.next_stamp-stamp.result (Ordered c.args.order.now) (Ordered c.args.order.now) [] []
-          (entered_before t.desk a b c.settle.ensures.books (record { stamp = c.next_stamp-stamp.result; act = Ordered c.args.order.now }) []
+          is_entered t.endpoint b c.next_stamp-stamp.result (Ordered c.args.order.now) (Ordered c.args.order.now) [] []
+          (entered_before t.endpoint a b c.settle.ensures.books (record { stamp = c.next_stamp-stamp.result; act = Ordered c.args.order.now }) []
           (c.enter.ensures.entered whole)) refl refl;
     }

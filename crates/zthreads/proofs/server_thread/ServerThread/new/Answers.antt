@@ -1,6 +1,6 @@
 use Rattle.std.proofs.Common.{None, sym, subst}
-use Rattle.zthreads.specs.Desks.{Stands, pending, TreeStanding}
+use Rattle.zthreads.specs.Endpoints.{Stands, pending, TreeStanding}
 use Rattle.zthreads.proofs.server_thread.ServerThread.new.Goals as goal
 
 pub new-requires-clause-at : goal.new-requires-clause-at
-new-requires-clause-at c = let d = c.args.desk in subst (λ (s : TreeStanding). Stands d s None (pending d)) (sym c.server.ensures) c.requires.at
+new-requires-clause-at c = let d = c.args.endpoint in subst (λ (s : TreeStanding). Stands d s None (pending d)) (sym c.server.ensures) c.requires.at

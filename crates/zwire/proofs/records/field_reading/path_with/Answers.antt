@@ -16,7 +16,7 @@ returns-in-Ok-parse c =
     ap path_from same ∙ path_again path is.0
 
 pub returns-in-Err : goal.returns-in-Err
-returns-in-Err c = path_unread c.args.text.now c.in-Err.fault c.unread.result told c.unread.ensures.memory c.unread.ensures.other
+returns-in-Err c = path_unread c.args.text.now c.in-Err.fault c.unread.result reported c.unread.ensures.memory c.unread.ensures.other
   where
-    told : IsMemoryOr (fault_of c.args.text.now) c.in-Err.fault
-    told = rw c.in-Ok.ensures.cases.0 at c.in-Err.ensures.fault
+    reported : IsMemoryOr (fault_of c.args.text.now) c.in-Err.fault
+    reported = rw c.in-Ok.ensures.cases.0 at c.in-Err.ensures.fault

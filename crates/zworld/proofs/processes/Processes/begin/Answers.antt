@@ -23,8 +23,8 @@ returns-clause-stepped c =
     let number = c.in-Some-begun_number.number in let seen = c.args.seen.now.items in (
       call_event.Begin c.args.client number c.args.call ∷ [],
       c.push_reserved.ensures.items
-          ∙ ap (λ xs. xs ++ call_event.Begin c.args.client number c.in-Ok-copied.told ∷ []) c.reserve.ensures.items
-          ∙ ap (λ (told : Call). seen ++ call_event.Begin c.args.client number told ∷ []) c.in-Ok-copied.ensures,
+          ∙ ap (λ xs. xs ++ call_event.Begin c.args.client number c.in-Ok-copied.reported ∷ []) c.reserve.ensures.items
+          ∙ ap (λ (reported : Call). seen ++ call_event.Begin c.args.client number reported ∷ []) c.in-Ok-copied.ensures,
       begun c.args.self.now c.give-done.new.self c.args.client c.args.call c.in-Ok-done.done number
           (sym c.in-Some-begun_number.is ∙ c.begun_number.ensures)
           (c.in_default.ensures.can c.args.call) c.in-Ok-done.ensures.given,

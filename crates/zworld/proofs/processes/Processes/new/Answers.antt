@@ -1,17 +1,17 @@
-use Rattle.zprotocol.specs.server.Machine.{kept_tree}
+use Rattle.zprotocol.specs.server.Machine.{cached_tree}
 use Rattle.zworld.proofs.OpeningViews.{opens, opens_full}
 use Rattle.zworld.proofs.processes.Processes.new.Goals as goal
 
 -- all are there
 pub invariant_of-result : goal.invariant_of-result
 invariant_of-result c =
-    opens_full kept_tree c.args.last c.args.clients c.keeps_in_range.ensures.few c.requires c.in_ok-opening_actors.field-0.items c.in_ok-new.field-0
+    opens_full cached_tree c.args.last c.args.clients c.keeps_in_range.ensures.few c.requires c.in_ok-opening_actors.field-0.items c.in_ok-new.field-0
     c.in_ok-opening_actors.ensures
     c.new-2.result.posts c.new-2.ensures c.in_ok-new.ensures.notices
 
 -- it is the initial world
 pub returns : goal.returns
 returns c =
-    opens kept_tree c.args.last c.args.clients c.keeps_in_range.ensures.few c.requires c.in_ok-opening_actors.field-0.items c.in_ok-new.field-0
+    opens cached_tree c.args.last c.args.clients c.keeps_in_range.ensures.few c.requires c.in_ok-opening_actors.field-0.items c.in_ok-new.field-0
     c.in_ok-opening_actors.ensures
     c.in_ok-new.ensures.empty

@@ -7,10 +7,10 @@ use Rattle.zworld.specs.Held.{Held, HeldChannels, kept_world}
 use Rattle.zprotocol.specs.world.History.{History}
 use Rattle.zactor.specs.declared.handed.Handed.{Handed}
 use Rattle.zactor.specs.declared.input.Input.TheVariants.{Hear}
-use Rattle.zactor.specs.Acting.{reply_handed, told_by}
-use Rattle.zworld.specs.support.Giving.{IsToldOf, told_with}
+use Rattle.zactor.specs.Acting.{reply_handed, reported_by}
+use Rattle.zworld.specs.support.Giving.{IsReportedOf, reported_with}
 use Rattle.zworld.specs.support.Stepped.{Goes, HasStepped}
-use Rattle.zworld.proofs.Delivered.{delivered, not_taken, not_taken_lost, told_as_handed}
+use Rattle.zworld.proofs.Delivered.{delivered, not_taken, not_taken_lost, reported_as_handed}
 use Rattle.zworld.proofs.Posting.{lost_read, popped_world}
 use Rattle.zworld.proofs.Results.{if_ok_more}
 use Rattle.zworld.proofs.processes.Processes.take.Goals as goal
@@ -48,13 +48,13 @@ returns-in-Ok-clause-stepped c =
     c.if-is_lost.false in
     let there : (kept_world old []).links c.args.from c.args.to ≡ message ∷ rest =
     ap (λ (h : Held). links_of h.links c.args.from c.args.to) (sym c.self.view_is) ∙ c.in-Some.ensures.front in
-    let seen : told_with c.args.to c.in-Ok.done (reply_handed c.give.new.handed) ≡ told_by c.args.to (Hear c.args.from message) c.in-Ok.done =
-    ap (λ (h : Handed). told_with c.args.to c.in-Ok.done (reply_handed h)) c.in-Ok.ensures.handed
-    ∙ told_as_handed c.args.to c.args.from message c.in-Ok.done in
+    let seen : reported_with c.args.to c.in-Ok.done (reply_handed c.give.new.handed) ≡ reported_by c.args.to (Hear c.args.from message) c.in-Ok.done =
+    ap (λ (h : Handed). reported_with c.args.to c.in-Ok.done (reply_handed h)) c.in-Ok.ensures.handed
+    ∙ reported_as_handed c.args.to c.args.from message c.in-Ok.done in
     if_ok_more
-    (IsToldOf (told_with c.args.to c.in-Ok.done (reply_handed c.give.new.handed)) c.in-Ok.done c.args.seen.now.items c.told_of-did.new.seen.items)
-    (Goes old c.give.new.self (Take c.args.from c.args.to) c.args.seen.now c.told_of-did.new.seen) c.told_of-did.result c.told_of-did.ensures.told
-    (λ did told. delivered old mid c.give.new.self c.args.from message rest c.args.seen.now.items c.told_of-did.new.seen.items did c.args.to c.in-Ok.done
+    (IsReportedOf (reported_with c.args.to c.in-Ok.done (reply_handed c.give.new.handed)) c.in-Ok.done c.args.seen.now.items c.reported_of-did.new.seen.items)
+    (Goes old c.give.new.self (Take c.args.from c.args.to) c.args.seen.now c.reported_of-did.new.seen) c.reported_of-did.result c.reported_of-did.ensures.reported
+    (λ did reported. delivered old mid c.give.new.self c.args.from message rest c.args.seen.now.items c.reported_of-did.new.seen.items did c.args.to c.in-Ok.done
     there alive
     (popped_world old held c.next.new.self c.args.from c.args.to c.self.view_is c.in-Some.ensures.rest) c.in-Ok.ensures.given
-    (told.0 ∙ ap (λ (h : History). c.args.seen.now.items ++ h) seen, told.1))
+    (reported.0 ∙ ap (λ (h : History). c.args.seen.now.items ++ h) seen, reported.1))

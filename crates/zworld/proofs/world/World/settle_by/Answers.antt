@@ -66,9 +66,9 @@ returns-in-Err-clause-explained c =
       is_restored = old.is_restored;
       is_broken = true;
     } in
-    let told : c.len-told.result ≡ length old.history.items = omega (arith, c.len-told.ensures, old.history.ok) in
+    let reported : c.len-reported.result ≡ length old.history.items = omega (arith, c.len-reported.ensures, old.history.ok) in
     let stays : c.truncate.new.self.items ≡ old.history.items =
-    c.truncate.ensures.items ∙ (λ i. take (told i) (c.in-Err.ensures.partly.1 i)) ∙ take-append_seam old.history.items c.in-Err.ensures.partly.0 in
+    c.truncate.ensures.items ∙ (λ i. take (reported i) (c.in-Err.ensures.partly.1 i)) ∙ take-append_seam old.history.items c.in-Err.ensures.partly.0 in
     past_is_explained new (past_stays old.is_restored old.has_forgotten old.is_broken old.processes c.settle.new.self
     old.history.items c.truncate.new.self.items c.self.invariant stays)
 
@@ -81,8 +81,8 @@ returns-in-Err-clause-needed c = λ whole.
 pub invariant_of-self-in-Err : goal.invariant_of-self-in-Err
 invariant_of-self-in-Err c =
     let old = c.self.inside in
-    let told : c.len-told.result ≡ length old.history.items = omega (arith, c.len-told.ensures, old.history.ok) in
+    let reported : c.len-reported.result ≡ length old.history.items = omega (arith, c.len-reported.ensures, old.history.ok) in
     let stays : c.truncate.new.self.items ≡ old.history.items =
-    c.truncate.ensures.items ∙ (λ i. take (told i) (c.in-Err.ensures.partly.1 i)) ∙ take-append_seam old.history.items c.in-Err.ensures.partly.0 in
+    c.truncate.ensures.items ∙ (λ i. take (reported i) (c.in-Err.ensures.partly.1 i)) ∙ take-append_seam old.history.items c.in-Err.ensures.partly.0 in
     past_stays old.is_restored old.has_forgotten old.is_broken old.processes c.settle.new.self old.history.items
     c.truncate.new.self.items c.self.invariant stays

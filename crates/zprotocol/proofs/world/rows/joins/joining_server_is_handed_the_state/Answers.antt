@@ -7,7 +7,7 @@ unfolding all_tables
 returns c = record {
   one_joins = refl;
   silent = refl;
-  told = refl;
+  reported = refl;
   handed_over = refl;
   seen = refl;
 }

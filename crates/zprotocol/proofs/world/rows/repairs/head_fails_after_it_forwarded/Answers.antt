@@ -6,7 +6,7 @@ pub returns : goal.returns
 unfolding all_tables
 returns c = record {
   gone = refl;
-  told = refl;
+  reported = refl;
   head = refl;
   seen = refl;
 }

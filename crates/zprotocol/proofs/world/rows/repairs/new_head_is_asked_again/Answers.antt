@@ -5,7 +5,7 @@ use Rattle.zprotocol.proofs.world.rows.repairs.new_head_is_asked_again.Goals as 
 pub returns : goal.returns
 unfolding all_tables
 returns c = record {
-  told = refl;
+  reported = refl;
   asked = refl;
   two_answers = refl;
   seen = refl;

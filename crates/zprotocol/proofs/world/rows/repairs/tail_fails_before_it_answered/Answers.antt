@@ -5,7 +5,7 @@ use Rattle.zprotocol.proofs.world.rows.repairs.tail_fails_before_it_answered.Goa
 pub returns : goal.returns
 unfolding all_tables
 returns c = record {
-  told = refl;
+  reported = refl;
   tail = refl;
   processed = refl;
   silent = refl;

@@ -11,7 +11,7 @@ returns c = record {
   failed = refl;
   takes_nothing_more = refl;
   fails_no_more = refl;
-  told = refl;
+  reported = refl;
   head = refl;
   seen = refl;
 }

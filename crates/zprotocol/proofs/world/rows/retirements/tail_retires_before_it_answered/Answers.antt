@@ -5,7 +5,7 @@ use Rattle.zprotocol.proofs.world.rows.retirements.tail_retires_before_it_answer
 pub returns : goal.returns
 unfolding all_tables
 returns c = record {
-  told = refl;
+  reported = refl;
   tail = refl;
   acted_once = refl;
   seen = refl;

@@ -5,7 +5,7 @@ use Rattle.zprotocol.proofs.world.rows.steps.processes_go_by_their_tables.Goals 
 pub returns : goal.returns
 unfolding all_tables
 returns c = record {
-  call_is_told = refl;
+  call_is_reported = refl;
   call_is_sent = refl;
   again = refl;
   unseen = refl;

@@ -1,5 +1,0 @@
-use Rattle.zcodec.proofs.Composed.{texts_apart}
-use Rattle.zcodec.proofs.laws.texts_tell_apart.Goals as goal
-
-pub returns : goal.returns
-returns c = texts_apart

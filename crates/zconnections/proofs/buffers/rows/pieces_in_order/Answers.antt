@@ -1,5 +1,0 @@
-use Rattle.std.proofs.Common.{refl}
-use Rattle.zconnections.proofs.buffers.rows.pieces_in_order.Goals as goal
-
-pub returns : goal.returns
-returns c = record { first = λ p q. refl; none = refl; without = λ p q three five. rw (three, five) refl }

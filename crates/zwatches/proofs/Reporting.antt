@@ -1,0 +1,150 @@
+-- Whom the rows of several places tell, and the rows without them.
+use Rattle.std.proofs.Common.{◌≡◌, ℕ, Bool, true, false, cond, eqb, not, ◌&&◌, ◌||◌, List, [], ◌∷◌, map, refl, sym, ap, subst, ◌∙◌}
+use Rattle.std.specs.Ordering.{eq_by_cmp, nat_cmp}
+use Rattle.std.specs.Cmp.{Equal-is, both_ways, eq_by_cmp_equiv}
+use Rattle.std.specs.List.{filter, list_any, dedup}
+use Rattle.std.specs.List.Sorted.{IsStrictlySortedBy, IsSorted, IsPermutation}
+use Rattle.std.specs.FinSet.{items, from_list, retain}
+use Rattle.std.specs.FinMap.{nat_cmp-IsAntisymmetric}
+use Rattle.std.proofs.lemmas.Cmp.{nat_cmp_total}
+use Rattle.std.proofs.lemmas.List.Folds.{list_any-append}
+use Rattle.std.proofs.lemmas.List.Kept.{IsStrictlySortedBy-filter, Contains-dedup_nat, Contains-from_dedup}
+use Rattle.std.proofs.lemmas.List.Sorted.{list_any-IsPermutation}
+use Rattle.std.proofs.lemmas.Map.Keys.{IsStrictlyIncreasing-dedup, sorted_from_strictly_increasing}
+use Rattle.std.proofs.lemmas.Map.Views.{Contains-from_any, list_any-from_Contains}
+use Rattle.zjute.specs.declared.event.EventKind.{EventKind}
+use Rattle.zwatches.specs.declared.place.Place.{Place}
+use Rattle.zwatches.specs.declared.watch.Watch.{Watch}
+use Rattle.zwatches.specs.Watches.{Path, watch_cmp}
+use Rattle.zwatches.specs.Events.{is_at, fired_at, fires, reported, unfired, without, Lists}
+use Rattle.zwatches.specs.support.Groups.{reported_by, kept}
+use Rattle.zwatches.proofs.Order.{watches_total, same_watch}
+use Rattle.zwatches.proofs.Sets.{from_list-filter, any-items, same_list}
+
+-- ---- the rows that stay
+
+filter_step : {X : Type 0} (p : X → Bool) (b : Bool) (x : X) (ys zs : List X) → filter p ys ≡ zs → filter p (cond b (x ∷ ys) ys) ≡ cond (b && p x) (x ∷ zs) zs
+filter_step {X} p true x ys zs e = ap (λ (vs : List X). cond (p x) (x ∷ vs) vs) e
+filter_step p false x ys zs e = e
+
+filter_filter : {X : Type 0} (p q : X → Bool) (xs : List X) → filter p (filter q xs) ≡ filter (λ x. q x && p x) xs
+filter_filter p q [] = refl
+filter_filter p q (x ∷ xs) = filter_step p (q x) x (filter q xs) (filter (λ x. q x && p x) xs) (filter_filter p q xs)
+
+not_or : (a b : Bool) → (not a && not b) ≡ not (a || b)
+not_or true b = refl
+not_or false b = refl
+
+filter_same : {X : Type 0} (p q : X → Bool) → ((x : X) → p x ≡ q x) → (xs : List X) → filter p xs ≡ filter q xs
+filter_same p q same [] = refl
+filter_same p q same (x ∷ xs) = rw (same x, filter_same p q same xs) refl
+
+filter_true : {X : Type 0} (xs : List X) → filter (λ _. true) xs ≡ xs
+filter_true [] = refl
+filter_true (x ∷ xs) = ap (λ ys. x ∷ ys) (filter_true xs)
+
+pub kept_is : (rows : List Watch) (places : List Place) → kept rows places ≡ filter (λ w. not (list_any (λ at. is_at at w) places)) rows
+kept_is rows [] = sym (filter_true rows)
+kept_is rows (at ∷ places) =
+    kept_is (filter (λ w. not (is_at at w)) rows) places
+    ∙ filter_filter (λ w. not (list_any (λ at. is_at at w) places)) (λ w. not (is_at at w)) rows
+    ∙ filter_same _ _ (λ w. not_or (is_at at w) (list_any (λ at. is_at at w) places)) rows
+
+pub kept_sorted : (rows : List Watch) (test : Watch → Bool) → IsStrictlySortedBy watch_cmp rows → IsStrictlySortedBy watch_cmp (filter test rows)
+kept_sorted rows test sorted = IsStrictlySortedBy-filter watch_cmp test rows sorted
+
+-- ---- the connections of the others
+
+and_true : (a : Bool) → a ≡ (a && true)
+and_true true = refl
+and_true false = refl
+
+and_false : (a : Bool) → (a && false) ≡ false
+and_false true = refl
+and_false false = refl
+
+pub any_map : {X Y : Type 0} (p : Y → Bool) (f : X → Y) (xs : List X) → list_any p (map f xs) ≡ list_any (λ x. p (f x)) xs
+any_map p f [] = refl
+any_map p f (x ∷ xs) = ap (λ b. p (f x) || b) (any_map p f xs)
+
+any_step : {X : Type 0} (p : X → Bool) (b : Bool) (x : X) (ys : List X) (found : Bool) → list_any p ys ≡ found → list_any p (cond b (x ∷ ys) ys) ≡ ((p x && b) || found)
+any_step p true x ys found e = rw e (ap (λ b. b || found) (and_true (p x)))
+any_step p false x ys found e = e ∙ ap (λ b. b || found) (sym (and_false (p x)))
+
+any_filter : {X : Type 0} (p q : X → Bool) (xs : List X) → list_any p (filter q xs) ≡ list_any (λ x. p x && q x) xs
+any_filter p q [] = refl
+any_filter p q (x ∷ xs) = any_step p (q x) x (filter q xs) (list_any (λ x. p x && q x) xs) (any_filter p q xs)
+
+any_none : {X : Type 0} (p : X → Bool) (xs : List X) → list_any (λ x. p x && false) xs ≡ false
+any_none p [] = refl
+any_none p (x ∷ xs) = rw (and_false (p x)) (any_none p xs)
+
+either_step : (p q r : Bool) (a b c : Bool) → (a || b) ≡ c → (((p && q) || a) || ((p && r) || b)) ≡ ((p && (q || r)) || c)
+either_step true true r a b c e = refl
+either_step true false true true b c e = refl
+either_step true false true false b c e = refl
+either_step true false false a b c e = e
+either_step false q r a b c e = e
+
+any_either : {X : Type 0} (p q r : X → Bool) (xs : List X) → (list_any (λ x. p x && q x) xs || list_any (λ x. p x && r x) xs) ≡ list_any (λ x. p x && (q x || r x)) xs
+any_either p q r [] = refl
+any_either p q r (x ∷ xs) = either_step (p x) (q x) (r x) _ _ _ (any_either p q r xs)
+
+reported_members : (rows : List Watch) (places : List Place) (p : ℕ → Bool) → list_any p (reported_by rows places) ≡ list_any (λ w. p w.connection && list_any (λ at. is_at at w) places) rows
+reported_members rows [] p = sym (any_none (λ (w : Watch). p w.connection) rows)
+reported_members rows (at ∷ places) p =
+    list_any-append p (map (λ w. w.connection) (filter (is_at at) rows)) (reported_by rows places)
+    ∙ rw (any_map p (λ (w : Watch). w.connection) (filter (is_at at) rows), any_filter (λ (w : Watch). p w.connection) (is_at at) rows, reported_members rows places p)
+    (any_either (λ (w : Watch). p w.connection) (is_at at) (λ w. list_any (λ at. is_at at w) places) rows)
+
+-- the items of a table that a test keeps
+pub any_retained : (rows : List Watch) (test p : Watch → Bool) → list_any p (items (retain (from_list {R = watch_cmp} rows) test)) ≡ list_any (λ w. p w && test w) rows
+any_retained rows test p =
+    ap (λ set. list_any p (items set)) (sym (from_list-filter watches_total same_watch test rows))
+    ∙ any-items watches_total same_watch p (filter test rows)
+    ∙ any_filter p test rows
+
+-- the connections that the rows tell are those to tell
+pub reported_is : (rows : List Watch) (event : EventKind) (path : Path)
+    → from_list {R = nat_cmp} (reported_by rows (fired_at event path)) ≡ reported (from_list {R = watch_cmp} rows) event path
+reported_is rows event path =
+    same_list nat_cmp_total nat_cmp-IsAntisymmetric _ _ (λ q.
+    reported_members rows (fired_at event path) (eq_by_cmp nat_cmp q)
+    ∙ sym (any_map (eq_by_cmp nat_cmp q) (λ (w : Watch). w.connection) (items (retain (from_list rows) (fires event path)))
+    ∙ any_retained rows (fires event path) (λ (w : Watch). eq_by_cmp nat_cmp q w.connection)))
+
+pub unfired_is : (rows : List Watch) (event : EventKind) (path : Path) → from_list {R = watch_cmp} (kept rows (fired_at event path)) ≡ unfired (from_list rows) event path
+unfired_is rows event path =
+    ap from_list (kept_is rows (fired_at event path)) ∙ from_list-filter watches_total same_watch (λ w. not (fires event path w)) rows
+
+pub reported_lists : (rows : List Watch) (event : EventKind) (path : Path) (all numbers : List ℕ) → all ≡ reported_by rows (fired_at event path)
+    → Lists numbers (from_list {R = nat_cmp} all) → Lists numbers (reported (from_list {R = watch_cmp} rows) event path)
+reported_lists rows event path all numbers is lists = subst (λ s. Lists numbers s) (ap from_list is ∙ reported_is rows event path) lists
+
+pub unfired_rows : (rows new : List Watch) (event : EventKind) (path : Path) → new ≡ kept rows (fired_at event path)
+    → from_list {R = watch_cmp} new ≡ unfired (from_list rows) event path
+unfired_rows rows new event path is = ap from_list is ∙ unfired_is rows event path
+
+pub kept_all_sorted : (rows : List Watch) (places : List Place) → IsStrictlySortedBy watch_cmp rows → IsStrictlySortedBy watch_cmp (kept rows places)
+kept_all_sorted rows [] sorted = sorted
+kept_all_sorted rows (at ∷ places) sorted = kept_all_sorted (filter (λ w. not (is_at at w)) rows) places (kept_sorted rows (λ w. not (is_at at w)) sorted)
+
+pub others_rows : (rows new : List Watch) (connection : ℕ) → new ≡ filter (λ w. not (eqb w.connection connection)) rows
+    → from_list {R = watch_cmp} new ≡ without (from_list rows) connection
+others_rows rows new connection is = ap from_list is ∙ from_list-filter watches_total same_watch (λ w. not (eqb w.connection connection)) rows
+
+-- ---- sorted, and each once
+
+tied : (x y : ℕ) → eq_by_cmp nat_cmp x y ≡ true → x ≡ y
+tied x y e = nat_cmp-IsAntisymmetric x y ((Equal-is (nat_cmp x y)).0 e)
+
+dedup_members : (xs : List ℕ) (q : ℕ) → list_any (eq_by_cmp nat_cmp q) (dedup eqb xs) ≡ list_any (eq_by_cmp nat_cmp q) xs
+dedup_members xs q = both_ways _ _
+    (λ one. list_any-from_Contains (eq_by_cmp_equiv nat_cmp_total) q xs (Contains-from_dedup eqb xs q (Contains-from_any tied q (dedup eqb xs) one)))
+    (λ one. list_any-from_Contains (eq_by_cmp_equiv nat_cmp_total) q (dedup eqb xs) (Contains-dedup_nat xs q (Contains-from_any tied q xs one)))
+
+pub rising_lists : (xs ys zs : List ℕ) → IsPermutation xs ys → IsSorted nat_cmp ys → zs ≡ dedup eqb ys → Lists zs (from_list {R = nat_cmp} xs)
+rising_lists xs ys zs moved sorted is = subst (λ vs. Lists vs (from_list {R = nat_cmp} xs)) (sym is) (record {
+  rising = sorted_from_strictly_increasing (dedup eqb ys) (IsStrictlyIncreasing-dedup ys sorted);
+  same = same_list nat_cmp_total nat_cmp-IsAntisymmetric _ _ (λ q. dedup_members ys q ∙ sym (list_any-IsPermutation (eq_by_cmp nat_cmp q) xs ys moved));
+})

@@ -1,5 +1,0 @@
-use Rattle.zwatches.proofs.changes_lemmas.Changes.{events_tell_every_change}
-use Rattle.zwatches.proofs.changes.laws.events_tell_every_change.Goals as goal
-
-pub returns : goal.returns
-returns c = events_tell_every_change

@@ -1,5 +1,0 @@
-use Rattle.zwire.proofs.records_lemmas.Texts.{one_record, texts_apart}
-use Rattle.zwire.proofs.records.laws.texts_tell_apart.Goals as goal
-
-pub returns : goal.returns
-returns c = record { first = one_record; all = texts_apart }
