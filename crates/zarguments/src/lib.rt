@@ -14,8 +14,8 @@ mod asked;
 mod fault;
 mod line;
 mod options;
-pub mod rows;
 mod reporting;
+pub mod rows;
 
 pub use asked::numbers_asked;
 pub use fault::WordsFault;

@@ -15,8 +15,8 @@ use crate::replaying::replay;
 use crate::stamps::{all_rise, has_cut};
 use std::alloc::Global;
 use zprotocol::traces::Traces;
-use zworld::World;
 use zprotocol::world::CallEvent;
+use zworld::World;
 
 // Returns the initial world of the run.
 fn opened(alloc: Global, traces: &Traces) -> Result<World, zalloc::Memory>

@@ -10,8 +10,8 @@ use crate::faults::AuditFault;
 use std::alloc::Global;
 use zprotocol::Process;
 use zprotocol::traces::Act;
-use zworld::{Did, World};
 use zprotocol::world::{Event, Outcome};
+use zworld::{Did, World};
 
 // Returns the event of the world that a step represents, if there is one.
 fn event_for(alloc: Global, process: Process, act: &Act) -> Result<Option<Event>, zalloc::Memory>

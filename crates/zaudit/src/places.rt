@@ -6,8 +6,8 @@ ghost use Rattle.zprotocol.specs.traces.support.Places.{place_count, process_at,
 ghost use Rattle.zaudit.specs.support.Heads.{trace_at, IsNextAt};
 
 use zcalls::ClientId;
-use zprotocol::{Process, ServerId};
 use zprotocol::traces::{TraceEvent, Traces};
+use zprotocol::{Process, ServerId};
 
 /// Returns how many traces there are.
 pub(crate) fn count_of(traces: &Traces) -> usize

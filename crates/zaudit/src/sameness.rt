@@ -7,8 +7,8 @@ use zcalls::{
     Update,
 };
 use zpath::{Name, Path};
-use ztree::Data;
 use zprotocol::world::CallEvent;
+use ztree::Data;
 
 fn is_same_path(a: &Path, b: &Path) -> bool
     ensures yes { result ≡ true → a.now ≡ b.now }

@@ -2,8 +2,8 @@
 
 use std::test::Fail;
 use zcalls::{CallNumber, Update};
-use zworld::links::Links;
 use zprotocol::{Epoch, Message, PROCESSES, Process, ServerId};
+use zworld::links::Links;
 
 #[test]
 fn takes_what_was_put(rt: HostRuntime) -> Result<(), Fail> {

@@ -10,6 +10,7 @@ ghost use Rattle.std.specs.Prelude.{IfErr, IfOk, IsTrue, OnErr, OnOk};
 ghost use Rattle.crossbeam_channel.specs.Claims.{view, IsSeatAt};
 ghost use Rattle.crossbeam_channel.specs.Ends.{receives_on, sends_on};
 
+use crate::bells::Bells;
 use crate::outcome::OrderOutcome;
 use crate::rings::{Rx, Tx, link, reported};
 use crate::rule::{Fifo, Law, Log, Puts, Roles, Takes};
@@ -18,7 +19,6 @@ use std::alloc::Global;
 use std::sync::Wait;
 use thiserror::Error;
 use zalloc::Memory;
-use crate::bells::Bells;
 use zprotocol::{Order, Process, ServerId};
 
 /// How many orders the channel has room for.

@@ -25,10 +25,10 @@ pub mod limits;
 pub mod looks;
 mod mesh;
 pub mod outcome;
+mod reporting;
 pub mod rings;
 pub mod rows;
 pub mod rule;
-mod reporting;
 pub mod tickets;
 
 pub use mesh::{Mesh, weave};

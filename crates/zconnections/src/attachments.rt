@@ -4,12 +4,12 @@
 //! then has beside the tree. It lists the sessions that sent requests since the last `rest`: `rest`
 //! clears the flag of each session. `specs/Attachments.antt` defines it.
 
+mod attachment;
+mod attachments;
 pub mod laws;
 mod listing;
 mod restored;
 mod rows;
-mod attachment;
-mod attachments;
 mod table;
 
 pub use attachment::Attachment;

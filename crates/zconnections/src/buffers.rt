@@ -4,18 +4,18 @@
 //! writes are queued in order in an outbox. `specs/Inputs.antt`, `specs/Streams.antt` and
 //! `specs/Outbox.antt` define these.
 
+mod chunk;
 mod input;
 mod outbox;
 mod phase;
-mod chunk;
 mod rows;
 mod stream;
 mod streams;
 mod table;
 
+pub use chunk::Chunk;
 pub use input::Input;
 pub use outbox::Outbox;
 pub use phase::Phase;
-pub use chunk::Chunk;
 pub use stream::Stream;
 pub use streams::Streams;

@@ -4,9 +4,9 @@ ghost use Rattle.std.specs.Prelude.{◌≡◌, OnOk};
 ghost use Rattle.zconnections.specs.Tables.{closed, closing, connection_of, ended, moved, parted};
 ghost use Rattle.zconnections.specs.Tables.{without_seat};
 
+use crate::buffers::Chunk;
 use crate::tables::Tables;
 use zalloc::Memory;
-use crate::buffers::Chunk;
 use ztree::SessionId;
 
 impl Tables {

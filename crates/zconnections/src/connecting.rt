@@ -5,9 +5,9 @@ ghost use Rattle.std.specs.FinMap as finite;
 ghost use Rattle.zconnections.specs.buffers.Streams.{bytes_of, held_of, opened, phase_of, with_bytes};
 ghost use Rattle.zconnections.specs.Tables.{is_open, session_in};
 
+use crate::buffers::Phase;
 use crate::tables::Tables;
 use zalloc::Memory;
-use crate::buffers::Phase;
 use ztree::SessionId;
 
 impl Tables {

@@ -7,9 +7,9 @@ ghost use Rattle.zconnections.specs.Reporting as table;
 
 use std::alloc::Global;
 use zalloc::Memory;
-use zwatches::changes::Event;
 use zjute::{Bytes, KeeperState, WatcherEvent, WriteError, write_event};
 use zpath::Path;
+use zwatches::changes::Event;
 
 // Returns an event as a frame.
 pub(crate) fn event_frame(alloc: Global, event: &Event) -> Result<Vec<u8>, Memory>

@@ -12,12 +12,12 @@ mod connecting;
 mod framing;
 pub mod laws;
 mod making;
+mod reporting;
 mod rows;
 mod seating;
 mod sending;
 mod sweeping;
 mod tables;
-mod reporting;
 mod watching;
 
 pub use tables::Tables;

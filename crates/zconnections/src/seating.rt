@@ -6,9 +6,9 @@ ghost use Rattle.zconnections.specs.attachments.Attachments.{all_rested, restore
 ghost use Rattle.zconnections.specs.attachments.Attachments.{touched_ids, with_changed};
 ghost use Rattle.zconnections.specs.Tables.{seated, attachment, taken_up};
 
+use crate::buffers::Phase;
 use crate::tables::Tables;
 use zalloc::Memory;
-use crate::buffers::Phase;
 use ztree::SessionId;
 
 impl Tables {

@@ -5,9 +5,9 @@ ghost use Rattle.std.specs.Option.{option_copied};
 ghost use Rattle.zconnections.specs.buffers.Outbox.{first_of};
 ghost use Rattle.zconnections.specs.Tables.{sent};
 
+use crate::buffers::Chunk;
 use crate::tables::Tables;
 use zalloc::Memory;
-use crate::buffers::Chunk;
 
 impl Tables {
     /// Queues bytes for a connection. Nothing is queued if it is closing.

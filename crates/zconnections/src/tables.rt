@@ -4,10 +4,10 @@ ghost use Rattle.std.specs.Prelude.{◌≡◌, []};
 ghost use Rattle.std.specs.FinMap as finite;
 ghost use Rattle.std.specs.FinSet as sets;
 
+use crate::attachments::Attachments;
+use crate::buffers::{Outbox, Streams};
 use std::alloc::Global;
 use std::marker::Model;
-use crate::buffers::{Outbox, Streams};
-use crate::attachments::Attachments;
 use zwatches::Watches;
 
 /// The connections, the sessions, the watches, and the chunks to be sent.

@@ -7,13 +7,13 @@ ghost use Rattle.zdaemon.specs.AtRest.{IsExported, IsStatReported};
 
 use crate::fault::HostedFault;
 use crate::folder::unkept;
+use crate::pipe::ServeFault;
 use std::alloc::Global;
 use zarguments::tell;
 use zdevices::{Sink, write_all};
-use zsnapshots::export::{ExportFault, Machine, counts, write_export, write_left_out, write_stat};
-use zjournal::Device;
 use zdurable::{OpenFault, ServerId, Stored, folder_stat, look};
-use crate::pipe::ServeFault;
+use zjournal::Device;
+use zsnapshots::export::{ExportFault, Machine, counts, write_export, write_left_out, write_stat};
 
 /// Compacts the journal, and prints how many bytes it has, and had.
 pub(crate) fn compact<D: Device + Drop, K: Sink>(

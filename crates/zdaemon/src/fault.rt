@@ -2,13 +2,13 @@
 
 ghost use Rattle.std.specs.Prelude.{◌≡◌};
 
+use crate::pipe::ServeFault;
 use std::fmt;
 use thiserror::Error;
 use zarguments::WordsFault;
-use zjournal::file::FileFault;
-use zjournal::OpenError;
 use zdurable::OpenFault;
-use crate::pipe::ServeFault;
+use zjournal::OpenError;
+use zjournal::file::FileFault;
 
 /// What ended a server before its host did.
 #[derive(Clone, Copy, Debug, PartialEq, Eq, Error)]

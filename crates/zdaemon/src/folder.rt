@@ -3,9 +3,9 @@
 ghost use Rattle.std.specs.Prelude.{◌≡◌, Err, Ok, OnOk};
 ghost use Rattle.zdaemon.specs.Folder.{HasReported, IsGood, IsReported, Keeps, Takes, chunks_left};
 
+use crate::pipe::{Chunk, Input, ServeFault, Service};
+use zdurable::{DurableFault, DurableFront};
 use zjournal::Device;
-use zdurable::{DurableFront, DurableFault};
-use crate::pipe::{Input, Chunk, ServeFault, Service};
 
 /// A server with a folder, as a service of its host.
 #[derive(Drop)]

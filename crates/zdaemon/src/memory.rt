@@ -4,8 +4,8 @@ ghost use Rattle.std.specs.Prelude.{◌≡◌, None, Some, false, length};
 ghost use Rattle.zfront.specs.Inputs.{Does, without_first};
 ghost use Rattle.zconnections.specs.buffers.Outbox.{first_of};
 
+use crate::pipe::{Chunk, Input, ServeFault, Service};
 use zfront::Front;
-use crate::pipe::{Input, Chunk, ServeFault, Service};
 use ztree_service::TreeService;
 
 /// A server in memory, as a service of its host. Nothing of it is durable.

@@ -9,6 +9,7 @@ use crate::at_rest::{compact, export, stat};
 use crate::fault::HostedFault;
 use crate::folder::InFolder;
 use crate::memory::InMemory;
+use crate::pipe::{Secret, ServeFault, Service, read_secret, serve_all};
 use crate::tasks::{Task, task_of};
 use crate::words::{FolderSettings, hosted_settings};
 use std::alloc::Global;
@@ -17,10 +18,9 @@ use std::fs::{File, Files};
 use std::io::ErrorKind;
 use zarguments::{WordsFault, tell};
 use zdevices::{Sink, Source};
-use zjournal::file::{FileDevice, FileFault, SyncMode};
-use zfront::{Clock, Front, TickLength};
 use zdurable::{DurableFront, ServerId};
-use crate::pipe::{Secret, ServeFault, Service, read_secret, serve_all};
+use zfront::{Clock, Front, TickLength};
+use zjournal::file::{FileDevice, FileFault, SyncMode};
 use ztree_service::LocalTree;
 
 // From this many bytes on, the opening of a file is reported: it may take a second.

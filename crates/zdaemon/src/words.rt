@@ -5,8 +5,8 @@ ghost use Rattle.zarguments.specs.Asked.{texts_of};
 ghost use Rattle.zdaemon.specs.Asked.{IsAsked, is_dash, mode_of, Spells, SpellsBytes};
 
 use zarguments::WordsFault;
-use zjournal::file::SyncMode;
 use zdurable::{ServerId, TickLength};
+use zjournal::file::SyncMode;
 
 /// What the words ask for.
 #[derive(Clone, Copy, Debug, PartialEq, Eq)]

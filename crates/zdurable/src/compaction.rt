@@ -26,8 +26,8 @@ use crate::DurableFront;
 use crate::fault::DurableFault;
 use std::alloc::Global;
 use zjournal::{Device, Journal, PutError};
-use ztree_service::LocalTree;
 use zsnapshots::folder::Compaction;
+use ztree_service::LocalTree;
 
 impl<D: Device> DurableFront<D> {
     /// Returns whether the journal is to be compacted: it has at least `least` bytes, and at least

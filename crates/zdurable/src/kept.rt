@@ -31,8 +31,8 @@ use std::alloc::Global;
 use zfront::{Front, Secret, TickLength};
 use zjournal::{Device, Journal, PutError};
 use zprotocol::ServerId;
-use ztree_service::LocalTree;
 use zsnapshots::folder::Found;
+use ztree_service::LocalTree;
 
 /// A server for ZooKeeper's clients whose changes are made durable.
 ///

@@ -21,16 +21,16 @@
 //! request in flight opens a new connection after a crash anyway.
 #![tactic(auto)]
 
+mod chunks;
+mod compaction;
 mod fault;
 mod inputs;
 mod kept;
 pub mod laws;
 mod looking;
 mod opened;
-mod chunks;
 mod restored;
 mod rows;
-mod compaction;
 mod stored;
 mod writing;
 
@@ -39,7 +39,7 @@ pub use kept::DurableFront;
 pub use looking::{folder_stat, look};
 pub use opened::Opened;
 pub use stored::Stored;
-pub use zsnapshots::export::FolderStat;
-pub use zfront::{Input, Chunk, Secret, TickLength};
+pub use zfront::{Chunk, Input, Secret, TickLength};
 pub use zprotocol::ServerId;
+pub use zsnapshots::export::FolderStat;
 pub use zsnapshots::folder::Found;

@@ -12,9 +12,9 @@ ghost use Rattle.zdurable.specs.Looking.{IsLook, IsStatOf, ReportsOfPasswords};
 
 use crate::fault::OpenFault;
 use std::alloc::Global;
-use zsnapshots::export::{FolderStat, counts};
 use zjournal::{Device, OpenError, read_text};
 use zprotocol::ServerId;
+use zsnapshots::export::{FolderStat, counts};
 use zsnapshots::folder::{Found, read};
 
 /// Reads the tree that a file holds, and how many bytes of its text are the snapshot with which it

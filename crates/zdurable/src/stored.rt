@@ -9,14 +9,14 @@ ghost use Rattle.zdurable.specs.DurableFront.{KeepsTree};
 ghost use Rattle.zdurable.specs.Stored.{bytes_of, file_of, tree_of, IsGood, IsStored};
 ghost use Rattle.zsnapshots.specs.folder.Texts.{snapshot_text};
 
+use crate::compaction::compact;
 use crate::fault::{DurableFault, OpenFault};
 use crate::looking::look;
-use crate::compaction::compact;
 use std::alloc::Global;
 use zjournal::{Device, Journal};
 use zprotocol::ServerId;
-use ztree_service::LocalTree;
 use zsnapshots::folder::Found;
+use ztree_service::LocalTree;
 
 /// A journal, and its tree, without a front end.
 #[derive(Drop)]

@@ -11,8 +11,8 @@ ghost use Rattle.zsnapshots.specs.folder.Entries.{entries_text, records_of, AreE
 use std::alloc::Global;
 use zalloc::Memory;
 use zcalls::Update;
-use zwire::records::{Record, write_records};
 use zsnapshots::folder::add_entry;
+use zwire::records::{Record, write_records};
 
 /// Returns the text of updates: the record of each.
 pub(crate) fn written(alloc: Global, updates: Vec<Update>) -> Result<Vec<u8>, Memory>

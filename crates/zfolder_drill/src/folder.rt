@@ -3,9 +3,9 @@
 use crate::trouble::Trouble;
 use std::alloc::Global;
 use zcalls::Update;
-use zwire::records::write_records;
+use zsnapshots::folder::{Compaction, Found, add_entry, read};
 use ztree_service::LocalTree;
-use zsnapshots::folder::{Found, Compaction, add_entry, read};
+use zwire::records::write_records;
 
 // More chunks than any snapshot has.
 const MANY: usize = 10_000;

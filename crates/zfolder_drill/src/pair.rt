@@ -6,9 +6,9 @@ use crate::rounds::{read_again, rows, tree_rows};
 use crate::trouble::Trouble;
 use std::alloc::Global;
 use zcalls::{CallNumber, ClientId, Entry, Query, Reply};
-use zscript_text::write_reply;
 use zops::{MAX_APPLIED, Machine};
 use zpath::Path;
+use zscript_text::write_reply;
 
 /// A machine, and one that was read from its rows when they were compared last.
 #[derive(Drop)]

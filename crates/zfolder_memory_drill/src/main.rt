@@ -8,10 +8,10 @@ mod services;
 mod tree_stories;
 mod trees;
 
-use services::{change_is_kept, change_is_compacted, service_is_opened, service_is_compacted};
+use services::{change_is_compacted, change_is_kept, service_is_compacted, service_is_opened};
 use std::io;
 use tree_stories::{entry_is_applied, snapshot_is_written, text_is_read};
-use ztesting::{tell, report_end};
+use ztesting::{report_end, tell};
 
 fn main(rt: HostRuntime) -> io::Result<()> {
     tell(

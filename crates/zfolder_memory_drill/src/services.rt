@@ -6,8 +6,10 @@ ghost use Rattle.zdurable.specs.DurableFront.{IsSound};
 use crate::files::{stage_in, worked_file};
 use crate::trees::Stage;
 use std::alloc::Global;
+use zdurable::{
+    DurableFault, DurableFront, Input, OpenFault, Opened, Secret, ServerId, TickLength,
+};
 use zjournal::{Device, OpenError};
-use zdurable::{Input, DurableFront, DurableFault, OpenFault, Opened, Secret, ServerId, TickLength};
 use ztesting::Ended;
 
 // The milliseconds of a tick.

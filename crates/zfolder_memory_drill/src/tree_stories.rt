@@ -4,9 +4,9 @@ use crate::trees::{Stage, create, snapshot, stage_of, worked_text};
 use std::alloc::Global;
 use zalloc::Memory;
 use zcalls::{Kind, Lifetime, Reply, Update};
-use ztree_service::{LocalTree, TreeService};
 use zsnapshots::folder::{Found, ReadFault, read};
 use ztesting::Ended;
+use ztree_service::{LocalTree, TreeService};
 
 /// Reads a tree from its text: a snapshot, and an entry after it.
 pub(crate) fn text_is_read(alloc: Global) -> Ended {

@@ -4,9 +4,9 @@ use std::alloc::Global;
 use zalloc::Memory;
 use zcalls::{Create, Data, Kind, Lifetime, Query, Reply, Update};
 use zpath::{Name, Path};
-use zwire::records::write_records;
+use zsnapshots::folder::{Compaction, Found, ReadFault, add_entry, read};
 use ztree_service::{LocalTree, TreeService};
-use zsnapshots::folder::{Found, ReadFault, Compaction, add_entry, read};
+use zwire::records::write_records;
 
 // More chunks than its snapshot has.
 const MANY: usize = 9;

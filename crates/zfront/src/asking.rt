@@ -13,8 +13,8 @@ ghost use Rattle.zfront.specs.Front.{asked, replies_to};
 use crate::inner::Inner;
 use zalloc::Memory;
 use zcalls::{Call, Reply, Update};
-use ztree_service::TreeService;
 use ztree::Zxid;
+use ztree_service::TreeService;
 
 impl<T: TreeService> Inner<T> {
     // Makes calls in order, and returns their replies.

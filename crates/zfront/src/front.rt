@@ -16,10 +16,10 @@ use crate::inner::Inner;
 use std::alloc::Global;
 use std::marker::Model;
 use zalloc::Memory;
-use zresponses::Clock;
 use zcalls::Update;
+use zconnections::buffers::{Chunk, Input};
 use zpasswords::Secret;
-use zconnections::buffers::{Input, Chunk};
+use zresponses::Clock;
 use ztree_service::TreeService;
 
 /// A front end for ZooKeeper's clients, over a service of one tree.

@@ -7,12 +7,12 @@ ghost use Rattle.zfront.specs.Greeting.{greeted, greeted_by, opened, opening, re
 
 use crate::inner::Inner;
 use zalloc::Memory;
-use zrequests::{TickLength, ticks_asked};
 use zcalls::{Call, Reply, Update};
 use zjute::{ConnectRequest, ReadError, read_connect};
-use ztree_service::TreeService;
+use zrequests::{TickLength, ticks_asked};
 use zresponses::effects::{Granted, come_back, is_ahead, turn_away, welcome};
 use ztree::SessionId;
+use ztree_service::TreeService;
 
 impl<T: TreeService> Inner<T> {
     // Handles the first frame of a connection. Invalid bytes close the connection.

@@ -10,12 +10,12 @@ use std::alloc::Global;
 use std::marker::Model;
 use std::mem;
 use zalloc::Memory;
-use zresponses::Clock;
 use zcalls::Update;
-use zpasswords::Secret;
-use zconnections::buffers::Input;
-use ztree_service::TreeService;
 use zconnections::Tables;
+use zconnections::buffers::Input;
+use zpasswords::Secret;
+use zresponses::Clock;
+use ztree_service::TreeService;
 
 // The service of the tree, the tables, and the recorded updates. After a call ran out of memory,
 // the contracts promise nothing of it.

@@ -29,7 +29,7 @@ mod words;
 
 pub use front::Front;
 pub use zalloc::Memory;
-pub use zresponses::Clock;
-pub use zrequests::TickLength;
+pub use zconnections::buffers::{Chunk, Input};
 pub use zpasswords::Secret;
-pub use zconnections::buffers::{Input, Chunk};
+pub use zrequests::TickLength;
+pub use zresponses::Clock;

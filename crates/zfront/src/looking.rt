@@ -20,9 +20,9 @@ ghost use Rattle.zfront.specs.Front.{takes_nodes, Tidies, TidiesIf};
 use crate::inner::Inner;
 use zalloc::Memory;
 use zcalls::{Call, Query, Reply, Update};
-use ztree_service::TreeService;
 use zresponses::effects::look;
 use ztree::SessionId;
+use ztree_service::TreeService;
 use zwatches::Place;
 
 impl<T: TreeService> Inner<T> {

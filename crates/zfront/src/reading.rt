@@ -14,8 +14,8 @@ ghost use Rattle.zfront.specs.Reading.{is_too_long, Keeps, Reads};
 use crate::inner::Inner;
 use crate::limits::MAX_KEPT;
 use zalloc::Memory;
-use zjute::{Next, next_frame};
 use zconnections::buffers::Phase;
+use zjute::{Next, next_frame};
 use ztree_service::TreeService;
 
 impl<T: TreeService> Inner<T> {

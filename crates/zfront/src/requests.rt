@@ -15,13 +15,13 @@ ghost use Rattle.zfront.specs.Requests.{Acts, Makes, Serves};
 
 use crate::inner::Inner;
 use zalloc::Memory;
-use zresponses::{Answer, Now};
-use zrequests::{Unasked, calls_of};
 use zcalls::{Call, Reply};
 use zjute::{Body, Code, ReadError, Request, read_request};
-use ztree_service::TreeService;
+use zrequests::{Unasked, calls_of};
 use zresponses::effects::{Done, answer, reply};
+use zresponses::{Answer, Now};
 use ztree::SessionId;
+use ztree_service::TreeService;
 
 impl<T: TreeService> Inner<T> {
     // Handles a frame of a session. Invalid bytes close the connection.

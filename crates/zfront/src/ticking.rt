@@ -12,8 +12,8 @@ use crate::inner::Inner;
 use std::alloc::Global;
 use zalloc::Memory;
 use zcalls::{Call, Update};
-use ztree_service::TreeService;
 use ztree::SessionId;
+use ztree_service::TreeService;
 
 impl<T: TreeService> Inner<T> {
     // Renews the sessions that sent a request since the last tick, then advances the time.

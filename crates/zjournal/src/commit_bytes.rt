@@ -82,7 +82,11 @@ pub fn set_commit_byte<D: Device>(device: &mut D, commit_byte: usize) -> Result<
 }
 
 /// Writes a block after the clear commit byte at the end of the file, and sets that byte.
-pub fn add_block<D: Device>(device: &mut D, commit_byte: usize, block: &[u8]) -> Result<(), DeviceError>
+pub fn add_block<D: Device>(
+    device: &mut D,
+    commit_byte: usize,
+    block: &[u8],
+) -> Result<(), DeviceError>
     requires closed { drop commit_byte (D.seen device.old) ≡ 0 ∷ [] }
     requires small { commit_byte < 2 ^ 60 }
     requires durable { Only (D.seen device.old) (D.may_leave device.old) }

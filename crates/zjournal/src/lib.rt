@@ -32,10 +32,10 @@
 mod batches;
 mod beside;
 mod checksum;
+mod commit_bytes;
 mod device;
 mod fault;
 pub mod file;
-mod commit_bytes;
 mod journal;
 pub mod laws;
 mod limits;

@@ -15,8 +15,8 @@
 use std::env;
 use std::process::ExitCode;
 use zarguments::{WordsFault, refuse};
-use zdevices::{ReaderSource, Sink, Source, WriterSink};
 use zdaemon::hosted_command;
+use zdevices::{ReaderSource, Sink, Source, WriterSink};
 
 fn main(rt: HostRuntime) -> ExitCode {
     let mut source = ReaderSource::new(rt.reader());

@@ -32,7 +32,7 @@ use starting::cluster_starts;
 use std::io;
 use stories::report_parts;
 use worlds::report_worlds;
-use ztesting::{tell, report_end};
+use ztesting::{report_end, tell};
 
 fn main(rt: HostRuntime) -> io::Result<()> {
     report_parts(&rt, rt.alloc())?;

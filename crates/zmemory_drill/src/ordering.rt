@@ -3,9 +3,9 @@
 use crate::running::is_broken;
 use std::alloc::Global;
 use zalloc::Memory;
+use zprotocol::world::Event;
 use ztesting::{Ended, server};
 use zworld::{Did, World};
-use zprotocol::world::Event;
 
 /// A server is to join after the tail.
 pub(crate) fn server_joins(alloc: Global) -> Ended {

@@ -6,9 +6,9 @@ use zalloc::Memory;
 use zcalls::{Call, Create, Data, Kind, Lifetime, Query, Reply, Update};
 use zpath::Path;
 use zprotocol::Process;
+use zprotocol::world::{CallEvent, Event};
 use ztesting::{Ended, client, server};
 use zworld::World;
-use zprotocol::world::{CallEvent, Event};
 
 // Far more events than any settling here takes.
 const LIMIT: usize = 1000;

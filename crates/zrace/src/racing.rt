@@ -14,8 +14,8 @@ use std::alloc::Global;
 use std::sync::Wait;
 use std::thread::Threads;
 use zaudit::{AuditFault, audit};
-use zrun::{Cluster, StartFault, open_gates};
 use zprotocol::traces::Traces;
+use zrun::{Cluster, StartFault, open_gates};
 
 /// What a race leaves.
 #[derive(Drop)]

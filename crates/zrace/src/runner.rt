@@ -9,9 +9,9 @@ use crate::racer::{Racer, Seen};
 use std::alloc::Global;
 use std::sync::Arc;
 use zalloc::Memory;
+use zchannels::tickets::{Pass, Tickets};
 use zprotocol::ServerId;
 use zrun::Client;
-use zchannels::tickets::{Pass, Tickets};
 
 // How often a pass may draw.
 const DRAWS: u64 = 1 << 32;

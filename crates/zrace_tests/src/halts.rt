@@ -2,9 +2,9 @@
 
 use std::test::Fail;
 use zaudit::audit;
+use zprotocol::traces::{Act, Trace};
 use zrace::{Finish, Race, run};
 use ztesting::server;
-use zprotocol::traces::{Act, Trace};
 
 // Enough that many updates go through the chain after the halt.
 const ROUNDS: u16 = 40;

@@ -2,9 +2,9 @@
 
 use std::test::Fail;
 use zaudit::audit;
+use zprotocol::traces::{Act, Trace, Traces};
 use zrace::{Finish, Race, run};
 use ztesting::server;
-use zprotocol::traces::{Act, Trace, Traces};
 
 const ROUNDS: u16 = 40;
 

@@ -13,10 +13,10 @@ use crate::stats::{made_stat, stat_reported};
 use crate::texts::{bytes_of, data_reported, names_reported, path_reported};
 use std::alloc::Global;
 use zalloc::Memory;
-use zrequests::{ALL_PERMISSIONS, code_of};
 use zcalls::{Create, Data, Names, Reply, Stat};
 use zjute::{Acl, Acls, Body, Code};
 use zpath::Path;
+use zrequests::{ALL_PERMISSIONS, code_of};
 
 /// Returns the answer to a request of one call, from the reply to it.
 pub(crate) fn answer_of(alloc: Global, clock: &Clock, reply: &Reply) -> Result<Answer, Memory>

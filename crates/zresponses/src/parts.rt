@@ -13,9 +13,9 @@ use crate::clock::{Clock, Now};
 use crate::results::{look_result, part_result};
 use std::alloc::Global;
 use zalloc::Memory;
-use zrequests::code_of;
 use zcalls::{Part, PartReply, Reply};
 use zjute::{Body, Code, PartResult, Results};
+use zrequests::code_of;
 
 /// Returns the answer to a multi.
 pub(crate) fn multi_answer(

@@ -16,10 +16,10 @@ use crate::stats::{made_stat, stat_reported};
 use crate::texts::{data_reported, names_reported, path_reported};
 use std::alloc::Global;
 use zalloc::Memory;
-use zrequests::code_of;
 use zcalls::{Create, Names, Part, PartReply, Reply};
 use zjute::{Code, PartResult};
 use zpath::Path;
+use zrequests::code_of;
 
 /// Returns the result of a part that was done.
 pub(crate) fn part_result(

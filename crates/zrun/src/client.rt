@@ -18,13 +18,13 @@ use std::alloc::Global;
 use std::sync::Arc;
 use std::thread;
 use zalloc::Memory;
-use zchannels::bells::Bells;
 use zcalls::{Call, CallNumber, ClientId, Reply};
-use zclient::BeginFault;
-use zthreads::Caller;
-use zprotocol::{Process, ServerId};
+use zchannels::bells::Bells;
 use zchannels::halts::{Halt, HaltSeat};
+use zclient::BeginFault;
 use zprotocol::traces::Stamp;
+use zprotocol::{Process, ServerId};
+use zthreads::Caller;
 
 /// A client of one run, through all its calls. No call blocks.
 #[derive(Drop)]

@@ -25,10 +25,10 @@ use std::alloc::Global;
 use std::snapshot::Snapshot;
 use std::thread::{PromisedHandle, Threads};
 use zalloc::Memory;
-use zthreads::{Ending, MasterThread, ServerThread};
-use zprotocol::{MAX_SERVERS, ServerId};
 use zchannels::console::{Console, Inbox};
 use zprotocol::traces::Traces;
+use zprotocol::{MAX_SERVERS, ServerId};
+use zthreads::{Ending, MasterThread, ServerThread};
 
 /// The threads of a run.
 #[derive(Drop)]

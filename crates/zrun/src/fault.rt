@@ -7,9 +7,9 @@ use std::alloc::{AllocError, AllocFailed};
 use thiserror::Error;
 use zalloc::Memory;
 use zcalls::{DataFault, Refusal, Reply};
+use zchannels::console::Closed;
 use zclient::BeginFault;
 use zpath::PathFault;
-use zchannels::console::Closed;
 
 /// Any fault of a program that uses a cluster. Every other fault converts to it, so `?` suffices. A
 /// reply of an unexpected kind converts to it too.

@@ -5,8 +5,8 @@ ghost use Rattle.zprotocol.specs.declared.limits.TheConstants.{MAX_SERVERS};
 
 use std::alloc::Global;
 use zalloc::Memory;
-use zthreads::Open;
 use zprotocol::MAX_SERVERS;
+use zthreads::Open;
 
 /// Returns a gate for each server that lets all pass. The only error is out of memory.
 pub fn open_gates(alloc: Global) -> Result<Vec<Open>, Memory>

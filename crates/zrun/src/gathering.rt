@@ -16,10 +16,10 @@ ghost use Rattle.zrun.specs.Left.{CutsNoMore, traces_of};
 use crate::keeping::{is_any_cut, keep, keep_clients, keep_servers};
 use std::alloc::Global;
 use zalloc::Memory;
-use zthreads::Ending;
-use zprotocol::ServerId;
 use zchannels::{Mesh, are_reported};
+use zprotocol::ServerId;
 use zprotocol::traces::{ClientTrace, Traces};
+use zthreads::Ending;
 
 /// Returns the traces of a run, from what its processes left: the master, the servers by number,
 /// and the clients by number. The chain began with the servers up to `last`. The traces are lawful,

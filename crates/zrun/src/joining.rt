@@ -15,8 +15,8 @@ use crate::promises::SameServer;
 use std::alloc::Global;
 use std::thread::{PromisedHandle, Threads};
 use zalloc::Memory;
-use zthreads::{Ending, ServerThread};
 use zprotocol::traces::Trace;
+use zthreads::{Ending, ServerThread};
 
 /// Joins the servers' threads. Returns what they left, the first one first.
 pub(crate) fn join_servers<R: Threads>(

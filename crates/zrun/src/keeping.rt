@@ -7,9 +7,9 @@ ghost use Rattle.zrun.specs.Left.{client_trace_of, ins_of, outs_of, traces_of};
 
 use std::alloc::Global;
 use zalloc::Memory;
-use zthreads::{Ending, Stamped};
 use zchannels::Mesh;
 use zprotocol::traces::{ClientTrace, Trace};
+use zthreads::{Ending, Stamped};
 
 /// Returns whether one of the traces is cut.
 pub(crate) fn is_any_cut(endings: &Vec<Ending>) -> bool

@@ -7,8 +7,8 @@ ghost use Rattle.zrun.specs.Left.{AreWiredUnlessLost, by_place, is_left_lost};
 use crate::keeping::{is_any_lost, keep, keep_clients, keep_servers};
 use std::alloc::Global;
 use zalloc::Memory;
-use zthreads::Ending;
 use zchannels::{Mesh, are_reported};
+use zthreads::Ending;
 
 /// Returns whether it is known of a run that it was lawful, from what its processes left: the
 /// master, the servers by number, and the clients by number. It isn't known if what one of them did

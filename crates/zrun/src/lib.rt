@@ -47,10 +47,10 @@ pub use zcalls::{
     Call, Check, ClientId, Create, Data, DataFault, Delete, Expected, Kind, Lifetime, Multi, Part,
     PartReply, Query, Refusal, Reply, SessionId, SetData, Stat, Ttl, Update,
 };
-pub use zclient::BeginFault;
-pub use zthreads::{Gate, Open};
-pub use zpath::{Path, PathFault};
-pub use zprotocol::{JoinFault, Order, OrderFault, RetireFault, ServerId};
 pub use zchannels::console::{Closed, Console};
 pub use zchannels::outcome::OrderOutcome;
+pub use zclient::BeginFault;
+pub use zpath::{Path, PathFault};
 pub use zprotocol::traces::Stamp;
+pub use zprotocol::{JoinFault, Order, OrderFault, RetireFault, ServerId};
+pub use zthreads::{Gate, Open};

@@ -9,14 +9,14 @@ ghost use Rattle.zthreads.specs.Callers.{caller_endpoint};
 
 use std::alloc::Global;
 use zalloc::Memory;
-use zchannels::bells::Bells;
 use zcalls::ClientId;
+use zchannels::bells::Bells;
+use zchannels::rings::{Rx, Tx};
 use zclient::ClientCore;
-use zthreads::{Caller, Endpoint, MasterThread, ServerThread, Stamped};
 use zmaster::Master;
 use zprotocol::{Process, ServerId};
 use zserver::Server;
-use zchannels::rings::{Rx, Tx};
+use zthreads::{Caller, Endpoint, MasterThread, ServerThread, Stamped};
 
 /// What all processes of a run know of its initial state.
 #[derive(Clone, Copy)]

@@ -16,11 +16,11 @@ use std::alloc::Global;
 use std::snapshot::Snapshot;
 use std::time::Duration;
 use zalloc::Memory;
-use zchannels::bells::Bells;
 use zcalls::ClientId;
-use zthreads::{Caller, MasterThread, ServerThread};
-use zprotocol::{MAX_SERVERS, ServerId};
+use zchannels::bells::Bells;
 use zchannels::console::{Console, Inbox};
+use zprotocol::{MAX_SERVERS, ServerId};
+use zthreads::{Caller, MasterThread, ServerThread};
 
 /// What a server's thread is started with.
 #[derive(Drop)]

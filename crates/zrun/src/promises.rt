@@ -10,8 +10,8 @@ use crate::client::Client;
 use crate::ticks::Ticks;
 use std::snapshot::Snapshot;
 use std::thread::Promise;
-use zthreads::{MasterThread, ServerThread};
 use zchannels::console::Inbox;
+use zthreads::{MasterThread, ServerThread};
 
 /// The server that is returned has the endpoint of the one that was given.
 #[derive(Drop)]

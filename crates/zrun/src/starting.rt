@@ -28,9 +28,9 @@ use std::thread;
 use std::thread::{PromisedHandle, Threads};
 use std::time::Duration;
 use zchannels::bells::SLEEP_MILLIS;
-use zthreads::{Gate, MasterThread, ServerThread, preside, serve};
-use zprotocol::{MAX_SERVERS, ServerId};
 use zchannels::console::{Console, Inbox};
+use zprotocol::{MAX_SERVERS, ServerId};
+use zthreads::{Gate, MasterThread, ServerThread, preside, serve};
 
 impl Cluster {
     ghost use Rattle.zrun.specs.Clusters.{client_count, cluster_opening, cluster_run, last_server};

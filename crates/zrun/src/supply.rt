@@ -10,11 +10,11 @@ use std::alloc::Global;
 use std::sync::Arc;
 use zalloc::Memory;
 use zchannels::bells::Bells;
-use zthreads::Stamped;
 use zchannels::console::{Console, Inbox};
 use zchannels::halts::{Halt, HaltSeat};
 use zchannels::rings::{Rx, Tx};
 use zchannels::{Mesh, weave};
+use zthreads::Stamped;
 
 /// A seat at the run's halt word, and the bells of the threads that look at it.
 #[derive(Drop)]

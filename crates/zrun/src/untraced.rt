@@ -22,9 +22,9 @@ use std::thread::Threads;
 use std::time::Duration;
 use zalloc::Memory;
 use zchannels::bells::SLEEP_MILLIS;
-use zthreads::Gate;
-use zprotocol::ServerId;
 use zchannels::console::Console;
+use zprotocol::ServerId;
+use zthreads::Gate;
 
 /// The threads of a run without traces. Its memory doesn't grow with the number of calls. It is a
 /// type of its own, so no one can ask it for traces.

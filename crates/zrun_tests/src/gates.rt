@@ -9,9 +9,9 @@ use std::sync::atomic::AtomicUsize;
 use std::sync::atomic::Ordering::SeqCst;
 use std::test::Fail;
 use std::thread;
-use zthreads::Gate;
 use zprotocol::{MAX_SERVERS, Message, Process};
 use zserver::Snapshot;
+use zthreads::Gate;
 
 /// What a gate looks for.
 #[derive(Clone, Copy, PartialEq, Eq)]

@@ -10,9 +10,9 @@ use std::alloc::Global;
 use std::test::Fail;
 use std::thread;
 use zaudit::audit;
+use zprotocol::traces::{Act, Trace};
 use zrun::{Client, Clients, Unanswered};
 use ztesting::{client, server};
-use zprotocol::traces::{Act, Trace};
 
 // Far longer than an answer takes; this is how long a missing one is waited for.
 const TURNS: u64 = 1_000_000;

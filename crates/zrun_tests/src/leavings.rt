@@ -12,9 +12,9 @@ use std::alloc::Global;
 use std::sync::Wait;
 use std::test::Fail;
 use zaudit::audit;
+use zprotocol::traces::{Act, Traces};
 use zrun::{Client, Clients, Console};
 use ztesting::{client, server};
-use zprotocol::traces::{Act, Traces};
 
 // Sets the node fifty times, each time until it is answered, and orders the first server to leave
 // after 25 of them. Whether all were answered, and the order was handed on.

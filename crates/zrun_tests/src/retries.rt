@@ -10,9 +10,9 @@ use crate::runs;
 use std::alloc::Global;
 use std::test::Fail;
 use zaudit::audit;
+use zprotocol::traces::{Act, Trace};
 use zrun::{Client, Clients, Patience, Unanswered};
 use ztesting::{client, server};
-use zprotocol::traces::{Act, Trace};
 
 // How often a call is sent again that has no reply.
 const RETRIES: u64 = 3;

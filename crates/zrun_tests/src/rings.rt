@@ -6,8 +6,8 @@ ghost use Rattle.zchannels.specs.Rings.{ring_of_rx, ring_of_tx};
 use std::test::Fail;
 use std::thread;
 use std::thread::join;
-use zprotocol::Message;
 use zchannels::rings::{Rx, Tx, link, reported};
+use zprotocol::Message;
 use ztesting::{epoch, log_number};
 
 const MESSAGES: u64 = 1_000;

@@ -10,9 +10,9 @@ use std::alloc::Global;
 use std::test::Fail;
 use zaudit::audit;
 use zcalls::Call;
+use zprotocol::world::CallEvent;
 use zrun::{Client, Clients};
 use ztesting::{client, server};
-use zprotocol::world::CallEvent;
 
 // The index of the answer to the client's call, and that of the beginning of its next one.
 fn places(history: &[CallEvent], answered: u8, began: u8) -> (Option<usize>, Option<usize>) {

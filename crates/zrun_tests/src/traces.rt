@@ -13,10 +13,10 @@ use std::thread::Threads;
 use zaudit::{AuditFault, audit};
 use zcalls::Reply;
 use zprotocol::MAX_SERVERS;
-use zrun::{Client, Clients};
-use ztesting::{call_number, client, server};
 use zprotocol::traces::Traces;
 use zprotocol::world::CallEvent;
+use zrun::{Client, Clients};
+use ztesting::{call_number, client, server};
 
 // What the client of a run does.
 #[derive(Clone, Copy, PartialEq, Eq)]

@@ -11,9 +11,9 @@ use std::sync::Wait;
 use std::test::Fail;
 use std::thread::Threads;
 use zaudit::audit;
+use zprotocol::traces::{Act, Trace, Traces};
 use zrun::{Client, Clients, Patience, Unanswered};
 use ztesting::{client, server};
-use zprotocol::traces::{Act, Trace, Traces};
 
 // This many more answers are in the client's ring, which has room for 64.
 const STALE: u32 = 20;

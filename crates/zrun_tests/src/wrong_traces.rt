@@ -6,11 +6,11 @@ use std::test::Fail;
 use zaudit::{AuditFault, audit};
 use zcalls::{Call, CallNumber, ClientId, Create, Kind, Lifetime, Query, Reply, Update};
 use zpath::Path;
+use zprotocol::traces::{Act, ClientTrace, Stamp, Trace, TraceEvent, Traces};
+use zprotocol::world::{CallEvent, Outcome};
 use zprotocol::{Order, Process};
 use ztesting::{call_number, client, server};
-use zprotocol::traces::{Act, ClientTrace, Stamp, Trace, TraceEvent, Traces};
 use ztree::{Data, Stat, Zxid};
-use zprotocol::world::{CallEvent, Outcome};
 
 fn process(number: u8) -> Process {
     match number {

@@ -16,11 +16,11 @@ use crate::limits::MAX_EVENTS;
 use crate::texts::{write_begun, write_called, write_cause, write_did, write_fault, write_settled};
 use std::alloc::Global;
 use zalloc::Memory;
-use zscript_text::{Line, Request, read_line};
 use zprotocol::ServerId;
+use zprotocol::world::{Event, Settled};
+use zscript_text::{Line, Request, read_line};
 use ztree::limits::MAX_CLIENTS;
 use zworld::{Did, World};
-use zprotocol::world::{Event, Settled};
 
 /// Returns the world that a script begins in. Its chain is the servers up to `last`, and no client
 /// has invoked a call yet.

@@ -10,10 +10,10 @@ ghost use Rattle.zscript.specs.support.Effects.{WritesFault, taken_lines, own_ca
 
 use zalloc::Memory;
 use zcalls::{CallNumber, ClientId};
-use zscript_text::{LineFault, write_reply};
-use zprotocol::{BeginFault, OrderFault};
-use zworld::{Did, IdleCause};
 use zprotocol::world::{CallEvent, Settled};
+use zprotocol::{BeginFault, OrderFault};
+use zscript_text::{LineFault, write_reply};
+use zworld::{Did, IdleCause};
 
 // A call, by its client and that client's number of it.
 type Own = Option<(ClientId, CallNumber)>;

@@ -8,6 +8,8 @@ mod at_once;
 #[cfg(test)]
 mod chain_rows;
 #[cfg(test)]
+mod chunks;
+#[cfg(test)]
 mod faults;
 #[cfg(test)]
 mod full;
@@ -15,8 +17,6 @@ mod full;
 mod limits;
 #[cfg(test)]
 mod lines;
-#[cfg(test)]
-mod chunks;
 #[cfg(test)]
 mod playing;
 #[cfg(test)]

@@ -22,6 +22,7 @@
 //! A snapshot is lines of records, too: each row in base64, since no block of a journal holds a
 //! byte 0. So a journal has one form, whether it was compacted or not.
 
+mod compaction;
 mod entries;
 mod fault;
 mod found;
@@ -29,10 +30,9 @@ mod front_reading;
 pub mod laws;
 mod reading;
 mod rows;
-mod compaction;
 
+pub use compaction::Compaction;
 pub use entries::add_entry;
 pub use fault::ReadFault;
 pub use found::Found;
 pub use reading::read;
-pub use compaction::Compaction;

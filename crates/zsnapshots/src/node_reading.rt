@@ -7,8 +7,8 @@ ghost use Rattle.zsnapshots.specs.Rows.{node, node_text};
 use std::alloc::Global;
 use zcodec::{Fault, ReadError, u64_at};
 use zpath::Path;
-use zwire::records::{content_of, path_of};
 use ztree::{Node, Zxid};
+use zwire::records::{content_of, path_of};
 
 /// Reads a node with its path.
 #[tactic(auto, unfolding(crate::specs::Rows::node_text))]

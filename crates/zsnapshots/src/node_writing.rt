@@ -8,8 +8,8 @@ ghost use Rattle.zsnapshots.specs.Rows.{node_text};
 use std::alloc::{AllocError, Global};
 use zcodec::put_u64;
 use zpath::Path;
-use zwire::records::{put_content, put_path};
 use ztree::Node;
+use zwire::records::{put_content, put_path};
 
 /// Writes a node with its path.
 #[tactic(auto, unfolding(crate::specs::Rows::node_text))]

@@ -8,4 +8,4 @@ mod reporting;
 
 pub use ended::Ended;
 pub use numbers::{call_number, client, epoch, log_number, server};
-pub use reporting::{tell, report_end};
+pub use reporting::{report_end, tell};

@@ -15,9 +15,9 @@ use crate::note::Note;
 use crate::{Endpoint, Stamped};
 use std::mem::replace;
 use zactor::{ActFault, Actor, Done, Handed, Input};
+use zprotocol::traces::Stamp;
 use zprotocol::{Message, Process};
 use zserver::Snapshot;
-use zprotocol::traces::Stamp;
 
 /// Gives an input to the process of an endpoint. What it did is entered, if it has a trace. What it
 /// sends waits in the endpoint, and the failure notice of a server that stops is on its channel.

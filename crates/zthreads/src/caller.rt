@@ -18,7 +18,7 @@ use crate::asking::{begin_fault_of, number_of};
 use crate::gate::Open;
 use crate::hearing::next_link;
 use crate::host::Host;
-use crate::{Endpoint, Ending};
+use crate::{Ending, Endpoint};
 use zactor::{Actor, Handed, Input};
 use zalloc::Memory;
 use zcalls::{Call, CallNumber, ClientId, Reply};

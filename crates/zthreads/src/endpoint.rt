@@ -13,11 +13,11 @@ ghost use Rattle.zthreads.specs.Waiting.{NothingWaits};
 
 use std::alloc::Global;
 use zchannels::bells::Bells;
-use zprotocol::{Message, Out, Process, ServerId};
-use zserver::Snapshot;
 use zchannels::rings::{Rx, Tx};
 use zprotocol::traces::{Stamp, Trace, TraceEvent};
 use zprotocol::world::CallEvent;
+use zprotocol::{Message, Out, Process, ServerId};
+use zserver::Snapshot;
 
 /// A message with the timestamp of the event that sent it.
 pub type Stamped = (Stamp, Message<Snapshot>);

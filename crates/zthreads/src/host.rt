@@ -20,10 +20,10 @@ ghost use Rattle.zthreads.specs.Waiting.{SeesNothing, SeesSome};
 use crate::acting::{act, hear};
 use crate::gate::Gate;
 use crate::hearing::front_of;
-use crate::{Endpoint, Ending, Stamped};
+use crate::{Ending, Endpoint, Stamped};
 use zactor::{ActFault, Actor, Done, Handed, Input};
-use zprotocol::{Order, Process};
 use zprotocol::traces::{Act, Stamp};
+use zprotocol::{Order, Process};
 
 /// A process with its endpoint, whichever kind it is. It followed its definition from the initial
 /// state, through its trace if it has one.

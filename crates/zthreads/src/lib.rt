@@ -42,7 +42,7 @@ mod serving;
 mod worked;
 
 pub use caller::Caller;
-pub use endpoint::{Endpoint, Ending, Stamped};
+pub use endpoint::{Ending, Endpoint, Stamped};
 pub use gate::{Gate, Open};
 pub use limits::{MAX_EVENTS, limits_are_numbers};
 pub use master_thread::MasterThread;

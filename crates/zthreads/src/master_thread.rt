@@ -13,11 +13,11 @@ ghost use Rattle.zthreads.specs.Acts.{DidNext};
 ghost use Rattle.zthreads.specs.Outcomes.{outcome_at};
 
 use crate::host::Host;
-use crate::{Endpoint, Ending};
+use crate::{Ending, Endpoint};
 use zactor::{ActFault, Actor, Input, Refusal};
+use zchannels::outcome::OrderOutcome;
 use zmaster::Master;
 use zprotocol::Order;
-use zchannels::outcome::OrderOutcome;
 
 /// The master with its endpoint. It followed the master table from its opening view, through its
 /// trace if it has one.

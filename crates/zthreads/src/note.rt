@@ -8,10 +8,10 @@ use std::alloc::Global;
 use zactor::{Done, Input};
 use zalloc::Memory;
 use zcalls::{Call, ClientId};
-use zprotocol::{Message, Order, Process};
-use zserver::Snapshot;
 use zprotocol::traces::Act;
 use zprotocol::world::{CallEvent, Outcome};
+use zprotocol::{Message, Order, Process};
+use zserver::Snapshot;
 
 /// What is noted of an input for trace and record, before the process is given it. So the event can
 /// be entered whatever memory is left then.

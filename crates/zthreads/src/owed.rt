@@ -2,8 +2,8 @@
 
 ghost use Rattle.std.specs.Prelude.{◌≡◌};
 
-use zprotocol::Order;
 use zchannels::outcome::OrderOutcome;
+use zprotocol::Order;
 
 /// What the master's thread has to do for the console before it receives another order.
 #[derive(Clone, Copy)]

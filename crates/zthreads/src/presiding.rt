@@ -25,9 +25,9 @@ use crate::master_thread::MasterThread;
 use crate::owed::Owed;
 use crate::rounds::go_round;
 use std::sync::Wait;
-use zprotocol::Order;
 use zchannels::console::Inbox;
 use zchannels::halts::{Halt, HaltSeat};
+use zprotocol::Order;
 
 /// Goes over the links, round after round, and receives the console's orders, until bit 0 is set.
 /// It sends what waits, and looks at the bit, once a round and before each message. A link without

@@ -11,7 +11,7 @@ ghost use Rattle.zthreads.specs.Threads.{ServerProcess};
 ghost use Rattle.zthreads.specs.Rounds.{bit_of};
 
 use crate::host::Host;
-use crate::{Endpoint, Ending};
+use crate::{Ending, Endpoint};
 use zactor::Actor;
 use zprotocol::ServerId;
 use zserver::Server;

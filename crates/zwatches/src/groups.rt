@@ -17,7 +17,12 @@ use zjute::EventKind;
 use zpath::Name;
 
 // Adds the connections of the rows at a position.
-fn report_at(rows: &[Watch], reported: &mut Vec<u32>, names: &[Name], kind: Kind) -> Result<(), Memory>
+fn report_at(
+    rows: &[Watch],
+    reported: &mut Vec<u32>,
+    names: &[Name],
+    kind: Kind,
+) -> Result<(), Memory>
     requires { AreRows rows.now }
     ensures { OnOk result (reported.new.items ≡ reported.old.items
         ++ map (λ row. row.connection) (filter (is_at (place names.now kind)) rows.now)) }
@@ -31,7 +36,12 @@ fn report_at(rows: &[Watch], reported: &mut Vec<u32>, names: &[Name], kind: Kind
 
 // Adds the connections of the rows that an event fires.
 #[tactic(auto, using(std::proofs::Common::append_assoc))]
-fn tell(rows: &[Watch], reported: &mut Vec<u32>, event: EventKind, names: &[Name]) -> Result<(), Memory>
+fn tell(
+    rows: &[Watch],
+    reported: &mut Vec<u32>,
+    event: EventKind,
+    names: &[Name],
+) -> Result<(), Memory>
     requires { AreRows rows.now }
     ensures { OnOk result (reported.new.items ≡ reported.old.items
         ++ reported_by rows.now (fired_at event names.now)) }

@@ -6,10 +6,10 @@ ghost use Rattle.zwire.specs.Fields.{call_number, log_number, epoch, client, pro
 ghost use Rattle.zwire.specs.Fields.{three, four, stat, refusal_at, refusal};
 ghost use Rattle.zwire.specs.Messages.{last, end};
 
+use crate::records::server_at;
 use zcalls::{CallNumber, ClientId, Refusal, Stat};
 use zcodec::{Fault, flag_at, u8_at, u64_at};
 use zprotocol::{Epoch, LogNumber, Process, ServerId};
-use crate::records::server_at;
 use ztree::Zxid;
 
 /// Reads the number of a call.

@@ -8,11 +8,11 @@ ghost use Rattle.zwire.specs.Fields.{three, zxids_of, four, counts_of, sizes_of}
 ghost use Rattle.zwire.specs.Fields.{stat as stat_form, refusal as refusal_form};
 ghost use Rattle.zwire.specs.Messages.{last as last_form, end as end_form};
 
+use crate::records::put_server;
 use std::alloc::AllocError;
 use zcalls::{CallNumber, ClientId, Refusal, Stat};
 use zcodec::{put_flag, put_u8, put_u64};
 use zprotocol::{Epoch, LogNumber, Process, ServerId};
-use crate::records::put_server;
 
 /// Writes the number of a call.
 #[tactic(auto, unfolding(crate::specs::Fields::call_number))]

@@ -10,11 +10,11 @@ ghost use Rattle.zwire.specs.Fields.{name_from, second_from, name};
 ghost use Rattle.zwire.specs.Replies.{part_reply_at, part_reply, replies, names};
 
 use crate::field_reading::stat_at;
+use crate::records::{path_of, path_with};
 use std::alloc::Global;
 use zcalls::{Names, PartReply, Replies};
 use zcodec::{Fault, ReadError, sized_at, u8_at, u64_at};
 use zpath::{MAX_NAME_LEN, Name};
-use crate::records::{path_of, path_with};
 
 /// Reads the names of a node's children.
 #[tactic(auto, unfolding(crate::specs::Replies::names))]

@@ -7,11 +7,11 @@ ghost use Rattle.zwire.specs.Fields.{name as name_form};
 ghost use Rattle.zwire.specs.Replies.{part_reply, replies as replies_form, names as names_form};
 
 use crate::field_writing::put_stat;
+use crate::records::put_path;
 use std::alloc::{AllocError, Global};
 use zcalls::{Names, PartReply, Replies};
 use zcodec::{put_sized, put_u8, put_u64};
 use zpath::Name;
-use crate::records::put_path;
 
 /// Writes the names of a node's children.
 #[tactic(auto, unfolding(crate::specs::Replies::names))]

@@ -10,12 +10,12 @@ ghost use Rattle.zwire.specs.Messages.{message_at};
 ghost use Rattle.zwire.specs.Messages.{any_message};
 
 use crate::field_reading::{call_number_at, client_at, end_at, epoch_at, last_at, log_number_at};
+use crate::records::{server_at, update_of};
 use crate::reply_reading::{query_of, reply_of};
 use std::alloc::Global;
 use zcalls::{Entry, SharedEntry};
 use zcodec::{Fault, ReadError, u8_at};
 use zprotocol::Message;
-use crate::records::{server_at, update_of};
 
 /// Reads a message.
 #[tactic(auto, unfolding(crate::specs::Messages::any_message))]

@@ -8,12 +8,12 @@ ghost use Rattle.zwire.specs.Messages.{message_spelled, any_message};
 use crate::field_writing::{
     put_call_number, put_client, put_end, put_epoch, put_last, put_log_number,
 };
+use crate::records::{put_server, put_update};
 use crate::reply_writing::{put_query, put_reply};
 use std::alloc::{AllocError, Global};
 use zcalls::{CallNumber, Entry, Query, Reply, Update};
 use zcodec::put_u8;
 use zprotocol::{Epoch, LogNumber, Message, ServerId};
-use crate::records::{put_server, put_update};
 
 /// Writes a message, without the state of a snapshot.
 #[tactic(auto, unfolding(crate::specs::Messages::any_message))]

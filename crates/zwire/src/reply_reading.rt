@@ -8,10 +8,10 @@ ghost use Rattle.zwire.specs.Replies.{reply_at, other_reply_at, reply};
 
 use crate::field_reading::{refusal_in, stat_at};
 use crate::list_reading::{names_of, replies_of};
+use crate::records::{content_of, path_of};
 use std::alloc::Global;
 use zcalls::{Query, Reply, SessionId};
 use zcodec::{Fault, ReadError, u8_at, u64_at};
-use crate::records::{content_of, path_of};
 
 /// Reads a query.
 #[tactic(auto, unfolding(crate::specs::Replies::query))]

@@ -7,10 +7,10 @@ ghost use Rattle.zwire.specs.Replies.{opened, reply_spelled, reply as reply_form
 
 use crate::field_writing::{put_refusal, put_stat};
 use crate::list_writing::{put_names, put_replies};
+use crate::records::{put_content, put_path};
 use std::alloc::{AllocError, Global};
 use zcalls::{Data, Query, Refusal, Reply, SessionId, Stat};
 use zcodec::{put_u8, put_u64};
-use crate::records::{put_content, put_path};
 
 /// Writes a query.
 #[tactic(auto, unfolding(crate::specs::Replies::query))]

@@ -16,8 +16,8 @@ use crate::processes::Processes;
 use zactor::{Done, Handed, Input};
 use zalloc::Memory;
 use zcalls::{CallNumber, ClientId};
-use zprotocol::{Message, Process};
 use zprotocol::world::CallEvent;
+use zprotocol::{Message, Process};
 
 impl Processes {
     /// Delivers the front message of a channel.

@@ -10,12 +10,12 @@ ghost use Rattle.zworld.specs.Held.{kept_world};
 ghost use Rattle.zworld.specs.support.Opening.{opening_actor, opening_actors, restored_actors};
 ghost use Rattle.zworld.specs.support.Opening.{opening_client};
 
+use crate::links::Links;
 use crate::processes::Processes;
 use std::alloc::Global;
 use zactor::Actor;
 use zalloc::Memory;
 use zclient::ClientCore;
-use crate::links::Links;
 use zmaster::Master;
 use zprotocol::{Out, PROCESSES, Process, ServerId};
 use zserver::{Server, Snapshot};

@@ -6,10 +6,10 @@ ghost use Rattle.zworld.specs.links.Places.{has_notice, Notes};
 ghost use Rattle.zworld.specs.support.Posting.{is_lost, waiting_after};
 ghost use Rattle.zworld.specs.support.Posting.{CanCount, CanEnd, HasEnded, IsPosted};
 
+use crate::links::Links;
 use std::alloc::Global;
 use zactor::{Actor, Done};
 use zalloc::Memory;
-use crate::links::Links;
 use zprotocol::{Out, Process};
 use zserver::Snapshot;
 

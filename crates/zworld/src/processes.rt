@@ -14,15 +14,15 @@ ghost use Rattle.zworld.specs.support.Giving.{IsGiven, IsNotGiven};
 ghost use Rattle.zworld.specs.support.Stepped.{Goes};
 
 use crate::did::Did;
+use crate::links::Links;
 use crate::post::{end, post, waiting_after};
 use std::alloc::Global;
 use std::marker::Model;
 use zactor::{ActFault, Actor, Done, Handed, Input};
 use zalloc::Memory;
-use crate::links::Links;
+use zprotocol::world::{CallEvent, Event};
 use zprotocol::{Out, Process};
 use zserver::Snapshot;
-use zprotocol::world::{CallEvent, Event};
 
 /// The processes, each at its position, and the messages in flight. The list of what an event sends
 /// is reused from one event to the next, and is empty between them. The waiting clients are

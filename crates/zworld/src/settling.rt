@@ -24,8 +24,8 @@ use crate::did::Did;
 use crate::processes::Processes;
 use zalloc::Memory;
 use zcalls::ClientId;
-use zprotocol::{MAX_SERVERS, Process};
 use zprotocol::world::{CallEvent, Settled};
+use zprotocol::{MAX_SERVERS, Process};
 
 impl Processes {
     /// Settles, with at most `limit` events: passes, a retry of each waiting client, and passes

@@ -32,8 +32,8 @@ use std::alloc::Global;
 use std::marker::Model;
 use zalloc::Memory;
 use zprotocol::ServerId;
-use zserver::Snapshot;
 use zprotocol::world::{CallEvent, Event, Settled};
+use zserver::Snapshot;
 
 /// All processes with their channels, and the history of what callers saw.
 ///

@@ -5,8 +5,8 @@ use crate::trouble::Trouble;
 use std::alloc::Global;
 use zcalls::{Call, Create, Data, Kind, Query, Reply, Update};
 use zpath::Path;
-use zworld::World;
 use zprotocol::world::{CallEvent, Event, Settled};
+use zworld::World;
 
 // Far more events than any settling here takes.
 const LIMIT: usize = 1000;

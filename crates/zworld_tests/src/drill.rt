@@ -5,8 +5,8 @@ use crate::base::{Base, Move, client, process, server};
 use crate::trouble::Trouble;
 use std::alloc::Global;
 use zcalls::{Kind, Lifetime};
-use zworld::World;
 use zprotocol::world::Event;
+use zworld::World;
 
 /// How many lists were run, and in how many of them the state lived and all was answered.
 #[derive(Clone, Copy, Default)]

@@ -6,8 +6,8 @@ use crate::trouble::Trouble;
 use std::alloc::Global;
 use zcalls::{Kind, Lifetime};
 use zprotocol::Process;
-use zworld::World;
 use zprotocol::world::Event;
+use zworld::World;
 
 /// How many calls the list has. Each is five events.
 const CALLS: usize = 2_000;

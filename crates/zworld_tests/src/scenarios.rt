@@ -5,9 +5,9 @@ use Who::{Client, Master, Server};
 use std::alloc::Global;
 use std::process::Abort;
 use zcalls::{Call, ClientId, Reply, Update};
+use zprotocol::world::{CallEvent, Event, Settled};
 use zprotocol::{Process, ServerId};
 use zworld::{Did, World};
-use zprotocol::world::{CallEvent, Event, Settled};
 
 // A process: the master, a server by its number, or the one client.
 #[derive(Clone, Copy)]

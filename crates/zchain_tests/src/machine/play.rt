@@ -2,8 +2,8 @@
 
 use std::alloc::Global;
 use std::process::Abort;
-use zscript_text::{Line, Request, read_line, write_reply};
 use zops::{Call, CallNumber, ClientId, Entry, MAX_APPLIED, Machine, Query, Reply, Update};
+use zscript_text::{Line, Request, read_line, write_reply};
 
 /// Lines of calls, each with its answer.
 pub type Row = &'static [(&'static str, &'static str)];

@@ -12,8 +12,8 @@ ghost use Rattle.zconnections.specs.attachments.Attachments.{restored_attachment
 ghost use Rattle.zconnections.specs.attachments.Attachments.{touched, touched_ids, with_changed, with_seat};
 ghost use Rattle.zconnections.specs.attachments.Attachments.{with_ephemeral};
 
-use crate::attachments::restored::restored;
 use crate::attachments::attachment::Attachment;
+use crate::attachments::restored::restored;
 use crate::attachments::table::AttachmentTable;
 use std::alloc::Global;
 use std::marker::Model;

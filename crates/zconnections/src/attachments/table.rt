@@ -4,8 +4,8 @@ ghost use Rattle.std.specs.Prelude.{◌≡◌, IfOk, OnErr, OnOk};
 ghost use Rattle.std.specs.FinMap as finite;
 ghost use Rattle.zconnections.specs.attachments.Attachments.{all_rested, rested, touched_ids, with_changed};
 
-use crate::attachments::listing::{all_among, touched_among};
 use crate::attachments::attachment::Attachment;
+use crate::attachments::listing::{all_among, touched_among};
 use std::alloc::Global;
 use std::collections::BTreeMap;
 use std::marker::Model;

@@ -9,7 +9,7 @@ ghost use Rattle.zconnections.specs.buffers.Inputs.{InputView, input_of};
 ghost use Rattle.zconnections.specs.buffers.Outbox.{ChunkView};
 
 use crate::pipe::fault::ServeFault;
-use zconnections::buffers::{Input, Chunk};
+use zconnections::buffers::{Chunk, Input};
 
 /// A service that makes its changes durable. Once it failed nothing is promised of it.
 pub trait Service {

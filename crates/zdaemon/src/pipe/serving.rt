@@ -17,10 +17,10 @@ use crate::pipe::limits::BLOCK;
 use crate::pipe::message::Message;
 use crate::pipe::reading::next_message;
 use crate::pipe::service::Service;
-use crate::pipe::writing::{put_end, put_chunk};
+use crate::pipe::writing::{put_chunk, put_end};
 use std::alloc::Global;
-use zdevices::{Sink, Source, write_all};
 use zcodec::Fault;
+use zdevices::{Sink, Source, write_all};
 
 /// Reports that the service is open, and then takes all messages of a source, until it ends. At
 /// each demand all inputs before it are committed. Only then do their chunks and an end go to the

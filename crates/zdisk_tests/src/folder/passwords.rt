@@ -7,8 +7,8 @@ use std::alloc::Global;
 use std::process::Abort;
 use zcalls::Update;
 use zpasswords::Password;
-use zwire::records::{Record, write_records};
 use zsnapshots::folder::{ReadFault, read};
+use zwire::records::{Record, write_records};
 
 // Appends the line of a record.
 fn add(rt: &impl Abort, alloc: Global, it: Record, text: &mut Vec<u8>) {

@@ -4,9 +4,9 @@ use std::alloc::Global;
 use std::process::Abort;
 use zcalls::{Call, Update};
 use zscript_text::{Line, Request, read_line};
-use zwire::records::write_records;
-use ztree_service::LocalTree;
 use zsnapshots::folder::{Compaction, add_entry};
+use ztree_service::LocalTree;
+use zwire::records::write_records;
 
 // More chunks than any tree here has.
 const MANY: usize = 100;

@@ -5,8 +5,8 @@ use std::alloc::Global;
 use std::process::Abort;
 use zcalls::{Data, Expected, Reply, SetData, Update};
 use zpath::Path;
-use ztree_service::{LocalTree, TreeService};
 use zsnapshots::folder::{ReadFault, read};
+use ztree_service::{LocalTree, TreeService};
 
 /// Returns whether the tree has this time and these sessions.
 pub(crate) fn is_there(rt: &impl Abort, tree: &LocalTree, time: u64, wanted: &[u64]) -> bool {

@@ -5,8 +5,8 @@ ghost use Rattle.std.specs.Prelude.{◌≡◌, false};
 use std::alloc::Global;
 use std::process::Abort;
 use zcalls::{Call, CallNumber, Entry};
-use zscript_text::{Line, Request, read_line};
 use zops::{MAX_APPLIED, Machine};
+use zscript_text::{Line, Request, read_line};
 use zsnapshots::Writing;
 
 /// More rows than any state here has.

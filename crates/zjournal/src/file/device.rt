@@ -20,10 +20,10 @@ use crate::file::numbers::{
 use crate::file::opening::Place;
 use crate::file::record::Record;
 use crate::file::{FileFault, SyncMode, calls, opening};
+use crate::{Device, DeviceError};
 use std::alloc::Global;
 use std::fs::{File, Files};
 use std::mem;
-use crate::{Device, DeviceError};
 
 /// The file `journal` of a folder. It is locked until this is dropped, also when a new one,
 /// `journal.new`, replaces it.

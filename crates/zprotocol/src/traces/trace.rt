@@ -5,9 +5,9 @@ ghost use Rattle.zprotocol.specs.declared.limits.TheConstants.{MAX_SERVERS};
 ghost use Rattle.ztree.specs.declared.limits.TheConstants.{MAX_CLIENTS};
 
 use crate::traces::stamp::Stamp;
-use zcalls::Call;
-use crate::{Order, Process, ServerId};
 use crate::world::{CallEvent, Outcome};
+use crate::{Order, Process, ServerId};
+use zcalls::Call;
 
 /// What a process did.
 #[derive(Drop)]

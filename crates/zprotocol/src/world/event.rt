@@ -9,8 +9,8 @@
 //! A delivery asks only that its receiver hasn't failed, since a history is defined for any number
 //! of servers.
 
-use zcalls::{Call, ClientId};
 use crate::{Order, Process, ServerId};
+use zcalls::{Call, ClientId};
 
 /// One event: a call is invoked, a message is delivered, a server fails, joins or retires. Each is
 /// one atomic step: at most one process changes its state, receives at most one message, and sends

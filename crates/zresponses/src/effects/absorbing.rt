@@ -6,8 +6,8 @@ ghost use Rattle.zresponses.specs.effects.Replying.{absorbed, absorbed_all};
 use std::alloc::Global;
 use zalloc::Memory;
 use zcalls::{Call, Reply};
-use zwatches::changes::events_of;
 use zconnections::Tables;
+use zwatches::changes::events_of;
 
 /// Sends the events of a call, and notes an ephemeral node that it made.
 pub fn absorb(alloc: Global, tables: &mut Tables, call: &Call, reply: &Reply) -> Result<(), Memory>

@@ -9,10 +9,10 @@ use crate::effects::wish::Wish;
 use crate::effects::wishes::{reports, waits};
 use zalloc::Memory;
 use zcalls::{Call, Query, Refusal, Reply};
-use zwatches::changes::EventKind;
 use zjute::SetWatches;
 use zpath::Path;
 use zwatches::Kind;
+use zwatches::changes::EventKind;
 
 /// Adds the re-registered watches: data watches, those for a creation, and child watches.
 pub(crate) fn add_all_again(

@@ -8,12 +8,12 @@ use crate::effects::absorbing::absorb_all;
 use crate::effects::replying::reply;
 use crate::effects::watching::grant_all;
 use crate::effects::wishes::wishes;
+use crate::{Clock, Now, answer_to};
 use std::alloc::Global;
 use zalloc::Memory;
-use crate::{Clock, Now, answer_to};
 use zcalls::{Call, Reply};
-use zjute::{Body, Code, Request};
 use zconnections::Tables;
+use zjute::{Body, Code, Request};
 
 /// A request whose calls all have replies.
 #[derive(Drop)]

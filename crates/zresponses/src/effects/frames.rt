@@ -10,10 +10,10 @@ ghost use Rattle.zresponses.specs.effects.Frames as table;
 ghost use Rattle.zresponses.specs.effects.Frames.{answer_text, too_long};
 ghost use Rattle.zjute.specs.Frames.{frame};
 
+use crate::Answer;
 use crate::effects::numbers::long_of;
 use std::alloc::Global;
 use zalloc::Memory;
-use crate::Answer;
 use zjute::{
     Body, Bytes, Code, ConnectRequest, ConnectResponse, WriteError, write_connect_response,
     write_reply,

@@ -8,10 +8,10 @@ use crate::effects::frames::response_frame;
 use crate::effects::numbers::long_of;
 use std::alloc::Global;
 use zalloc::Memory;
-use zrequests::{TickLength, millis_reported};
+use zconnections::Tables;
 use zjute::ConnectRequest;
 use zpasswords::Password;
-use zconnections::Tables;
+use zrequests::{TickLength, millis_reported};
 use ztree::{SessionId, Zxid};
 
 /// Returns whether a client has seen changes that the tree doesn't have.

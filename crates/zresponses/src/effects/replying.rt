@@ -3,10 +3,10 @@
 ghost use Rattle.std.specs.Prelude.{◌≡◌, OnOk};
 ghost use Rattle.zresponses.specs.effects.Replying.{replied};
 
+use crate::Answer;
 use crate::effects::frames::{answer_frame, ends_connection};
 use std::alloc::Global;
 use zalloc::Memory;
-use crate::Answer;
 use zconnections::Tables;
 use ztree::Zxid;
 

@@ -8,9 +8,9 @@ ghost use Rattle.zresponses.specs.effects.Looking.{seen_at};
 use std::alloc::Global;
 use zalloc::Memory;
 use zcalls::{Refusal, Reply, Stat};
-use zwatches::changes::{Event, EventKind};
 use zpath::Path;
 use ztree::Zxid;
+use zwatches::changes::{Event, EventKind};
 use zwatches::{Kind, Place};
 
 /// Returns the events of the nodes that the change of this zxid deleted, and of those that lost a

@@ -6,8 +6,8 @@ ghost use Rattle.zresponses.specs.effects.Watching.{granted, granted_all, lacks_
 
 use crate::effects::wish::Wish;
 use zalloc::Memory;
-use zpath::Path;
 use zconnections::Tables;
+use zpath::Path;
 use zwatches::{Kind, WatchFault};
 
 /// Grants the wishes of a connection, in order. Returns whether one lacked room.

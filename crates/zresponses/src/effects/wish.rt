@@ -1,8 +1,8 @@
 //! A wish: a watch that a request asks for.
 
-use zwatches::changes::Event;
 use zpath::Path;
 use zwatches::Kind;
+use zwatches::changes::Event;
 
 /// A watch that a request asks for.
 #[derive(Drop)]

@@ -10,10 +10,10 @@ use crate::effects::wish::Wish;
 use std::alloc::Global;
 use zalloc::Memory;
 use zcalls::{Call, Query, Refusal, Reply};
-use zwatches::changes::{Event, EventKind};
 use zjute::{Asked, Look};
 use zpath::Path;
 use zwatches::Kind;
+use zwatches::changes::{Event, EventKind};
 
 /// Returns the watches that a request asks for, from its calls and their replies.
 pub(crate) fn wishes(

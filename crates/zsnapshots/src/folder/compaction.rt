@@ -7,12 +7,12 @@ ghost use Rattle.zsnapshots.specs.States.{Fits, spelled, StateRow};
 ghost use Rattle.zsnapshots.specs.folder.Compaction.{IsAllWritten, IsChunk};
 ghost use Rattle.zsnapshots.specs.folder.support.Writing.{IsRecordWritten};
 
+use crate::Writing;
 use std::alloc::Global;
 use std::marker::Model;
 use zalloc::Memory;
-use zwire::records::{Record, Row, write_records};
 use ztree_service::LocalTree;
-use crate::Writing;
+use zwire::records::{Record, Row, write_records};
 
 // A chunk ends with the record that reaches this length.
 const PIECE: usize = 65_536;

@@ -9,12 +9,12 @@ ghost use Rattle.zsnapshots.specs.folder.Texts.{IsNoText};
 ghost use Rattle.zsnapshots.specs.folder.support.Reading.{AreOfNoTree, Begins, HasTree, IsLoaded};
 
 use crate::folder::fault::ReadFault;
+use crate::{Loading, RowFault};
 use std::alloc::Global;
 use zalloc::Memory;
 use zops::Machine;
-use zwire::records::{Record, next_record};
 use ztree_service::LocalTree;
-use crate::{Loading, RowFault};
+use zwire::records::{Record, next_record};
 
 // What follows the rows with which a text begins.
 #[derive(Drop)]

@@ -10,8 +10,8 @@ use crate::folder::fault::ReadFault;
 use crate::folder::found::Found;
 use crate::folder::front_reading::begun;
 use std::alloc::Global;
-use zwire::records::{Record, next_record};
 use ztree_service::LocalTree;
+use zwire::records::{Record, next_record};
 
 /// Reads the tree that a text represents: an optional snapshot, and entries after it.
 pub fn read(alloc: Global, text: &[u8]) -> Result<Found, ReadFault>
