@@ -101,7 +101,8 @@ pub(crate) fn stat<D: Device, K: Sink>(
     sink: &mut K,
 ) -> Result<(), HostedFault>
     requires durable { Only (D.seen device.old) (D.may_leave device.old) }
-    ensures reported { OnOk result (IsStatReported servers (D.seen device.old) K.took sink.old sink.new) }
+    ensures reported { OnOk result (IsStatReported servers (D.seen device.old) K.took sink.old
+        sink.new) }
     ensures seen { D.seen device.new ≡ D.seen device.old }
 {
     let stat = match folder_stat(alloc, device, servers) {

@@ -6,8 +6,8 @@
 //! it does a task on a folder that no server has open: it compacts its journal, exports its tree as
 //! a script, or prints its size.
 //!
-//! `InMemory` and `InFolder` are services for `crate::pipe::serve_all`. The inputs up to a demand are a
-//! batch, and it is committed before a chunk of it is sent.
+//! `InMemory` and `InFolder` are services for `crate::pipe::serve_all`. The inputs up to a demand
+//! are a batch, and it is committed before a chunk of it is sent.
 //!
 //! # Why
 //! A batch is the input of one wait for events. So one commit serves all clients that ask at once,

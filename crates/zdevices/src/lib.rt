@@ -1,8 +1,8 @@
 //! Sources and sinks of bytes, described by what they promise of each read and each write.
 //!
-//! This crate begins the wing "text and script", of programs that play a script of lines. `zscript_text`
-//! parses lines and writes replies, `zscript` plays a script, and `zcommand` is the program over
-//! it. Read `zscript` next.
+//! This crate begins the wing "text and script", of programs that play a script of lines.
+//! `zscript_text` parses lines and writes replies, `zscript` plays a script, and `zcommand` is the
+//! program over it. Read `zscript` next.
 //!
 //! A `Source` and a `Sink` are described by relations between their states (specs/Device.antt).
 //! `SliceSource` and `VecSink` are devices over memory. `ReaderSource` and `WriterSink` are over

@@ -1,8 +1,8 @@
 //! A front end for ZooKeeper's clients, without sockets and without a clock.
 //!
 //! A host passes it inputs: connections that open and end, the bytes that arrive on them, and
-//! ticks. It returns chunks to be sent. It works over any service of one tree (`ztree_service`), and
-//! makes the calls of all connections on that tree, one after the other.
+//! ticks. It returns chunks to be sent. It works over any service of one tree (`ztree_service`),
+//! and makes the calls of all connections on that tree, one after the other.
 //!
 //! `specs/` says exactly what each input does. `Front::take_made` returns the updates to be stored.
 //!

@@ -20,9 +20,10 @@
 //! defines which batches a file represents. A journal works over any `Device`. `MemoryFile` is one
 //! for tests: its writes tear.
 //!
-//! This is the first crate of the disk: everything that makes changes durable. Next are `zjournal::file`
-//! (the device over `std::fs`), `zwire::records` (changes as lines) and `zsnapshots::folder` (snapshots as lines).
-//! `zdurable` joins them into a front end whose changes are durable.
+//! This is the first crate of the disk: everything that makes changes durable. Next are
+//! `zjournal::file` (the device over `std::fs`), `zwire::records` (changes as lines) and
+//! `zsnapshots::folder` (snapshots as lines). `zdurable` joins them into a front end whose changes
+//! are durable.
 //!
 //! # Why
 //! A block's text has no byte 0, and a byte 0 ends it. So no length can tear, and a batch may have

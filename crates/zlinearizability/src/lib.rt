@@ -5,8 +5,9 @@
 //! is in `legal`. The rows are worked runs in which channels lose their ends.
 //!
 //! This is the lowest crate of the wing "the world and its theorem": the proof that a chain is
-//! linearizable, and a world that runs one. The definitions are in `zprotocol::world`, the argument is
-//! in docs/PROOF.md. Go on with `zworld::links`, the channels, and `zworld`, the program with the theorem.
+//! linearizable, and a world that runs one. The definitions are in `zprotocol::world`, the argument
+//! is in docs/PROOF.md. Go on with `zworld::links`, the channels, and `zworld`, the program with
+//! the theorem.
 #![tactic(auto)]
 
 pub mod chain;

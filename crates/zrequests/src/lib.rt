@@ -1,8 +1,9 @@
 //! Requests of ZooKeeper's clients, as calls of this service.
 //!
-//! The wing "ZooKeeper's clients" begins with this crate: a server over one tree (`ztree_service`) that
-//! ZooKeeper's own clients connect to. This crate reads their requests, and `zresponses` makes the
-//! answers. Continue with `zfront`, the front end, which handles each input and joins the parts.
+//! The wing "ZooKeeper's clients" begins with this crate: a server over one tree (`ztree_service`)
+//! that ZooKeeper's own clients connect to. This crate reads their requests, and `zresponses` makes
+//! the answers. Continue with `zfront`, the front end, which handles each input and joins the
+//! parts.
 //!
 //! `calls_of` returns the calls that a request makes, or why it makes none (`calls_in`,
 //! `specs/Requests.antt`). `code_of` returns the error code for a refusal. `ticks_asked` and

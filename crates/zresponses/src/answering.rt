@@ -49,7 +49,8 @@ fn lost() -> Answer
 
 // Returns the answer from the first reply.
 fn first(alloc: Global, clock: &Clock, replies: &[Reply]) -> Result<Answer, Memory>
-    ensures { IfOk result (λ reported. reported ≡ by_first (of_one.answer_of clock.now) replies.now) }
+    ensures { IfOk result (λ reported. reported ≡ by_first (of_one.answer_of clock.now)
+        replies.now) }
 {
     match replies {
         [reply, ..] => answer_of(alloc, clock, reply),
@@ -110,7 +111,8 @@ fn children(alloc: Global, clock: &Clock, replies: &[Reply]) -> Result<Answer, M
 
 // Returns the answer to a request for an ACL.
 fn acl(alloc: Global, clock: &Clock, replies: &[Reply]) -> Result<Answer, Memory>
-    ensures { IfOk result (λ reported. reported ≡ by_first (of_one.acl_answer clock.now) replies.now) }
+    ensures { IfOk result (λ reported. reported ≡ by_first (of_one.acl_answer clock.now)
+        replies.now) }
 {
     match replies {
         [reply, ..] => acl_answer(alloc, clock, reply),

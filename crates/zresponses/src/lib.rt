@@ -1,9 +1,9 @@
 //! Answers to ZooKeeper's clients, from the replies of this service.
 //!
 //! `answer_to` returns the code and the body for a request, from its calls and the replies to them
-//! (`answer_in`, `specs/Answering.antt`). `stat_reported` is the stat of eleven fields. All of it is
-//! pure: it knows no connection, and of the service's state only the zxid and the tick that it is
-//! given.
+//! (`answer_in`, `specs/Answering.antt`). `stat_reported` is the stat of eleven fields. All of it
+//! is pure: it knows no connection, and of the service's state only the zxid and the tick that it
+//! is given.
 //!
 //! # Why
 //!

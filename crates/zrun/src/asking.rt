@@ -51,7 +51,8 @@ impl Client {
         began: Option<Instant>,
         limit: Duration,
     ) -> Result<Reply, Unanswered>
-        ensures reply { IfOk result (InsistedWithinUntil (caller_of self.old) (caller_of self.new)) }
+        ensures reply { IfOk result (InsistedWithinUntil (caller_of self.old) (caller_of
+            self.new)) }
         ensures unanswered { IfErr result (InsistedWithinInVain self.old self.new) }
         ensures learnt { SameLearnt (caller_of self.old) (caller_of self.new) }
         ensures same { SameClient self.old self.new }

@@ -139,7 +139,8 @@ fn prepare_servers(
     requires { MAX_SERVERS ≤ left supply.old }
     ensures servers { IfOk result (λ posts. length posts.items ≡ MAX_SERVERS) }
     ensures left { OnOk result (left supply.new + MAX_SERVERS ≡ left supply.old) }
-    ensures endpoints { IfOk result (λ posts. AreServerEndpoints opening.now (post_endpoints posts.items)) }
+    ensures endpoints { IfOk result (λ posts. AreServerEndpoints opening.now (post_endpoints
+        posts.items)) }
     ensures traced { IfOk result (λ posts.
         AreTraced opening.now.is_traced (post_endpoints posts.items)) }
     ensures rings { IfOk result (λ posts.

@@ -119,7 +119,8 @@ impl Player {
     // Ends the line with these bytes, plays it, and writes the held replies once they fill a block.
     // Where nothing of the line is stored, it is not copied.
     fn end_line<K: Sink>(&mut self, sink: &mut K, end: &[u8]) -> Result<(), PlayFault>
-        ensures done { OnOk result (ReportsLine self.old end.now self.new K.took sink.old sink.new) }
+        ensures done { OnOk result (ReportsLine self.old end.now self.new K.took sink.old
+            sink.new) }
         ensures line { OnOk result (self.new.line ≡ []) }
         ensures sound { OnOk result (K.failed sink.old 0 sink.new) }
         ensures stopped { IfErr result (StopsInLine self.old end.now K.Sink sink.old sink.new) }

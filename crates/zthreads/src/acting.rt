@@ -70,7 +70,8 @@ fn enter(
     ensures acted { IfOk result (ActsAt endpoint.old actor.old endpoint.new actor.new input) }
     ensures entered { IfOk result (EntersDone endpoint.old endpoint.new input) }
     ensures stamp { OnOk result (stamp_of_endpoint endpoint.new ≡ next) }
-    ensures whole { OnOk result (HasRoom endpoint.old → IsCutForNeed endpoint.old endpoint.new next) }
+    ensures whole { OnOk result (HasRoom endpoint.old → IsCutForNeed endpoint.old endpoint.new
+        next) }
     ensures unlost { OnOk result (IsLostForNeed endpoint.old endpoint.new next) }
     ensures fault { IfErr result (IsUndone actor.old input) }
     ensures kept { OnErr result (actor.new ≡ actor.old) }

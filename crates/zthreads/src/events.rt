@@ -128,7 +128,8 @@ impl Endpoint {
         ensures stands { HasReported self.old self.new (option_to_list reported) }
         ensures rest { (self.new.held ≡ self.old.held) × (self.new.out ≡ self.old.out) }
         ensures same { SameEndpoint self.old self.new }
-        ensures reported { self.new.is_cut ≡ false → HasSeen self.old self.new (option_to_list reported) }
+        ensures reported { self.new.is_cut ≡ false → HasSeen self.old self.new (option_to_list
+            reported) }
         ensures cut { self.new.is_cut ≡ false → self.old.is_cut ≡ false }
         ensures trace { (self.new.trace ≡ self.old.trace) × (self.new.stamp ≡ self.old.stamp) }
         ensures whole { HasSeenRoom self.old → self.new.is_cut ≡ self.old.is_cut }

@@ -1,8 +1,8 @@
 //! A service of one tree.
 //!
 //! It takes calls (updates of client 0, and queries) one after the other, and returns their
-//! replies. These are the replies of the plain tree (`zprotocol::world`'s `serve`). `TreeService` is
-//! the contract of such a service. `LocalTree` implements it: a tree in memory.
+//! replies. These are the replies of the plain tree (`zprotocol::world`'s `serve`). `TreeService`
+//! is the contract of such a service. `LocalTree` implements it: a tree in memory.
 //!
 //! The definitions: `specs/Local.antt` (what a contract sees of a tree in memory), and
 //! `specs/Machines.antt` (the tree of a machine).

@@ -85,8 +85,8 @@ fn reported_of(
     handed: &mut Handed,
     seen: &mut Vec<CallEvent>,
 ) -> Result<Did, Memory>
-    ensures reported { IfOk result (IsReportedOf (reported_with to.now done (reply_handed handed.old)) done
-        seen.old.items seen.new.items) }
+    ensures reported { IfOk result (IsReportedOf (reported_with to.now done (reply_handed
+        handed.old)) done seen.old.items seen.new.items) }
     ensures silent { OnErr result (seen.new.items ≡ seen.old.items) }
 {
     if let (Process::Client(client), Done::Answered(number)) = (to, &done) {

@@ -128,8 +128,8 @@ fn take<V: Service, K: Sink>(
     sink: &mut K,
 ) -> Result<(), ServeFault>
     requires { V.is_sound service.old }
-    ensures done { OnOk result (Sends V.took V.kept V.reported V.has_reported (message_of message.entry)
-        (Between K.took sink.old sink.new) service.old service.new) }
+    ensures done { OnOk result (Sends V.took V.kept V.reported V.has_reported (message_of
+        message.entry) (Between K.took sink.old sink.new) service.old service.new) }
     ensures sound { OnOk result (V.is_sound service.new) }
     ensures some { OnErr result (SendsSome V.kept V.reported (Between K.took sink.old sink.new)
         service.old) }

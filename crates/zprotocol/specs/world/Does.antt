@@ -65,8 +65,8 @@ server_effect did = record { left = AtServer did.0; posts = did.1; reported = []
 abbrev pub last_post : {M : Type 0} → List (Post M)
 last_post = (Master, message.Gone) ∷ []
 
--- a server stops for good. What it had sent is still delivered; zlinearizability/specs/Cuts.antt has the
--- runs in which any end of it is lost
+-- a server stops for good. What it had sent is still delivered; zlinearizability/specs/Cuts.antt
+-- has the runs in which any end of it is lost
 abbrev pub stop_effect : {M : Type 0} → Effect M
 stop_effect = record { left = Out; posts = last_post; reported = [] }
 

@@ -35,7 +35,11 @@ pub fn answers_are_taken()
     ensures old_answer { Ignores updating (Server 3) (message.Answer 6 Deleted) }
     ensures answer_again { Ignores idle (Server 3) (message.Answer 7 Deleted) }
     ensures answer_of_the_master { Ignores updating Master (message.Answer 7 Deleted) }
-    ensures config_and_update { hears updating 2 4 ≡ (reported 2 4 updating, submit_to 2 7 ∷ [], None) }
+    ensures config_and_update { hears updating 2 4 ≡ (
+      reported 2 4 updating,
+      submit_to 2 7 ∷ [],
+      None,
+    ) }
     ensures config_and_query { hears asking 2 4 ≡ (reported 2 4 asking, query_to 4 7 ∷ [], None) }
     ensures config_and_no_call { hears idle 2 4 ≡ (reported 2 4 idle, [], None) }
     ensures config_without_chain { hears_of_none asking ≡ (reported_of_none asking, [], None) }

@@ -31,7 +31,8 @@ pub fn machine_does_the_plain_step()
     ensures first_update { (t : Tree) (c : ℕ) (u : Update) → (first_step t c u).0 ≡ (step t c u).0 }
     ensures first_reply { (t : Tree) (c : ℕ) (u : Update)
         → (first_step t c u).1 ≡ Some (step t c u).1 }
-    ensures query { (s : CachedState Tree) (q : Query) → cached_tree.ask s q ≡ query_reply s.plain q }
+    ensures query { (s : CachedState Tree) (q : Query) → cached_tree.ask s q ≡ query_reply s.plain
+        q }
 {}
 
 /// A machine can begin with another tree than the initial one. It begins with that tree and no

@@ -26,7 +26,8 @@ pub fn update_is_answered_by_the_tail()
 /// is received first.
 pub fn links_keep_order()
     ensures under_way { link 3 (take 4 two_updates) s1 s2 ≡ other_then_first }
-    ensures seen { seen 3 two_updates ≡ began 0 1 ∷ began 1 1 ∷ reported 1 1 1 ∷ reported 0 1 0 ∷ [] }
+    ensures seen { seen 3 two_updates ≡ began 0 1 ∷ began 1 1 ∷ reported 1 1 1 ∷ reported 0 1 0 ∷
+        [] }
 {}
 
 /// An update that arrives twice acts once. Its cached reply is sent again, and the client receives

@@ -31,7 +31,8 @@ pub fn processes_accept_what_is_theirs()
 /// What each process does: it follows its table. A server that stops, or receives the order to
 /// leave, sends its failure notice and takes no part any more.
 pub fn processes_go_by_their_tables()
-    ensures call_is_reported { (effect [] c1 (given.Begin create)).reported ≡ saw.Begin 1 1 create ∷ [] }
+    ensures call_is_reported { (effect [] c1 (given.Begin create)).reported ≡ saw.Begin 1 1 create ∷
+        [] }
     ensures call_is_sent { (effect [] c1 (given.Begin create)).posts
         ≡ (s1, message.Submit 1 create_update) ∷ [] }
     ensures again { (effect create_begun c1 given.Retry).posts
@@ -39,7 +40,8 @@ pub fn processes_go_by_their_tables()
     ensures unseen { (effect create_begun c1 given.Retry).reported ≡ [] }
     ensures answer { (effect create_begun c1 (Hear s3 (message.Answer 1 (name_reply 0)))).reported
         ≡ saw.Answer 1 1 (name_reply 0) ∷ [] }
-    ensures strange_answer { (effect [] c1 (Hear s3 (message.Answer 1 (name_reply 0)))).reported ≡ [] }
+    ensures strange_answer { (effect [] c1 (Hear s3 (message.Answer 1 (name_reply 0)))).reported ≡
+        [] }
     ensures forwards { (effect [] s1 (Hear c1 (message.Submit 1 create_update))).posts
         ≡ (s2, message.Update 0 1 first_entry) ∷ [] }
     ensures moves { (effect [] s1 (Hear c1 (message.Submit 1 create_update))).left
