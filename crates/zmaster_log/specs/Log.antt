@@ -1,0 +1,194 @@
+-- The master's log. Each entry is an input of the master, and is played once. All nodes play the
+-- same entries in the same order, so all have the same master.
+--
+-- An entry is skipped where the master has no such input then: a second opening, an order that the
+-- master refuses, a join under another number than the next one, and a report that isn't the next
+-- one of its author, or of a server that is gone.
+use Rattle.std.specs.Prelude.{◌≡◌, ◌≢◌, ℕ, ◌+◌, ◌-◌, Bool, true, false, not, ◌&&◌, ◌==◌, nat_le, is_none, Option, None, Some, List, [], ◌∷◌, ◌++◌, length, replicate, get_or, slice_index, slice_set, if◌then◌else◌}
+use Rattle.zprotocol.specs.declared.limits.TheConstants.{MAX_SERVERS}
+use Rattle.zprotocol.specs.declared.message.Message.{Message}
+use Rattle.zprotocol.specs.declared.message.Message.TheVariants as message
+use Rattle.zprotocol.specs.declared.process.Process.{Process}
+use Rattle.zprotocol.specs.declared.process.Process.TheVariants.{Master, Server, Client}
+use Rattle.zprotocol.specs.declared.master.order.Order.TheVariants as order
+use Rattle.zprotocol.specs.server.View.{PostOf}
+use Rattle.zprotocol.specs.master.View.{MasterView, opening_master}
+use Rattle.zprotocol.specs.master.Table.{order_fault, order_step, master_step}
+use Rattle.zmaster_log.specs.declared.limits.TheConstants.{MAX_ENTRIES}
+use Rattle.zmaster_log.specs.declared.play_fault.PlayFault.{PlayFault}
+use Rattle.zmaster_log.specs.declared.play_fault.PlayFault.TheVariants.{NotNext, Full, Memory}
+use Rattle.zmaster_log.specs.declared.entry.LogEntry.{LogEntry}
+use Rattle.zmaster_log.specs.declared.entry.LogEntry.TheVariants as entry
+use Rattle.zmaster_log.specs.declared.entry.Report.{Report}
+use Rattle.zmaster_log.specs.declared.entry.News.{News}
+use Rattle.zmaster_log.specs.declared.entry.News.TheVariants as news
+
+-- ---- what the entries make
+
+-- What the entries from the opening on make: the master; the node of each server, from server 1 on;
+-- and for each server number from 1 to `MAX_SERVERS`, how many reports of it were played, and
+-- whether it is gone.
+pub record Membership : Type 0 where
+  pub master : MasterView
+  pub nodes : List (List ℕ)
+  pub counts : List ℕ
+  pub gone : List Bool
+
+-- the initial chain has a server on each of these nodes, and the master has no clients
+unfoldable pub opened : List (List ℕ) → Membership
+opened nodes =
+    record {
+      master = opening_master (length nodes) 0;
+      nodes = nodes;
+      counts = replicate MAX_SERVERS 0;
+      gone = replicate MAX_SERVERS false;
+    }
+
+-- the server has joined, or was in the initial chain, and isn't gone
+abbrev pub is_live : Membership → ℕ → Bool
+is_live m s = nat_le s (length m.nodes) && not (get_or m.gone (s - 1) false)
+
+-- how many reports of the server were played
+abbrev pub count_of : Membership → ℕ → ℕ
+count_of m s = slice_index m.counts (s - 1)
+
+-- ---- what an entry does
+
+-- what an entry leaves, and what the master sends
+abbrev pub Played : Type 0 → Type 0
+Played T = Membership × List (PostOf T)
+
+-- the entry is skipped
+abbrev pub skipped : {T : Type 0} → Membership → Played T
+skipped m = (m, [])
+
+-- a server joins on a node, under the next number
+unfoldable pub join_played : {T : Type 0} → Membership → ℕ → List ℕ → Played T
+join_played m s node =
+    if s == length m.nodes + 1 && is_none (order_fault m.master (order.Join s)) then
+      (let did = order_step m.master (order.Join s) in
+      (record m { master = did.0; nodes = m.nodes ++ node ∷ [] }, did.1))
+    else skipped m
+
+-- a member is ordered to leave
+unfoldable pub retire_played : {T : Type 0} → Membership → ℕ → Played T
+retire_played m s =
+    if is_none (order_fault m.master (order.Retire s)) then
+      (let did = order_step m.master (order.Retire s) in (record m { master = did.0 }, did.1))
+    else skipped m
+
+-- the server that a report is about
+abbrev pub subject_of : ℕ → News → ℕ
+subject_of author (news.Have epoch last) = author
+subject_of author (news.Joined epoch) = author
+subject_of author (news.Gone s) = s
+
+-- the message of that server that the master takes
+abbrev pub message_of : {T : Type 0} → News → Message T
+message_of (news.Have epoch last) = message.Have epoch last
+message_of (news.Joined epoch) = message.Joined epoch
+message_of (news.Gone s) = message.Gone
+
+-- the report is the next one of its author, and neither its author nor its subject is gone
+abbrev pub is_next : Membership → Report → Bool
+is_next m r =
+    is_live m r.author && count_of m r.author == r.earlier && is_live m (subject_of r.author r.news)
+
+-- the servers that are gone after a report
+abbrev pub gone_after : List Bool → News → List Bool
+gone_after gone (news.Have epoch last) = gone
+gone_after gone (news.Joined epoch) = gone
+gone_after gone (news.Gone s) = slice_set gone (s - 1) true
+
+-- the report counts
+abbrev pub counted : Membership → Report → MasterView → Membership
+counted m r master =
+    record m {
+      master = master;
+      counts = slice_set m.counts (r.author - 1) (r.earlier + 1);
+      gone = gone_after m.gone r.news;
+    }
+
+-- a report: the master takes the message of the server that it is about
+unfoldable pub report_played : {T : Type 0} → Membership → Report → Played T
+report_played m r =
+    if is_next m r then
+      (let did = master_step m.master (Server (subject_of r.author r.news)) (message_of r.news) in
+      (counted m r did.0, did.1))
+    else skipped m
+
+-- ---- the log
+
+-- what entries make: nothing before the opening
+abbrev pub State : Type 0
+State = Option Membership
+
+abbrev pub with_state : {T : Type 0} → Played T → State × List (PostOf T)
+with_state played = (Some played.0, played.1)
+
+-- an entry
+abbrev pub entry_played : {T : Type 0} → State → LogEntry → State × List (PostOf T)
+entry_played None (entry.Opening nodes) = (Some (opened nodes), [])
+entry_played None (entry.Join s node) = (None, [])
+entry_played None (entry.Retire s) = (None, [])
+entry_played None (entry.Reported r) = (None, [])
+entry_played (Some m) (entry.Opening nodes) = with_state (skipped m)
+entry_played (Some m) (entry.Join s node) = with_state (join_played m s node)
+entry_played (Some m) (entry.Retire s) = with_state (retire_played m s)
+entry_played (Some m) (entry.Reported r) = with_state (report_played m r)
+
+-- entries one after the other, and all that the master sends
+abbrev pub log_played : {T : Type 0} → State → List LogEntry → State × List (PostOf T)
+log_played state [] = (state, [])
+log_played state (entry ∷ entries) =
+    let first = entry_played state entry in
+    let rest = log_played first.0 entries in
+    (rest.0, first.1 ++ rest.1)
+
+-- ---- the orders for one server
+
+-- the process is this server
+abbrev pub is_server : ℕ → Process → Bool
+is_server s Master = false
+is_server s (Server t) = t == s
+is_server s (Client c) = false
+
+-- the messages to a server, in order
+abbrev pub messages_to : {T : Type 0} → ℕ → List (PostOf T) → List (Message T)
+messages_to s [] = []
+messages_to s (post ∷ posts) =
+    if is_server s post.0 then post.1 ∷ messages_to s posts else messages_to s posts
+
+-- the first of them
+abbrev pub first_to : {T : Type 0} → ℕ → List (PostOf T) → Option (Message T)
+first_to s [] = None
+first_to s (post ∷ posts) = if is_server s post.0 then Some post.1 else first_to s posts
+
+-- ---- replicas
+
+-- A replica: the server of its node, if the node has one; how many entries were played; and what
+-- they make.
+pub record ReplicaView : Type 0 where
+  pub own : Option ℕ
+  pub played : ℕ
+  pub state : State
+
+-- the order for the server of the node: an entry has at most one (Laws.antt)
+abbrev pub order_for : {T : Type 0} → Option ℕ → List (PostOf T) → Option (Message T)
+order_for None posts = None
+order_for (Some s) posts = first_to s posts
+
+-- a replica after an entry
+abbrev pub after_entry : ReplicaView → State → ReplicaView
+after_entry v state = record v { played = v.played + 1; state = state }
+
+-- the server is live, by what the entries make
+abbrev pub has_live : State → ℕ → Bool
+has_live None s = false
+has_live (Some m) s = is_live m s
+
+-- why an entry with this index isn't played
+abbrev pub IsPlayFault : ReplicaView → ℕ → PlayFault → Type 0
+IsPlayFault v index NotNext = index ≢ v.played
+IsPlayFault v index Full = (index ≡ v.played) × (index ≡ MAX_ENTRIES)
+IsPlayFault v index Memory = Unit {0}
