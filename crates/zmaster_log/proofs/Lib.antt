@@ -1,0 +1,6 @@
+pub mod Parts
+pub mod Gone
+pub mod TheMaster
+pub mod Orders
+pub mod Numbers
+pub mod Bytes

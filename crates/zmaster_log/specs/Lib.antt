@@ -1,2 +1,4 @@
 pub mod Nodes
 pub mod Log
+pub mod Bytes
+pub mod Laws

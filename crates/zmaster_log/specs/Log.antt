@@ -4,13 +4,16 @@
 -- An entry is skipped where the master has no such input then: a second opening, an order that the
 -- master refuses, a join under another number than the next one, and a report that isn't the next
 -- one of its author, or of a server that is gone.
-use Rattle.std.specs.Prelude.{◌≡◌, ◌≢◌, ℕ, ◌+◌, ◌-◌, Bool, true, false, not, ◌&&◌, ◌==◌, nat_le, is_none, Option, None, Some, List, [], ◌∷◌, ◌++◌, length, replicate, get_or, slice_index, slice_set, if◌then◌else◌}
+use Rattle.std.specs.Prelude.{◌≡◌, ◌≢◌, ℕ, ◌+◌, ◌-◌, Bool, true, false, not, ◌&&◌, ◌==◌, nat_le, is_none, Option, None, Some, List, [], ◌∷◌, ◌++◌, length, replicate, get_or, slice_get, slice_index, slice_set, if◌then◌else◌}
 use Rattle.zprotocol.specs.declared.limits.TheConstants.{MAX_SERVERS}
 use Rattle.zprotocol.specs.declared.message.Message.{Message}
 use Rattle.zprotocol.specs.declared.message.Message.TheVariants as message
 use Rattle.zprotocol.specs.declared.process.Process.{Process}
 use Rattle.zprotocol.specs.declared.process.Process.TheVariants.{Master, Server, Client}
+use Rattle.zprotocol.specs.declared.master.order.Order.{Order}
 use Rattle.zprotocol.specs.declared.master.order.Order.TheVariants as order
+use Rattle.zprotocol.specs.declared.master.order_fault.OrderFault.{OrderFault}
+use Rattle.zprotocol.specs.declared.master.order_fault.OrderFault.TheVariants.{NoChain}
 use Rattle.zprotocol.specs.server.View.{PostOf}
 use Rattle.zprotocol.specs.master.View.{MasterView, opening_master}
 use Rattle.zprotocol.specs.master.Table.{order_fault, order_step, master_step}
@@ -18,7 +21,7 @@ use Rattle.zmaster_log.specs.declared.limits.TheConstants.{MAX_ENTRIES}
 use Rattle.zmaster_log.specs.declared.play_fault.PlayFault.{PlayFault}
 use Rattle.zmaster_log.specs.declared.play_fault.PlayFault.TheVariants.{NotNext, Full, Memory}
 use Rattle.zmaster_log.specs.declared.entry.LogEntry.{LogEntry}
-use Rattle.zmaster_log.specs.declared.entry.LogEntry.TheVariants as entry
+use Rattle.zmaster_log.specs.declared.entry.LogEntry.TheVariants as log
 use Rattle.zmaster_log.specs.declared.entry.Report.{Report}
 use Rattle.zmaster_log.specs.declared.entry.News.{News}
 use Rattle.zmaster_log.specs.declared.entry.News.TheVariants as news
@@ -66,15 +69,15 @@ skipped m = (m, [])
 unfoldable pub join_played : {T : Type 0} → Membership → ℕ → List ℕ → Played T
 join_played m s node =
     if s == length m.nodes + 1 && is_none (order_fault m.master (order.Join s)) then
-      (let did = order_step m.master (order.Join s) in
-      (record m { master = did.0; nodes = m.nodes ++ node ∷ [] }, did.1))
+    (let did = order_step m.master (order.Join s) in
+    (record m { master = did.0; nodes = m.nodes ++ node ∷ [] }, did.1))
     else skipped m
 
 -- a member is ordered to leave
 unfoldable pub retire_played : {T : Type 0} → Membership → ℕ → Played T
 retire_played m s =
     if is_none (order_fault m.master (order.Retire s)) then
-      (let did = order_step m.master (order.Retire s) in (record m { master = did.0 }, did.1))
+    (let did = order_step m.master (order.Retire s) in (record m { master = did.0 }, did.1))
     else skipped m
 
 -- the server that a report is about
@@ -113,8 +116,8 @@ counted m r master =
 unfoldable pub report_played : {T : Type 0} → Membership → Report → Played T
 report_played m r =
     if is_next m r then
-      (let did = master_step m.master (Server (subject_of r.author r.news)) (message_of r.news) in
-      (counted m r did.0, did.1))
+    (let did = master_step m.master (Server (subject_of r.author r.news)) (message_of r.news) in
+    (counted m r did.0, did.1))
     else skipped m
 
 -- ---- the log
@@ -126,18 +129,30 @@ State = Option Membership
 abbrev pub with_state : {T : Type 0} → Played T → State × List (PostOf T)
 with_state played = (Some played.0, played.1)
 
--- an entry
-abbrev pub entry_played : {T : Type 0} → State → LogEntry → State × List (PostOf T)
-entry_played None (entry.Opening nodes) = (Some (opened nodes), [])
-entry_played None (entry.Join s node) = (None, [])
-entry_played None (entry.Retire s) = (None, [])
-entry_played None (entry.Reported r) = (None, [])
-entry_played (Some m) (entry.Opening nodes) = with_state (skipped m)
-entry_played (Some m) (entry.Join s node) = with_state (join_played m s node)
-entry_played (Some m) (entry.Retire s) = with_state (retire_played m s)
-entry_played (Some m) (entry.Reported r) = with_state (report_played m r)
+-- an entry after the opening
+abbrev pub played : {T : Type 0} → Membership → LogEntry → Played T
+played m (log.Opening nodes) = skipped m
+played m (log.Join s node) = join_played m s node
+played m (log.Retire s) = retire_played m s
+played m (log.Reported r) = report_played m r
 
--- entries one after the other, and all that the master sends
+-- entries after the opening, one after the other, and all that the master sends
+abbrev pub all_played : {T : Type 0} → Membership → List LogEntry → Played T
+all_played m [] = skipped m
+all_played m (entry ∷ entries) =
+    let first = played m entry in
+    let rest = all_played first.0 entries in
+    (rest.0, first.1 ++ rest.1)
+
+-- an entry: before the opening, any other is skipped
+abbrev pub entry_played : {T : Type 0} → State → LogEntry → State × List (PostOf T)
+entry_played None (log.Opening nodes) = (Some (opened nodes), [])
+entry_played None (log.Join s node) = (None, [])
+entry_played None (log.Retire s) = (None, [])
+entry_played None (log.Reported r) = (None, [])
+entry_played (Some m) entry = with_state (played m entry)
+
+-- a log: its entries one after the other
 abbrev pub log_played : {T : Type 0} → State → List LogEntry → State × List (PostOf T)
 log_played state [] = (state, [])
 log_played state (entry ∷ entries) =
@@ -186,6 +201,26 @@ after_entry v state = record v { played = v.played + 1; state = state }
 abbrev pub has_live : State → ℕ → Bool
 has_live None s = false
 has_live (Some m) s = is_live m s
+
+-- the number of the next server that joins; 0 before the opening
+abbrev pub next_of : State → ℕ
+next_of None = 0
+next_of (Some m) = length m.nodes + 1
+
+-- the node of a server
+abbrev pub node_of : State → ℕ → Option (List ℕ)
+node_of None s = None
+node_of (Some m) s = slice_get m.nodes (s - 1)
+
+-- how many reports of a server were played
+abbrev pub reports_of : State → ℕ → ℕ
+reports_of None s = 0
+reports_of (Some m) s = count_of m s
+
+-- why the master refuses an order; before the opening it has no chain
+abbrev pub fault_of : State → Order → Option OrderFault
+fault_of None order = Some NoChain
+fault_of (Some m) order = order_fault m.master order
 
 -- why an entry with this index isn't played
 abbrev pub IsPlayFault : ReplicaView → ℕ → PlayFault → Type 0

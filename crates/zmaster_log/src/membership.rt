@@ -1,6 +1,8 @@
 //! What the entries from the opening on make.
 
-ghost use Rattle.std.specs.Prelude.{◌≡◌, ◌+◌, ◌<◌, ◌≤◌, ◌++◌, length, OnErr, OnOk};
+ghost use Rattle.std.specs.Prelude.{◌≡◌, ◌+◌, ◌-◌, ◌<◌, ◌≤◌, length, slice_get, IfNone, IfSome, OnErr, OnOk};
+ghost use Rattle.std.specs.Option.{option_copied};
+ghost use Rattle.zprotocol.specs.master.Table.{order_fault};
 ghost use Rattle.zprotocol.specs.Posts.{Puts};
 ghost use Rattle.zmaster.specs.declared.limits.TheConstants.{MAX_POSTS};
 ghost use Rattle.zprotocol.specs.declared.limits.TheConstants.{MAX_SERVERS};
@@ -14,7 +16,7 @@ use crate::node_names::NodeNames;
 use std::marker::Model;
 use zalloc::Memory;
 use zmaster::{MAX_POSTS, Master};
-use zprotocol::{Message, Order, Out, Process, ServerId};
+use zprotocol::{Message, Order, OrderFault, Out, Process, ServerId};
 
 /// The master, the node of each server, and what was heard of each server.
 #[derive(Drop)]
@@ -69,6 +71,31 @@ impl Membership {
         ensures { result ≡ count_of self.now server }
     {
         self.counts[server.number() as usize - 1]
+    }
+
+    /// Returns the number of the next server that joins, or `None` if all are used.
+    pub(crate) fn next_server(&self) -> Option<ServerId>
+        ensures next { IfSome result (λ s. s ≡ length self.now.nodes + 1) }
+        ensures none { IfNone result (MAX_SERVERS < length self.now.nodes + 1) }
+    {
+        if self.nodes.len() >= SERVERS {
+            return None;
+        }
+        ServerId::new(self.nodes.len() as u8 + 1)
+    }
+
+    /// Returns the node of a server.
+    pub(crate) fn node_of(&self, server: ServerId) -> Option<&NodeName>
+        ensures { option_copied result ≡ slice_get self.now.nodes (server - 1) }
+    {
+        self.nodes.get(server.number() as usize - 1)
+    }
+
+    /// Returns why the master refuses an order now.
+    pub(crate) fn order_fault(&self, order: &Order) -> Option<OrderFault>
+        ensures { result ≡ order_fault self.now.master order.now }
+    {
+        self.master.order_fault(order)
     }
 
     /// Lets a server join on this node, if its number is the next one and the master allows it.

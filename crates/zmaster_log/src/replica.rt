@@ -1,20 +1,24 @@
 //! The replica of the master in one node.
 
-ghost use Rattle.std.specs.Prelude.{◌≡◌, ◌≢◌, ◌≤◌, None, Some, Option, IfErr, IfOk, OnErr, OnOk};
+ghost use Rattle.std.specs.Prelude.{◌≡◌, ◌<◌, ◌≤◌, ◌⊎◌, None, Some, IfErr, IfNone, IfOk, IfSome, OnErr, OnOk};
+ghost use Rattle.std.specs.Option.{option_copied};
 ghost use Rattle.zprotocol.specs.Posts.{Puts};
 ghost use Rattle.zmaster.specs.declared.limits.TheConstants.{MAX_POSTS};
 ghost use Rattle.zmaster_log.specs.Log.{entry_played, first_to, order_for, after_entry, is_server};
-ghost use Rattle.zmaster_log.specs.Log.{IsPlayFault, has_live};
+ghost use Rattle.zmaster_log.specs.Log.{IsPlayFault, has_live, played, reports_of, node_of, next_of};
+ghost use Rattle.zmaster_log.specs.Log.{fault_of};
+ghost use Rattle.zprotocol.specs.declared.limits.TheConstants.{MAX_SERVERS};
 
 use crate::entry::LogEntry;
 use crate::entry_count::EntryCount;
 use crate::membership::Membership;
+use crate::node_name::NodeName;
 use crate::play_fault::PlayFault;
 use std::alloc::Global;
 use std::marker::Model;
 use zalloc::Memory;
 use zmaster::MAX_POSTS;
-use zprotocol::{Message, Out, Process, ServerId};
+use zprotocol::{Message, Order, OrderFault, Out, Process, ServerId};
 
 /// The master, as one node has it: it plays the log from its first entry on, and hands out the
 /// orders for the server of its node.
@@ -74,6 +78,49 @@ impl MasterReplica {
         match &self.state {
             Some(membership) => membership.is_live(server),
             None => false,
+        }
+    }
+
+    /// Returns how many reports of the server were played: its next one has so many before it.
+    pub fn reports_of(&self, server: ServerId) -> u64
+        ensures { result ≡ reports_of self.now.state server }
+    {
+        match &self.state {
+            Some(membership) => membership.count_of(server),
+            None => 0,
+        }
+    }
+
+    /// Returns the node of a server, if it has joined or was in the initial chain.
+    pub fn node_of(&self, server: ServerId) -> Option<&NodeName>
+        ensures { option_copied result ≡ node_of self.now.state server }
+    {
+        match &self.state {
+            Some(membership) => membership.node_of(server),
+            None => None,
+        }
+    }
+
+    /// Returns the number of the next server that joins, or `None` before the opening and once all
+    /// numbers are used.
+    pub fn next_server(&self) -> Option<ServerId>
+        ensures next { IfSome result (λ s. s ≡ next_of self.now.state) }
+        ensures none { IfNone result
+            ((next_of self.now.state ≡ 0) ⊎ (MAX_SERVERS < next_of self.now.state)) }
+    {
+        match &self.state {
+            Some(membership) => membership.next_server(),
+            None => None,
+        }
+    }
+
+    /// Returns why the master refuses an order now. Before the opening it has no chain.
+    pub fn order_fault(&self, order: &Order) -> Option<OrderFault>
+        ensures { result ≡ fault_of self.now.state order.now }
+    {
+        match &self.state {
+            Some(membership) => membership.order_fault(order),
+            None => Some(OrderFault::NoChain),
         }
     }
 
@@ -137,9 +184,9 @@ fn go_on<T: Drop>(
 ) -> Result<(), Memory>
     requires { MAX_POSTS ≤ posts.old.room }
     ensures next { OnOk result
-        (Some membership.new ≡ (entry_played {T = T} (Some membership.old) entry).0) }
+        (membership.new ≡ (played {T = T} membership.old entry).0) }
     ensures puts { OnOk result
-        (Puts posts.old posts.new (entry_played (Some membership.old) entry).1) }
+        (Puts posts.old posts.new (played membership.old entry).1) }
     ensures same { OnErr result (membership.new ≡ membership.old) }
 {
     match entry {

@@ -1,0 +1,115 @@
+-- A server that is gone stays so, and is skipped.
+use Rattle.std.proofs.Common.{◌≡◌, ℕ, zero, suc, ◌+◌, ◌-◌, ◌<◌, ◌≤◌, Bool, true, false, cond, not, ◌&&◌, nat_le, is_none, List, [], ◌∷◌, ◌++◌, length, get_or, refl, sym, ap, ◌∙◌, arith, length-append}
+use Rattle.std.specs.Prelude.{slice_set}
+use Rattle.std.proofs.lemmas.Bool.Decides.{nat_tests}
+use mathlib.Core.Bool.{true≢false}
+use Rattle.zprotocol.specs.declared.master.order.Order.TheVariants as order
+use Rattle.zprotocol.specs.master.Table.{order_fault}
+use Rattle.zmaster_log.specs.declared.entry.LogEntry.{LogEntry}
+use Rattle.zmaster_log.specs.declared.entry.LogEntry.TheVariants as log
+use Rattle.zmaster_log.specs.declared.entry.Report.{Report}
+use Rattle.zmaster_log.specs.declared.entry.News.{News}
+use Rattle.zmaster_log.specs.declared.entry.News.TheVariants as news
+use Rattle.zmaster_log.specs.Log.{Membership, Played, is_live, is_next, count_of, subject_of, gone_after, join_played, retire_played, report_played, played, all_played, skipped}
+use Rattle.zmaster_log.specs.Laws.{is_gone, gone_report, ReportsEndServers, LateReportsAreSkipped, GoneIsTakenOnce}
+
+-- ---- flags
+
+left : (a b : Bool) → (a && b) ≡ true → a ≡ true
+left true b is = refl
+left false b is = absurd (true≢false (sym is))
+
+right : (a b : Bool) → (a && b) ≡ true → b ≡ true
+right true b is = is
+right false b is = absurd (true≢false (sym is))
+
+together : (a b : Bool) → a ≡ true → b ≡ true → (a && b) ≡ true
+together true b is also = also
+together false b is also = absurd (true≢false (sym is))
+
+-- a flag that is set stays so
+still_set : (flags : List Bool) (i j : ℕ) → get_or flags j false ≡ true → get_or (slice_set flags i true) j false ≡ true
+still_set [] i j is = is
+still_set (flag ∷ flags) zero zero is = refl
+still_set (flag ∷ flags) zero (suc j) is = is
+still_set (flag ∷ flags) (suc i) zero is = is
+still_set (flag ∷ flags) (suc i) (suc j) is = still_set flags i j is
+
+-- a flag is set by setting it
+now_set : (flags : List Bool) (i : ℕ) → i < length flags → get_or (slice_set flags i true) i false ≡ true
+now_set [] i within = absurd (omega arith)
+now_set (flag ∷ flags) zero within = refl
+now_set (flag ∷ flags) (suc i) within = now_set flags i (omega arith)
+
+-- ---- the server that is gone
+
+-- it isn't live
+not_live : (m : Membership) (s : ℕ) → is_gone m s ≡ true → is_live m s ≡ false
+not_live m s is = by (nat_le s (length m.nodes)) (get_or m.gone (s - 1) false) (right _ _ is)
+  where
+    by : (a b : Bool) → b ≡ true → (a && not b) ≡ false
+    by true true is = refl
+    by false b is = refl
+    by true false is = absurd (true≢false (sym is))
+
+no_report : (T : Type 0) (m : Membership) (r : Report) → is_next m r ≡ false → report_played {T = T} m r ≡ skipped m
+unfolding report_played
+no_report T m r not_next = rw not_next refl
+
+author_gone : (m : Membership) (r : Report) → is_live m r.author ≡ false → is_next m r ≡ false
+author_gone m r gone = rw gone refl
+
+subject_gone : (m : Membership) (r : Report) → is_live m (subject_of r.author r.news) ≡ false → is_next m r ≡ false
+subject_gone m r gone = rw gone (none (is_live m r.author && count_of m r.author == r.earlier))
+  where
+    none : (a : Bool) → (a && false) ≡ false
+    none true = refl
+    none false = refl
+
+-- ---- one entry
+
+more_nodes : (s : ℕ) (nodes : List (List ℕ)) (node : List ℕ) → nat_le s (length nodes) ≡ true → nat_le s (length (nodes ++ node ∷ [])) ≡ true
+more_nodes s nodes node is = let more = length-append nodes (node ∷ []) in grind (arith, nat_tests, is, more)
+
+gone_by_news : (gone : List Bool) (report : News) (j : ℕ) → get_or gone j false ≡ true → get_or (gone_after gone report) j false ≡ true
+gone_by_news gone (news.Have epoch last) j is = is
+gone_by_news gone (news.Joined epoch) j is = is
+gone_by_news gone (news.Gone s) j is = still_set gone (s - 1) j is
+
+module _ {T : Type 0} where
+  -- the part of what was played that is left in place
+  stays : (m : Membership) (s : ℕ) (test : Bool) (other : Played T) → is_gone m s ≡ true → is_gone other.0 s ≡ true
+      → is_gone (cond test other (skipped m)).0 s ≡ true
+  stays m s true other is then = then
+  stays m s false other is then = is
+
+  pub gone_stays : (m : Membership) (entry : LogEntry) (s : ℕ) → is_gone m s ≡ true → is_gone (played {T = T} m entry).0 s ≡ true
+  unfolding join_played retire_played report_played
+  gone_stays m (log.Opening nodes) s is = is
+  gone_stays m (log.Join t node) s is =
+      stays m s _ _ is (together _ _ (more_nodes s m.nodes node (left _ _ is)) (right _ _ is))
+  gone_stays m (log.Retire t) s is = stays m s _ _ is is
+  gone_stays m (log.Reported r) s is =
+      stays m s _ _ is (together _ _ (left _ _ is) (gone_by_news m.gone r.news (s - 1) (right _ _ is)))
+
+  pub gone_stays_along : (m : Membership) (entries : List LogEntry) (s : ℕ) → is_gone m s ≡ true
+      → is_gone (all_played {T = T} m entries).0 s ≡ true
+  gone_stays_along m [] s is = is
+  gone_stays_along m (entry ∷ entries) s is = gone_stays_along (played {T = T} m entry).0 entries s (gone_stays m entry s is)
+
+  pub reports_end : ReportsEndServers T
+  unfolding report_played
+  reports_end m author earlier s some within next =
+      let live = right _ _ next in
+      rw next (together _ _ (left _ _ live) (now_set m.gone (s - 1) (omega arith)))
+
+  pub late_are_skipped : LateReportsAreSkipped T
+  late_are_skipped m s entries r is of =
+      let later = (all_played {T = T} m entries).0 in
+      let gone : is_live later r.author ≡ false = ap (is_live later) of ∙ not_live later s (gone_stays_along m entries s is) in
+      no_report T later r (author_gone later r gone)
+
+  pub taken_once : GoneIsTakenOnce T
+  taken_once m author earlier s entries is =
+      let later = (all_played {T = T} m entries).0 in
+      no_report T later (gone_report author earlier s) (subject_gone later (gone_report author earlier s) (not_live later s (gone_stays_along m entries s is)))

@@ -1,0 +1,49 @@
+-- Entries give the master of the world its inputs.
+use Rattle.std.proofs.Common.{◌≡◌, ℕ, ◌+◌, Bool, true, false, cond, ◌&&◌, ◌==◌, is_none, List, [], ◌∷◌, ◌++◌, length, refl, sym, ap, ◌∙◌, append_assoc}
+use Rattle.zprotocol.specs.declared.process.Process.TheVariants.{Master, Server}
+use Rattle.zprotocol.specs.declared.master.order.Order.TheVariants as order
+use Rattle.zprotocol.specs.server.Machine.{Does}
+use Rattle.zprotocol.specs.server.View.{Transfer, Post}
+use Rattle.zprotocol.specs.master.Table.{order_fault, order_step, master_step}
+use Rattle.zprotocol.specs.world.Does.{Standing, AtMaster, Input, Hear, Obey, does, master_effect}
+use Rattle.zmaster_log.specs.declared.entry.LogEntry.{LogEntry}
+use Rattle.zmaster_log.specs.declared.entry.LogEntry.TheVariants as log
+use Rattle.zmaster_log.specs.Log.{Membership, Played, subject_of, message_of, is_next, counted, join_played, retire_played, report_played, played, all_played, skipped}
+use Rattle.zmaster_log.specs.Laws.{input_of, inputs_of, master_run, PlaysTheMaster}
+
+module _ {M : Type 0} (machine : Does M) where
+  -- what was sent before is put in front
+  abbrev behind : List (Post M) → Standing M × List (Post M) → Standing M × List (Post M)
+  behind posts rest = (rest.0, posts ++ rest.1)
+
+  -- the run from what was played
+  abbrev from : Played (Transfer M) → List (Input M) → Standing M × List (Post M)
+  from did more = behind did.1 (master_run machine (AtMaster did.0.master) more)
+
+  -- one input, where the test holds, and more
+  one : (m : Membership) (input : Input M) (did : Played (Transfer M)) → does machine Master input (AtMaster m.master) ≡ master_effect (did.0.master, did.1)
+      → (test : Bool) (more : List (Input M))
+      → master_run machine (AtMaster m.master) (cond test (input ∷ []) [] ++ more) ≡ from (cond test did (skipped m)) more
+  one m input did is true more = rw is refl
+  one m input did is false more = refl
+
+  -- an entry, and more
+  step : (m : Membership) (entry : LogEntry) (more : List (Input M))
+      → master_run machine (AtMaster m.master) (input_of m entry ++ more) ≡ from (played m entry) more
+  unfolding join_played retire_played report_played
+  step m (log.Opening nodes) more = refl
+  step m (log.Join s node) more =
+      let did = order_step {T = Transfer M} m.master (order.Join s) in
+      one m (Obey (order.Join s)) (record m { master = did.0; nodes = m.nodes ++ node ∷ [] }, did.1) refl (s == length m.nodes + 1 && is_none (order_fault m.master (order.Join s))) more
+  step m (log.Retire s) more =
+      let did = order_step {T = Transfer M} m.master (order.Retire s) in
+      one m (Obey (order.Retire s)) (record m { master = did.0 }, did.1) refl (is_none (order_fault m.master (order.Retire s))) more
+  step m (log.Reported r) more =
+      let did = master_step {T = Transfer M} m.master (Server (subject_of r.author r.news)) (message_of r.news) in
+      one m (Hear (Server (subject_of r.author r.news)) (message_of r.news)) (counted m r did.0, did.1) refl (is_next m r) more
+
+  pub plays_the_master : PlaysTheMaster machine
+  plays_the_master m [] = refl
+  plays_the_master m (entry ∷ entries) =
+      let first = played {T = Transfer M} m entry in
+      step m entry (inputs_of first.0 entries) ∙ ap (behind first.1) (plays_the_master first.0 entries)
