@@ -10,7 +10,7 @@ use Rattle.zmaster_log.specs.declared.entry.LogEntry.TheVariants as log
 use Rattle.zmaster_log.specs.declared.entry.Report.{Report}
 use Rattle.zmaster_log.specs.declared.entry.News.{News}
 use Rattle.zmaster_log.specs.declared.entry.News.TheVariants as news
-use Rattle.zmaster_log.specs.Log.{Membership, Played, is_live, is_next, count_of, subject_of, gone_after, join_played, retire_played, report_played, played, all_played, skipped}
+use Rattle.zmaster_log.specs.Log.{Membership, Played, is_live, is_next, count_of, subject_of, gone_after, may_join, joined, may_retire, retired, reported, join_played, retire_played, report_played, played, all_played, skipped}
 use Rattle.zmaster_log.specs.Laws.{is_gone, gone_report, ReportsEndServers, LateReportsAreSkipped, GoneIsTakenOnce}
 
 -- ---- flags
@@ -87,10 +87,10 @@ module _ {T : Type 0} where
   unfolding join_played retire_played report_played
   gone_stays m (log.Opening nodes) s is = is
   gone_stays m (log.Join t node) s is =
-      stays m s _ _ is (together _ _ (more_nodes s m.nodes node (left _ _ is)) (right _ _ is))
-  gone_stays m (log.Retire t) s is = stays m s _ _ is is
+      stays m s (may_join m t) (joined m t node) is (together _ _ (more_nodes s m.nodes node (left _ _ is)) (right _ _ is))
+  gone_stays m (log.Retire t) s is = stays m s (may_retire m t) (retired m t) is is
   gone_stays m (log.Reported r) s is =
-      stays m s _ _ is (together _ _ (left _ _ is) (gone_by_news m.gone r.news (s - 1) (right _ _ is)))
+      stays m s (is_next m r) (reported m r) is (together _ _ (left _ _ is) (gone_by_news m.gone r.news (s - 1) (right _ _ is)))
 
   pub gone_stays_along : (m : Membership) (entries : List LogEntry) (s : ℕ) → is_gone m s ≡ true
       → is_gone (all_played {T = T} m entries).0 s ≡ true

@@ -18,7 +18,7 @@ use Rattle.zprotocol.specs.master.support.Cases.{IsMasterRow, Ignores, Reports, 
 use Rattle.zprotocol.proofs.master_lemmas.Cases.{master_case}
 use Rattle.zmaster_log.specs.declared.entry.LogEntry.{LogEntry}
 use Rattle.zmaster_log.specs.declared.entry.LogEntry.TheVariants as log
-use Rattle.zmaster_log.specs.Log.{Membership, Played, subject_of, message_of, is_live, is_next, opened, join_played, retire_played, report_played, played, all_played, skipped}
+use Rattle.zmaster_log.specs.Log.{Membership, Played, subject_of, message_of, may_join, joined, may_retire, retired, reported, is_live, is_next, opened, join_played, retire_played, report_played, played, all_played, skipped}
 use Rattle.zmaster_log.specs.Laws.{HasServers, NumbersAreInOrder}
 
 -- ---- ranges
@@ -110,13 +110,13 @@ module _ {T : Type 0} where
   entry_in_order : (m : Membership) (entry : LogEntry) → HasServers entry → InOrder m → InOrder (played {T = T} m entry).0
   unfolding join_played retire_played report_played
   entry_in_order m (log.Opening nodes) of is = is
-  entry_in_order m (log.Join s node) of is = in_order_if _ m _ is (λ test.
+  entry_in_order m (log.Join s node) of is = in_order_if (may_join m s) m (joined m s node) is (λ test.
       let number : s ≡ length m.nodes + 1 = eqb-true _ _ (left _ _ test) in
       let uses = join_uses m.master s (right _ _ test) in
       let longer : suc (length m.nodes) ≡ length (m.nodes ++ node ∷ []) = omega (arith, length-append m.nodes (node ∷ [])) in
       uses ∙ ap (with_number s) is ∙ number_after 1 (length m.nodes) s (omega (arith, number)) ∙ ap (range_with_len 1) longer)
-  entry_in_order m (log.Retire s) of is = in_order_if _ m _ is (λ test. is)
-  entry_in_order m (log.Reported r) of is = in_order_if _ m _ is (λ test.
+  entry_in_order m (log.Retire s) of is = in_order_if (may_retire m s) m (retired m s) is (λ test. retire_uses m.master s ∙ is)
+  entry_in_order m (log.Reported r) of is = in_order_if (is_next m r) m (reported m r) is (λ test.
       let s = subject_of r.author r.news in
       let live = right _ _ test in
       let low = left _ _ live in

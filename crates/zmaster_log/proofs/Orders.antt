@@ -15,7 +15,7 @@ use Rattle.zprotocol.proofs.master_lemmas.Cases.{master_case}
 use Rattle.zprotocol.proofs.master_lemmas.Orders.{order_counts}
 use Rattle.zmaster_log.specs.declared.entry.LogEntry.{LogEntry}
 use Rattle.zmaster_log.specs.declared.entry.LogEntry.TheVariants as log
-use Rattle.zmaster_log.specs.Log.{Membership, Played, subject_of, message_of, is_server, opened, join_played, retire_played, report_played, played, all_played, skipped, messages_to, first_to}
+use Rattle.zmaster_log.specs.Log.{Membership, Played, subject_of, message_of, is_server, opened, may_join, joined, may_retire, retired, is_next, reported, join_played, retire_played, report_played, played, all_played, skipped, messages_to, first_to}
 use Rattle.zmaster_log.specs.Laws.{listed_option, orders_handed, OrdersAreTheMasters}
 
 module _ {T : Type 0} where
@@ -85,18 +85,18 @@ module _ {T : Type 0} where
   few_played : (m : Membership) (entry : LogEntry) → m.master.clients ≡ 0 → IsFew (played {T = T} m entry).1
   unfolding join_played retire_played report_played
   few_played m (log.Opening nodes) none = tt
-  few_played m (log.Join s node) none = few_if _ m _ (few_ordered m.master (order.Join s))
-  few_played m (log.Retire s) none = few_if _ m _ (few_ordered m.master (order.Retire s))
+  few_played m (log.Join s node) none = few_if (may_join m s) m (joined m s node) (few_ordered m.master (order.Join s))
+  few_played m (log.Retire s) none = few_if (may_retire m s) m (retired m s) (few_ordered m.master (order.Retire s))
   few_played m (log.Reported r) none =
-      few_if _ m _ (few_row m.master none _ _ _ (master_case m.master (Server (subject_of r.author r.news)) (message_of r.news)))
+      few_if (is_next m r) m (reported m r) (few_row m.master none _ _ _ (master_case m.master (Server (subject_of r.author r.news)) (message_of r.news)))
 
   still_none : (m : Membership) (entry : LogEntry) → m.master.clients ≡ 0 → (played {T = T} m entry).0.master.clients ≡ 0
   unfolding join_played retire_played report_played
   still_none m (log.Opening nodes) none = none
-  still_none m (log.Join s node) none = none_if _ m _ none (order_counts T m.master (order.Join s) ∙ none)
-  still_none m (log.Retire s) none = none_if _ m _ none (order_counts T m.master (order.Retire s) ∙ none)
+  still_none m (log.Join s node) none = none_if (may_join m s) m (joined m s node) none (order_counts T m.master (order.Join s) ∙ none)
+  still_none m (log.Retire s) none = none_if (may_retire m s) m (retired m s) none (order_counts T m.master (order.Retire s) ∙ none)
   still_none m (log.Reported r) none =
-      none_if _ m _ none (row_counts m.master _ _ _ (master_case {T = T} m.master (Server (subject_of r.author r.news)) (message_of r.news)) ∙ none)
+      none_if (is_next m r) m (reported m r) none (row_counts m.master _ _ _ (master_case {T = T} m.master (Server (subject_of r.author r.news)) (message_of r.news)) ∙ none)
 
   -- ---- all entries
 

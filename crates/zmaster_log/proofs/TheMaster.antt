@@ -8,7 +8,7 @@ use Rattle.zprotocol.specs.master.Table.{order_fault, order_step, master_step}
 use Rattle.zprotocol.specs.world.Does.{Standing, AtMaster, Input, Hear, Obey, does, master_effect}
 use Rattle.zmaster_log.specs.declared.entry.LogEntry.{LogEntry}
 use Rattle.zmaster_log.specs.declared.entry.LogEntry.TheVariants as log
-use Rattle.zmaster_log.specs.Log.{Membership, Played, subject_of, message_of, is_next, counted, join_played, retire_played, report_played, played, all_played, skipped}
+use Rattle.zmaster_log.specs.Log.{Membership, Played, may_join, joined, may_retire, retired, subject_of, message_of, is_next, reported, join_played, retire_played, report_played, played, all_played, skipped}
 use Rattle.zmaster_log.specs.Laws.{input_of, inputs_of, master_run, PlaysTheMaster}
 
 module _ {M : Type 0} (machine : Does M) where
@@ -32,15 +32,9 @@ module _ {M : Type 0} (machine : Does M) where
       → master_run machine (AtMaster m.master) (input_of m entry ++ more) ≡ from (played m entry) more
   unfolding join_played retire_played report_played
   step m (log.Opening nodes) more = refl
-  step m (log.Join s node) more =
-      let did = order_step {T = Transfer M} m.master (order.Join s) in
-      one m (Obey (order.Join s)) (record m { master = did.0; nodes = m.nodes ++ node ∷ [] }, did.1) refl (s == length m.nodes + 1 && is_none (order_fault m.master (order.Join s))) more
-  step m (log.Retire s) more =
-      let did = order_step {T = Transfer M} m.master (order.Retire s) in
-      one m (Obey (order.Retire s)) (record m { master = did.0 }, did.1) refl (is_none (order_fault m.master (order.Retire s))) more
-  step m (log.Reported r) more =
-      let did = master_step {T = Transfer M} m.master (Server (subject_of r.author r.news)) (message_of r.news) in
-      one m (Hear (Server (subject_of r.author r.news)) (message_of r.news)) (counted m r did.0, did.1) refl (is_next m r) more
+  step m (log.Join s node) more = one m (Obey (order.Join s)) (joined m s node) refl (may_join m s) more
+  step m (log.Retire s) more = one m (Obey (order.Retire s)) (retired m s) refl (may_retire m s) more
+  step m (log.Reported r) more = one m (Hear (Server (subject_of r.author r.news)) (message_of r.news)) (reported m r) refl (is_next m r) more
 
   pub plays_the_master : PlaysTheMaster machine
   plays_the_master m [] = refl

@@ -1,12 +1,11 @@
 -- Laws of the master's log.
-use Rattle.std.specs.Prelude.{◌≡◌, ℕ, ◌+◌, ◌-◌, ◌<◌, ◌≤◌, Bool, true, false, ◌&&◌, ◌==◌, nat_le, is_none, Option, None, Some, List, [], ◌∷◌, ◌++◌, length, get_or, if◌then◌else◌, Ok}
+use Rattle.std.specs.Prelude.{◌≡◌, ℕ, ◌-◌, ◌<◌, ◌≤◌, Bool, true, false, ◌&&◌, nat_le, Option, None, Some, List, [], ◌∷◌, ◌++◌, length, get_or, if◌then◌else◌, Ok}
 use Rattle.std.specs.List.{range_with_len, AllByRecursion}
 use Rattle.zprotocol.specs.declared.message.Message.{Message}
 use Rattle.zprotocol.specs.declared.process.Process.TheVariants.{Master, Server}
 use Rattle.zprotocol.specs.declared.master.order.Order.TheVariants as order
 use Rattle.zprotocol.specs.server.Machine.{Does}
 use Rattle.zprotocol.specs.server.View.{PostOf, Transfer, Post}
-use Rattle.zprotocol.specs.master.Table.{order_fault}
 use Rattle.zprotocol.specs.world.Does.{Standing, AtMaster, Input, Hear, Obey, does}
 use Rattle.zcodec.specs.Laws.{IsBytes}
 use Rattle.zcodec.specs.Readers.{whole}
@@ -14,7 +13,7 @@ use Rattle.zmaster_log.specs.declared.entry.LogEntry.{LogEntry}
 use Rattle.zmaster_log.specs.declared.entry.LogEntry.TheVariants as log
 use Rattle.zmaster_log.specs.declared.entry.Report.{Report}
 use Rattle.zmaster_log.specs.declared.entry.News.TheVariants as news
-use Rattle.zmaster_log.specs.Log.{Membership, Played, State, opened, subject_of, message_of, is_next, played, all_played}
+use Rattle.zmaster_log.specs.Log.{Membership, Played, State, opened, may_join, may_retire, subject_of, message_of, is_next, played, all_played}
 use Rattle.zmaster_log.specs.Bytes.{entry}
 use Rattle.zmaster_log.specs.Log.{entry_played, log_played, messages_to, first_to}
 
@@ -64,10 +63,8 @@ GoneIsTakenOnce T =
 -- what an entry gives to the master, if it isn't skipped: an input as the world has it
 abbrev pub input_of : {M : Type 0} → Membership → LogEntry → List (Input M)
 input_of m (log.Opening nodes) = []
-input_of m (log.Join s node) =
-    if s == length m.nodes + 1 && is_none (order_fault m.master (order.Join s)) then Obey (order.Join s) ∷ [] else []
-input_of m (log.Retire s) =
-    if is_none (order_fault m.master (order.Retire s)) then Obey (order.Retire s) ∷ [] else []
+input_of m (log.Join s node) = if may_join m s then Obey (order.Join s) ∷ [] else []
+input_of m (log.Retire s) = if may_retire m s then Obey (order.Retire s) ∷ [] else []
 input_of m (log.Reported r) =
     if is_next m r then Hear (Server (subject_of r.author r.news)) (message_of r.news) ∷ [] else []
 

@@ -65,20 +65,30 @@ Played T = Membership × List (PostOf T)
 abbrev pub skipped : {T : Type 0} → Membership → Played T
 skipped m = (m, [])
 
--- a server joins on a node, under the next number
-unfoldable pub join_played : {T : Type 0} → Membership → ℕ → List ℕ → Played T
-join_played m s node =
-    if s == length m.nodes + 1 && is_none (order_fault m.master (order.Join s)) then
-    (let did = order_step m.master (order.Join s) in
-    (record m { master = did.0; nodes = m.nodes ++ node ∷ [] }, did.1))
-    else skipped m
+-- the number is the next one, and the master lets a server join
+abbrev pub may_join : Membership → ℕ → Bool
+may_join m s = s == length m.nodes + 1 && is_none (order_fault m.master (order.Join s))
 
--- a member is ordered to leave
+-- a server joins on a node
+abbrev pub joined : {T : Type 0} → Membership → ℕ → List ℕ → Played T
+joined m s node =
+    let did = order_step m.master (order.Join s) in
+    (record m { master = did.0; nodes = m.nodes ++ node ∷ [] }, did.1)
+
+unfoldable pub join_played : {T : Type 0} → Membership → ℕ → List ℕ → Played T
+join_played m s node = if may_join m s then joined m s node else skipped m
+
+-- the master orders a member to leave
+abbrev pub may_retire : Membership → ℕ → Bool
+may_retire m s = is_none (order_fault m.master (order.Retire s))
+
+abbrev pub retired : {T : Type 0} → Membership → ℕ → Played T
+retired m s =
+    let did = order_step m.master (order.Retire s) in
+    (record m { master = did.0 }, did.1)
+
 unfoldable pub retire_played : {T : Type 0} → Membership → ℕ → Played T
-retire_played m s =
-    if is_none (order_fault m.master (order.Retire s)) then
-    (let did = order_step m.master (order.Retire s) in (record m { master = did.0 }, did.1))
-    else skipped m
+retire_played m s = if may_retire m s then retired m s else skipped m
 
 -- the server that a report is about
 abbrev pub subject_of : ℕ → News → ℕ
@@ -112,13 +122,14 @@ counted m r master =
       gone = gone_after m.gone r.news;
     }
 
--- a report: the master takes the message of the server that it is about
+-- the master takes the message of the server that a report is about
+abbrev pub reported : {T : Type 0} → Membership → Report → Played T
+reported m r =
+    let did = master_step m.master (Server (subject_of r.author r.news)) (message_of r.news) in
+    (counted m r did.0, did.1)
+
 unfoldable pub report_played : {T : Type 0} → Membership → Report → Played T
-report_played m r =
-    if is_next m r then
-    (let did = master_step m.master (Server (subject_of r.author r.news)) (message_of r.news) in
-    (counted m r did.0, did.1))
-    else skipped m
+report_played m r = if is_next m r then reported m r else skipped m
 
 -- ---- the log
 

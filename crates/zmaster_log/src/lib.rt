@@ -27,6 +27,7 @@ mod node_names;
 mod play_fault;
 mod reading;
 mod replica;
+mod rows;
 mod writing;
 
 pub use entry::{LogEntry, News, Report};
