@@ -15,7 +15,7 @@ use Rattle.zprotocol.proofs.master_lemmas.Cases.{master_case}
 use Rattle.zprotocol.proofs.master_lemmas.Orders.{order_counts}
 use Rattle.zmaster_log.specs.declared.entry.LogEntry.{LogEntry}
 use Rattle.zmaster_log.specs.declared.entry.LogEntry.TheVariants as log
-use Rattle.zmaster_log.specs.Log.{Membership, Played, subject_of, message_of, is_server, opened, may_join, joined, may_retire, retired, is_next, reported, join_played, retire_played, report_played, played, all_played, skipped, messages_to, first_to}
+use Rattle.zmaster_log.specs.Log.{Membership, Played, subject_of, message_of, is_this_server, opened, may_join, joined, may_retire, retired, is_next, reported, join_played, retire_played, report_played, played, all_played, skipped, messages_to, first_to}
 use Rattle.zmaster_log.specs.Laws.{listed_option, orders_handed, OrdersAreTheMasters}
 
 module _ {T : Type 0} where
@@ -103,7 +103,7 @@ module _ {T : Type 0} where
   -- the messages of both parts
   messages_append : (s : ℕ) (posts more : List (PostOf T)) → messages_to s (posts ++ more) ≡ messages_to s posts ++ messages_to s more
   messages_append s [] more = refl
-  messages_append s (post ∷ posts) more = by (messages_append s posts more) (is_server s post.0)
+  messages_append s (post ∷ posts) more = by (messages_append s posts more) (is_this_server s post.0)
     where
       by : messages_to s (posts ++ more) ≡ messages_to s posts ++ messages_to s more → (test : Bool) → cond test (post.1 ∷ messages_to s (posts ++ more)) (messages_to s (posts ++ more))
           ≡ cond test (post.1 ∷ messages_to s posts) (messages_to s posts) ++ messages_to s more
@@ -113,7 +113,7 @@ module _ {T : Type 0} where
   -- the first of one at most is all
   one_is_all : (s : ℕ) (posts : List (PostOf T)) → IsFew posts → listed_option (first_to s posts) ≡ messages_to s posts
   one_is_all s [] few = refl
-  one_is_all s (post ∷ []) few = by (is_server s post.0)
+  one_is_all s (post ∷ []) few = by (is_this_server s post.0)
     where
       by : (test : Bool) → listed_option (cond test (Some post.1) None) ≡ cond test (post.1 ∷ []) []
       by true = refl

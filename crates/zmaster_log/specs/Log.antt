@@ -174,21 +174,21 @@ log_played state (entry ∷ entries) =
 -- ---- the orders for one server
 
 -- the process is this server
-abbrev pub is_server : ℕ → Process → Bool
-is_server s Master = false
-is_server s (Server t) = t == s
-is_server s (Client c) = false
+abbrev pub is_this_server : ℕ → Process → Bool
+is_this_server s Master = false
+is_this_server s (Server t) = t == s
+is_this_server s (Client c) = false
 
 -- the messages to a server, in order
 abbrev pub messages_to : {T : Type 0} → ℕ → List (PostOf T) → List (Message T)
 messages_to s [] = []
 messages_to s (post ∷ posts) =
-    if is_server s post.0 then post.1 ∷ messages_to s posts else messages_to s posts
+    if is_this_server s post.0 then post.1 ∷ messages_to s posts else messages_to s posts
 
 -- the first of them
 abbrev pub first_to : {T : Type 0} → ℕ → List (PostOf T) → Option (Message T)
 first_to s [] = None
-first_to s (post ∷ posts) = if is_server s post.0 then Some post.1 else first_to s posts
+first_to s (post ∷ posts) = if is_this_server s post.0 then Some post.1 else first_to s posts
 
 -- ---- replicas
 
@@ -230,8 +230,8 @@ reports_of (Some m) s = count_of m s
 
 -- why the master refuses an order; before the opening it has no chain
 abbrev pub fault_of : State → Order → Option OrderFault
-fault_of None order = Some NoChain
-fault_of (Some m) order = order_fault m.master order
+fault_of None o = Some NoChain
+fault_of (Some m) o = order_fault m.master o
 
 -- why an entry with this index isn't played
 abbrev pub IsPlayFault : ReplicaView → ℕ → PlayFault → Type 0

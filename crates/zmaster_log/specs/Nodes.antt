@@ -5,7 +5,8 @@ use Rattle.zmaster_log.specs.declared.limits.TheConstants.{MAX_NODE_NAME}
 
 -- a lower-case letter, a digit or a hyphen
 abbrev pub is_name_byte : ℕ → Bool
-is_name_byte byte = nat_le 97 byte && nat_le byte 122 || nat_le 48 byte && nat_le byte 57 || byte == 45
+is_name_byte byte =
+    (nat_le 97 byte && nat_le byte 122) || (nat_le 48 byte && nat_le byte 57) || byte == 45
 
 -- some byte isn't one of these
 abbrev pub has_bad_byte : List ℕ → Bool

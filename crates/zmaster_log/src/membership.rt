@@ -132,7 +132,12 @@ impl Membership {
         ensures next { self.new ≡ (retire_played {T = T} self.old server).0 }
         ensures puts { Puts posts.old posts.new (retire_played self.old server).1 }
     {
-        let _ = self.master.retire(server, posts);
+        if self.master.order_fault(&Order::Retire(server)).is_some() {
+            return;
+        }
+        if self.master.retire(server, posts).is_err() {
+            unreachable!();
+        }
     }
 
     /// Gives a report to the master, if it is the next one of its author.

@@ -1,5 +1,8 @@
 //! Why an entry wasn't played.
 
+ghost use Rattle.std.specs.Prelude.{◌≡◌};
+ghost use Rattle.zmaster_log.specs.declared.play_fault.PlayFault.TheVariants.{Memory as OfMemory};
+
 use thiserror::Error;
 use zalloc::Memory;
 
@@ -19,9 +22,6 @@ pub enum PlayFault {
 }
 
 impl From<Memory> for PlayFault {
-    ghost use Rattle.std.specs.Prelude.{◌≡◌};
-    ghost use Rattle.zmaster_log.specs.declared.play_fault.PlayFault.TheVariants.{Memory as OfMemory};
-
     ghost from_gives = { λ _ fault. fault ≡ OfMemory };
 
     fn from(_memory: Memory) -> PlayFault {

@@ -4,7 +4,7 @@ ghost use Rattle.std.specs.Prelude.{◌≡◌, ◌<◌, ◌≤◌, ◌⊎◌, No
 ghost use Rattle.std.specs.Option.{option_copied};
 ghost use Rattle.zprotocol.specs.Posts.{Puts};
 ghost use Rattle.zmaster.specs.declared.limits.TheConstants.{MAX_POSTS};
-ghost use Rattle.zmaster_log.specs.Log.{entry_played, first_to, order_for, after_entry, is_server};
+ghost use Rattle.zmaster_log.specs.Log.{entry_played, first_to, order_for, after_entry, is_this_server};
 ghost use Rattle.zmaster_log.specs.Log.{IsPlayFault, has_live, played, reports_of, node_of, next_of};
 ghost use Rattle.zmaster_log.specs.Log.{fault_of};
 ghost use Rattle.zprotocol.specs.declared.limits.TheConstants.{MAX_SERVERS};
@@ -218,15 +218,15 @@ fn first_to<T: Drop>(server: ServerId, posts: &mut Out<T>) -> Option<Message<T>>
     ensures { result ≡ first_to server posts.old.posts }
 {
     let (to, message) = posts.next()?;
-    if is_server(server, to) {
+    if is_this_server(server, to) {
         return Some(message);
     }
     first_to(server, posts)
 }
 
 // Returns whether the process is this server.
-fn is_server(server: ServerId, process: Process) -> bool
-    ensures { result ≡ is_server server process }
+fn is_this_server(server: ServerId, process: Process) -> bool
+    ensures { result ≡ is_this_server server process }
 {
     match process {
         Process::Server(other) => other.number() == server.number(),
