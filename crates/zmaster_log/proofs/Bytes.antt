@@ -32,6 +32,7 @@ use Rattle.zmaster_log.specs.declared.entry.News.TheVariants as news
 use Rattle.zmaster_log.specs.Nodes.{is_node_name, IsNodeName}
 use Rattle.zmaster_log.specs.Bytes.{count, name_from, node, names_from, listed_nodes, nodes, news_at, news_spelled, any_news, report, joined, entry_at, entry_spelled, entry}
 use Rattle.zmaster_log.specs.Laws.{EntriesAreTheirBytes}
+use Rattle.zmaster_log.proofs.Flags.{left, right}
 
 -- ---- fields
 
@@ -46,7 +47,7 @@ passes false x y e = absurd cc
 
 -- a name isn't longer than allowed
 name_short : (name : List ℕ) → IsNodeName name → length name ≤ MAX_NODE_NAME
-name_short name is = grind (arith, nat_tests, is)
+name_short name is = let short = right _ _ (left _ _ is) in grind (arith, nat_tests, short)
 
 is_node : IsForm node
 unfolding node

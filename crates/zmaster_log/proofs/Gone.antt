@@ -10,22 +10,11 @@ use Rattle.zmaster_log.specs.declared.entry.LogEntry.TheVariants as log
 use Rattle.zmaster_log.specs.declared.entry.Report.{Report}
 use Rattle.zmaster_log.specs.declared.entry.News.{News}
 use Rattle.zmaster_log.specs.declared.entry.News.TheVariants as news
-use Rattle.zmaster_log.specs.Log.{Membership, Played, is_live, is_next, count_of, subject_of, gone_after, may_join, joined, may_retire, retired, reported, join_played, retire_played, report_played, played, all_played, skipped}
+use Rattle.zmaster_log.specs.Log.{MembershipView, Played, is_live, is_next, count_of, subject_of, gone_after, may_join, joins, may_retire, retires, takes, join_played, retire_played, report_played, plays, plays_all, skipped}
+use Rattle.zmaster_log.proofs.Flags.{left, right, together}
 use Rattle.zmaster_log.specs.Laws.{is_gone, gone_report, ReportsEndServers, LateReportsAreSkipped, GoneIsTakenOnce}
 
 -- ---- flags
-
-left : (a b : Bool) → (a && b) ≡ true → a ≡ true
-left true b is = refl
-left false b is = absurd (true≢false (sym is))
-
-right : (a b : Bool) → (a && b) ≡ true → b ≡ true
-right true b is = is
-right false b is = absurd (true≢false (sym is))
-
-together : (a b : Bool) → a ≡ true → b ≡ true → (a && b) ≡ true
-together true b is also = also
-together false b is also = absurd (true≢false (sym is))
 
 -- a flag that is set stays so
 still_set : (flags : List Bool) (i j : ℕ) → get_or flags j false ≡ true → get_or (slice_set flags i true) j false ≡ true
@@ -44,7 +33,7 @@ now_set (flag ∷ flags) (suc i) within = now_set flags i (omega arith)
 -- ---- the server that is gone
 
 -- it isn't live
-not_live : (m : Membership) (s : ℕ) → is_gone m s ≡ true → is_live m s ≡ false
+not_live : (m : MembershipView) (s : ℕ) → is_gone m s ≡ true → is_live m s ≡ false
 not_live m s is = by (nat_le s (length m.nodes)) (get_or m.gone (s - 1) false) (right _ _ is)
   where
     by : (a b : Bool) → b ≡ true → (a && not b) ≡ false
@@ -52,14 +41,14 @@ not_live m s is = by (nat_le s (length m.nodes)) (get_or m.gone (s - 1) false) (
     by false b is = refl
     by true false is = absurd (true≢false (sym is))
 
-no_report : (T : Type 0) (m : Membership) (r : Report) → is_next m r ≡ false → report_played {T = T} m r ≡ skipped m
+no_report : (T : Type 0) (m : MembershipView) (r : Report) → is_next m r ≡ false → report_played {T = T} m r ≡ skipped m
 unfolding report_played
 no_report T m r not_next = rw not_next refl
 
-author_gone : (m : Membership) (r : Report) → is_live m r.author ≡ false → is_next m r ≡ false
+author_gone : (m : MembershipView) (r : Report) → is_live m r.author ≡ false → is_next m r ≡ false
 author_gone m r gone = rw gone refl
 
-subject_gone : (m : Membership) (r : Report) → is_live m (subject_of r.author r.news) ≡ false → is_next m r ≡ false
+subject_gone : (m : MembershipView) (r : Report) → is_live m (subject_of r.author r.news) ≡ false → is_next m r ≡ false
 subject_gone m r gone = rw gone (none (is_live m r.author && count_of m r.author == r.earlier))
   where
     none : (a : Bool) → (a && false) ≡ false
@@ -77,25 +66,25 @@ gone_by_news gone (news.Joined epoch) j is = is
 gone_by_news gone (news.Gone s) j is = still_set gone (s - 1) j is
 
 module _ {T : Type 0} where
-  -- the part of what was played that is left in place
-  stays : (m : Membership) (s : ℕ) (test : Bool) (other : Played T) → is_gone m s ≡ true → is_gone other.0 s ≡ true
+  -- the part of what an entry does that is left in place
+  stays : (m : MembershipView) (s : ℕ) (test : Bool) (other : Played T) → is_gone m s ≡ true → is_gone other.0 s ≡ true
       → is_gone (cond test other (skipped m)).0 s ≡ true
   stays m s true other is then = then
   stays m s false other is then = is
 
-  pub gone_stays : (m : Membership) (entry : LogEntry) (s : ℕ) → is_gone m s ≡ true → is_gone (played {T = T} m entry).0 s ≡ true
+  pub gone_stays : (m : MembershipView) (entry : LogEntry) (s : ℕ) → is_gone m s ≡ true → is_gone (plays {T = T} m entry).0 s ≡ true
   unfolding join_played retire_played report_played
   gone_stays m (log.Opening nodes) s is = is
   gone_stays m (log.Join t node) s is =
-      stays m s (may_join m t) (joined m t node) is (together _ _ (more_nodes s m.nodes node (left _ _ is)) (right _ _ is))
-  gone_stays m (log.Retire t) s is = stays m s (may_retire m t) (retired m t) is is
+      stays m s (may_join m t) (joins m t node) is (together _ _ (more_nodes s m.nodes node (left _ _ is)) (right _ _ is))
+  gone_stays m (log.Retire t) s is = stays m s (may_retire m t) (retires m t) is is
   gone_stays m (log.Reported r) s is =
-      stays m s (is_next m r) (reported m r) is (together _ _ (left _ _ is) (gone_by_news m.gone r.news (s - 1) (right _ _ is)))
+      stays m s (is_next m r) (takes m r) is (together _ _ (left _ _ is) (gone_by_news m.gone r.news (s - 1) (right _ _ is)))
 
-  pub gone_stays_along : (m : Membership) (entries : List LogEntry) (s : ℕ) → is_gone m s ≡ true
-      → is_gone (all_played {T = T} m entries).0 s ≡ true
+  pub gone_stays_along : (m : MembershipView) (entries : List LogEntry) (s : ℕ) → is_gone m s ≡ true
+      → is_gone (plays_all {T = T} m entries).0 s ≡ true
   gone_stays_along m [] s is = is
-  gone_stays_along m (entry ∷ entries) s is = gone_stays_along (played {T = T} m entry).0 entries s (gone_stays m entry s is)
+  gone_stays_along m (entry ∷ entries) s is = gone_stays_along (plays {T = T} m entry).0 entries s (gone_stays m entry s is)
 
   pub reports_end : ReportsEndServers T
   unfolding report_played
@@ -105,11 +94,11 @@ module _ {T : Type 0} where
 
   pub late_are_skipped : LateReportsAreSkipped T
   late_are_skipped m s entries r is of =
-      let later = (all_played {T = T} m entries).0 in
+      let later = (plays_all {T = T} m entries).0 in
       let gone : is_live later r.author ≡ false = ap (is_live later) of ∙ not_live later s (gone_stays_along m entries s is) in
       no_report T later r (author_gone later r gone)
 
   pub taken_once : GoneIsTakenOnce T
   taken_once m author earlier s entries is =
-      let later = (all_played {T = T} m entries).0 in
+      let later = (plays_all {T = T} m entries).0 in
       no_report T later (gone_report author earlier s) (subject_gone later (gone_report author earlier s) (not_live later s (gone_stays_along m entries s is)))

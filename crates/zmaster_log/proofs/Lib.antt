@@ -1,3 +1,4 @@
+pub mod Flags
 pub mod Parts
 pub mod Gone
 pub mod TheMaster

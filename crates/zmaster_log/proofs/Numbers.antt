@@ -1,5 +1,5 @@
 -- The numbers of servers are used in order.
-use Rattle.std.proofs.Common.{◌≡◌, ℕ, zero, suc, ◌+◌, ◌-◌, ◌<◌, ◌≤◌, Bool, true, false, cond, not, ◌&&◌, ◌==◌, nat_le, nat_lt, is_none, Option, None, Some, List, [], ◌∷◌, ◌++◌, length, map, refl, sym, ap, ◌∙◌, arith, length-append, eqb-true}
+use Rattle.std.proofs.Common.{◌≡◌, ℕ, zero, suc, ◌+◌, ◌-◌, ◌<◌, ◌≤◌, Bool, true, false, cond, not, ◌&&◌, ◌==◌, nat_le, nat_lt, is_none, is_some, Option, None, Some, List, [], ◌∷◌, ◌++◌, length, map, refl, sym, ap, ◌∙◌, arith, length-append, eqb-true}
 use Rattle.std.specs.List.{last_or, range_with_len, AllByRecursion}
 use Rattle.std.proofs.lemmas.Bool.Decides.{nat_tests}
 use Rattle.std.proofs.lemmas.List.FromFn.{length-range_with_len}
@@ -11,14 +11,16 @@ use Rattle.zprotocol.specs.declared.process.Process.{Process}
 use Rattle.zprotocol.specs.declared.process.Process.TheVariants.{Server}
 use Rattle.zprotocol.specs.declared.master.order.Order.TheVariants as order
 use Rattle.zprotocol.specs.declared.master.order_fault.OrderFault.{OrderFault}
+use Rattle.zprotocol.specs.declared.master.order_fault.OrderFault.TheVariants.{Used, Joining, NoChain, Lost, Retiring}
 use Rattle.zprotocol.specs.server.View.{Neighbour}
 use Rattle.zprotocol.specs.master.View.{MasterView, members, with_number, is_among}
-use Rattle.zprotocol.specs.master.Table.{MasterResult, order_fault, order_step, master_step, no_effect}
+use Rattle.zprotocol.specs.master.Table.{MasterResult, order_fault, order_step, master_step, no_effect, is_another_joining, is_only_member_joining}
 use Rattle.zprotocol.specs.master.support.Cases.{IsMasterRow, Ignores, Reports, Joins, LeavesOutside, Leaves}
 use Rattle.zprotocol.proofs.master_lemmas.Cases.{master_case}
 use Rattle.zmaster_log.specs.declared.entry.LogEntry.{LogEntry}
 use Rattle.zmaster_log.specs.declared.entry.LogEntry.TheVariants as log
-use Rattle.zmaster_log.specs.Log.{Membership, Played, subject_of, message_of, may_join, joined, may_retire, retired, reported, is_live, is_next, opened, join_played, retire_played, report_played, played, all_played, skipped}
+use Rattle.zmaster_log.specs.Log.{MembershipView, Played, subject_of, message_of, may_join, joins, may_retire, retires, takes, is_live, is_next, opened, join_played, retire_played, report_played, plays, plays_all, skipped}
+use Rattle.zmaster_log.proofs.Flags.{left, right}
 use Rattle.zmaster_log.specs.Laws.{HasServers, NumbersAreInOrder}
 
 -- ---- ranges
@@ -32,26 +34,21 @@ number_after first (suc count) s is =
     rw (other, above) (ap (λ ns. first ∷ ns) (number_after (first + 1) count s (omega arith)))
 
 -- a number of a range is in it
+within_by : (first count s : ℕ) (test : Bool) → (first == s) ≡ test → first ≤ s
+    → (first + 1 ≤ s → with_number s (range_with_len (first + 1) count) ≡ range_with_len (first + 1) count)
+    → with_number s (range_with_len first (suc count)) ≡ range_with_len first (suc count)
+within_by first count s true same low rest = rw same refl
+within_by first count s false other low rest =
+    let above : nat_lt s first ≡ false = grind (arith, nat_tests, low) in
+    let later : first + 1 ≤ s = grind (arith, nat_tests, other, low) in
+    rw (other, above) (ap (λ ns. first ∷ ns) (rest later))
+
 number_within : (first count s : ℕ) → first ≤ s → s < first + count → with_number s (range_with_len first count) ≡ range_with_len first count
 number_within first zero s low high = absurd (omega arith)
-number_within first (suc count) s low high = by (first == s) refl
-  where
-    by : (test : Bool) → (first == s) ≡ test → with_number s (range_with_len first (suc count)) ≡ range_with_len first (suc count)
-    by true same = rw same refl
-    by false other =
-        let above : nat_lt s first ≡ false = grind (arith, nat_tests, low) in
-        let later : first + 1 ≤ s = grind (arith, nat_tests, other, low) in
-        rw (other, above) (ap (λ ns. first ∷ ns) (number_within (first + 1) count s later (omega arith)))
+number_within first (suc count) s low high =
+    within_by first count s (first == s) refl low (λ later. number_within (first + 1) count s later (omega arith))
 
 -- ---- orders
-
-left : (a b : Bool) → (a && b) ≡ true → a ≡ true
-left true b is = refl
-left false b is = absurd (true≢false (sym is))
-
-right : (a b : Bool) → (a && b) ≡ true → b ≡ true
-right true b is = is
-right false b is = absurd (true≢false (sym is))
 
 -- the third test of those that don't hold
 third : (a b c : Bool) (x y z : OrderFault) (rest : List (Bool × OrderFault))
@@ -73,7 +70,8 @@ has_last (n ∷ chain) some = last_is_some n.0 chain
 module _ {T : Type 0} where
   join_uses : (v : MasterView) (s : ℕ) → is_none (order_fault v (order.Join s)) ≡ true → (order_step {T = T} v (order.Join s)).0.used ≡ with_number s v.used
   unfolding order_step order_fault
-  join_uses v s allowed = by (last_or None (members v)) (has_last v.chain (third _ _ _ _ _ _ _ allowed))
+  join_uses v s allowed = by (last_or None (members v)) (has_last v.chain (third (is_among s v.used) (is_another_joining v) (length v.chain == 0) Used Joining NoChain
+      ((is_only_member_joining v (members v), Lost) ∷ (is_some v.retiring, Retiring) ∷ []) allowed))
     where
       by : (last : Option ℕ) → is_none last ≡ false → (elim last as (λ _. MasterResult T) [
         | None ↦ no_effect v
@@ -100,23 +98,23 @@ module _ {T : Type 0} where
 
   -- ---- entries
 
-  abbrev InOrder : Membership → Type 0
+  abbrev InOrder : MembershipView → Type 0
   InOrder m = m.master.used ≡ range_with_len 1 (length m.nodes)
 
-  in_order_if : (test : Bool) (m : Membership) (did : Played T) → InOrder m → (test ≡ true → InOrder did.0) → InOrder (cond test did (skipped m)).0
+  in_order_if : (test : Bool) (m : MembershipView) (did : Played T) → InOrder m → (test ≡ true → InOrder did.0) → InOrder (cond test did (skipped m)).0
   in_order_if true m did is then = then refl
   in_order_if false m did is then = is
 
-  entry_in_order : (m : Membership) (entry : LogEntry) → HasServers entry → InOrder m → InOrder (played {T = T} m entry).0
+  entry_in_order : (m : MembershipView) (entry : LogEntry) → HasServers entry → InOrder m → InOrder (plays {T = T} m entry).0
   unfolding join_played retire_played report_played
   entry_in_order m (log.Opening nodes) of is = is
-  entry_in_order m (log.Join s node) of is = in_order_if (may_join m s) m (joined m s node) is (λ test.
+  entry_in_order m (log.Join s node) of is = in_order_if (may_join m s) m (joins m s node) is (λ test.
       let number : s ≡ length m.nodes + 1 = eqb-true _ _ (left _ _ test) in
       let uses = join_uses m.master s (right _ _ test) in
       let longer : suc (length m.nodes) ≡ length (m.nodes ++ node ∷ []) = omega (arith, length-append m.nodes (node ∷ [])) in
       uses ∙ ap (with_number s) is ∙ number_after 1 (length m.nodes) s (omega (arith, number)) ∙ ap (range_with_len 1) longer)
-  entry_in_order m (log.Retire s) of is = in_order_if (may_retire m s) m (retired m s) is (λ test. retire_uses m.master s ∙ is)
-  entry_in_order m (log.Reported r) of is = in_order_if (is_next m r) m (reported m r) is (λ test.
+  entry_in_order m (log.Retire s) of is = in_order_if (may_retire m s) m (retires m s) is (λ test. retire_uses m.master s ∙ is)
+  entry_in_order m (log.Reported r) of is = in_order_if (is_next m r) m (takes m r) is (λ test.
       let s = subject_of r.author r.news in
       let live = right _ _ test in
       let low = left _ _ live in
@@ -124,9 +122,9 @@ module _ {T : Type 0} where
       let within : with_number s m.master.used ≡ m.master.used = ap (with_number s) is ∙ number_within 1 (length m.nodes) s (omega (arith, of)) (omega (arith, few)) ∙ sym is in
       row_uses m.master s within _ _ _ (master_case {T = T} m.master (Server s) (message_of r.news)) refl ∙ is)
 
-  all_in_order : (m : Membership) (entries : List LogEntry) → AllByRecursion HasServers entries → InOrder m → InOrder (all_played {T = T} m entries).0
+  all_in_order : (m : MembershipView) (entries : List LogEntry) → AllByRecursion HasServers entries → InOrder m → InOrder (plays_all {T = T} m entries).0
   all_in_order m [] of is = is
-  all_in_order m (entry ∷ entries) of is = all_in_order (played {T = T} m entry).0 entries of.1 (entry_in_order m entry of.0 is)
+  all_in_order m (entry ∷ entries) of is = all_in_order (plays {T = T} m entry).0 entries of.1 (entry_in_order m entry of.0 is)
 
   pub numbers_are_in_order : NumbersAreInOrder T
   unfolding opened

@@ -9,13 +9,13 @@ use Rattle.zprotocol.specs.declared.master.order.Order.{Order}
 use Rattle.zprotocol.specs.declared.master.order.Order.TheVariants as order
 use Rattle.zprotocol.specs.server.View.{Neighbour, PostOf}
 use Rattle.zprotocol.specs.master.View.{MasterView, members, with_number}
-use Rattle.zprotocol.specs.master.Table.{MasterResult, MendedChain, config_posts, no_effect, order_step, master_step}
+use Rattle.zprotocol.specs.master.Table.{MasterResult, MendedChain, config_posts, no_effect, order_step, master_step, without_member}
 use Rattle.zprotocol.specs.master.support.Cases.{IsMended, Only, First, Last, Between, IsMasterRow, Ignores, Reports, Joins, LeavesOutside, Leaves}
 use Rattle.zprotocol.proofs.master_lemmas.Cases.{master_case}
 use Rattle.zprotocol.proofs.master_lemmas.Orders.{order_counts}
 use Rattle.zmaster_log.specs.declared.entry.LogEntry.{LogEntry}
 use Rattle.zmaster_log.specs.declared.entry.LogEntry.TheVariants as log
-use Rattle.zmaster_log.specs.Log.{Membership, Played, subject_of, message_of, is_this_server, opened, may_join, joined, may_retire, retired, is_next, reported, join_played, retire_played, report_played, played, all_played, skipped, messages_to, first_to}
+use Rattle.zmaster_log.specs.Log.{MembershipView, Played, subject_of, message_of, is_this_server, opened, may_join, joins, may_retire, retires, is_next, takes, join_played, retire_played, report_played, plays, plays_all, skipped, messages_to, first_to}
 use Rattle.zmaster_log.specs.Laws.{listed_option, orders_handed, OrdersAreTheMasters}
 
 module _ {T : Type 0} where
@@ -47,7 +47,7 @@ module _ {T : Type 0} where
   few_row v none _ _ _ (Reports s epoch last p is) = tt
   few_row v none _ _ _ (Joins s epoch is) = few_before (record v { joining = None; epoch = v.epoch + 1 }) [] none tt
   few_row v none _ _ _ (LeavesOutside s out) = tt
-  few_row v none _ _ _ (Leaves s chain among mended) = few_before _ chain.1 none (few_mended (v.epoch + 1) s v.chain chain mended)
+  few_row v none _ _ _ (Leaves s chain among mended) = few_before (without_member v s chain.0) chain.1 none (few_mended (v.epoch + 1) s v.chain chain mended)
 
   row_counts : (v : MasterView) (from : Process) (m : Message T) (r : MasterResult T) → IsMasterRow v from m r → r.0.clients ≡ v.clients
   row_counts v _ _ _ (Ignores from m) = refl
@@ -74,29 +74,29 @@ module _ {T : Type 0} where
   -- ---- one entry
 
   -- nothing is sent by what is skipped, and the master stays
-  few_if : (test : Bool) (m : Membership) (did : Played T) → IsFew did.1 → IsFew (cond test did (skipped m)).1
+  few_if : (test : Bool) (m : MembershipView) (did : Played T) → IsFew did.1 → IsFew (cond test did (skipped m)).1
   few_if true m did few = few
   few_if false m did few = tt
 
-  none_if : (test : Bool) (m : Membership) (did : Played T) → m.master.clients ≡ 0 → did.0.master.clients ≡ 0 → (cond test did (skipped m)).0.master.clients ≡ 0
+  none_if : (test : Bool) (m : MembershipView) (did : Played T) → m.master.clients ≡ 0 → did.0.master.clients ≡ 0 → (cond test did (skipped m)).0.master.clients ≡ 0
   none_if true m did none also = also
   none_if false m did none also = none
 
-  few_played : (m : Membership) (entry : LogEntry) → m.master.clients ≡ 0 → IsFew (played {T = T} m entry).1
+  few_played : (m : MembershipView) (entry : LogEntry) → m.master.clients ≡ 0 → IsFew (plays {T = T} m entry).1
   unfolding join_played retire_played report_played
   few_played m (log.Opening nodes) none = tt
-  few_played m (log.Join s node) none = few_if (may_join m s) m (joined m s node) (few_ordered m.master (order.Join s))
-  few_played m (log.Retire s) none = few_if (may_retire m s) m (retired m s) (few_ordered m.master (order.Retire s))
+  few_played m (log.Join s node) none = few_if (may_join m s) m (joins m s node) (few_ordered m.master (order.Join s))
+  few_played m (log.Retire s) none = few_if (may_retire m s) m (retires m s) (few_ordered m.master (order.Retire s))
   few_played m (log.Reported r) none =
-      few_if (is_next m r) m (reported m r) (few_row m.master none _ _ _ (master_case m.master (Server (subject_of r.author r.news)) (message_of r.news)))
+      few_if (is_next m r) m (takes m r) (few_row m.master none _ _ _ (master_case m.master (Server (subject_of r.author r.news)) (message_of r.news)))
 
-  still_none : (m : Membership) (entry : LogEntry) → m.master.clients ≡ 0 → (played {T = T} m entry).0.master.clients ≡ 0
+  still_none : (m : MembershipView) (entry : LogEntry) → m.master.clients ≡ 0 → (plays {T = T} m entry).0.master.clients ≡ 0
   unfolding join_played retire_played report_played
   still_none m (log.Opening nodes) none = none
-  still_none m (log.Join s node) none = none_if (may_join m s) m (joined m s node) none (order_counts T m.master (order.Join s) ∙ none)
-  still_none m (log.Retire s) none = none_if (may_retire m s) m (retired m s) none (order_counts T m.master (order.Retire s) ∙ none)
+  still_none m (log.Join s node) none = none_if (may_join m s) m (joins m s node) none (order_counts T m.master (order.Join s) ∙ none)
+  still_none m (log.Retire s) none = none_if (may_retire m s) m (retires m s) none (order_counts T m.master (order.Retire s) ∙ none)
   still_none m (log.Reported r) none =
-      none_if (is_next m r) m (reported m r) none (row_counts m.master _ _ _ (master_case {T = T} m.master (Server (subject_of r.author r.news)) (message_of r.news)) ∙ none)
+      none_if (is_next m r) m (takes m r) none (row_counts m.master _ _ _ (master_case {T = T} m.master (Server (subject_of r.author r.news)) (message_of r.news)) ∙ none)
 
   -- ---- all entries
 
@@ -120,13 +120,13 @@ module _ {T : Type 0} where
       by false = refl
   one_is_all s (post ∷ other ∷ posts) few = absurd few
 
-  handed : (s : ℕ) (m : Membership) (entries : List LogEntry) → m.master.clients ≡ 0 → orders_handed {T = T} s m entries ≡ messages_to s (all_played m entries).1
+  handed : (s : ℕ) (m : MembershipView) (entries : List LogEntry) → m.master.clients ≡ 0 → orders_handed {T = T} s m entries ≡ messages_to s (plays_all m entries).1
   handed s m [] none = refl
   handed s m (entry ∷ entries) none =
-      let first = played {T = T} m entry in
+      let first = plays {T = T} m entry in
       ap (λ (ms : List (Message T)). ms ++ orders_handed s first.0 entries) (one_is_all s first.1 (few_played m entry none))
       ∙ ap (λ (ms : List (Message T)). messages_to s first.1 ++ ms) (handed s first.0 entries (still_none m entry none))
-      ∙ sym (messages_append s first.1 (all_played first.0 entries).1)
+      ∙ sym (messages_append s first.1 (plays_all first.0 entries).1)
 
   pub orders_are_the_masters : OrdersAreTheMasters T
   unfolding opened

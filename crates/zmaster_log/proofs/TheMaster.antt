@@ -8,7 +8,7 @@ use Rattle.zprotocol.specs.master.Table.{order_fault, order_step, master_step}
 use Rattle.zprotocol.specs.world.Does.{Standing, AtMaster, Input, Hear, Obey, does, master_effect}
 use Rattle.zmaster_log.specs.declared.entry.LogEntry.{LogEntry}
 use Rattle.zmaster_log.specs.declared.entry.LogEntry.TheVariants as log
-use Rattle.zmaster_log.specs.Log.{Membership, Played, may_join, joined, may_retire, retired, subject_of, message_of, is_next, reported, join_played, retire_played, report_played, played, all_played, skipped}
+use Rattle.zmaster_log.specs.Log.{MembershipView, Played, may_join, joins, may_retire, retires, subject_of, message_of, is_next, takes, join_played, retire_played, report_played, plays, plays_all, skipped}
 use Rattle.zmaster_log.specs.Laws.{input_of, inputs_of, master_run, PlaysTheMaster}
 
 module _ {M : Type 0} (machine : Does M) where
@@ -16,28 +16,28 @@ module _ {M : Type 0} (machine : Does M) where
   abbrev behind : List (Post M) → Standing M × List (Post M) → Standing M × List (Post M)
   behind posts rest = (rest.0, posts ++ rest.1)
 
-  -- the run from what was played
+  -- the run from what an entry makes
   abbrev from : Played (Transfer M) → List (Input M) → Standing M × List (Post M)
   from did more = behind did.1 (master_run machine (AtMaster did.0.master) more)
 
   -- one input, where the test holds, and more
-  one : (m : Membership) (input : Input M) (did : Played (Transfer M)) → does machine Master input (AtMaster m.master) ≡ master_effect (did.0.master, did.1)
+  one : (m : MembershipView) (input : Input M) (did : Played (Transfer M)) → does machine Master input (AtMaster m.master) ≡ master_effect (did.0.master, did.1)
       → (test : Bool) (more : List (Input M))
       → master_run machine (AtMaster m.master) (cond test (input ∷ []) [] ++ more) ≡ from (cond test did (skipped m)) more
   one m input did is true more = rw is refl
   one m input did is false more = refl
 
   -- an entry, and more
-  step : (m : Membership) (entry : LogEntry) (more : List (Input M))
-      → master_run machine (AtMaster m.master) (input_of m entry ++ more) ≡ from (played m entry) more
+  step : (m : MembershipView) (entry : LogEntry) (more : List (Input M))
+      → master_run machine (AtMaster m.master) (input_of m entry ++ more) ≡ from (plays m entry) more
   unfolding join_played retire_played report_played
   step m (log.Opening nodes) more = refl
-  step m (log.Join s node) more = one m (Obey (order.Join s)) (joined m s node) refl (may_join m s) more
-  step m (log.Retire s) more = one m (Obey (order.Retire s)) (retired m s) refl (may_retire m s) more
-  step m (log.Reported r) more = one m (Hear (Server (subject_of r.author r.news)) (message_of r.news)) (reported m r) refl (is_next m r) more
+  step m (log.Join s node) more = one m (Obey (order.Join s)) (joins m s node) refl (may_join m s) more
+  step m (log.Retire s) more = one m (Obey (order.Retire s)) (retires m s) refl (may_retire m s) more
+  step m (log.Reported r) more = one m (Hear (Server (subject_of r.author r.news)) (message_of r.news)) (takes m r) refl (is_next m r) more
 
   pub plays_the_master : PlaysTheMaster machine
   plays_the_master m [] = refl
   plays_the_master m (entry ∷ entries) =
-      let first = played {T = Transfer M} m entry in
+      let first = plays {T = Transfer M} m entry in
       step m entry (inputs_of first.0 entries) ∙ ap (behind first.1) (plays_the_master first.0 entries)

@@ -13,7 +13,7 @@ use Rattle.zmaster_log.specs.declared.entry.LogEntry.{LogEntry}
 use Rattle.zmaster_log.specs.declared.entry.LogEntry.TheVariants as log
 use Rattle.zmaster_log.specs.declared.entry.Report.{Report}
 use Rattle.zmaster_log.specs.declared.entry.News.TheVariants as news
-use Rattle.zmaster_log.specs.Log.{Membership, Played, State, opened, may_join, may_retire, subject_of, message_of, is_next, played, all_played}
+use Rattle.zmaster_log.specs.Log.{MembershipView, Played, State, opened, may_join, may_retire, subject_of, message_of, is_next, plays, plays_all}
 use Rattle.zmaster_log.specs.Bytes.{entry}
 use Rattle.zmaster_log.specs.Log.{entry_played, log_played, messages_to, first_to}
 
@@ -30,7 +30,7 @@ PartsAreOne T =
 -- ---- servers that are gone
 
 -- the server was a member, and is gone
-abbrev pub is_gone : Membership → ℕ → Bool
+abbrev pub is_gone : MembershipView → ℕ → Bool
 is_gone m s = nat_le s (length m.nodes) && get_or m.gone (s - 1) false
 
 -- the report that a server is gone
@@ -40,28 +40,28 @@ gone_report author earlier s = record { author = author; earlier = earlier; news
 -- By the report that it is gone, unless this is skipped, a server is gone.
 abbrev pub ReportsEndServers : Type 0 → Type 0
 ReportsEndServers T =
-    (m : Membership) (author earlier s : ℕ) → 0 < s → s ≤ length m.gone →
+    (m : MembershipView) (author earlier s : ℕ) → 0 < s → s ≤ length m.gone →
     is_next m (gone_report author earlier s) ≡ true →
-    is_gone (played {T = T} m (log.Reported (gone_report author earlier s))).0 s ≡ true
+    is_gone (plays {T = T} m (log.Reported (gone_report author earlier s))).0 s ≡ true
 
 -- from then on, every report of that server is skipped, and so is every report about it
 abbrev pub LateReportsAreSkipped : Type 0 → Type 0
 LateReportsAreSkipped T =
-    (m : Membership) (s : ℕ) (entries : List LogEntry) (r : Report) → is_gone m s ≡ true →
+    (m : MembershipView) (s : ℕ) (entries : List LogEntry) (r : Report) → is_gone m s ≡ true →
     r.author ≡ s →
-    let later = (all_played {T = T} m entries).0 in
-    played {T = T} later (log.Reported r) ≡ (later, [])
+    let later = (plays_all {T = T} m entries).0 in
+    plays {T = T} later (log.Reported r) ≡ (later, [])
 
 abbrev pub GoneIsTakenOnce : Type 0 → Type 0
 GoneIsTakenOnce T =
-    (m : Membership) (author earlier s : ℕ) (entries : List LogEntry) → is_gone m s ≡ true →
-    let later = (all_played {T = T} m entries).0 in
-    played {T = T} later (log.Reported (gone_report author earlier s)) ≡ (later, [])
+    (m : MembershipView) (author earlier s : ℕ) (entries : List LogEntry) → is_gone m s ≡ true →
+    let later = (plays_all {T = T} m entries).0 in
+    plays {T = T} later (log.Reported (gone_report author earlier s)) ≡ (later, [])
 
 -- ---- the master's inputs
 
 -- what an entry gives to the master, if it isn't skipped: an input as the world has it
-abbrev pub input_of : {M : Type 0} → Membership → LogEntry → List (Input M)
+abbrev pub input_of : {M : Type 0} → MembershipView → LogEntry → List (Input M)
 input_of m (log.Opening nodes) = []
 input_of m (log.Join s node) = if may_join m s then Obey (order.Join s) ∷ [] else []
 input_of m (log.Retire s) = if may_retire m s then Obey (order.Retire s) ∷ [] else []
@@ -69,10 +69,10 @@ input_of m (log.Reported r) =
     if is_next m r then Hear (Server (subject_of r.author r.news)) (message_of r.news) ∷ [] else []
 
 -- what entries give to it
-abbrev pub inputs_of : {M : Type 0} → Membership → List LogEntry → List (Input M)
+abbrev pub inputs_of : {M : Type 0} → MembershipView → List LogEntry → List (Input M)
 inputs_of m [] = []
 inputs_of {M} m (e ∷ entries) =
-    input_of m e ++ inputs_of (played {T = Transfer M} m e).0 entries
+    input_of m e ++ inputs_of (plays {T = Transfer M} m e).0 entries
 
 -- the master's standing after inputs, and what it sends
 abbrev pub master_run : {M : Type 0} → Does M → Standing M → List (Input M) → Standing M × List (Post M)
@@ -86,8 +86,8 @@ master_run machine standing (input ∷ inputs) =
 -- it sends what that one sends.
 abbrev pub PlaysTheMaster : {M : Type 0} → Does M → Type 0
 PlaysTheMaster {M} machine =
-    (m : Membership) (entries : List LogEntry) →
-    let did = all_played {T = Transfer M} m entries in
+    (m : MembershipView) (entries : List LogEntry) →
+    let did = plays_all {T = Transfer M} m entries in
     master_run machine (AtMaster m.master) (inputs_of m entries) ≡ (AtMaster did.0.master, did.1)
 
 -- ---- the orders for one server
@@ -97,17 +97,17 @@ listed_option None = []
 listed_option (Some x) = x ∷ []
 
 -- what a replica hands to its server, entry by entry
-abbrev pub orders_handed : {T : Type 0} → ℕ → Membership → List LogEntry → List (Message T)
+abbrev pub orders_handed : {T : Type 0} → ℕ → MembershipView → List LogEntry → List (Message T)
 orders_handed s m [] = []
 orders_handed s m (e ∷ entries) =
-    listed_option (first_to s (played m e).1) ++ orders_handed s (played m e).0 entries
+    listed_option (first_to s (plays m e).1) ++ orders_handed s (plays m e).0 entries
 
 -- These are all the messages of the master to that server, in order, each once. The first entry of
 -- the log is the opening.
 abbrev pub OrdersAreTheMasters : Type 0 → Type 0
 OrdersAreTheMasters T =
     (nodes : List (List ℕ)) (entries : List LogEntry) (s : ℕ) →
-    orders_handed {T = T} s (opened nodes) entries ≡ messages_to s (all_played (opened nodes) entries).1
+    orders_handed {T = T} s (opened nodes) entries ≡ messages_to s (plays_all (opened nodes) entries).1
 
 -- ---- the numbers of servers
 
@@ -123,7 +123,7 @@ HasServers (log.Reported r) = 0 < subject_of r.author r.news
 abbrev pub NumbersAreInOrder : Type 0 → Type 0
 NumbersAreInOrder T =
     (nodes : List (List ℕ)) (entries : List LogEntry) → AllByRecursion HasServers entries →
-    let m = (all_played {T = T} (opened nodes) entries).0 in
+    let m = (plays_all {T = T} (opened nodes) entries).0 in
     m.master.used ≡ range_with_len 1 (length m.nodes)
 
 -- ---- bytes

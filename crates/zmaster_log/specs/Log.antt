@@ -31,14 +31,14 @@ use Rattle.zmaster_log.specs.declared.entry.News.TheVariants as news
 -- What the entries from the opening on make: the master; the node of each server, from server 1 on;
 -- and for each server number from 1 to `MAX_SERVERS`, how many reports of it were played, and
 -- whether it is gone.
-pub record Membership : Type 0 where
+pub record MembershipView : Type 0 where
   pub master : MasterView
   pub nodes : List (List ℕ)
   pub counts : List ℕ
   pub gone : List Bool
 
 -- the initial chain has a server on each of these nodes, and the master has no clients
-unfoldable pub opened : List (List ℕ) → Membership
+unfoldable pub opened : List (List ℕ) → MembershipView
 opened nodes =
     record {
       master = opening_master (length nodes) 0;
@@ -48,47 +48,47 @@ opened nodes =
     }
 
 -- the server has joined, or was in the initial chain, and isn't gone
-abbrev pub is_live : Membership → ℕ → Bool
+abbrev pub is_live : MembershipView → ℕ → Bool
 is_live m s = nat_le s (length m.nodes) && not (get_or m.gone (s - 1) false)
 
 -- how many reports of the server were played
-abbrev pub count_of : Membership → ℕ → ℕ
+abbrev pub count_of : MembershipView → ℕ → ℕ
 count_of m s = slice_index m.counts (s - 1)
 
 -- ---- what an entry does
 
 -- what an entry leaves, and what the master sends
 abbrev pub Played : Type 0 → Type 0
-Played T = Membership × List (PostOf T)
+Played T = MembershipView × List (PostOf T)
 
 -- the entry is skipped
-abbrev pub skipped : {T : Type 0} → Membership → Played T
+abbrev pub skipped : {T : Type 0} → MembershipView → Played T
 skipped m = (m, [])
 
 -- the number is the next one, and the master lets a server join
-abbrev pub may_join : Membership → ℕ → Bool
+abbrev pub may_join : MembershipView → ℕ → Bool
 may_join m s = s == length m.nodes + 1 && is_none (order_fault m.master (order.Join s))
 
 -- a server joins on a node
-abbrev pub joined : {T : Type 0} → Membership → ℕ → List ℕ → Played T
-joined m s node =
+abbrev pub joins : {T : Type 0} → MembershipView → ℕ → List ℕ → Played T
+joins m s node =
     let did = order_step m.master (order.Join s) in
     (record m { master = did.0; nodes = m.nodes ++ node ∷ [] }, did.1)
 
-unfoldable pub join_played : {T : Type 0} → Membership → ℕ → List ℕ → Played T
-join_played m s node = if may_join m s then joined m s node else skipped m
+unfoldable pub join_played : {T : Type 0} → MembershipView → ℕ → List ℕ → Played T
+join_played m s node = if may_join m s then joins m s node else skipped m
 
 -- the master orders a member to leave
-abbrev pub may_retire : Membership → ℕ → Bool
+abbrev pub may_retire : MembershipView → ℕ → Bool
 may_retire m s = is_none (order_fault m.master (order.Retire s))
 
-abbrev pub retired : {T : Type 0} → Membership → ℕ → Played T
-retired m s =
+abbrev pub retires : {T : Type 0} → MembershipView → ℕ → Played T
+retires m s =
     let did = order_step m.master (order.Retire s) in
     (record m { master = did.0 }, did.1)
 
-unfoldable pub retire_played : {T : Type 0} → Membership → ℕ → Played T
-retire_played m s = if may_retire m s then retired m s else skipped m
+unfoldable pub retire_played : {T : Type 0} → MembershipView → ℕ → Played T
+retire_played m s = if may_retire m s then retires m s else skipped m
 
 -- the server that a report is about
 abbrev pub subject_of : ℕ → News → ℕ
@@ -103,7 +103,7 @@ message_of (news.Joined epoch) = message.Joined epoch
 message_of (news.Gone s) = message.Gone
 
 -- the report is the next one of its author, and neither its author nor its subject is gone
-abbrev pub is_next : Membership → Report → Bool
+abbrev pub is_next : MembershipView → Report → Bool
 is_next m r =
     is_live m r.author && count_of m r.author == r.earlier && is_live m (subject_of r.author r.news)
 
@@ -114,7 +114,7 @@ gone_after gone (news.Joined epoch) = gone
 gone_after gone (news.Gone s) = slice_set gone (s - 1) true
 
 -- the report counts
-abbrev pub counted : Membership → Report → MasterView → Membership
+abbrev pub counted : MembershipView → Report → MasterView → MembershipView
 counted m r master =
     record m {
       master = master;
@@ -123,36 +123,36 @@ counted m r master =
     }
 
 -- the master takes the message of the server that a report is about
-abbrev pub reported : {T : Type 0} → Membership → Report → Played T
-reported m r =
+abbrev pub takes : {T : Type 0} → MembershipView → Report → Played T
+takes m r =
     let did = master_step m.master (Server (subject_of r.author r.news)) (message_of r.news) in
     (counted m r did.0, did.1)
 
-unfoldable pub report_played : {T : Type 0} → Membership → Report → Played T
-report_played m r = if is_next m r then reported m r else skipped m
+unfoldable pub report_played : {T : Type 0} → MembershipView → Report → Played T
+report_played m r = if is_next m r then takes m r else skipped m
 
 -- ---- the log
 
 -- what entries make: nothing before the opening
 abbrev pub State : Type 0
-State = Option Membership
+State = Option MembershipView
 
 abbrev pub with_state : {T : Type 0} → Played T → State × List (PostOf T)
-with_state played = (Some played.0, played.1)
+with_state did = (Some did.0, did.1)
 
 -- an entry after the opening
-abbrev pub played : {T : Type 0} → Membership → LogEntry → Played T
-played m (log.Opening nodes) = skipped m
-played m (log.Join s node) = join_played m s node
-played m (log.Retire s) = retire_played m s
-played m (log.Reported r) = report_played m r
+abbrev pub plays : {T : Type 0} → MembershipView → LogEntry → Played T
+plays m (log.Opening nodes) = skipped m
+plays m (log.Join s node) = join_played m s node
+plays m (log.Retire s) = retire_played m s
+plays m (log.Reported r) = report_played m r
 
 -- entries after the opening, one after the other, and all that the master sends
-abbrev pub all_played : {T : Type 0} → Membership → List LogEntry → Played T
-all_played m [] = skipped m
-all_played m (entry ∷ entries) =
-    let first = played m entry in
-    let rest = all_played first.0 entries in
+abbrev pub plays_all : {T : Type 0} → MembershipView → List LogEntry → Played T
+plays_all m [] = skipped m
+plays_all m (entry ∷ entries) =
+    let first = plays m entry in
+    let rest = plays_all first.0 entries in
     (rest.0, first.1 ++ rest.1)
 
 -- an entry: before the opening, any other is skipped
@@ -161,7 +161,7 @@ entry_played None (log.Opening nodes) = (Some (opened nodes), [])
 entry_played None (log.Join s node) = (None, [])
 entry_played None (log.Retire s) = (None, [])
 entry_played None (log.Reported r) = (None, [])
-entry_played (Some m) entry = with_state (played m entry)
+entry_played (Some m) entry = with_state (plays m entry)
 
 -- a log: its entries one after the other
 abbrev pub log_played : {T : Type 0} → State → List LogEntry → State × List (PostOf T)

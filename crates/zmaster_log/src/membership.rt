@@ -28,9 +28,9 @@ pub(crate) struct Membership {
 }
 
 impl Model for Membership {
-    ghost use Rattle.zmaster_log.specs.Log.{Membership};
+    ghost use Rattle.zmaster_log.specs.Log.{MembershipView};
 
-    ghost Value = { Membership };
+    ghost Value = { MembershipView };
 
     ghost view = { λ m. record {
       master = m.master;

@@ -5,7 +5,7 @@ ghost use Rattle.std.specs.Option.{option_copied};
 ghost use Rattle.zprotocol.specs.Posts.{Puts};
 ghost use Rattle.zmaster.specs.declared.limits.TheConstants.{MAX_POSTS};
 ghost use Rattle.zmaster_log.specs.Log.{entry_played, first_to, order_for, after_entry, is_this_server};
-ghost use Rattle.zmaster_log.specs.Log.{IsPlayFault, has_live, played, reports_of, node_of, next_of};
+ghost use Rattle.zmaster_log.specs.Log.{IsPlayFault, has_live, plays, reports_of, node_of, next_of};
 ghost use Rattle.zmaster_log.specs.Log.{fault_of};
 ghost use Rattle.zprotocol.specs.declared.limits.TheConstants.{MAX_SERVERS};
 
@@ -184,9 +184,9 @@ fn go_on<T: Drop>(
 ) -> Result<(), Memory>
     requires { MAX_POSTS ≤ posts.old.room }
     ensures next { OnOk result
-        (membership.new ≡ (played {T = T} membership.old entry).0) }
+        (membership.new ≡ (plays {T = T} membership.old entry).0) }
     ensures puts { OnOk result
-        (Puts posts.old posts.new (played membership.old entry).1) }
+        (Puts posts.old posts.new (plays membership.old entry).1) }
     ensures same { OnErr result (membership.new ≡ membership.old) }
 {
     match entry {
