@@ -7,7 +7,7 @@ ghost use Rattle.zprotocol.specs.Posts.{Puts};
 ghost use Rattle.zmaster.specs.declared.limits.TheConstants.{MAX_POSTS};
 ghost use Rattle.zprotocol.specs.declared.limits.TheConstants.{MAX_SERVERS};
 ghost use Rattle.zmaster_log.specs.Log.{opened, is_live, count_of, join_played, retire_played};
-ghost use Rattle.zmaster_log.specs.Log.{subject_of, message_of, is_next, report_played};
+ghost use Rattle.zmaster_log.specs.Log.{subject_of, message_of, is_next, gone_after, report_played};
 
 use crate::entry::{News, Report};
 use crate::limits::SERVERS;
@@ -154,9 +154,7 @@ impl Membership {
         self.master
             .take(Process::Server(subject), message_of(report.news), posts);
         self.counts[report.author.number() as usize - 1] = report.earlier.number() + 1;
-        if let News::Gone(server) = report.news {
-            self.gone[server.number() as usize - 1] = true;
-        }
+        mark_gone(&mut self.gone, report.news);
     }
 
     // Returns whether the report is the next one of its author, and no server in it is gone.
@@ -166,6 +164,16 @@ impl Membership {
         self.is_live(report.author)
             && self.count_of(report.author) == report.earlier.number()
             && self.is_live(subject_of(report.author, report.news))
+    }
+}
+
+// Marks the server that is gone by this, if any.
+fn mark_gone(gone: &mut [bool; SERVERS], news: News)
+    ensures { gone.new ≡ gone_after gone.old news }
+{
+    match news {
+        News::Have(_, _) | News::Joined(_) => {}
+        News::Gone(server) => gone[server.number() as usize - 1] = true,
     }
 }
 
