@@ -1,6 +1,7 @@
 -- An entry has one order at most, so a replica hands out all that the master sends to its server.
 use Rattle.std.proofs.Common.{◌≡◌, ℕ, ◌+◌, Bool, true, false, cond, Option, None, Some, List, [], ◌∷◌, ◌++◌, length, refl, sym, ap, subst, ◌∙◌, append_assoc}
 use Rattle.std.specs.List.{last_or}
+use Rattle.std.specs.Option.{option_to_list}
 use Rattle.zprotocol.specs.declared.message.Message.{Message}
 use Rattle.zprotocol.specs.declared.message.Message.TheVariants as message
 use Rattle.zprotocol.specs.declared.process.Process.{Process}
@@ -16,7 +17,7 @@ use Rattle.zprotocol.proofs.master_lemmas.Orders.{order_counts}
 use Rattle.zmaster_log.specs.declared.entry.LogEntry.{LogEntry}
 use Rattle.zmaster_log.specs.declared.entry.LogEntry.TheVariants as log
 use Rattle.zmaster_log.specs.Log.{MembershipView, Played, subject_of, message_of, is_this_server, opened, may_join, joins, may_retire, retires, is_next, takes, join_played, retire_played, report_played, plays, plays_all, skipped, messages_to, first_to}
-use Rattle.zmaster_log.specs.Laws.{listed_option, orders_handed, OrdersAreTheMasters}
+use Rattle.zmaster_log.specs.Laws.{orders_handed, OrdersAreTheMasters}
 
 module _ {T : Type 0} where
   -- one message at most
@@ -111,11 +112,11 @@ module _ {T : Type 0} where
       by rest false = rest
 
   -- the first of one at most is all
-  one_is_all : (s : ℕ) (posts : List (PostOf T)) → IsFew posts → listed_option (first_to s posts) ≡ messages_to s posts
+  one_is_all : (s : ℕ) (posts : List (PostOf T)) → IsFew posts → option_to_list (first_to s posts) ≡ messages_to s posts
   one_is_all s [] few = refl
   one_is_all s (post ∷ []) few = by (is_this_server s post.0)
     where
-      by : (test : Bool) → listed_option (cond test (Some post.1) None) ≡ cond test (post.1 ∷ []) []
+      by : (test : Bool) → option_to_list (cond test (Some post.1) None) ≡ cond test (post.1 ∷ []) []
       by true = refl
       by false = refl
   one_is_all s (post ∷ other ∷ posts) few = absurd few

@@ -1,6 +1,7 @@
 -- Laws of the master's log.
 use Rattle.std.specs.Prelude.{◌≡◌, ℕ, ◌-◌, ◌<◌, ◌≤◌, Bool, true, false, ◌&&◌, nat_le, Option, None, Some, List, [], ◌∷◌, ◌++◌, length, get_or, if◌then◌else◌, Ok}
 use Rattle.std.specs.List.{range_with_len, AllByRecursion}
+use Rattle.std.specs.Option.{option_to_list}
 use Rattle.zprotocol.specs.declared.message.Message.{Message}
 use Rattle.zprotocol.specs.declared.process.Process.TheVariants.{Master, Server}
 use Rattle.zprotocol.specs.declared.master.order.Order.TheVariants as order
@@ -92,15 +93,11 @@ PlaysTheMaster {M} machine =
 
 -- ---- the orders for one server
 
-abbrev pub listed_option : {A : Type 0} → Option A → List A
-listed_option None = []
-listed_option (Some x) = x ∷ []
-
 -- what a replica hands to its server, entry by entry
 abbrev pub orders_handed : {T : Type 0} → ℕ → MembershipView → List LogEntry → List (Message T)
 orders_handed s m [] = []
 orders_handed s m (e ∷ entries) =
-    listed_option (first_to s (plays m e).1) ++ orders_handed s (plays m e).0 entries
+    option_to_list (first_to s (plays m e).1) ++ orders_handed s (plays m e).0 entries
 
 -- These are all the messages of the master to that server, in order, each once. The first entry of
 -- the log is the opening.
