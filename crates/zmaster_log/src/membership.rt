@@ -142,34 +142,34 @@ impl Membership {
 
     /// Gives a report to the master, if it is the next one of its author.
     #[tactic(auto, unfolding(crate::specs::Log::report_played))]
-    pub(crate) fn report<T: Drop>(&mut self, report: Report, posts: &mut Out<T>)
+    pub(crate) fn report<T: Drop>(&mut self, report: &Report, posts: &mut Out<T>)
         requires { MAX_POSTS ≤ posts.old.room }
-        ensures next { self.new ≡ (report_played {T = T} self.old report).0 }
-        ensures puts { Puts posts.old posts.new (report_played self.old report).1 }
+        ensures next { self.new ≡ (report_played {T = T} self.old report.now).0 }
+        ensures puts { Puts posts.old posts.new (report_played self.old report.now).1 }
     {
         if !self.is_next(report) {
             return;
         }
-        let subject = subject_of(report.author, report.news);
-        self.master
-            .take(Process::Server(subject), message_of(report.news), posts);
+        let sender = Process::Server(subject_of(report.author, &report.news));
+        let message = message_of(&report.news);
+        self.master.take(sender, message, posts);
         self.counts[report.author.number() as usize - 1] = report.earlier.number() + 1;
-        mark_gone(&mut self.gone, report.news);
+        mark_gone(&mut self.gone, &report.news);
     }
 
     // Returns whether the report is the next one of its author, and no server in it is gone.
-    fn is_next(&self, report: Report) -> bool
-        ensures { result ≡ is_next self.now report }
+    fn is_next(&self, report: &Report) -> bool
+        ensures { result ≡ is_next self.now report.now }
     {
         self.is_live(report.author)
             && self.count_of(report.author) == report.earlier.number()
-            && self.is_live(subject_of(report.author, report.news))
+            && self.is_live(subject_of(report.author, &report.news))
     }
 }
 
 // Marks the server that is gone by this, if any.
-fn mark_gone(gone: &mut [bool; SERVERS], news: News)
-    ensures { gone.new ≡ gone_after gone.old news }
+fn mark_gone(gone: &mut [bool; SERVERS], news: &News)
+    ensures { gone.new ≡ gone_after gone.old news.now }
 {
     match news {
         News::Have(_, _) | News::Joined(_) => {}
@@ -178,22 +178,22 @@ fn mark_gone(gone: &mut [bool; SERVERS], news: News)
 }
 
 // Returns the server that a report is about.
-fn subject_of(author: ServerId, news: News) -> ServerId
-    ensures { result ≡ subject_of author news }
+fn subject_of(author: ServerId, news: &News) -> ServerId
+    ensures { result ≡ subject_of author news.now }
 {
     match news {
         News::Have(_, _) | News::Joined(_) => author,
-        News::Gone(server) => server,
+        News::Gone(server) => *server,
     }
 }
 
 // Returns the message of that server that the master takes.
-fn message_of<T>(news: News) -> Message<T>
-    ensures { result ≡ message_of news }
+fn message_of<T>(news: &News) -> Message<T>
+    ensures { result ≡ message_of news.now }
 {
     match news {
-        News::Have(epoch, last) => Message::Have(epoch, last),
-        News::Joined(epoch) => Message::Joined(epoch),
+        News::Have(epoch, last) => Message::Have(*epoch, *last),
+        News::Joined(epoch) => Message::Joined(*epoch),
         News::Gone(_) => Message::Gone,
     }
 }

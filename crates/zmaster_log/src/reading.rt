@@ -161,9 +161,18 @@ fn name_with(bytes: Vec<u8>) -> Result<NodeName, ReadError>
 fn report_at(bytes: &[u8]) -> Result<(Report, &[u8]), Fault>
     ensures { Reads (λ x. (x.0, x.1.now)) result (report.read bytes.now) }
 {
-    let (author, rest) = server_at(bytes)?;
-    let (earlier, rest) = count_at(rest)?;
-    let (news, rest) = news_in(rest)?;
+    let (author, rest) = match server_at(bytes) {
+        Ok(read) => read,
+        Err(fault) => return Err(fault),
+    };
+    let (earlier, rest) = match count_at(rest) {
+        Ok(read) => read,
+        Err(fault) => return Err(fault),
+    };
+    let (news, rest) = match news_in(rest) {
+        Ok(read) => read,
+        Err(fault) => return Err(fault),
+    };
     let report = Report {
         author,
         earlier,
@@ -219,9 +228,14 @@ fn news_behind(tag: u8, bytes: &[u8]) -> Result<(News, &[u8]), Fault>
 fn held_at(bytes: &[u8]) -> Result<(Epoch, Option<LogNumber>, &[u8]), Fault>
     ensures { Reads (λ x. ((x.0, x.1), x.2.now)) result (held.read bytes.now) }
 {
-    let (epoch, rest) = epoch_at(bytes)?;
-    let (last, rest) = last_at(rest)?;
-    Ok((epoch, last, rest))
+    let (epoch, rest) = match epoch_at(bytes) {
+        Ok(read) => read,
+        Err(fault) => return Err(fault),
+    };
+    match last_at(rest) {
+        Ok((last, rest)) => Ok((epoch, last, rest)),
+        Err(fault) => Err(fault),
+    }
 }
 
 // Reads an epoch.

@@ -197,7 +197,7 @@ fn go_on<T: Drop>(
             Ok(())
         }
         LogEntry::Reported(report) => {
-            membership.report(report, posts);
+            membership.report(&report, posts);
             Ok(())
         }
     }

@@ -50,7 +50,7 @@ fn put_entry(out: &mut Vec<u8>, entry: &LogEntry) -> Result<(), AllocError>
         }
         LogEntry::Reported(report) => {
             put_u8(out, 3)?;
-            put_report(out, *report)
+            put_report(out, report)
         }
     }
 }
@@ -99,13 +99,13 @@ fn put_joined(out: &mut Vec<u8>, server: ServerId, node: &NodeName) -> Result<()
 
 // Writes a report.
 #[tactic(auto, unfolding(crate::specs::Bytes::report))]
-fn put_report(out: &mut Vec<u8>, report: Report) -> Result<(), AllocError>
-    ensures text { OnOk result (out.new.items ≡ out.old.items ++ report_form.spell report) }
-    ensures fits { OnOk result (report_form.Fits report) }
+fn put_report(out: &mut Vec<u8>, report: &Report) -> Result<(), AllocError>
+    ensures text { OnOk result (out.new.items ≡ out.old.items ++ report_form.spell report.now) }
+    ensures fits { OnOk result (report_form.Fits report.now) }
 {
     put_server(out, report.author)?;
     put_count(out, report.earlier)?;
-    put_news(out, report.news)
+    put_news(out, &report.news)
 }
 
 // Writes a number of entries.
@@ -119,22 +119,22 @@ fn put_count(out: &mut Vec<u8>, count: EntryCount) -> Result<(), AllocError>
 
 // Writes what is reported.
 #[tactic(auto, unfolding(crate::specs::Bytes::any_news))]
-fn put_news(out: &mut Vec<u8>, news: News) -> Result<(), AllocError>
-    ensures text { OnOk result (out.new.items ≡ out.old.items ++ any_news.spell news) }
-    ensures fits { OnOk result (any_news.Fits news) }
+fn put_news(out: &mut Vec<u8>, news: &News) -> Result<(), AllocError>
+    ensures text { OnOk result (out.new.items ≡ out.old.items ++ any_news.spell news.now) }
+    ensures fits { OnOk result (any_news.Fits news.now) }
 {
     match news {
         News::Have(epoch, last) => {
             put_u8(out, 0)?;
-            put_held(out, epoch, last)
+            put_held(out, *epoch, *last)
         }
         News::Joined(epoch) => {
             put_u8(out, 1)?;
-            put_epoch(out, epoch)
+            put_epoch(out, *epoch)
         }
         News::Gone(server) => {
             put_u8(out, 2)?;
-            put_server(out, server)
+            put_server(out, *server)
         }
     }
 }
