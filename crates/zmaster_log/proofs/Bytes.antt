@@ -1,5 +1,5 @@
 -- Entries are a form.
-use Rattle.std.proofs.Common.{◌≡◌, ℕ, ◌<◌, ◌≤◌, Bool, true, false, cond, ◌==◌, List, [], ◌∷◌, ◌++◌, length, Result, Ok, Err, refl, sym, ap, subst, ◌∙◌, arith}
+use Rattle.std.proofs.Common.{◌≡◌, ℕ, ◌<◌, ◌≤◌, Bool, true, false, cond, not, ◌&&◌, ◌==◌, nat_le, List, [], ◌∷◌, ◌++◌, length, Result, Ok, Err, refl, sym, ap, subst, ◌∙◌, arith}
 use Rattle.std.specs.Prelude.{IfOk}
 use Rattle.std.specs.Int.{w8, w64}
 use Rattle.std.proofs.lemmas.Bool.Decides.{nat_tests}
@@ -29,7 +29,7 @@ use Rattle.zmaster_log.specs.declared.entry.LogEntry.{LogEntry}
 use Rattle.zmaster_log.specs.declared.entry.LogEntry.TheVariants as log
 use Rattle.zmaster_log.specs.declared.entry.News.{News}
 use Rattle.zmaster_log.specs.declared.entry.News.TheVariants as news
-use Rattle.zmaster_log.specs.Nodes.{is_node_name, IsNodeName}
+use Rattle.zmaster_log.specs.Nodes.{has_bad_byte, is_node_name, IsNodeName}
 use Rattle.zmaster_log.specs.Bytes.{count, name_from, node, names_from, listed_nodes, nodes, news_at, news_spelled, any_news, report, joined, entry_at, entry_spelled, entry}
 use Rattle.zmaster_log.specs.Laws.{EntriesAreTheirBytes}
 use Rattle.zmaster_log.proofs.Flags.{left, right}
@@ -47,7 +47,11 @@ passes false x y e = absurd cc
 
 -- a name isn't longer than allowed
 name_short : (name : List ℕ) → IsNodeName name → length name ≤ MAX_NODE_NAME
-name_short name is = let short = right _ _ (left _ _ is) in grind (arith, nat_tests, short)
+name_short name is =
+    let short : nat_le (length name) MAX_NODE_NAME ≡ true =
+    right (not (length name == 0)) (nat_le (length name) MAX_NODE_NAME)
+    (left (not (length name == 0) && nat_le (length name) MAX_NODE_NAME) (not (has_bad_byte name)) is) in
+    grind (arith, nat_tests, short)
 
 is_node : IsForm node
 unfolding node

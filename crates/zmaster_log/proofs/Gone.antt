@@ -1,5 +1,5 @@
 -- A server that is gone stays so, and is skipped.
-use Rattle.std.proofs.Common.{◌≡◌, ℕ, zero, suc, ◌+◌, ◌-◌, ◌<◌, ◌≤◌, Bool, true, false, cond, not, ◌&&◌, nat_le, is_none, List, [], ◌∷◌, ◌++◌, length, get_or, refl, sym, ap, ◌∙◌, arith, length-append}
+use Rattle.std.proofs.Common.{◌≡◌, ℕ, zero, suc, ◌+◌, ◌-◌, ◌<◌, ◌≤◌, Bool, true, false, cond, not, ◌&&◌, ◌==◌, nat_le, is_none, List, [], ◌∷◌, ◌++◌, length, get_or, refl, sym, ap, ◌∙◌, arith, length-append}
 use Rattle.std.specs.Prelude.{slice_set}
 use Rattle.std.proofs.lemmas.Bool.Decides.{nat_tests}
 use mathlib.Core.Bool.{true≢false}
@@ -32,9 +32,16 @@ now_set (flag ∷ flags) (suc i) within = now_set flags i (omega arith)
 
 -- ---- the server that is gone
 
+-- its number is one of those given, and it is marked
+has_number : (m : MembershipView) (s : ℕ) → is_gone m s ≡ true → nat_le s (length m.nodes) ≡ true
+has_number m s is = left (nat_le s (length m.nodes)) (get_or m.gone (s - 1) false) is
+
+is_marked : (m : MembershipView) (s : ℕ) → is_gone m s ≡ true → get_or m.gone (s - 1) false ≡ true
+is_marked m s is = right (nat_le s (length m.nodes)) (get_or m.gone (s - 1) false) is
+
 -- it isn't live
 not_live : (m : MembershipView) (s : ℕ) → is_gone m s ≡ true → is_live m s ≡ false
-not_live m s is = by (nat_le s (length m.nodes)) (get_or m.gone (s - 1) false) (right _ _ is)
+not_live m s is = by (nat_le s (length m.nodes)) (get_or m.gone (s - 1) false) (is_marked m s is)
   where
     by : (a b : Bool) → b ≡ true → (a && not b) ≡ false
     by true true is = refl
@@ -65,7 +72,7 @@ gone_by_news gone (news.Have epoch last) j is = is
 gone_by_news gone (news.Joined epoch) j is = is
 gone_by_news gone (news.Gone s) j is = still_set gone (s - 1) j is
 
-module _ {T : Type 0} where
+module _ (T : Type 0) where
   -- the part of what an entry does that is left in place
   stays : (m : MembershipView) (s : ℕ) (test : Bool) (other : Played T) → is_gone m s ≡ true → is_gone other.0 s ≡ true
       → is_gone (cond test other (skipped m)).0 s ≡ true
@@ -76,10 +83,10 @@ module _ {T : Type 0} where
   unfolding join_played retire_played report_played
   gone_stays m (log.Opening nodes) s is = is
   gone_stays m (log.Join t node) s is =
-      stays m s (may_join m t) (joins m t node) is (together _ _ (more_nodes s m.nodes node (left _ _ is)) (right _ _ is))
+      stays m s (may_join m t) (joins m t node) is (together (nat_le s (length (m.nodes ++ node ∷ []))) (get_or m.gone (s - 1) false) (more_nodes s m.nodes node (has_number m s is)) (is_marked m s is))
   gone_stays m (log.Retire t) s is = stays m s (may_retire m t) (retires m t) is is
   gone_stays m (log.Reported r) s is =
-      stays m s (is_next m r) (takes m r) is (together _ _ (left _ _ is) (gone_by_news m.gone r.news (s - 1) (right _ _ is)))
+      stays m s (is_next m r) (takes m r) is (together (nat_le s (length m.nodes)) (get_or (gone_after m.gone r.news) (s - 1) false) (has_number m s is) (gone_by_news m.gone r.news (s - 1) (is_marked m s is)))
 
   pub gone_stays_along : (m : MembershipView) (entries : List LogEntry) (s : ℕ) → is_gone m s ≡ true
       → is_gone (plays_all {T = T} m entries).0 s ≡ true
@@ -89,8 +96,11 @@ module _ {T : Type 0} where
   pub reports_end : ReportsEndServers T
   unfolding report_played
   reports_end m author earlier s some within next =
-      let live = right _ _ next in
-      rw next (together _ _ (left _ _ live) (now_set m.gone (s - 1) (omega arith)))
+      let live : is_live m s ≡ true = right (is_live m author && count_of m author == earlier) (is_live m s) next in
+      let number : nat_le s (length m.nodes) ≡ true = left (nat_le s (length m.nodes)) (not (get_or m.gone (s - 1) false)) live in
+      let inside : s - 1 < length m.gone = omega (arith, some, within) in
+      let marked : get_or (slice_set m.gone (s - 1) true) (s - 1) false ≡ true = now_set m.gone (s - 1) inside in
+      rw next (together (nat_le s (length m.nodes)) (get_or (slice_set m.gone (s - 1) true) (s - 1) false) number marked)
 
   pub late_are_skipped : LateReportsAreSkipped T
   late_are_skipped m s entries r is of =

@@ -1,5 +1,5 @@
 -- The numbers of servers are used in order.
-use Rattle.std.proofs.Common.{◌≡◌, ℕ, zero, suc, ◌+◌, ◌-◌, ◌<◌, ◌≤◌, Bool, true, false, cond, not, ◌&&◌, ◌==◌, nat_le, nat_lt, is_none, is_some, Option, None, Some, List, [], ◌∷◌, ◌++◌, length, map, refl, sym, ap, ◌∙◌, arith, length-append, eqb-true}
+use Rattle.std.proofs.Common.{◌≡◌, ℕ, zero, suc, ◌+◌, ◌-◌, ◌<◌, ◌≤◌, Bool, true, false, cond, not, ◌&&◌, ◌==◌, nat_le, nat_lt, is_none, is_some, Option, None, Some, List, [], ◌∷◌, ◌++◌, length, map, get_or, refl, sym, ap, ◌∙◌, arith, length-append, eqb-true}
 use Rattle.std.specs.List.{last_or, range_with_len, AllByRecursion}
 use Rattle.std.proofs.lemmas.Bool.Decides.{nat_tests}
 use Rattle.std.proofs.lemmas.List.FromFn.{length-range_with_len}
@@ -19,7 +19,7 @@ use Rattle.zprotocol.specs.master.support.Cases.{IsMasterRow, Ignores, Reports, 
 use Rattle.zprotocol.proofs.master_lemmas.Cases.{master_case}
 use Rattle.zmaster_log.specs.declared.entry.LogEntry.{LogEntry}
 use Rattle.zmaster_log.specs.declared.entry.LogEntry.TheVariants as log
-use Rattle.zmaster_log.specs.Log.{MembershipView, Played, subject_of, message_of, may_join, joins, may_retire, retires, takes, is_live, is_next, opened, join_played, retire_played, report_played, plays, plays_all, skipped}
+use Rattle.zmaster_log.specs.Log.{MembershipView, Played, subject_of, message_of, may_join, joins, may_retire, retires, takes, is_live, count_of, is_next, opened, join_played, retire_played, report_played, plays, plays_all, skipped}
 use Rattle.zmaster_log.proofs.Flags.{left, right}
 use Rattle.zmaster_log.specs.Laws.{HasServers, NumbersAreInOrder}
 
@@ -67,7 +67,11 @@ has_last : (chain : List Neighbour) → (length chain == 0) ≡ false → is_non
 has_last [] some = absurd (true≢false some)
 has_last (n ∷ chain) some = last_is_some n.0 chain
 
-module _ {T : Type 0} where
+-- the used numbers are those of the servers with a node
+abbrev InOrder : MembershipView → Type 0
+InOrder m = m.master.used ≡ range_with_len 1 (length m.nodes)
+
+module _ (T : Type 0) where
   join_uses : (v : MasterView) (s : ℕ) → is_none (order_fault v (order.Join s)) ≡ true → (order_step {T = T} v (order.Join s)).0.used ≡ with_number s v.used
   unfolding order_step order_fault
   join_uses v s allowed = by (last_or None (members v)) (has_last v.chain (third (is_among s v.used) (is_another_joining v) (length v.chain == 0) Used Joining NoChain
@@ -98,9 +102,6 @@ module _ {T : Type 0} where
 
   -- ---- entries
 
-  abbrev InOrder : MembershipView → Type 0
-  InOrder m = m.master.used ≡ range_with_len 1 (length m.nodes)
-
   in_order_if : (test : Bool) (m : MembershipView) (did : Played T) → InOrder m → (test ≡ true → InOrder did.0) → InOrder (cond test did (skipped m)).0
   in_order_if true m did is then = then refl
   in_order_if false m did is then = is
@@ -109,15 +110,16 @@ module _ {T : Type 0} where
   unfolding join_played retire_played report_played
   entry_in_order m (log.Opening nodes) of is = is
   entry_in_order m (log.Join s node) of is = in_order_if (may_join m s) m (joins m s node) is (λ test.
-      let number : s ≡ length m.nodes + 1 = eqb-true _ _ (left _ _ test) in
-      let uses = join_uses m.master s (right _ _ test) in
+      let allowed : is_none (order_fault m.master (order.Join s)) ≡ true = right (s == length m.nodes + 1) (is_none (order_fault m.master (order.Join s))) test in
+      let number : s ≡ length m.nodes + 1 = eqb-true s (length m.nodes + 1) (left (s == length m.nodes + 1) (is_none (order_fault m.master (order.Join s))) test) in
+      let uses : (order_step {T = T} m.master (order.Join s)).0.used ≡ with_number s m.master.used = join_uses m.master s allowed in
       let longer : suc (length m.nodes) ≡ length (m.nodes ++ node ∷ []) = omega (arith, length-append m.nodes (node ∷ [])) in
       uses ∙ ap (with_number s) is ∙ number_after 1 (length m.nodes) s (omega (arith, number)) ∙ ap (range_with_len 1) longer)
   entry_in_order m (log.Retire s) of is = in_order_if (may_retire m s) m (retires m s) is (λ test. retire_uses m.master s ∙ is)
   entry_in_order m (log.Reported r) of is = in_order_if (is_next m r) m (takes m r) is (λ test.
-      let s = subject_of r.author r.news in
-      let live = right _ _ test in
-      let low = left _ _ live in
+      let s : ℕ = subject_of r.author r.news in
+      let live : is_live m s ≡ true = right (is_live m r.author && count_of m r.author == r.earlier) (is_live m s) test in
+      let low : nat_le s (length m.nodes) ≡ true = left (nat_le s (length m.nodes)) (not (get_or m.gone (s - 1) false)) live in
       let few : s ≤ length m.nodes = grind (arith, nat_tests, low) in
       let within : with_number s m.master.used ≡ m.master.used = ap (with_number s) is ∙ number_within 1 (length m.nodes) s (omega (arith, of)) (omega (arith, few)) ∙ sym is in
       row_uses m.master s within _ _ _ (master_case {T = T} m.master (Server s) (message_of r.news)) refl ∙ is)

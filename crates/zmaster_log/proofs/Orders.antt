@@ -19,7 +19,7 @@ use Rattle.zmaster_log.specs.declared.entry.LogEntry.TheVariants as log
 use Rattle.zmaster_log.specs.Log.{MembershipView, Played, subject_of, message_of, is_this_server, opened, may_join, joins, may_retire, retires, is_next, takes, join_played, retire_played, report_played, plays, plays_all, skipped, messages_to, first_to}
 use Rattle.zmaster_log.specs.Laws.{orders_handed, OrdersAreTheMasters}
 
-module _ {T : Type 0} where
+module _ (T : Type 0) where
   -- one message at most
   abbrev IsFew : List (PostOf T) → Type 0
   IsFew [] = Unit {0}

@@ -96,15 +96,15 @@ PlaysTheMaster {M} machine =
 -- what a replica hands to its server, entry by entry
 abbrev pub orders_handed : {T : Type 0} → ℕ → MembershipView → List LogEntry → List (Message T)
 orders_handed s m [] = []
-orders_handed s m (e ∷ entries) =
-    option_to_list (first_to s (plays m e).1) ++ orders_handed s (plays m e).0 entries
+orders_handed {T} s m (e ∷ entries) =
+    option_to_list (first_to s (plays {T = T} m e).1) ++ orders_handed s (plays {T = T} m e).0 entries
 
 -- These are all the messages of the master to that server, in order, each once. The first entry of
 -- the log is the opening.
 abbrev pub OrdersAreTheMasters : Type 0 → Type 0
 OrdersAreTheMasters T =
     (nodes : List (List ℕ)) (entries : List LogEntry) (s : ℕ) →
-    orders_handed {T = T} s (opened nodes) entries ≡ messages_to s (plays_all (opened nodes) entries).1
+    orders_handed {T = T} s (opened nodes) entries ≡ messages_to s (plays_all {T = T} (opened nodes) entries).1
 
 -- ---- the numbers of servers
 
