@@ -1,16 +1,16 @@
 -- Entries are a form.
-use Rattle.std.proofs.Common.{◌≡◌, ℕ, ◌<◌, ◌≤◌, Bool, true, false, cond, not, ◌&&◌, ◌==◌, nat_le, List, [], ◌∷◌, ◌++◌, length, Result, Ok, Err, refl, sym, ap, subst, ◌∙◌, arith}
+use Rattle.std.proofs.Common.{◌≡◌, ℕ, ◌<◌, ◌≤◌, Bool, true, false, cond, not, ◌&&◌, ◌==◌, nat_le, List, [], ◌∷◌, ◌++◌, length, Result, Ok, Err, refl, sym, ap, subst, arith}
 use Rattle.std.specs.Prelude.{IfOk}
 use Rattle.std.specs.Int.{w8, w64}
 use Rattle.std.proofs.lemmas.Bool.Decides.{nat_tests}
 use mathlib.Core.Bool.{true≢false}
 use Rattle.zcodec.specs.declared.fault.Fault.TheVariants.{Invalid}
-use Rattle.zcodec.specs.Forms.{Form, number, both}
-use Rattle.zcodec.specs.Choices.{sized, listed}
+use Rattle.zcodec.specs.Forms.{number, both}
+use Rattle.zcodec.specs.Choices.{sized}
 use Rattle.zcodec.specs.declared.fault.ReadError.{ReadError}
 use Rattle.zcodec.specs.Readers.{Gives, whole}
 use Rattle.zcodec.specs.Laws.{IsBytes, IsForm}
-use Rattle.zcodec.proofs.Bytes.{guard_ok, ok_is}
+use Rattle.zcodec.proofs.Bytes.{ok_is}
 use Rattle.zcodec.proofs.Numbers.{is_u8, is_u64}
 use Rattle.zcodec.proofs.Parts.{is_both, is_made, is_record}
 use Rattle.zcodec.proofs.Choices.{is_option, is_sized, is_listed}

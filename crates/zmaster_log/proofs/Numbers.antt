@@ -2,7 +2,6 @@
 use Rattle.std.proofs.Common.{◌≡◌, ℕ, zero, suc, ◌+◌, ◌-◌, ◌<◌, ◌≤◌, Bool, true, false, cond, not, ◌&&◌, ◌==◌, nat_le, nat_lt, is_none, is_some, Option, None, Some, List, [], ◌∷◌, ◌++◌, length, map, get_or, refl, sym, ap, ◌∙◌, arith, length-append, eqb-true}
 use Rattle.std.specs.List.{last_or, range_with_len, AllByRecursion}
 use Rattle.std.proofs.lemmas.Bool.Decides.{nat_tests}
-use Rattle.std.proofs.lemmas.List.FromFn.{length-range_with_len}
 use mathlib.Core.Bool.{true≢false}
 use Rattle.zpath.specs.First.{first_that_holds}
 use Rattle.zprotocol.specs.declared.message.Message.{Message}
@@ -14,7 +13,7 @@ use Rattle.zprotocol.specs.declared.master.order_fault.OrderFault.{OrderFault}
 use Rattle.zprotocol.specs.declared.master.order_fault.OrderFault.TheVariants.{Used, Joining, NoChain, Lost, Retiring}
 use Rattle.zprotocol.specs.server.View.{Neighbour}
 use Rattle.zprotocol.specs.master.View.{MasterView, members, with_number, is_among}
-use Rattle.zprotocol.specs.master.Table.{MasterResult, order_fault, order_step, master_step, no_effect, is_another_joining, is_only_member_joining}
+use Rattle.zprotocol.specs.master.Table.{MasterResult, order_fault, order_step, no_effect, is_another_joining, is_only_member_joining}
 use Rattle.zprotocol.specs.master.support.Cases.{IsMasterRow, Ignores, Reports, Joins, LeavesOutside, Leaves}
 use Rattle.zprotocol.proofs.master_lemmas.Cases.{master_case}
 use Rattle.zmaster_log.specs.declared.entry.LogEntry.{LogEntry}

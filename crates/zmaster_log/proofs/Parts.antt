@@ -1,7 +1,6 @@
 -- A log that is played in two parts.
-use Rattle.std.proofs.Common.{◌≡◌, List, [], ◌∷◌, ◌++◌, refl, sym, ap, ◌∙◌, append_assoc}
+use Rattle.std.proofs.Common.{List, [], ◌∷◌, ◌++◌, refl, sym, ap, ◌∙◌, append_assoc}
 use Rattle.zprotocol.specs.server.View.{PostOf}
-use Rattle.zmaster_log.specs.declared.entry.LogEntry.{LogEntry}
 use Rattle.zmaster_log.specs.Log.{State, entry_played, log_played}
 use Rattle.zmaster_log.specs.Laws.{PartsAreOne}
 

@@ -1,14 +1,13 @@
 -- Entries give the master of the world its inputs.
-use Rattle.std.proofs.Common.{◌≡◌, ℕ, ◌+◌, Bool, true, false, cond, ◌&&◌, ◌==◌, is_none, List, [], ◌∷◌, ◌++◌, length, refl, sym, ap, ◌∙◌, append_assoc}
+use Rattle.std.proofs.Common.{◌≡◌, Bool, true, false, cond, List, [], ◌∷◌, ◌++◌, refl, ap, ◌∙◌}
 use Rattle.zprotocol.specs.declared.process.Process.TheVariants.{Master, Server}
 use Rattle.zprotocol.specs.declared.master.order.Order.TheVariants as order
 use Rattle.zprotocol.specs.server.Machine.{Does}
 use Rattle.zprotocol.specs.server.View.{Transfer, Post}
-use Rattle.zprotocol.specs.master.Table.{order_fault, order_step, master_step}
 use Rattle.zprotocol.specs.world.Does.{Standing, AtMaster, Input, Hear, Obey, does, master_effect}
 use Rattle.zmaster_log.specs.declared.entry.LogEntry.{LogEntry}
 use Rattle.zmaster_log.specs.declared.entry.LogEntry.TheVariants as log
-use Rattle.zmaster_log.specs.Log.{MembershipView, Played, may_join, joins, may_retire, retires, subject_of, message_of, is_next, takes, join_played, retire_played, report_played, plays, plays_all, skipped}
+use Rattle.zmaster_log.specs.Log.{MembershipView, Played, may_join, joins, may_retire, retires, subject_of, message_of, is_next, takes, join_played, retire_played, report_played, plays, skipped}
 use Rattle.zmaster_log.specs.Laws.{input_of, inputs_of, master_run, PlaysTheMaster}
 
 module _ {M : Type 0} (machine : Does M) where

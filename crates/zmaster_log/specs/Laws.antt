@@ -1,12 +1,12 @@
 -- Laws of the master's log.
-use Rattle.std.specs.Prelude.{◌≡◌, ℕ, ◌-◌, ◌<◌, ◌≤◌, Bool, true, false, ◌&&◌, nat_le, Option, None, Some, List, [], ◌∷◌, ◌++◌, length, get_or, if◌then◌else◌, Ok}
+use Rattle.std.specs.Prelude.{◌≡◌, ℕ, ◌-◌, ◌<◌, ◌≤◌, Bool, true, false, ◌&&◌, nat_le, List, [], ◌∷◌, ◌++◌, length, get_or, if◌then◌else◌, Ok}
 use Rattle.std.specs.List.{range_with_len, AllByRecursion}
 use Rattle.std.specs.Option.{option_to_list}
 use Rattle.zprotocol.specs.declared.message.Message.{Message}
 use Rattle.zprotocol.specs.declared.process.Process.TheVariants.{Master, Server}
 use Rattle.zprotocol.specs.declared.master.order.Order.TheVariants as order
 use Rattle.zprotocol.specs.server.Machine.{Does}
-use Rattle.zprotocol.specs.server.View.{PostOf, Transfer, Post}
+use Rattle.zprotocol.specs.server.View.{Transfer, Post}
 use Rattle.zprotocol.specs.world.Does.{Standing, AtMaster, Input, Hear, Obey, does}
 use Rattle.zcodec.specs.Laws.{IsBytes}
 use Rattle.zcodec.specs.Readers.{whole}
@@ -14,9 +14,9 @@ use Rattle.zmaster_log.specs.declared.entry.LogEntry.{LogEntry}
 use Rattle.zmaster_log.specs.declared.entry.LogEntry.TheVariants as log
 use Rattle.zmaster_log.specs.declared.entry.Report.{Report}
 use Rattle.zmaster_log.specs.declared.entry.News.TheVariants as news
-use Rattle.zmaster_log.specs.Log.{MembershipView, Played, State, opened, may_join, may_retire, subject_of, message_of, is_next, plays, plays_all}
+use Rattle.zmaster_log.specs.Log.{MembershipView, State, opened, may_join, may_retire, subject_of, message_of, is_next, plays, plays_all}
 use Rattle.zmaster_log.specs.Bytes.{entry}
-use Rattle.zmaster_log.specs.Log.{entry_played, log_played, messages_to, first_to}
+use Rattle.zmaster_log.specs.Log.{log_played, messages_to, first_to}
 
 -- ---- parts of a log
 

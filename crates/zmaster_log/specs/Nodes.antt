@@ -1,5 +1,5 @@
 -- Nodes: the machines that servers run on, by name.
-use Rattle.std.specs.Prelude.{◌≡◌, ℕ, Bool, true, ◌&&◌, ◌||◌, not, ◌==◌, nat_le, nat_lt, List, length}
+use Rattle.std.specs.Prelude.{◌≡◌, ℕ, Bool, true, ◌&&◌, ◌||◌, not, ◌==◌, nat_le, List, length}
 use Rattle.std.specs.List.{list_any}
 use Rattle.zmaster_log.specs.declared.limits.TheConstants.{MAX_NODE_NAME}
 
