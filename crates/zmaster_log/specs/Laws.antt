@@ -7,7 +7,8 @@ use Rattle.zprotocol.specs.declared.process.Process.TheVariants.{Master, Server}
 use Rattle.zprotocol.specs.declared.master.order.Order.TheVariants as order
 use Rattle.zprotocol.specs.server.Machine.{Does}
 use Rattle.zprotocol.specs.server.View.{Transfer, Post}
-use Rattle.zprotocol.specs.world.Does.{Standing, AtMaster, Input, Hear, Obey, does}
+use Rattle.zprotocol.specs.Places.{is_server}
+use Rattle.zprotocol.specs.world.Does.{Standing, AtMaster, Input, Hear, Obey, accepts, does}
 use Rattle.zcodec.specs.Laws.{IsBytes}
 use Rattle.zcodec.specs.Readers.{whole}
 use Rattle.zmaster_log.specs.declared.entry.LogEntry.{LogEntry}
@@ -90,6 +91,19 @@ PlaysTheMaster {M} machine =
     (m : MembershipView) (entries : List LogEntry) →
     let did = plays_all {T = Transfer M} m entries in
     master_run machine (AtMaster m.master) (inputs_of m entries) ≡ (AtMaster did.0.master, did.1)
+
+-- the server of an order has a number of 1 to `MAX_SERVERS`, as every `ServerId` has
+abbrev pub OrdersServer : LogEntry → Type 0
+OrdersServer (log.Opening nodes) = Unit {0}
+OrdersServer (log.Join s node) = is_server s ≡ true
+OrdersServer (log.Retire s) = is_server s ≡ true
+OrdersServer (log.Reported r) = Unit {0}
+
+-- and the world's master accepts each of these inputs when it is given
+abbrev pub InputsAreAccepted : {M : Type 0} → Does M → Type 0
+InputsAreAccepted {M} machine =
+    (m : MembershipView) (e : LogEntry) → OrdersServer e →
+    AllByRecursion (λ (input : Input M). accepts Master input (AtMaster m.master) ≡ true) (input_of m e)
 
 -- ---- the orders for one server
 

@@ -3,7 +3,7 @@
 ghost use Rattle.zprotocol.specs.server.Machine.{cached_tree};
 ghost use Rattle.zmaster_log.specs.Laws.{PartsAreOne, ReportsEndServers, LateReportsAreSkipped};
 ghost use Rattle.zmaster_log.specs.Laws.{GoneIsTakenOnce, PlaysTheMaster, OrdersAreTheMasters};
-ghost use Rattle.zmaster_log.specs.Laws.{NumbersAreInOrder, EntriesAreTheirBytes};
+ghost use Rattle.zmaster_log.specs.Laws.{NumbersAreInOrder, EntriesAreTheirBytes, InputsAreAccepted};
 
 /// A log makes the same whether it is played at once or in parts.
 pub fn parts_are_one<T>()
@@ -19,9 +19,10 @@ pub fn gone_servers_are_silent<T>()
 {}
 
 /// The master of a replica does what the master of the world does, given the inputs that entries
-/// are.
+/// are; and the world's master accepts each of these.
 pub fn replicas_play_the_master()
-    ensures { PlaysTheMaster cached_tree }
+    ensures same { PlaysTheMaster cached_tree }
+    ensures accepted { InputsAreAccepted cached_tree }
 {}
 
 /// The orders that a replica hands out, entry by entry, are all that the master sends to its
