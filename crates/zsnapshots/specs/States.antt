@@ -127,6 +127,22 @@ pub record IsWritten (old new : WritingView) (before after : List ℕ) : Type 0 
   pub fits : Fits x
   pub view : new ≡ record old { written = old.written + 1 }
 
+-- What a writer holds that has let go of its machine: the keys of the rows, and how many rows were
+-- written.
+pub record PausedView : Type 0 where
+  pub sessions : List ℕ
+  pub paths : List Path
+  pub clients : List ℕ
+  pub written : ℕ
+
+-- these are the keys of the rows of this state
+pub record AreKeysOf (s : MachineState) (p : PausedView) : Type 0 where
+  pub settled : IsSettled s.service.plain
+  pub few : s.applied ≤ MAX_APPLIED
+  pub sessions : p.sessions ≡ map (λ e. e.0) (sessions_of s)
+  pub paths : p.paths ≡ map (λ e. e.0) (nodes_of s)
+  pub clients : p.clients ≡ map (λ e. e.0) (replies_of s)
+
 -- ---- reading
 
 -- what was read so far: the header, and the state of the other rows

@@ -1,12 +1,14 @@
 //! A machine, written row by row.
 //!
 //! # Why
-//! A writer borrows its machine, so the machine can't change between two rows.
+//! A writer borrows its machine, so the machine can't change between two rows. One that is paused
+//! borrows nothing, so a queue can own it beside the machine.
 
 ghost use Rattle.std.specs.Prelude.{◌≡◌, ◌<◌, ◌≤◌, ◌++◌, true, false, length, map, IfOk};
 ghost use Rattle.std.specs.Prelude.{OnOk, OnErr};
 ghost use Rattle.zsnapshots.specs.States.{rows_of, head_of, sessions_of, nodes_of, replies_of};
 ghost use Rattle.zsnapshots.specs.States.{spelled, Fits, IsWritten, tree_alone, written_of};
+ghost use Rattle.zsnapshots.specs.States.{AreKeysOf};
 ghost use Rattle.ztree.specs.declared.limits.TheConstants.{MAX_CLIENTS};
 ghost use Rattle.zsnapshots.specs.States.StateRow.{OfHeader, OfSession, OfNode, OfReply};
 ghost use Rattle.zops.specs.declared.limits.TheConstants.{MAX_APPLIED};
@@ -14,6 +16,7 @@ ghost use Rattle.zops.specs.RestoredLaws.{IsSettled};
 ghost use Rattle.zsnapshots.specs.support.Writing.{IsItem, IsRow};
 
 use crate::header::Header;
+use crate::paused::Paused;
 use crate::row_writing::{write_header_row, write_node_row, write_reply_row, write_session_row};
 use std::alloc::{AllocError, Global};
 use std::marker::Model;
@@ -106,6 +109,42 @@ impl<'a> Writing<'a> {
             is_alone,
             written: 0,
         })
+    }
+
+    /// Lets go of the machine.
+    pub fn pause(self) -> Paused
+        ensures keys { AreKeysOf self.state result }
+        ensures written { result.written ≡ self.written }
+    {
+        let Writing {
+            alloc: _,
+            machine: _,
+            sessions,
+            paths,
+            clients,
+            is_alone: _,
+            written,
+        } = self;
+        Paused::new(sessions, paths, clients, written)
+    }
+
+    /// Continues with the same machine, or another one of the same state.
+    pub fn resume(alloc: Global, machine: &'a Machine, paused: Paused) -> Writing<'a>
+        requires whole { machine.now.is_broken ≡ false }
+        requires keys { AreKeysOf machine.now.state paused }
+        ensures state { result.state ≡ machine.now.state }
+        ensures written { result.written ≡ paused.written }
+    {
+        let (sessions, paths, clients, written) = paused.into_parts();
+        Writing {
+            alloc,
+            machine,
+            sessions,
+            paths,
+            clients,
+            is_alone: false,
+            written,
+        }
     }
 
     /// Appends the next row, and returns true; or returns false if all rows were written. On an
