@@ -9,7 +9,7 @@ ghost use Rattle.std.specs.Prelude.{IfErr, IfOk};
 ghost use Rattle.zthreads.specs.Callers.{SameLearnt};
 ghost use Rattle.zrun.specs.Asked.{AskedWithinInVain, AskedWithinUntil};
 ghost use Rattle.zrun.specs.Asked.{InsistedWithinInVain, InsistedWithinUntil};
-ghost use Rattle.zrun.specs.Clients.{BeganNothing, caller_of, SameClient};
+ghost use Rattle.zrun.specs.Clients.{BeganNothing, caller_of, SameClient, SameSeat};
 
 use crate::client::Client;
 use crate::faults::Unanswered;
@@ -34,6 +34,7 @@ impl Client {
         ensures refused { IfErr result (BeganNothing self.old self.new) }
         ensures learnt { SameLearnt (caller_of self.old) (caller_of self.new) }
         ensures same { SameClient self.old self.new }
+        ensures seat { SameSeat self.old self.new }
     {
         // The number of the call isn't needed here.
         let _ = self.begin(call)?;
@@ -56,6 +57,7 @@ impl Client {
         ensures unanswered { IfErr result (InsistedWithinInVain self.old self.new) }
         ensures learnt { SameLearnt (caller_of self.old) (caller_of self.new) }
         ensures same { SameClient self.old self.new }
+        ensures seat { SameSeat self.old self.new }
     {
         for _ in 0..u64::MAX {
             if is_over(clock, began, limit) {
