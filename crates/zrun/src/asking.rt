@@ -5,8 +5,9 @@
 //! No clause says that a call is sent again: a body that never tries looks like one out of memory.
 //! So a test counts the resends in the trace.
 
-ghost use Rattle.std.specs.Prelude.{IfErr, IfOk};
+ghost use Rattle.std.specs.Prelude.{◌≡◌, IfErr, IfOk};
 ghost use Rattle.zthreads.specs.Callers.{SameLearnt};
+ghost use Rattle.zrun.specs.declared.asking.TheConstants.{TURNS};
 ghost use Rattle.zrun.specs.Asked.{AskedWithinInVain, AskedWithinUntil};
 ghost use Rattle.zrun.specs.Asked.{InsistedWithinInVain, InsistedWithinUntil};
 ghost use Rattle.zrun.specs.Clients.{BeganNothing, caller_of, SameClient, SameSeat};
@@ -18,6 +19,11 @@ use zcalls::{Call, Reply};
 
 /// How often a client calls `turn` between two looks at the clock. Then it sends the call again.
 pub const TURNS: u64 = 2_000;
+
+/// The limit, as a number.
+pub fn limit_is_a_number()
+    ensures { TURNS ≡ 2000 }
+{}
 
 impl Client {
     /// Invokes a call, and waits for its reply up to this limit. Meanwhile it sends the same call
