@@ -33,8 +33,8 @@ index_mut-requires-4 g c =
     let long = column.ok in
     omega (arith, tall, from, long)
 
-pub told-requires : goal.told-requires
-told-requires g c =
+pub reported-requires : goal.reported-requires
+reported-requires g c =
     let M = g.row.M.Denot in
     let outs = c.args.outs.now.items in
     let ins = c.args.ins.now.items in
