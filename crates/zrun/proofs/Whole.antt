@@ -106,7 +106,8 @@ gone last m ss cs P linked kept left =
     let es = by_place m ss cs in
     let Q : ℕ → Ending → List TreeDeed → Type 0 = λ i e d. AccountsAtEnd (self_at last (length cs) i) e d in
     let both : ℕ → Ending → List TreeDeed → Type 0 = λ i e d. Q i e d × P i e d in
-    ∥∥₁_map (choose both es (λ i e at. left i e at (none_of_all (λ (e : Ending). e.is_lost) m ss cs kept i e at)))
+    ∥∥₁_map (choose both es
+    (λ i e at. ∥∥₁_map (left i e at (none_of_all (λ (e : Ending). e.is_lost) m ss cs kept i e at)) (λ x. (x.0, (x.1, x.2)))))
     (λ ds. went last (length cs) es ds.0 linked (chosen_weaker both Q es ds.0 ds.1 (λ i e d two. two.0)) P
     (chosen_weaker both P es ds.0 ds.1 (λ i e d two. two.1)))
 
