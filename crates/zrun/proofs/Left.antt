@@ -94,7 +94,6 @@ module _ (s : Cluster) (m : Ending) (ss cs : List Ending) (servers : length ss �
       let f : ClientPost → Endpoint = λ q. caller_endpoint q.caller in
       let many = length-map s.servers.items given_server in
       let all_servers = s.all in
-      let next : MAX_SERVERS + 1 + i ≡ suc (MAX_SERVERS + i) = omega arith in
       let here : 0 + suc (MAX_SERVERS + i) ≡ MAX_SERVERS + 1 + i = omega arith in
       let found = element_right (map given_server s.servers.items) (client_endpoints s.run.value.items) (MAX_SERVERS + i) i
       (omega (arith, many, all_servers)) ∙ element_map f s.run.value.items i p at in
@@ -131,7 +130,6 @@ module _ (s : Cluster) (m : Ending) (ss cs : List Ending) (servers : length ss �
         (λ ge.
         let k = i - (MAX_SERVERS + 1) in
         let is : i ≡ MAX_SERVERS + 1 + k = omega (arith, ge) in
-        let two = length-append ss cs in
         let one : get_elem? cs k ≡ some e = client_at_end m ss cs servers i k e is at in
         let place = element places k (subst (λ n. k < n) (pairs_count IsLeftIn places cs left) (within cs k e one)) in
         ended_at i k place.0 e is place.1 (pairs_at IsLeftIn places cs k place.0 e left place.1 one))
@@ -169,7 +167,6 @@ module _ (m : Ending) (ss cs : List Ending) (known : Bool) (never : is_left_lost
         λ i c at.
             let there = there_at places i c at in
             let e = element cs i (subst (λ n. i < n) (sym (pairs_count IsLeftIn places cs left)) (within places i (Some c) there)) in
-            let is = all_in i (Some c) there c refl in
             let who : Client i ≡ process_at (MAX_SERVERS + 1 + i) = client_process (MAX_SERVERS + 1 + i) i refl in
             subst (λ (p : Process). AccountsFor c (went.0 p)) (sym who)
             (went.2 (MAX_SERVERS + 1 + i) e.0 (client_there m ss cs servers i e.0 e.1) i c refl there),
