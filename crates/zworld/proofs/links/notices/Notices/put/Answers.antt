@@ -4,7 +4,7 @@ use Rattle.zworld.proofs.links_lemmas.Counts.{passing-set, passing_le}
 use Rattle.zworld.proofs.links.notices.Notices.put.Goals as goal
 
 pub overflow_add-self : goal.overflow_add-self
-overflow_add-self c = omega (arith, c.self.invariant, passing_le (λ noted. noted) c.self.inside.noted, c.self.reported)
+overflow_add-self c = omega (arith, c.self.invariant, passing_le (λ noted. noted) c.self.inside.noted, c.self.told)
 
 pub invariant_of-self : goal.invariant_of-self
 invariant_of-self c =
@@ -15,5 +15,5 @@ invariant_of-self c =
       arith,
       c.self.invariant,
       unset,
-      passing-set (λ noted. noted) c.self.inside.noted c.number.result true false (omega (arith, c.self.reported, c.number.ensures.small)),
+      passing-set (λ noted. noted) c.self.inside.noted c.number.result true false (omega (arith, c.self.told, c.number.ensures.small)),
     )

@@ -16,7 +16,7 @@ overflow_sub-self c =
     ∙ ap (is_noted c.args.self.now) (sym c.in-Server.is)
     ∙ (both (is_noted c.args.self.now c.args.from.now) (is_same c.args.to.now Master) (sym c.is_between.ensures ∙ c.if-not-is_between.false)).0 in
     let one : share (get_or c.self.inside.noted c.number.result false) ≡ 1 = ap share set in
-    let within : c.number.result < length c.self.inside.noted = omega (arith, c.self.reported, c.number.ensures.small) in
+    let within : c.number.result < length c.self.inside.noted = omega (arith, c.self.told, c.number.ensures.small) in
     let counted = passing-set (λ noted. noted) c.self.inside.noted c.number.result false false within in
     omega (arith, c.self.invariant, one, counted)
 
@@ -28,6 +28,6 @@ invariant_of-self c =
     ∙ ap (is_noted c.args.self.now) (sym c.in-Server.is)
     ∙ (both (is_noted c.args.self.now c.args.from.now) (is_same c.args.to.now Master) (sym c.is_between.ensures ∙ c.if-not-is_between.false)).0 in
     let one : share (get_or c.self.inside.noted c.number.result false) ≡ 1 = ap share set in
-    let within : c.number.result < length c.self.inside.noted = omega (arith, c.self.reported, c.number.ensures.small) in
+    let within : c.number.result < length c.self.inside.noted = omega (arith, c.self.told, c.number.ensures.small) in
     let counted = passing-set (λ noted. noted) c.self.inside.noted c.number.result false false within in
     omega (arith, c.self.invariant, one, counted)
