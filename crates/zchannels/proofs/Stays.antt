@@ -191,8 +191,8 @@ none_is_set n s rule all i =
     let m = slice_index s.words 0 in
     let parts = rule.1 in
     dite (ℕ_discrete (bit_at m i) 1)
-    (λ set.
-    let is = rule.3 i set in
+    (λ there.
+    let is = rule.3 i there in
     let none = none_knows s.views rule.4 (all ∙ sym parts) is.0 is.1 is.2 in
     let zero_bit = ap (λ k. bit_at k i) none in
     absurd (let z = bit_at-zero i in let one = is.3 in omega (arith, z, one, zero_bit)))
