@@ -1,9 +1,21 @@
-//! The limit of a row. It is this project's profile.
+//! The limits of a row and of a chunk. They are this project's profile.
 //!
 //! # Why
 //! The longest row has some 65 KiB, far below the limit of a frame. So a writer can fail only by
 //! running out of memory.
 
+ghost use Rattle.std.specs.Prelude.{◌≡◌};
+ghost use Rattle.zsnapshots.specs.declared.limits.TheConstants.{CHUNK, MAX_ROW};
+
 /// The greatest number of bytes after a row's length: those of a node with the longest path and the
 /// most data.
 pub const MAX_ROW: u32 = 66_648;
+
+/// A chunk of a snapshot's text ends with the record that reaches this length.
+pub const CHUNK: usize = 65_536;
+
+/// The limits, as numbers.
+pub fn limits_are_numbers()
+    ensures row { MAX_ROW ≡ 66648 }
+    ensures chunk { CHUNK ≡ 65536 }
+{}

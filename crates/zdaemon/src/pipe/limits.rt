@@ -1,5 +1,8 @@
 //! The limits of records: this project's own profile.
 
+ghost use Rattle.std.specs.Prelude.{◌≡◌};
+ghost use Rattle.zdaemon.specs.declared.pipe.limits.TheConstants.{BLOCK, MAX_CAME, MAX_PIECE};
+
 /// The most bytes of a connection in one record.
 pub const MAX_CAME: u32 = 65_536;
 
@@ -8,3 +11,10 @@ pub const MAX_PIECE: u32 = 0xFFFF_FFFF;
 
 /// The bytes that are read at once.
 pub const BLOCK: usize = 65_536;
+
+/// The limits, as numbers.
+pub fn limits_are_numbers()
+    ensures came { MAX_CAME ≡ 65536 }
+    ensures piece { MAX_PIECE ≡ 4294967295 }
+    ensures block { BLOCK ≡ 65536 }
+{}

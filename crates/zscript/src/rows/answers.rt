@@ -9,7 +9,7 @@ ghost use Rattle.zprotocol.specs.declared.master.order_fault.OrderFault.TheVaria
 ghost use Rattle.zprotocol.specs.declared.client.begin_fault.BeginFault.TheVariants.{Busy, Exhausted};
 ghost use Rattle.zprotocol.specs.declared.world.settled.Settled.TheVariants.{Quiet, Limit};
 ghost use Rattle.zscript_text.specs.declared.request.LineFault.TheVariants.{BadLine, BadPath, BadData};
-ghost use Rattle.zscript.specs.declared.limits.TheConstants.{MAX_EVENTS};
+ghost use Rattle.zscript.specs.declared.limits.TheConstants.{BLOCK, KEPT, MAX_EVENTS};
 ghost use Rattle.zprotocol.specs.declared.world.history.CallEvent.TheVariants.{Answer};
 ghost use Rattle.zscript.specs.Line.{taken_text, reply_in, order_fault_name, begin_fault_text, settled_text};
 ghost use Rattle.zscript.specs.Line.{line_fault_text};
@@ -65,7 +65,9 @@ pub fn words_of_answers()
     ensures bad_data { line_fault_text BadData ≡ codes "bad data" }
 {}
 
-/// The limit, as a number.
-pub fn limit_is_a_number()
-    ensures { MAX_EVENTS ≡ 100000 }
+/// The limits, as numbers.
+pub fn limits_are_numbers()
+    ensures events { MAX_EVENTS ≡ 100000 }
+    ensures block { BLOCK ≡ 65536 }
+    ensures kept { KEPT ≡ 524289 }
 {}

@@ -8,14 +8,12 @@ ghost use Rattle.zsnapshots.specs.folder.Compaction.{IsAllWritten, IsChunk};
 ghost use Rattle.zsnapshots.specs.folder.support.Writing.{IsRecordWritten};
 
 use crate::Writing;
+use crate::limits::CHUNK;
 use std::alloc::Global;
 use std::marker::Model;
 use zalloc::Memory;
 use ztree_service::LocalTree;
 use zwire::records::{Record, Row, write_records};
-
-// A chunk ends with the record that reaches this length.
-const PIECE: usize = 65_536;
 
 /// A tree that is being written as a snapshot, chunk by chunk. The chunks together are the
 /// snapshot's text.
@@ -69,7 +67,7 @@ impl<'a> Compaction<'a> {
         if !self.write_next(&mut text)? {
             return Ok(None);
         }
-        while text.len() < PIECE {
+        while text.len() < CHUNK {
             if !self.write_next(&mut text)? {
                 return Ok(Some(text));
             }
