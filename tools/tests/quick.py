@@ -158,8 +158,8 @@ def read_crates():
     """Reads the crates, as far as the toolchain takes them."""
     rt = kit.toolchain()
     os.chdir(ROOT)
-    rt.Crate.allowed = rt.handles_of(ROOT)
-    CRATES.update((it.name, it) for it in rt.crates_of(ROOT))
+    rt.rtlib.Crate, rt.Crate.allowed = rt.Crate, rt.handles_of(ROOT)
+    CRATES.update((it.name, it) for it in rt.rtlib.crates_below(ROOT))
 
 
 def found_by(look, given):
