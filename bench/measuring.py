@@ -44,10 +44,17 @@ def instructions(words, lines):
         raise Skipped("there is no valgrind here")
     text = "".join(f"{line}\n" for line in lines).encode()
     ran = subprocess.run([*CACHEGRIND, *words], input=text, capture_output=True)
-    found = re.search(rb"I +refs: +([0-9,]+)", ran.stderr)
-    if ran.returncode or not found:
+    if ran.returncode:
         raise Failed(f"{' '.join(words)}: {ran.stderr.decode()[-1000:]}")
-    return int(found[1].replace(b",", b"")), ran.stdout
+    return references(ran.stderr), ran.stdout
+
+
+def references(said):
+    """The instructions that valgrind counted, as it says."""
+    found = re.search(rb"I +refs: +([0-9,]+)", said)
+    if not found:
+        raise Failed(said.decode()[-1000:])
+    return int(found[1].replace(b",", b""))
 
 
 def row(*cells):

@@ -1,13 +1,17 @@
 #!/usr/bin/env python3
-"""Measures the server for ZooKeeper's clients, its folder, and ZooKeeper; and prints two tables.
+"""Measures the server for ZooKeeper's clients, its folder, and ZooKeeper; and prints four tables.
 
 The first counts creates of 10 bytes and gets a second, with one and with 200 calls under way on
-each of 1 and 4 connections. Each figure is the best of five rounds and their median; the servers
-take turns. ZooKeeper is Debian's, where it is installed; its log is written with fsync (batch) and
+each of 1 and 4 connections. Each figure is the best of five rounds and their median, or the mean of
+the processor time that the server took for a call; the servers take turns. ZooKeeper is Debian's, where it is installed; its log is written with fsync (batch) and
 without (never).
 
 The second has folders of 4,000 nodes: the best times to compact and to open one.
 The folders are below TMPDIR.
+
+The third has one request among 200 that are under way, in memory with 4,000 nodes, beside other
+idle sessions: instructions of the program by valgrind, and processor time of the program and its
+host. The fourth has the peak of memory with these nodes, and that of a script that makes them.
 """
 import atexit
 import contextlib
@@ -23,10 +27,11 @@ import time
 
 import measuring
 import frames
+import running
 import serving
 
 ROUNDS, SHAPES = 5, ((1, 1), (4, 1), (1, 200), (4, 200))
-NODES, GETS = 4_000, 5
+NODES, GETS, CALLS = 4_000, 5, 2_000
 # The MiB from which on a journal is shortened: never.
 NEVER = 1 << 20
 JARS = "/usr/share/java/zookeeper.jar", "/usr/share/java/slf4j-nop.jar"
@@ -41,6 +46,7 @@ def requests(op, size):
         "create": (frames.CREATE, lambda path: frames.create_body(path, bytes(size)), 12),
         "delete": (frames.DELETE, frames.at_version, 0),
         "get": (frames.GET, frames.look_body, 72 + size),
+        "set": (frames.SET, lambda path: frames.set_body(path, bytes(size)), 68),
     }[op]
     made = [frames.request(it, number, body(f"/n-{it:05}")) for it in range(NODES)]
     return frames.greeting(30000) + b"".join(made), len(made[0]), 20 + answer
@@ -63,11 +69,18 @@ def ended(ran):
     return float(said)
 
 
+def processor(number):
+    """The microseconds of processor time that a process has had."""
+    with open(f"/proc/{number}/stat", encoding="ascii") as file:
+        times = file.read().rpartition(")")[2].split()[11:13]
+    return sum(map(int, times)) * 1e6 / os.sysconf("SC_CLK_TCK")
+
+
 class Server:
     """A server on a port of its own, which `words` have as {port}."""
 
     def __init__(self, name, words):
-        self.name, self.found = name, {}
+        self.name, self.found, self.spent = name, {}, {}
         with socket.create_server(("127.0.0.1", 0)) as it:
             self.port = it.getsockname()[1]
         pipes = dict.fromkeys(("stdin", "stdout", "stderr"), subprocess.DEVNULL)
@@ -89,15 +102,24 @@ class Server:
         self.ran.terminate()
         self.ran.wait()
 
+    def processors(self):
+        """The microseconds of processor time of what it started, if anything, and of itself."""
+        with open(f"/proc/{self.ran.pid}/task/{self.ran.pid}/children", encoding="ascii") as file:
+            return [processor(int(it)) for it in [*file.read().split(), self.ran.pid]]
+
     def measure(self, load, shape, calls, op):
-        """Notes how many of these calls are answered in a second."""
+        """Notes how many of these calls are answered in a second, and the processor time of one."""
+        before = sum(self.processors())
         took = ended(start(load, self.port, shape, calls, op))
         self.found.setdefault((shape, op), []).append(calls / took)
+        spent = (sum(self.processors()) - before) / calls
+        self.spent.setdefault((shape, op), []).append(spent)
 
 
-def kept(builds, folder, sync="batch", journal=64):
+def kept(builds, folder, sync="batch", journal=64, program=None):
     """A server that keeps a folder, or one in memory. No tick comes meanwhile."""
-    words = [builds.compiled("host", serving.HOST), f"--program={builds.program('zk_serve')}"]
+    program = program or builds.program("zk_serve")
+    words = [builds.compiled("host", serving.HOST), f"--program={program}"]
     words += [f"--data={folder}", f"--sync={sync}", f"--journal={journal}"] if folder else []
     words += ["--tick=60000", "--listen=127.0.0.1:{port}"]
     return Server(f"zk serve, {sync if folder else 'memory'}", words)
@@ -125,11 +147,12 @@ def of_requests(builds, load, rounds):
         it.measure(load, shape, NODES, "create")
         it.measure(load, shape, NODES * GETS, "get")
         it.measure(load, shape, NODES, "delete")
-    measuring.head("Server, sync", "Connections, calls under way", "Creates", "Gets")
+    measuring.head("Server, sync", "Connections, calls under way", "Creates", "Gets", "µs", "µs")
     for shape, it in itertools.product(SHAPES, running):
         rates = (it.found[shape, op][1:] for op in ("create", "get"))
         figures = (f"{max(it):,.0f} / {statistics.median(it):,.0f}" for it in rates)
-        measuring.row(it.name, f"{shape[0]}, {shape[1]}", *figures)
+        means = (f"{statistics.mean(it.spent[shape, op][1:]):.1f}" for op in ("create", "get"))
+        measuring.row(it.name, f"{shape[0]}, {shape[1]}", *figures, *means)
     for it in running:
         it.stop()
 
@@ -151,6 +174,72 @@ def of_folder(builds, load, size, rounds):
     measuring.row(name, f"{length:,.1f}", f"{min(compacted):.2f}", f"{min(opened):.2f}")
 
 
+def peak(number):
+    """The kB of memory that a process has had at most."""
+    with open(f"/proc/{number}/status", encoding="ascii") as file:
+        return next(int(it.split()[1]) for it in file if it.startswith("VmHWM"))
+
+
+def idle(server, count):
+    """Opens so many sessions."""
+    found = [socket.create_connection(("127.0.0.1", server.port)) for _ in range(count)]
+    for it in found:
+        it.sendall(frames.greeting(30000))
+        measuring.want(it.recv(41), "no answer to the greeting")
+    return found
+
+
+def counted(builds, load, others, op, calls):
+    """The instructions of a server's program that makes its nodes, and then so many calls."""
+    said, program = f"{builds.room}/instructions", f"{builds.room}/counted"
+    with open(program, "w", encoding="utf-8") as file:
+        words = [*measuring.CACHEGRIND, f"--log-file={said}", builds.program("zk_serve")]
+        file.write(f'#!/bin/sh\nexec {" ".join(words)} "$@"\n')
+    os.chmod(program, 0o755)
+    it = kept(builds, None, program=program)
+    sessions = idle(it, others)
+    ended(start(load, it.port, (1, 200), NODES, "create"))
+    ended(start(load, it.port, (1, 200), calls, op))
+    it.stop()
+    del sessions
+    with open(said, "rb") as file:
+        return measuring.references(file.read())
+
+
+def spent(builds, load, others, op, calls):
+    """Microseconds of a call: of the program, of its host, and from its request to its reply."""
+    it = kept(builds, None)
+    sessions = idle(it, others)
+    ended(start(load, it.port, (1, 200), NODES, "create"))
+    before = it.processors()
+    took = ended(start(load, it.port, (1, 200), calls, op)) * 1e6
+    times = [(now - then) / calls for now, then in zip(it.processors(), before)]
+    memory = peak(running.children(it.ran.pid)[0])
+    it.stop()
+    del sessions
+    return [*times, took / calls], memory
+
+
+def of_sessions(builds, load, rounds):
+    """Prints the third and the fourth table."""
+    measuring.head("Request", "Other sessions", "Instructions", "Program", "Host", "Whole, µs")
+    for op, others in itertools.product(("set", "get"), (0, 900)):
+        less, more = (counted(builds, load, others, op, it) for it in (CALLS, 2 * CALLS))
+        found = [spent(builds, load, others, op, 100 * CALLS) for _ in range(rounds)]
+        best = (f"{min(it):.1f}" for it in zip(*(times for times, _ in found)))
+        measuring.row(op, others, f"{(more - less) / CALLS:,.0f}", *best)
+    lines = "".join(f"1 create /n-{it:05} p {'A' * 14}==\n" for it in range(NODES)).encode()
+    pipes = {"stdin": subprocess.PIPE, "stdout": subprocess.PIPE}
+    with subprocess.Popen([builds.program("zk"), "script"], **pipes) as ran:
+        ran.stdin.write(lines)
+        ran.stdin.flush()
+        for _ in range(NODES):
+            ran.stdout.readline()
+        script = peak(ran.pid)
+    measuring.head("Nodes", "kB of the server", "kB of a script")
+    measuring.row(f"{NODES:,}", f"{spent(builds, load, 0, 'get', 1)[1]:,}", f"{script:,}")
+
+
 def main():
     words = measuring.parser(__doc__)
     words.add_argument("--rounds", type=int, default=ROUNDS)
@@ -161,6 +250,7 @@ def main():
         measuring.head("Nodes", "MB", "Compacted, s", "Opened, s")
         for size in (1 << 10, 1 << 16):
             of_folder(builds, load, size, given.rounds)
+        of_sessions(builds, load, given.rounds)
 
 
 if __name__ == "__main__":

@@ -1,7 +1,7 @@
 """Proves crates of this checkout by `rt ci`, in a copy of them alone, and keeps what is built.
 
-`rt ci` keeps what it proved, beside the toolchain. So a proof that was stopped goes on where it
-was, and only what changed is proved again. It prints on standard error.
+`rt ci` proves them from nothing. Some toolchains keep what they proved, so that a proof that was
+stopped goes on where it was, and only what changed is proved again. It prints on standard error.
 """
 import contextlib
 import os
@@ -64,21 +64,46 @@ def place(crate, name, root=sources.ROOT):
     return path, os.path.exists(path) and kit.identity() in (None, programs.kit_of(path))
 
 
+def left_by_the_gate(crate, lines):
+    """Whether `rt ci` left the libraries below a crate in the checkout: each is newer than its own
+    sources, and than the libraries that it uses."""
+    time_of = lambda path: os.stat(path).st_mtime_ns if os.path.exists(path) else 0
+    made = {it: f"{sources.ROOT}/crates/{it}/out/rlib/{it}.rlib" for it in lines if it != crate}
+    is_new = lambda it: all(
+        time_of(made[it]) > time_of(other)
+        for other in (
+            *sources.files_of([it]),
+            *map(made.get, made.keys() & sources.uses_of(lines[it])),
+        )
+    )
+    return all(map(is_new, made))
+
+
+def build(top, path, make):
+    """Builds by make(top, folder) what is then kept at this path."""
+    places.made(os.path.dirname(path))
+    shutil.rmtree(f"{path}.building", ignore_errors=True)
+    make(top, f"{path}.building")
+    programs.keep(f"{path}.building", path)
+
+
 def built(crate, name, make, tell):
-    """The path of what is built of a crate. Where it isn't there, the crate is proved in the
-    repository `top` first, and make(top, path) builds it."""
+    """The path of what is built of a crate. Where it isn't there, make(top, path) builds it over
+    the libraries that `rt ci` left, or else the crate is proved first, in the repository `top`."""
     path, is_there = place(crate, name)
     if is_there:
         return path
     kit.required()
-    with repository(sources.lines_below(crate), tell) as (top, lock):
+    lines = sources.lines_below(crate)
+    if left_by_the_gate(crate, lines):
+        build(sources.ROOT, path, make)
+        return path
+    with repository(lines, tell) as (top, lock):
         # (the sum of what is proved, whatever becomes of the checkout meanwhile)
         path, is_there = place(crate, name, top)
         if not is_there:
             prove(top, lock, crate)
-            make(top, f"{top}/built")
-            places.made(os.path.dirname(path))
-            programs.keep(f"{top}/built", path)
+            build(top, path, make)
     return path
 
 

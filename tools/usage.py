@@ -32,7 +32,7 @@ Without a proved program each builds one without proof, in a minute, and says so
 ./zk prove [script|race|serve|library]
                               proves the program of a command, or the library, by
                               the toolchain's rt ci, in an hour on four
-                              cores; stopped, it continues
+                              cores; some toolchains continue a stopped one
 ./zk --proved script ..       runs the proved program, or nothing; others too
 ./zk --unproved script ..     runs the one without proof; others too
 ./zk --version                the version, and which program would run

@@ -9,6 +9,8 @@ import tempfile
 import threading
 import time
 
+import compactions
+import mending
 from frames import *
 from report import Failed, Test, want, want_same
 from servers import Server, ended, new_folder, program, serving, until, words_of
@@ -297,5 +299,6 @@ def synced(builds):
 def tests(builds):
     each = restart, secret, of_before, shortening, export, not_opened, full_disk, synced
     found = [Test(f"folder: {it.__name__}", 8, lambda _, it=it: it(builds)) for it in each]
+    found += mending.tests(builds) + compactions.tests(builds)
     return found + [Test(f"folder: {LIVES} kills, {it}", 30, lambda _, it=it: kills(builds, it))
                     for it in range(4)]

@@ -1,15 +1,20 @@
-/* Preloaded into a program: each call adds a letter to the file that NOTED names. w is a write to a
-   file, s a sync of the file written last, o another sync, and r a write to standard output. */
+/* Preloaded into a program. Each call adds a letter to the file that NOTED names: w is a write to a
+   file, s a sync of the file written last, o another sync, and r a write to standard output. While
+   the file that FAULTS names is there, that many syncs succeed, and the next fails; or no lock is. */
 #define _GNU_SOURCE
+#include <errno.h>
 #include <fcntl.h>
 #include <stdlib.h>
+#include <string.h>
 #include <sys/syscall.h>
 #include <unistd.h>
 
-static int written;
+static int written, syncs;
 
 static void note(char letter) {
-    int noted = open(getenv("NOTED"), O_WRONLY | O_APPEND | O_CREAT | O_CLOEXEC, 0600);
+    const char *name = getenv("NOTED");
+    int noted = name ? open(name, O_WRONLY | O_APPEND | O_CREAT | O_CLOEXEC, 0600) : -1;
+    if (noted < 0) return;
     syscall(SYS_write, noted, &letter, 1);
     close(noted);
 }
@@ -24,6 +29,24 @@ ssize_t pwrite(int file, const void *from, size_t size, off_t at) {
     return syscall(SYS_pwrite64, written = file, from, size, at);
 }
 
-static int noted(long status, int file) { return note(file == written ? 's' : 'o'), (int)status; }
-int fsync(int file) { return noted(syscall(SYS_fsync, file), file); }
-int fdatasync(int file) { return noted(syscall(SYS_fdatasync, file), file); }
+/* Does this call, or fails with a number where the file of faults says this. */
+static int done(long call, int file, int how, const char *fault, int number) {
+    char said[16] = {0};
+    int faults = getenv("FAULTS") ? open(getenv("FAULTS"), O_RDONLY | O_CLOEXEC) : -1;
+    if (faults >= 0) syscall(SYS_read, faults, said, sizeof said - 1), close(faults);
+    if (faults < 0 || (fault ? strcmp(said, fault) : syncs++ != atoi(said))) {
+        return (int)syscall(call, file, how);
+    }
+    errno = number;
+    return -1;
+}
+
+static int synced(long call, int file) {
+    int status = done(call, file, 0, NULL, EIO);
+    note(file == written ? 's' : 'o');
+    return status;
+}
+
+int fsync(int file) { return synced(SYS_fsync, file); }
+int fdatasync(int file) { return synced(SYS_fdatasync, file); }
+int flock(int file, int how) { return done(SYS_flock, file, how, "flock", ENOLCK); }
