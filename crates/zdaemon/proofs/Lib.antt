@@ -1,2 +1,3 @@
 pub mod pipe_lemmas
 pub mod Chunks
+pub mod Running

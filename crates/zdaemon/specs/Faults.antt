@@ -1,6 +1,10 @@
--- The exit status of a program whose server ended early: this project's own profile.
-use Rattle.std.specs.Prelude.{ℕ}
-use Rattle.zarguments.specs.Words.{words_fault_status}
+-- The exit status of a program whose server ended early, and the line that reports why: this
+-- project's own profile.
+use Rattle.std.specs.Prelude.{◌≡◌, ◌⊎◌, ℕ, Bool, true, false, if◌then◌else◌, List, ◌++◌, codes, Option, Some, None, IfSome}
+use Rattle.zarguments.specs.Words.{words_fault_status, words_fault_text}
+use Rattle.zarguments.specs.Reporting.{IsReported}
+use Rattle.zdevices.specs.Device.{SinkRun}
+use Rattle.zjournal.specs.file.Faults.{fault_text}
 use Rattle.zjournal.specs.declared.file.fault.FileFault.{FileFault}
 use Rattle.zjournal.specs.declared.file.fault.FileFault.TheVariants as folder
 use Rattle.zjournal.specs.declared.fault.OpenError.{OpenError}
@@ -42,3 +46,46 @@ hosted_fault_status (Serve fault) = serve_status fault
 hosted_fault_status Missing = 3
 hosted_fault_status Script = 3
 hosted_fault_status Ttl = 3
+
+-- ---- lines
+
+abbrev pub serve_fault_text : ServeFault → List ℕ
+serve_fault_text serving.Memory = codes "memory"
+serve_fault_text serving.Read = codes "read failed"
+serve_fault_text serving.NoInput = codes "no input of a host"
+serve_fault_text serving.Write = codes "write failed"
+serve_fault_text serving.Disk = codes "data: the disk failed"
+serve_fault_text serving.Full = codes "data: the journal is full"
+serve_fault_text serving.Ended = codes "data: the service has ended"
+
+abbrev pub memory_line : List ℕ
+memory_line = codes "zk: memory"
+
+-- memory ran out while a folder was opened
+abbrev pub is_of_memory : HostedFault → Bool
+is_of_memory (Folder folder.Memory) = true
+is_of_memory (Service opening.Memory) = true
+is_of_memory (Service (opening.Journal file.Memory)) = true
+is_of_memory fault = false
+
+-- any other fault. None: what is wrong with a file's content has many texts
+abbrev pub other_line_of : HostedFault → Option (List ℕ)
+other_line_of (Words fault) = Some (words_fault_text fault)
+other_line_of (Folder fault) = Some (codes "zk: data: " ++ fault_text fault)
+other_line_of (Service fault) = None
+other_line_of (Serve fault) = Some (codes "zk: " ++ serve_fault_text fault)
+other_line_of Missing = Some (codes "zk: data: there is no journal")
+other_line_of Script = Some (codes "zk: data: a script's folder, and no server's: its file is its script")
+other_line_of Ttl = Some (codes "zk: data: a node has a TTL that no line says")
+
+abbrev pub line_of : HostedFault → Option (List ℕ)
+line_of fault = if is_of_memory fault then Some memory_line else other_line_of fault
+
+-- the fault's line was reported; or there was no memory for it, and that was
+abbrev pub IsTold : HostedFault → SinkRun → Type 0
+IsTold fault faults =
+    ((line : List ℕ) × IfSome (line_of fault) (λ text. line ≡ text) × IsReported faults line) ⊎ IsReported faults memory_line
+
+-- the status is that of a fault, and the last line tells it
+abbrev pub HasFailed : {F : Type 0} → (F → F → SinkRun) → ℕ → F → Type 0
+HasFailed {F} run status last = (fault : HostedFault) × (status ≡ hosted_fault_status fault) × (before : F) × IsTold fault (run before last)

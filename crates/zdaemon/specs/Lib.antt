@@ -4,3 +4,5 @@ pub mod Tasks
 pub mod Faults
 pub mod Folder
 pub mod AtRest
+pub mod Memory
+pub mod Running

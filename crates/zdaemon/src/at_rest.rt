@@ -2,36 +2,47 @@
 //! size is printed.
 
 ghost use Rattle.std.specs.Prelude.{◌≡◌, false, OnOk};
+ghost use Rattle.zdevices.specs.Device.{sink_run};
 ghost use Rattle.zjournal.specs.Device.{Only};
-ghost use Rattle.zdaemon.specs.AtRest.{IsExported, IsStatReported};
+ghost use Rattle.zjournal.specs.file.File.{seen_of, MayLeaveOf};
+ghost use Rattle.zdaemon.specs.AtRest.{IsCompactionReported, IsExported, IsStatReported};
 
 use crate::fault::HostedFault;
 use crate::folder::unkept;
+use crate::mending::{report_left_out, report_saved};
 use crate::pipe::ServeFault;
 use std::alloc::Global;
+use std::fs::{File, Files};
 use zarguments::tell;
 use zdevices::{Sink, write_all};
-use zdurable::{OpenFault, ServerId, Stored, folder_stat, look};
+use zdurable::{Looked, OpenFault, ServerId, Stored, folder_stat, look};
 use zjournal::Device;
+use zjournal::file::FileDevice;
 use zsnapshots::export::{ExportFault, Machine, counts, write_export, write_left_out, write_stat};
 
-/// Compacts the journal, and prints how many bytes it has, and had.
-pub(crate) fn compact<D: Device + Drop, K: Sink>(
+/// Compacts the journal, and prints how many bytes it has, and had. Before that it reports on
+/// `faults` what the opening cut off.
+pub(crate) fn compact<R: Files<File = File> + Copy, K: Sink, F: Sink>(
     alloc: Global,
-    device: D,
+    device: FileDevice<R>,
     servers: ServerId,
     sink: &mut K,
+    faults: &mut F,
 ) -> Result<(), HostedFault>
-    requires durable { Only (D.seen device) (D.may_leave device) }
+    requires durable { Only (seen_of device) (MayLeaveOf device) }
+    ensures compacted { OnOk result (IsCompactionReported (seen_of {R = R}) (MayLeaveOf {R = R})
+        servers (seen_of device) (sink_run K.took K.failed sink.old sink.new)) }
 {
     let mut stored = match Stored::open(alloc, device, servers) {
         Ok(stored) => stored,
         Err((fault, _)) => return Err(unread(fault)),
     };
+    report_saved(alloc, stored.device(), faults);
     let before = stored.size();
     if let Err(fault) = stored.compact() {
         return Err(HostedFault::Serve(unkept(fault)));
     }
+    stored.device().forget_failure();
     let after = stored.size();
     let mut text = String::new(alloc);
     match write!(text, "{after} bytes, before {before}") {
@@ -44,7 +55,7 @@ pub(crate) fn compact<D: Device + Drop, K: Sink>(
 }
 
 /// Writes the lines of the tree that the file holds. Before that it reports on `faults` what they
-/// leave out.
+/// leave out, and bytes that no commit byte counts.
 pub(crate) fn export<D: Device, K: Sink, F: Sink>(
     alloc: Global,
     device: &mut D,
@@ -54,17 +65,19 @@ pub(crate) fn export<D: Device, K: Sink, F: Sink>(
 ) -> Result<(), HostedFault>
     requires durable { Only (D.seen device.old) (D.may_leave device.old) }
     ensures exported { OnOk result
-        (IsExported servers (D.seen device.old) K.took sink.old sink.new) }
+        (IsExported servers (D.seen device.old)
+        (sink_run K.took K.failed sink.old sink.new)) }
     ensures seen { D.seen device.new ≡ D.seen device.old }
 {
-    let found = match look(alloc, device, servers) {
-        Ok(found) => found,
+    let Looked { found, end, size } = match look(alloc, device, servers) {
+        Ok(it) => it,
         Err(fault) => return Err(unread(fault)),
     };
+    report_left_out(alloc, end, size, faults);
     let Ok(machine) = found.tree.machine() else {
         return Err(HostedFault::Serve(ServeFault::Memory));
     };
-    report_left_out(alloc, machine, faults)?;
+    report_omitted(alloc, machine, faults)?;
     match write_export(alloc, machine, sink) {
         Ok(()) => Ok(()),
         Err(ExportFault::Memory) => Err(HostedFault::Serve(ServeFault::Memory)),
@@ -74,7 +87,7 @@ pub(crate) fn export<D: Device, K: Sink, F: Sink>(
 }
 
 // Reports what an export leaves out. If that fails, the export continues.
-fn report_left_out<F: Sink>(
+fn report_omitted<F: Sink>(
     alloc: Global,
     machine: &Machine,
     faults: &mut F,
@@ -93,22 +106,25 @@ fn report_left_out<F: Sink>(
     Ok(())
 }
 
-/// Prints the counts of the file, and its size.
-pub(crate) fn stat<D: Device, K: Sink>(
+/// Prints the counts of the file, and its size. Before that it reports on `faults` bytes that no
+/// commit byte counts.
+pub(crate) fn stat<D: Device, K: Sink, F: Sink>(
     alloc: Global,
     device: &mut D,
     servers: ServerId,
     sink: &mut K,
+    faults: &mut F,
 ) -> Result<(), HostedFault>
     requires durable { Only (D.seen device.old) (D.may_leave device.old) }
-    ensures reported { OnOk result (IsStatReported servers (D.seen device.old) K.took sink.old
-        sink.new) }
+    ensures reported { OnOk result (IsStatReported servers (D.seen device.old)
+        (sink_run K.took K.failed sink.old sink.new)) }
     ensures seen { D.seen device.new ≡ D.seen device.old }
 {
-    let stat = match folder_stat(alloc, device, servers) {
-        Ok(stat) => stat,
+    let (stat, end) = match folder_stat(alloc, device, servers) {
+        Ok(found) => found,
         Err(fault) => return Err(unread(fault)),
     };
+    report_left_out(alloc, end, stat.journal as usize, faults);
     let mut text = String::new(alloc);
     if write_stat(&stat, &mut text).is_err() {
         return Err(HostedFault::Serve(ServeFault::Memory));

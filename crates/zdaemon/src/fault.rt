@@ -30,7 +30,7 @@ pub enum HostedFault {
 }
 
 impl HostedFault {
-    ghost use Rattle.zdaemon.specs.Faults.{hosted_fault_status};
+    ghost use Rattle.zdaemon.specs.Faults.{hosted_fault_status, is_of_memory};
 
     /// Returns the exit status that a program ends with. 1: memory ran out, or the input or the
     /// output failed. 2: its words. 3: a folder that isn't opened, has no journal, is a script's or
@@ -53,7 +53,9 @@ impl HostedFault {
         }
     }
 
-    fn is_memory(self) -> bool {
+    fn is_memory(self) -> bool
+        ensures { result ≡ is_of_memory self }
+    {
         match self {
             HostedFault::Folder(FileFault::Memory)
             | HostedFault::Service(OpenFault::Memory)
@@ -64,6 +66,10 @@ impl HostedFault {
 }
 
 impl fmt::Display for HostedFault {
+    ghost use Rattle.zdaemon.specs.Faults.{line_of};
+
+    ghost output = { line_of };
+
     fn fmt<W: fmt::Write>(&self, f: &mut fmt::Formatter<W>) -> fmt::Result {
         if self.is_memory() {
             return f.write_str("zk: memory");

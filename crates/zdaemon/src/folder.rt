@@ -1,10 +1,11 @@
 //! A server with a folder, as a service of its host.
 
 ghost use Rattle.std.specs.Prelude.{◌≡◌, Err, Ok, OnOk};
-ghost use Rattle.zdaemon.specs.Folder.{HasReported, IsGood, IsReported, Keeps, Takes, chunks_left};
+ghost use Rattle.zdaemon.specs.Folder.{HasReportedIn, IsGood, Keeps, KeepsIn, ReportsIn, TakesIn};
+ghost use Rattle.zdaemon.specs.Folder.{chunks_left};
 
 use crate::pipe::{Chunk, Input, ServeFault, Service};
-use zdurable::{DurableFault, DurableFront};
+use zdurable::{Compacted, DurableFault, DurableFront};
 use zjournal::Device;
 
 /// A server with a folder, as a service of its host.
@@ -19,20 +20,21 @@ impl<D: Device> InFolder<D> {
     /// Wraps a front end. The journal is compacted once it has `long` bytes and is four times its
     /// size after the last compaction.
     pub fn new(kept: DurableFront<D>, long: usize) -> InFolder<D>
-        ensures { result.kept ≡ kept }
+        ensures kept { result.kept ≡ kept }
+        ensures long { result.long ≡ long }
     {
         InFolder { kept, long }
     }
 }
 
 impl<D: Device> Service for InFolder<D> {
-    ghost took = { λ s input t. Takes D.seen D.may_leave input s.kept t.kept };
+    ghost took = { TakesIn D.seen D.may_leave };
 
-    ghost kept = { λ s t. Keeps D.seen D.may_leave s.kept t.kept };
+    ghost kept = { KeepsIn D.seen D.may_leave };
 
-    ghost reported = { λ s chunk t. IsReported chunk s.kept t.kept };
+    ghost reported = { ReportsIn };
 
-    ghost has_reported = { λ s. HasReported s.kept };
+    ghost has_reported = { HasReportedIn };
 
     ghost chunks_left = { λ s. chunks_left s.kept };
 
@@ -57,18 +59,24 @@ impl<D: Device> Service for InFolder<D> {
     }
 }
 
-// Commits the changes: by one more block, or in a new file if the journal is long.
+// Commits the changes: in a new file if the journal is long and there is room for it, and else by one
+// more block.
 fn keep<D: Device>(kept: &mut DurableFront<D>, long: usize) -> Result<(), DurableFault>
     requires { IsGood D.seen D.may_leave kept.old }
-    ensures keeps { OnOk result (Keeps D.seen D.may_leave kept.old kept.new) }
+    ensures keeps { OnOk result (Keeps D.seen D.may_leave long kept.old kept.new) }
     ensures good { OnOk result (IsGood D.seen D.may_leave kept.new) }
 {
-    if kept.is_long(long) {
-        kept.compact()?;
+    if !kept.is_long(long) {
+        kept.commit()?;
         return Ok(());
     }
-    kept.commit()?;
-    Ok(())
+    match kept.compact()? {
+        Compacted::Replaced => Ok(()),
+        Compacted::Postponed => {
+            kept.commit()?; // the old file takes the changes
+            Ok(())
+        }
+    }
 }
 
 /// Why a service has ended, in the words of a host.

@@ -6,8 +6,9 @@
 //! it does a task on a folder that no server has open: it compacts its journal, exports its tree as
 //! a script, or prints its size.
 //!
-//! `InMemory` and `InFolder` are services for `crate::pipe::serve_all`. The inputs up to a demand
-//! are a batch, and it is committed before a chunk of it is sent.
+//! A front end in memory, and one with a folder in an `InFolder`, are services for
+//! `crate::pipe::serve_all`. The inputs up to a demand are a batch, and it is committed before a
+//! chunk of it is sent.
 //!
 //! # Why
 //! A batch is the input of one wait for events. So one commit serves all clients that ask at once,
@@ -18,6 +19,7 @@ mod at_rest;
 mod fault;
 mod folder;
 mod memory;
+mod mending;
 pub mod pipe;
 mod program;
 mod tasks;
@@ -25,6 +27,5 @@ mod words;
 
 pub use fault::HostedFault;
 pub use folder::InFolder;
-pub use memory::InMemory;
 pub use program::hosted_command;
 pub use words::{FolderSettings, HostedSettings, hosted_settings};

@@ -1,17 +1,24 @@
 //! A run of the program, without its devices.
 
-ghost use Rattle.std.specs.Prelude.{◌≡◌, ◌≤◌, false, IfOk};
+ghost use Rattle.std.specs.Prelude.{◌≡◌, ◌≤◌, ◌<◌, [], ◌∷◌, IfOk, OnOk};
+ghost use Rattle.zarguments.specs.Asked.{texts_of};
+ghost use Rattle.zdevices.specs.Device.{Between, sink_run, source_run};
+ghost use Rattle.zjournal.specs.declared.file.mode.SyncMode.TheVariants.{Batch};
 ghost use Rattle.zjournal.specs.file.File.{seen_of, MayLeaveOf};
-ghost use Rattle.zdaemon.specs.Folder.{IsGood};
 ghost use Rattle.zjournal.specs.Device.{Only};
+ghost use Rattle.zdaemon.specs.Faults.{HasFailed, IsTold};
+ghost use Rattle.zdaemon.specs.Folder.{IsGood};
+ghost use Rattle.zdaemon.specs.Running.{BeginsInFolder, HasDone, HasRun, IsOpened, new_front};
+ghost use Rattle.zdaemon.specs.pipe.Messages.MessageView.{Keep};
+ghost use Rattle.zdaemon.specs.pipe.Serving.{ServesAll};
 
 use crate::at_rest::{compact, export, stat};
 use crate::fault::HostedFault;
 use crate::folder::InFolder;
-use crate::memory::InMemory;
+use crate::mending::{report_saved, write_anew};
 use crate::pipe::{Secret, ServeFault, Service, read_secret, serve_all};
 use crate::tasks::{Task, task_of};
-use crate::words::{FolderSettings, hosted_settings};
+use crate::words::{FolderSettings, HostedSettings, hosted_settings};
 use std::alloc::Global;
 use std::fs;
 use std::fs::{File, Files};
@@ -19,7 +26,7 @@ use std::io::ErrorKind;
 use zarguments::{WordsFault, tell};
 use zdevices::{Sink, Source};
 use zdurable::{DurableFront, ServerId};
-use zfront::{Clock, Front, TickLength};
+use zfront::{Clock, Front};
 use zjournal::file::{FileDevice, FileFault, SyncMode};
 use ztree_service::LocalTree;
 
@@ -42,6 +49,14 @@ pub fn hosted_command<R: Files<File = File> + Copy, S: Source, K: Sink, F: Sink>
     faults: &mut F,
 ) -> u8
     ensures status { result ≤ 4 }
+
+    // All that the words ask for is done.
+    ensures done { result ≡ 0 → HasRun R (texts_of words.now)
+        (source_run S.gave S.failed S.has_ended source.old source.new)
+        (sink_run K.took K.failed sink.old sink.new) }
+
+    // A fault ended the run. The last line on `faults` tells it.
+    ensures cut { 0 < result → HasFailed (sink_run F.took F.failed) result faults.new }
 {
     match run(alloc, files, words, source, sink, faults) {
         Ok(()) => 0,
@@ -60,39 +75,30 @@ fn run<R: Files<File = File> + Copy, S: Source, K: Sink, F: Sink>(
     source: &mut S,
     sink: &mut K,
     faults: &mut F,
-) -> Result<(), HostedFault> {
+) -> Result<(), HostedFault>
+    ensures { OnOk result (HasRun R (texts_of words.now)
+        (source_run S.gave S.failed S.has_ended source.old source.new)
+        (sink_run K.took K.failed sink.old sink.new)) }
+{
     let [_, folder, ..] = words else {
         return Err(HostedFault::Words(WordsFault::BadWords));
     };
     if let Some((task, last)) = task_of(words) {
         let device = found(alloc, files, folder)?;
-        return do_task(alloc, device, task, last, sink, faults);
+        do_task(alloc, device, task, last, sink, faults)?;
+        return Ok(());
     }
     let asked = hosted_settings(words)?;
     let secret = read_secret(source)?;
-    let time = Time {
-        tick: asked.tick,
-        now: asked.now,
-    };
-    match asked.folder {
-        None => serve(alloc, in_memory(alloc, time, secret)?, source, sink),
+    let settings = asked.folder;
+    match settings {
+        None => serve(alloc, in_memory(alloc, asked, secret)?, source, sink)?,
         Some(kept) => {
-            let device = FileDevice::open(alloc, files, folder, kept.mode)?;
-            report_opening(alloc, kept.mode, device.waiting(), faults);
-            let (service, had_passwords) = in_folder(alloc, device, time, kept, secret)?;
-            if had_passwords {
-                tell(faults, "zk: data: clients of before open new sessions");
-            }
-            serve(alloc, service, source, sink)
+            let service = in_folder(alloc, files, folder, asked, kept, secret, faults)?;
+            serve(alloc, service, source, sink)?;
         }
     }
-}
-
-// How long a tick takes, and the time in milliseconds since 1970.
-#[derive(Clone, Copy)]
-struct Time {
-    tick: TickLength,
-    now: u64,
+    Ok(())
 }
 
 // Opens the file of a folder, which is not made if it is missing.
@@ -102,6 +108,7 @@ fn found<R: Files<File = File> + Copy>(
     folder: &str,
 ) -> Result<FileDevice<R>, HostedFault>
     ensures durable { IfOk result (λ device. Only (seen_of device) (MayLeaveOf device)) }
+    ensures opened { IfOk result (IsOpened Batch) }
 {
     let mut path = String::new(alloc);
     if write!(path, "{folder}/journal").is_err() {
@@ -125,13 +132,17 @@ fn do_task<R: Files<File = File> + Copy, K: Sink, F: Sink>(
     faults: &mut F,
 ) -> Result<(), HostedFault>
     requires durable { Only (seen_of device) (MayLeaveOf device) }
+    requires opened { IsOpened Batch device }
+    ensures { OnOk result (HasDone R task last
+        (sink_run K.took K.failed sink.old sink.new)) }
 {
     let mut device = device;
     match task {
-        Task::Compact => compact(alloc, device, last, sink),
-        Task::Export => export(alloc, &mut device, last, sink, faults),
-        Task::Stat => stat(alloc, &mut device, last, sink),
+        Task::Compact => compact(alloc, device, last, sink, faults)?,
+        Task::Export => export(alloc, &mut device, last, sink, faults)?,
+        Task::Stat => stat(alloc, &mut device, last, sink, faults)?,
     }
+    Ok(())
 }
 
 // Takes all messages (`crate::pipe::serve_all`).
@@ -142,6 +153,10 @@ fn serve<V: Service + Drop, S: Source, K: Sink>(
     sink: &mut K,
 ) -> Result<(), HostedFault>
     requires sound { V.is_sound service }
+    ensures all { OnOk result ((last : V) × ServesAll V.took V.kept V.reported V.has_reported
+        (Keep ∷ []) (Between S.gave source.old source.new) (Between K.took sink.old sink.new)
+        service last) }
+    ensures ended { OnOk result (S.has_ended source.new) }
 {
     match serve_all(alloc, &mut service, source, sink) {
         Ok(()) => Ok(()),
@@ -150,30 +165,47 @@ fn serve<V: Service + Drop, S: Source, K: Sink>(
 }
 
 // Opens a server in memory.
-fn in_memory(alloc: Global, time: Time, secret: Secret) -> Result<InMemory<LocalTree>, ServeFault>
-    ensures sound { IfOk result (λ service. service.front.is_broken ≡ false) }
+fn in_memory(
+    alloc: Global,
+    asked: HostedSettings,
+    secret: Secret,
+) -> Result<Front<LocalTree>, ServeFault>
+    ensures { IfOk result (λ front. front ≡ new_front secret asked) }
 {
     let clock = Clock {
-        tick: time.tick,
-        started: time.now,
+        tick: asked.tick,
+        started: asked.now,
     };
-    let front = Front::new(alloc, LocalTree::new(alloc)?, secret, clock, false)?;
-    Ok(InMemory::new(front))
+    Ok(Front::new(alloc, LocalTree::new(alloc)?, secret, clock, false)?)
 }
 
-// Opens the server of a file, and returns whether that has passwords of before.
-fn in_folder<R: Files<File = File> + Copy>(
+// Opens the server of a folder. Reports what its clients and its owner should know, and mends what
+// an earlier process left.
+fn in_folder<R: Files<File = File> + Copy, F: Sink>(
     alloc: Global,
-    device: FileDevice<R>,
-    time: Time,
+    files: &R,
+    folder: &str,
+    asked: HostedSettings,
     kept: FolderSettings,
     secret: Secret,
-) -> Result<(InFolder<FileDevice<R>>, bool), HostedFault>
-    requires durable { Only (seen_of device) (MayLeaveOf device) }
-    ensures good { IfOk result (λ opened. IsGood seen_of MayLeaveOf opened.0.kept) }
+    faults: &mut F,
+) -> Result<InFolder<FileDevice<R>>, HostedFault>
+    ensures begins { IfOk result (BeginsInFolder secret asked kept) }
+    ensures good { IfOk result (λ service. IsGood seen_of MayLeaveOf service.kept) }
 {
-    match DurableFront::open(alloc, device, kept.last, secret, time.tick, time.now) {
-        Ok(opened) => Ok((InFolder::new(opened.kept, kept.long), opened.had_passwords)),
+    let device = FileDevice::open(alloc, files, folder, kept.mode)?;
+    device.remove_unfinished();
+    report_opening(alloc, device.mode(), device.waiting(), faults);
+    match DurableFront::open(alloc, device, kept.last, secret, asked.tick, asked.now) {
+        Ok(opened) => {
+            let mut front = opened.kept;
+            report_saved(alloc, front.device(), faults);
+            write_anew(&mut front, faults)?;
+            if opened.had_passwords {
+                tell(faults, "zk: data: clients of before open new sessions");
+            }
+            Ok(InFolder::new(front, kept.long))
+        }
         Err((fault, _)) => Err(HostedFault::Service(fault)),
     }
 }
@@ -195,7 +227,9 @@ fn report_opening<F: Sink>(alloc: Global, mode: SyncMode, size: usize, faults: &
 }
 
 // Reports a fault.
-fn report<F: Sink>(alloc: Global, fault: HostedFault, faults: &mut F) {
+fn report<F: Sink>(alloc: Global, fault: HostedFault, faults: &mut F)
+    ensures { IsTold fault (sink_run F.took F.failed faults.old faults.new) }
+{
     let mut text = String::new(alloc);
     match write!(text, "{fault}") {
         Ok(()) => tell(faults, text.as_str()),

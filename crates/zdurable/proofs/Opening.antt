@@ -2,12 +2,9 @@
 use Rattle.std.proofs.Common.{◌≡◌, ℕ, List, [], refl, sym, ap, subst}
 use Rattle.ztree.specs.Tree.{Tree}
 use Rattle.zjournal.specs.Device.{LeavesOnly}
-use Rattle.zjournal.specs.Faults.{IsSuch, open_error}
 use Rattle.zjournal.specs.Journal.{IsAtRest, Represents}
 use Rattle.zjournal.specs.Journal as journal
 use Rattle.zjournal.specs.Scan.{joined}
-use Rattle.zjournal.specs.declared.device.DeviceError.{DeviceError}
-use Rattle.zjournal.specs.declared.device.DeviceError.TheVariants as device
 use Rattle.zjournal.specs.declared.fault.PutError.{PutError}
 use Rattle.zjournal.specs.declared.fault.PutError.TheVariants as put
 use Rattle.zjournal.proofs.Moments.{joined_runs, weaker}
@@ -58,11 +55,6 @@ pub such_read : (fault : ReadFault) (servers n : ℕ) (file text : List ℕ) →
 such_read reading.Memory servers n file text n_is read reads text_is such = tt
 such_read reading.NotRecords servers n file text n_is read reads text_is such =
     (read, subst (λ k. Represents k read file) n_is reads, subst IsNoText text_is such)
-
--- a device that fails says nothing of the file
-pub says_nothing : (e : DeviceError) (servers : ℕ) (file : List ℕ) → IsSuch servers file (open_error e)
-says_nothing device.Memory servers file = tt
-says_nothing device.Failed servers file = tt
 
 -- ---- a file that was read is opened
 module _ {D : Type 0} (moment : D → ℕ) (left_since : D → ℕ → List ℕ → Type 0) (old mid new : D) (file : List ℕ)

@@ -86,12 +86,17 @@ module _ {D : Type 0} (seen : D → List ℕ) (may_leave : D → List ℕ → Ty
         (going.leaves servers batches rest) (λ file keeps. inl keeps)
 
     -- one that goes on over the old file
+    pub keeps_more : (new : Journal D) → LeavesOnly moment left_since (device_of now) (device_of new) (Keeps servers batches)
+        → LeavesOnly moment left_since (device_of old) (device_of new) (Keeps servers batches)
+    keeps_more new run =
+        joined_runs moment left_since (device_of old) (device_of now) (device_of new) (Keeps servers batches)
+        (going.leaves servers batches rest) run
+
     pub leaves_more : (new : Journal D) → LeavesOnly moment left_since (device_of now) (device_of new) (Keeps servers batches)
         → LeavesOnly moment left_since (device_of old) (device_of new) (IsOldOrTree servers batches tree)
     leaves_more new run =
         weaker moment left_since (device_of old) (device_of new) (Keeps servers batches) (IsOldOrTree servers batches tree)
-        (joined_runs moment left_since (device_of old) (device_of now) (device_of new) (Keeps servers batches)
-        (going.leaves servers batches rest) run) (λ file keeps. inl keeps)
+        (keeps_more new run) (λ file keeps. inl keeps)
 
     -- the new file is full before its end
     pub too_long : 2 ^ 60 ≤ renewed_size_of now → IsTooLong servers tree

@@ -47,12 +47,12 @@ abbrev pub more_if : List Entry → List (List ℕ) → List (List ℕ)
 more_if [] batches = batches
 more_if (entry ∷ made) batches = batches ++ entries_text (entry ∷ made) ∷ []
 
--- the bytes of the journal after its last compaction since the service was opened, or 0
+-- the bytes of the journal after its last compaction since the service was opened, or 0; half of its
+-- bytes at a later one that was postponed
 abbrev pub compacted_size : {D : Type 0} → DurableFront D → ℕ
 compacted_size kept = kept.shortened
 
--- the journal is to be compacted: it has this many bytes, and four times those after its last
--- compaction
+-- the journal is to be compacted: it has this many bytes, and four times that measure
 abbrev pub is_long : {D : Type 0} → ℕ → DurableFront D → Bool
 is_long least kept = nat_le least (size_of kept.journal) && nat_le (compacted_size kept) (size_of kept.journal / 4)
 

@@ -1,7 +1,8 @@
 -- The tree that a file holds, read without changing the file, and its size.
 use Rattle.std.specs.Prelude.{◌≡◌, ℕ, Bool, List, length}
 use Rattle.ztree.specs.Tree.{Tree}
-use Rattle.zjournal.specs.Journal.{Represents}
+use Rattle.zjournal.specs.Blocks.{blocks}
+use Rattle.zjournal.specs.Journal.{Represents, holdings}
 use Rattle.zjournal.specs.Scan.{joined}
 use Rattle.zsnapshots.specs.folder.Entries.{ReportsPasswords}
 use Rattle.zsnapshots.specs.folder.Texts.{IsTextOf}
@@ -14,6 +15,10 @@ pub record IsLook (servers : ℕ) (file : List ℕ) (t : Tree) (snapshot : ℕ) 
   pub stands : Represents servers batches file
   pub text : IsTextOf t (joined batches)
   pub begins : snapshot ≡ length text.front
+
+-- the last block that counts ends at this index
+abbrev pub EndsThere : ℕ → List ℕ → ℕ → Type 0
+EndsThere servers file end = (batches : List (List ℕ)) × Represents servers batches file × (end ≡ length (blocks (holdings servers batches)))
 
 -- the flag says whether passwords of sessions are among the records of the file
 abbrev pub ReportsOfPasswords : ℕ → List ℕ → Bool → Type 0

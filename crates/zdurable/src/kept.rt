@@ -43,7 +43,8 @@ pub struct DurableFront<D: Device> {
     pub(crate) alloc: Global,
     pub(crate) front: Front<LocalTree>,
     pub(crate) journal: Journal<D>,
-    // The bytes of the file after its last compaction, and 0 before.
+    // The bytes of the file after its last compaction, and 0 before. Half of its bytes at a later one
+    // that was postponed.
     pub(crate) shortened: usize,
     pub(crate) is_open: bool,
 }
@@ -87,7 +88,7 @@ impl<D: Device> DurableFront<D> {
     {
         let mut device = device;
         let found = match look(alloc, &mut device, servers) {
-            Ok(found) => found,
+            Ok(it) => it.found,
             Err(fault) => return Err((fault, device)),
         };
         let Found {

@@ -1,7 +1,7 @@
 //! A server for ZooKeeper's clients whose changes are durable. Changes of a front end are written
 //! as one block of a file, and only then acknowledged. A service that is opened again begins with
 //! the tree that its file holds. `compact` compacts a file: it replaces one that has become long
-//! with a snapshot alone.
+//! with a snapshot alone. If the disk has no room for that one, the old file goes on.
 //!
 //! ```text
 //! let opened = DurableFront::open(alloc, device, ServerId::first(), secret, tick, now_ms)?;
@@ -22,6 +22,7 @@
 #![tactic(auto)]
 
 mod chunks;
+mod compacted;
 mod compaction;
 mod fault;
 mod inputs;
@@ -34,9 +35,10 @@ mod rows;
 mod stored;
 mod writing;
 
+pub use compacted::Compacted;
 pub use fault::{DurableFault, OpenFault};
 pub use kept::DurableFront;
-pub use looking::{folder_stat, look};
+pub use looking::{Looked, folder_stat, look};
 pub use opened::Opened;
 pub use stored::Stored;
 pub use zfront::{Chunk, Input, Secret, TickLength};

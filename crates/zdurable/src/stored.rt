@@ -9,6 +9,7 @@ ghost use Rattle.zdurable.specs.DurableFront.{KeepsTree};
 ghost use Rattle.zdurable.specs.Stored.{bytes_of, file_of, tree_of, IsGood, IsStored};
 ghost use Rattle.zsnapshots.specs.folder.Texts.{snapshot_text};
 
+use crate::Compacted;
 use crate::compaction::compact;
 use crate::fault::{DurableFault, OpenFault};
 use crate::looking::look;
@@ -50,7 +51,7 @@ impl<D: Device> Stored<D> {
     {
         let mut device = device;
         let found = match look(alloc, &mut device, servers) {
-            Ok(found) => found,
+            Ok(it) => it.found,
             Err(fault) => return Err((fault, device)),
         };
         let Found { tree, .. } = found;
@@ -67,6 +68,13 @@ impl<D: Device> Stored<D> {
         }
     }
 
+    /// The device that holds the file.
+    pub fn device(&self) -> &D
+        ensures { result.now ≡ file_of self.now }
+    {
+        self.journal.device()
+    }
+
     /// The bytes of the journal.
     pub fn size(&self) -> usize
         ensures { result ≡ bytes_of self.now }
@@ -75,7 +83,8 @@ impl<D: Device> Stored<D> {
     }
 
     /// Replaces the file, which may have many changes, with one that holds the tree alone. At each
-    /// moment a crash leaves a file with the same tree. After a fault it is to be opened again.
+    /// moment a crash leaves a file with the same tree. A disk that fails is a fault here, also
+    /// before the new file is written. After a fault it is to be opened again.
     pub fn compact(&mut self) -> Result<(), DurableFault>
         requires { IsGood D.seen D.may_leave self.old }
         ensures kept { (servers : ℕ) (batches : List (List ℕ))
@@ -90,7 +99,9 @@ impl<D: Device> Stored<D> {
             → LeavesOnly D.moment D.left_since (file_of self.old) (file_of self.new)
             (KeepsTree servers (tree_of self.old)) }
     {
-        compact(self.alloc, &mut self.journal, &self.tree)?;
-        Ok(())
+        match compact(self.alloc, &mut self.journal, &self.tree)? {
+            Compacted::Replaced => Ok(()),
+            Compacted::Postponed => Err(DurableFault::Failed),
+        }
     }
 }

@@ -74,7 +74,7 @@ fn read_stage(alloc: Global, bytes: &[u8]) -> Result<Stage, Memory> {
 fn text_in(alloc: Global, bytes: &[u8]) -> Result<Option<Vec<u8>>, Memory> {
     let mut file = MemoryFile::new(alloc, bytes, CHANCE, STEPS)?;
     match read_text(alloc, &mut file, 1) {
-        Ok(text) => Ok(Some(text)),
+        Ok(content) => Ok(Some(content.text)),
         Err(OpenError::Memory) => Err(Memory),
         Err(_) => Ok(None),
     }

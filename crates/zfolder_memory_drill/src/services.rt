@@ -7,7 +7,7 @@ use crate::files::{stage_in, worked_file};
 use crate::trees::Stage;
 use std::alloc::Global;
 use zdurable::{
-    DurableFault, DurableFront, Input, OpenFault, Opened, Secret, ServerId, TickLength,
+    Compacted, DurableFault, DurableFront, Input, OpenFault, Opened, Secret, ServerId, TickLength,
 };
 use zjournal::{Device, OpenError};
 use ztesting::Ended;
@@ -125,10 +125,21 @@ fn did<D: Device>(kept: &mut DurableFront<D>, act: Act) -> Result<(), DurableFau
             kept.take(Input::Tick)?;
             kept.commit()
         }
-        Act::Compacts => kept.compact(),
+        Act::Compacts => compacts(kept),
         Act::CompactsATick => {
             kept.take(Input::Tick)?;
-            kept.compact()
+            compacts(kept)
         }
+    }
+}
+
+// A compaction; one that is postponed is a fault, as no disk fails here.
+fn compacts<D: Device>(kept: &mut DurableFront<D>) -> Result<(), DurableFault>
+    requires { IsSound D.seen D.may_leave kept.old }
+    ensures { IsSound D.seen D.may_leave kept.new }
+{
+    match kept.compact()? {
+        Compacted::Replaced => Ok(()),
+        Compacted::Postponed => Err(DurableFault::Failed),
     }
 }

@@ -1,9 +1,11 @@
 -- How a journal's file is renewed: a new file with other batches is written beside it, block by
 -- block. Then it is ended, and replaces the old one.
 use Rattle.std.specs.Prelude.{◌≡◌, ◌⊎◌, ℕ, List, length}
+use Rattle.zjournal.specs.declared.fault.PutError.{PutError}
+use Rattle.zjournal.specs.declared.fault.PutError.TheVariants.{Memory, Failed, NotText, Full, Closed}
 use Rattle.zjournal.specs.declared.journal.Journal.{Journal}
 use Rattle.zjournal.specs.Blocks.{AreTexts, blocks}
-use Rattle.zjournal.specs.Journal.{holdings, Keeps, IsAtRest, IsOpen}
+use Rattle.zjournal.specs.Journal.{device_of, holdings, Keeps, IsAtRest, IsOpen}
 
 -- the length in bytes of the new file's blocks
 abbrev pub renewed_size_of : {D : Type 0} → Journal D → ℕ
@@ -24,3 +26,15 @@ IsInRenewal seen may_leave beside journal = IsOpen journal → (servers : ℕ) �
 -- the file holds the old batches, or the next ones
 abbrev pub IsOldOrNew : ℕ → List (List ℕ) → List (List ℕ) → List ℕ → Type 0
 IsOldOrNew servers batches next file = Keeps servers batches file ⊎ Keeps servers next file
+
+-- at most the device has changed: the journal takes batches exactly if it did before
+abbrev pub IsOnlyCalled : {D : Type 0} → Journal D → Journal D → Type 0
+IsOnlyCalled old new = new ≡ record old { device = device_of new }
+
+-- a new file isn't begun or written: the journal was open, and it is as it was
+abbrev pub IsStoppedBy : {D : Type 0} → PutError → Journal D → Journal D → Type 0
+IsStoppedBy Memory old new = IsOpen old × IsOnlyCalled old new
+IsStoppedBy Failed old new = IsOpen old × IsOnlyCalled old new
+IsStoppedBy NotText old new = new ≡ old
+IsStoppedBy Full old new = new ≡ old
+IsStoppedBy Closed old new = (new ≡ old) × (IsOpen old → ⊥)

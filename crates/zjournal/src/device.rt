@@ -1,6 +1,6 @@
 //! A file as a journal sees it: what a read returns, and what a crash may leave.
 
-ghost use Rattle.std.specs.Prelude.{◌≡◌, ◌≤◌, ◌++◌, [], List, ℕ, length, take, IfOk, OnOk};
+ghost use Rattle.std.specs.Prelude.{◌≡◌, ◌≤◌, ◌++◌, [], Bool, List, ℕ, length, take, IfOk, OnOk};
 ghost use Rattle.zjournal.specs.declared.device.DeviceError.TheVariants.{Memory};
 ghost use Rattle.zjournal.specs.Device.{Only, Follows, Torn, Cut, Holds, Elapses, HasCause};
 ghost use Rattle.zjournal.specs.Device.{IsEither};
@@ -55,6 +55,9 @@ pub trait Device {
     /// The content so far of the new file beside this one; nothing if none was begun.
     ghost beside: { Self → List ℕ };
 
+    /// Whether a sync waits for the disk. No call changes it.
+    ghost asks_disk: { Self → Bool };
+
     /// Reads all bytes of the file.
     fn read(&mut self, alloc: Global) -> Result<Vec<u8>, DeviceError>
         ensures bytes { IfOk result (λ bytes. bytes.items ≡ seen self.old) }
@@ -62,7 +65,8 @@ pub trait Device {
         ensures crash { (c : List ℕ) → may_leave self.new c → may_leave self.old c }
         ensures time { Elapses (moment self.old) (moment self.new)
             (left_since self.old) (left_since self.new) (may_leave self.new) }
-        ensures cause { HasCause (faults self.old) (faults self.new) result };
+        ensures cause { HasCause (faults self.old) (faults self.new) result }
+        ensures same { asks_disk self.new ≡ asks_disk self.old };
 
     /// Writes bytes at this offset, over what is there and on past the end.
     fn write_at(&mut self, at: usize, bytes: &[u8]) -> Result<(), DeviceError>
@@ -72,7 +76,8 @@ pub trait Device {
             (may_leave self.old) (may_leave self.new) }
         ensures time { Elapses (moment self.old) (moment self.new)
             (left_since self.old) (left_since self.new) (may_leave self.new) }
-        ensures cause { HasCause (faults self.old) (faults self.new) result };
+        ensures cause { HasCause (faults self.old) (faults self.new) result }
+        ensures same { asks_disk self.new ≡ asks_disk self.old };
 
     /// Cuts the file to a length.
     fn cut(&mut self, len: usize) -> Result<(), DeviceError>
@@ -81,7 +86,8 @@ pub trait Device {
         ensures crash { Follows (Cut len) (may_leave self.old) (may_leave self.new) }
         ensures time { Elapses (moment self.old) (moment self.new)
             (left_since self.old) (left_since self.new) (may_leave self.new) }
-        ensures cause { HasCause (faults self.old) (faults self.new) result };
+        ensures cause { HasCause (faults self.old) (faults self.new) result }
+        ensures same { asks_disk self.new ≡ asks_disk self.old };
 
     /// Makes the file durable: from then on a crash leaves what a read returns.
     fn sync(&mut self) -> Result<(), DeviceError>
@@ -90,25 +96,29 @@ pub trait Device {
         ensures crash { (c : List ℕ) → may_leave self.new c → may_leave self.old c }
         ensures time { Elapses (moment self.old) (moment self.new)
             (left_since self.old) (left_since self.new) (may_leave self.new) }
-        ensures cause { HasCause (faults self.old) (faults self.new) result };
+        ensures cause { HasCause (faults self.old) (faults self.new) result }
+        ensures same { asks_disk self.new ≡ asks_disk self.old };
 
-    /// Begins a new, empty file beside this one. It replaces an unfinished one.
+    /// Begins a new, empty file beside this one. It replaces an unfinished one. If it isn't begun,
+    /// this file is as it was.
     fn begin_beside(&mut self) -> Result<(), DeviceError>
         ensures begun { OnOk result (beside self.new ≡ []) }
         ensures seen { seen self.new ≡ seen self.old }
         ensures crash { (c : List ℕ) → may_leave self.new c → may_leave self.old c }
         ensures time { Elapses (moment self.old) (moment self.new)
             (left_since self.old) (left_since self.new) (may_leave self.new) }
-        ensures cause { HasCause (faults self.old) (faults self.new) result };
+        ensures cause { HasCause (faults self.old) (faults self.new) result }
+        ensures same { asks_disk self.new ≡ asks_disk self.old };
 
-    /// Appends bytes to the new file.
+    /// Appends bytes to the new file. If they aren't written, this file is as it was.
     fn add_beside(&mut self, bytes: &[u8]) -> Result<(), DeviceError>
         ensures added { OnOk result (beside self.new ≡ beside self.old ++ bytes.now) }
         ensures seen { seen self.new ≡ seen self.old }
         ensures crash { (c : List ℕ) → may_leave self.new c → may_leave self.old c }
         ensures time { Elapses (moment self.old) (moment self.new)
             (left_since self.old) (left_since self.new) (may_leave self.new) }
-        ensures cause { HasCause (faults self.old) (faults self.new) result };
+        ensures cause { HasCause (faults self.old) (faults self.new) result }
+        ensures same { asks_disk self.new ≡ asks_disk self.old };
 
     /// Replaces this file with the new one, in three steps. The new file is synced; it takes the
     /// name; the name is made durable.
@@ -119,7 +129,8 @@ pub trait Device {
             → IsEither (may_leave self.old) (beside self.old) c }
         ensures time { Elapses (moment self.old) (moment self.new)
             (left_since self.old) (left_since self.new) (may_leave self.new) }
-        ensures cause { HasCause (faults self.old) (faults self.new) result };
+        ensures cause { HasCause (faults self.old) (faults self.new) result }
+        ensures same { asks_disk self.new ≡ asks_disk self.old };
 
     /// This moment is one of those since an earlier one.
     ghost counts_now: { (file : Self) (t : ℕ) (c : List ℕ)

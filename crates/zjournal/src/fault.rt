@@ -20,7 +20,7 @@ pub enum OpenError {
     #[error("a journal of version {0}")]
     Version(u8),
     /// The journal is that of a service with this other number of servers.
-    #[error("a journal for {0} servers")]
+    #[error("a journal for {0} server{end}", end = plural_end(.0))]
     Servers(u8),
     /// The block whose commit byte has this index is not what was written.
     #[error("damaged at byte {0}")]
@@ -30,10 +30,12 @@ pub enum OpenError {
 /// Why a batch wasn't appended.
 #[derive(Clone, Copy, Debug, PartialEq, Eq, Error)]
 pub enum PutError {
-    /// Out of memory. Either no device call was made, or the journal takes nothing more.
+    /// Out of memory. Either no device call was made, or the journal takes nothing more. If a new
+    /// file isn't begun or written, the journal takes batches as before.
     #[error("out of memory")]
     Memory,
-    /// The disk failed. A later opening shows whether the batch is in the file.
+    /// The disk failed. A later opening shows whether the batch is in the file. If a new file isn't
+    /// begun or written, the journal takes batches as before.
     #[error("the disk failed")]
     Failed,
     /// The batch has a byte 0.
@@ -45,6 +47,11 @@ pub enum PutError {
     /// An earlier call failed: the journal makes no more device calls. Open the file again.
     #[error("the journal has failed")]
     Closed,
+}
+
+// What a word ends with after this number.
+fn plural_end(count: &u8) -> &'static str {
+    if *count == 1 { "" } else { "s" }
 }
 
 impl From<DeviceError> for OpenError {

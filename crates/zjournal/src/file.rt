@@ -10,30 +10,37 @@
 //! devices is proved of the record. Three assumptions connect the record to the real file, and no
 //! proof shows them:
 //!
-//! - What `open` read is the content of the file, and is durable.
+//! - What `open` read is the content of the file, and is durable unless `had_failed`.
 //! - Each call does as `specs/Events.antt` says, and a crash leaves one of the contents there.
 //! - No one else touches the file. The lock keeps out every program that asks for it.
 //!
 //! So a reader has to check these lines: each method of `src/device.rt` with `begin`, the calls of
-//! `src/calls.rt`, and `src/opening.rt`. Each method makes one call and then records it with its
-//! result. A body that recorded a sync and made none would be proved as well. No other function may
-//! set a record by a proof by hand.
+//! `src/calls.rt`, and `src/opening.rt`. Each method makes one call on the file and then records it
+//! with its result. A body that recorded a sync and made none would be proved as well. No other
+//! function may set a record by a proof by hand.
+//!
+//! `src/marks.rt` writes to two other files of the folder: `journal.cut` and `journal.failed`.
 //!
 //! # Why
 //! The device is Rattle over `std::fs`: a host in C would add memory, pointers and a protocol to
-//! what is trusted. After a failed disk, an opening may read what isn't durable: the kernel keeps a
-//! page whose sync failed. `std` has no call to drop such pages; GUIDE says what to do.
+//! what is trusted. After a failed sync, an opening may read what isn't durable: the kernel keeps a
+//! page whose sync failed, and `std` has no call to drop such pages. So the device leaves a mark in
+//! the folder, and `had_failed` says that it is there.
 
 mod calls;
 mod device;
 mod fault;
+mod found;
 pub mod laws;
+mod marks;
 mod mode;
 mod numbers;
 mod opening;
 mod record;
 pub mod rows;
+mod tail;
 
 pub use device::FileDevice;
 pub use fault::FileFault;
 pub use mode::SyncMode;
+pub use tail::Tail;

@@ -1,8 +1,8 @@
 //! A journal over a device: batches are appended to its file.
 //!
 //! # Why
-//! After any fault the journal may refuse everything: opening the file again shows what is durable.
-//! `put` looks for a byte 0 itself, so it has no precondition on the text.
+//! After a fault of its file the journal refuses everything: opening the file again shows what is
+//! durable. `put` looks for a byte 0 itself, so it has no precondition on the text.
 
 ghost use Rattle.std.specs.Prelude.{◌≡◌, ◌<◌, ◌≤◌, ◌^◌, ◌++◌, [], ◌∷◌, List, ℕ};
 ghost use Rattle.std.specs.Prelude.{OnOk, IfErr, IsErrOf};

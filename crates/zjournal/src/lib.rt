@@ -8,7 +8,7 @@
 //! ```
 //!
 //! A journal can be renewed: a new file with other batches replaces the old one. A crash leaves one
-//! of the two, whole.
+//! of the two, whole. If the new file can't be written, the journal goes on with the old one.
 //!
 //! ```text
 //! journal.begin_renewal()?;
@@ -34,6 +34,7 @@ mod batches;
 mod beside;
 mod checksum;
 mod commit_bytes;
+mod content;
 mod device;
 mod fault;
 pub mod file;
@@ -48,6 +49,7 @@ mod renewal;
 mod rows;
 mod tearing;
 
+pub use content::Content;
 pub use device::{Device, DeviceError};
 pub use fault::{OpenError, PutError};
 pub use journal::Journal;

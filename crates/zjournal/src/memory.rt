@@ -5,7 +5,7 @@
 //! so one run shows what power cuts leave at each moment. The moments count its failures too: a
 //! separate counter could overflow, and each contract would have to exclude that.
 
-ghost use Rattle.std.specs.Prelude.{◌≡◌, ◌⊎◌, [], ◌∷◌, ◌++◌, List, ℕ, length};
+ghost use Rattle.std.specs.Prelude.{◌≡◌, ◌⊎◌, [], ◌∷◌, ◌++◌, List, ℕ, length, true};
 ghost use Rattle.std.specs.Prelude.{IfOk, OnOk, OnErr};
 ghost use Rattle.std.proofs.Common.{inl};
 ghost use Rattle.zjournal.specs.Device.{Elapses, HasCause, Only};
@@ -190,6 +190,8 @@ impl Device for MemoryFile {
     ghost faults = { λ m. length m.past.items };
 
     ghost beside = { λ m. m.beside.seen.items };
+
+    ghost asks_disk = { λ _. true };
 
     ghost counts_now = { λ m t c le now. inl now };
 

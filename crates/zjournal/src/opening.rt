@@ -3,6 +3,9 @@
 //! # Why
 //! A file is read whole, and its text is returned as one string. Batches are whole lines, so no
 //! caller needs to know where they began.
+//!
+//! What follows the last block that counts is one clear commit byte, or what a crash or a disk
+//! left. Where that is more than one byte it is a caller's to report it.
 
 ghost use Rattle.std.specs.Prelude.{◌≡◌, ◌<◌, ◌≤◌, ◌++◌, [], ◌∷◌, List, ℕ, length};
 ghost use Rattle.std.specs.Prelude.{IfOk, IfErr, OnOk, IsErrOf};
@@ -17,7 +20,7 @@ ghost use Rattle.zjournal.specs.Opened.{IsRead};
 
 use crate::commit_bytes::{add_block, close, set_commit_byte};
 use crate::reading::{Found, HEAD_END, head_block, look};
-use crate::{Device, DeviceError, Journal, OpenError};
+use crate::{Content, Device, DeviceError, Journal, OpenError};
 use std::alloc::Global;
 
 // Makes a file that has nothing yet.
@@ -73,16 +76,19 @@ pub fn open_file<D: Device>(
     }
 }
 
-/// Reads the text of all batches of a file that a crash may have left. The file is not changed.
+/// Reads a file that a crash may have left: the text of all batches, and where the last block that
+/// counts ends. The file is not changed.
 pub fn read_text<D: Device>(
     alloc: Global,
     device: &mut D,
     servers: u8,
-) -> Result<Vec<u8>, OpenError>
+) -> Result<Content, OpenError>
     requires some { 0 < servers }
     requires durable { Only (D.seen device.old) (D.may_leave device.old) }
-    ensures text { IfOk result (λ text. (batches : List (List ℕ))
-        × Represents servers batches (D.seen device.old) × (text.items ≡ joined batches)) }
+    ensures text { IfOk result (λ read. (batches : List (List ℕ))
+        × Represents servers batches (D.seen device.old) × (read.text.items ≡ joined batches)
+        × (read.end ≡ length (blocks (holdings servers batches)))) }
+    ensures size { IfOk result (λ read. read.size ≡ length (D.seen device.old)) }
     ensures seen { D.seen device.new ≡ D.seen device.old }
     ensures durable { Only (D.seen device.new) (D.may_leave device.new) }
     ensures any_moment { LeavesOnly D.moment D.left_since device.old device.new
@@ -93,10 +99,19 @@ pub fn read_text<D: Device>(
     ensures faults { D.faults device.old ≤ D.faults device.new }
 {
     let bytes = device.read(alloc)?;
+    let size = bytes.len();
     match look(alloc, &bytes, servers)? {
-        Found::Unmade => Ok(Vec::new(alloc)),
-        Found::Unopened => Ok(Vec::new(alloc)),
-        Found::Cached(text, _) => Ok(text),
+        Found::Unmade => Ok(Content {
+            text: Vec::new(alloc),
+            end: HEAD_END,
+            size,
+        }),
+        Found::Unopened => Ok(Content {
+            text: Vec::new(alloc),
+            end: HEAD_END,
+            size,
+        }),
+        Found::Cached(text, end) => Ok(Content { text, end, size }),
     }
 }
 

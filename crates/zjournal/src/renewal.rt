@@ -2,7 +2,8 @@
 //!
 //! # Why
 //! A new file replaces the old one by name, so each moment has one whole file. A renewal is three
-//! calls and no value that holds the journal, so the caller can add one batch at a time.
+//! calls and no value that holds the journal, so the caller can add one batch at a time. A new file
+//! that can't be begun or written leaves the old one as it was. So only the last call ends a journal.
 
 ghost use Rattle.std.specs.Prelude.{◌≡◌, ◌<◌, ◌≤◌, ◌^◌, ◌++◌, [], ◌∷◌, List, ℕ};
 ghost use Rattle.std.specs.Prelude.{OnOk, IfErr, IsErrOf};
@@ -10,7 +11,8 @@ ghost use Rattle.zjournal.specs.Blocks.{IsText};
 ghost use Rattle.zjournal.specs.Device.{LeavesOnly};
 ghost use Rattle.zjournal.specs.Journal.{IsAtRest, IsOpen, IsSound, Keeps, device_of};
 ghost use Rattle.zjournal.specs.Puts.{IsLeftBy};
-ghost use Rattle.zjournal.specs.Renewal.{IsInRenewal, IsOldOrNew, IsRenewing, renewed_size_of};
+ghost use Rattle.zjournal.specs.Renewal.{IsInRenewal, IsOldOrNew, IsRenewing, IsStoppedBy};
+ghost use Rattle.zjournal.specs.Renewal.{renewed_size_of};
 
 use crate::beside::{add_open_block, begin_file, close_and_take};
 use crate::checksum::block_of;
@@ -20,7 +22,8 @@ use crate::{Device, Journal, PutError};
 
 impl<D: Device> Journal<D> {
     /// Begins a new file beside this one, for the same number of servers and with no batch yet. It
-    /// replaces an unfinished one. No crash changes the journal's own file.
+    /// replaces an unfinished one. No crash changes the journal's own file. If it isn't begun, the
+    /// journal takes batches as before.
     pub fn begin_renewal(&mut self) -> Result<(), PutError>
         requires { IsSound D.seen D.may_leave self.old }
         ensures begun { (servers : ℕ) (batches : List (List ℕ))
@@ -39,7 +42,7 @@ impl<D: Device> Journal<D> {
         ensures failed { IsErrOf result PutError.Failed
             → D.faults (device_of self.old) < D.faults (device_of self.new) }
         ensures faults { D.faults (device_of self.old) ≤ D.faults (device_of self.new) }
-        ensures left { IfErr result (λ e. IsLeftBy e self.old self.new) }
+        ensures left { IfErr result (λ e. IsStoppedBy e self.old self.new) }
         ensures closed { (IsOpen self.old → ⊥) → IsErrOf result PutError.Closed }
         ensures not_text { IsErrOf result PutError.NotText → ⊥ }
         ensures full { IsErrOf result PutError.Full → ⊥ }
@@ -47,15 +50,14 @@ impl<D: Device> Journal<D> {
         if !self.is_open {
             return Err(PutError::Closed);
         }
-        self.is_open = false; // until it has its head
         begin_file(&mut self.device, self.servers)?;
         self.renewed_end = HEAD_END;
-        self.is_open = true;
         Ok(())
     }
 
     /// Appends a batch to the new file. No crash changes the journal's own file. Batches come one
-    /// at a time, so they are never all in memory.
+    /// at a time, so they are never all in memory. If one isn't written, the renewal is over, and
+    /// the journal takes batches as before.
     pub fn put_renewed(&mut self, batch: &[u8]) -> Result<(), PutError>
         requires { IsInRenewal D.seen D.may_leave D.beside self.old }
         ensures added { (servers : ℕ) (batches next : List (List ℕ)) → IsOpen self.old
@@ -75,7 +77,7 @@ impl<D: Device> Journal<D> {
         ensures failed { IsErrOf result PutError.Failed
             → D.faults (device_of self.old) < D.faults (device_of self.new) }
         ensures faults { D.faults (device_of self.old) ≤ D.faults (device_of self.new) }
-        ensures left { IfErr result (λ e. IsLeftBy e self.old self.new) }
+        ensures left { IfErr result (λ e. IsStoppedBy e self.old self.new) }
         ensures closed { (IsOpen self.old → ⊥) → IsErrOf result PutError.Closed }
         ensures not_text { IsErrOf result PutError.NotText → IsText batch.now → ⊥ }
         ensures full { IsErrOf result PutError.Full → 2 ^ 60 ≤ renewed_size_of self.old }
@@ -91,10 +93,8 @@ impl<D: Device> Journal<D> {
         }
         let block = block_of(self.alloc, batch)?;
         let block = block.as_slice();
-        self.is_open = false; // until the block is written
         add_open_block(&mut self.device, block)?;
         self.renewed_end += block.len();
-        self.is_open = true;
         Ok(())
     }
 

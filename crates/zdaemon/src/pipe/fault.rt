@@ -3,6 +3,7 @@
 ghost use Rattle.std.specs.Prelude.{◌≡◌};
 
 use std::alloc::{AllocError, AllocFailed};
+use std::fmt;
 use thiserror::Error;
 use zalloc::Memory;
 
@@ -10,26 +11,49 @@ use zalloc::Memory;
 #[derive(Clone, Copy, Debug, PartialEq, Eq, Error)]
 pub enum ServeFault {
     /// Memory ran out.
-    #[error("memory")]
     Memory,
     /// The source failed.
-    #[error("read failed")]
     Read,
     /// The bytes of the source aren't those of a host.
-    #[error("no input of a host")]
     NoInput,
     /// The sink failed.
-    #[error("write failed")]
     Write,
     /// The disk failed.
-    #[error("data: the disk failed")]
     Disk,
     /// The journal is full.
-    #[error("data: the journal is full")]
     Full,
     /// The service had ended before.
-    #[error("data: the service has ended")]
     Ended,
+}
+
+impl ServeFault {
+    ghost use Rattle.zdaemon.specs.Faults.{serve_fault_text};
+
+    /// Returns the message that a program prints for it.
+    pub fn text(self) -> &'static str
+        ensures { result.now ≡ serve_fault_text self }
+    {
+        match self {
+            ServeFault::Memory => "memory",
+            ServeFault::Read => "read failed",
+            ServeFault::NoInput => "no input of a host",
+            ServeFault::Write => "write failed",
+            ServeFault::Disk => "data: the disk failed",
+            ServeFault::Full => "data: the journal is full",
+            ServeFault::Ended => "data: the service has ended",
+        }
+    }
+}
+
+impl fmt::Display for ServeFault {
+    ghost use Rattle.std.specs.Prelude.{Some};
+    ghost use Rattle.zdaemon.specs.Faults.{serve_fault_text};
+
+    ghost output = { λ fault. Some (serve_fault_text fault) };
+
+    fn fmt<W: fmt::Write>(&self, f: &mut fmt::Formatter<W>) -> fmt::Result {
+        f.write_str(self.text())
+    }
 }
 
 impl From<Memory> for ServeFault {

@@ -123,8 +123,12 @@ fn power_cuts_leave_either_file(rt: HostRuntime) -> Result<(), Fail> {
     Ok(())
 }
 
-// Whether a renewal whose disk fails after this many steps leaves either file, and makes no further
-// call.
+// The steps until the end of a renewal begins: opening takes eight, a batch four, and the begin of a
+// renewal with two batches seven.
+const END_AFTER: u64 = 19;
+
+// Whether a renewal whose disk fails after this many steps leaves either file. If it failed before
+// its end, the journal is open, so its next batch comes to the disk. Else it makes no further call.
 fn is_reported(alloc: Global, calls: u64, chance: u64) -> bool {
     let Ok(file) = MemoryFile::new(alloc, &[], chance, calls) else {
         return false;
@@ -144,14 +148,18 @@ fn is_reported(alloc: Global, calls: u64, chance: u64) -> bool {
     let steps = journal.device().past().len();
     let again = journal.put(b"x");
     let file = journal.device();
-    again == Err(PutError::Closed)
-        && file.past().len() == steps
-        && is_renewed(alloc, &file.current().disk, &old, 2, chance).is_some()
+    let calls_more = file.past().len() > steps;
+    let is_as_before = if calls < END_AFTER {
+        again == Err(PutError::Failed) && calls_more
+    } else {
+        again == Err(PutError::Closed) && !calls_more
+    };
+    is_as_before && is_renewed(alloc, &file.current().disk, &old, 2, chance).is_some()
 }
 
 #[test]
 fn a_failing_disk_is_reported(rt: HostRuntime) -> Result<(), Fail> {
-    // Opening takes eight steps, a batch four, and this renewal eleven.
+    // This renewal takes eleven steps: four of them are its end.
     for calls in 12..23u64 {
         assert!(rt; is_reported(rt.alloc(), calls, 5));
         assert!(rt; is_reported(rt.alloc(), calls, 23));

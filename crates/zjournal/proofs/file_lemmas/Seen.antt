@@ -3,6 +3,7 @@ use Rattle.std.proofs.Common.{◌≡◌, inl, inr, refl, sym, ◌∙◌, ap, sub
 use mathlib.Core.Bool.{true≢false}
 use Rattle.std.proofs.lemmas.List.{drop_at, drop_all}
 use Rattle.zjournal.specs.Device.{Torn, Cut}
+use Rattle.zjournal.specs.declared.file.mode.SyncMode.{SyncMode}
 use Rattle.zjournal.specs.file.Events.{Event, FileModel, Reaches, IsLeftOf, after_call, keeps_file, keeps_name, replay, synced, MayLeave}
 use Rattle.zjournal.proofs.file_lemmas.Unchanged.{torn_not, cut_not}
 
@@ -79,8 +80,8 @@ kept_only true m c is reaches = reaches
 kept_only false m c is reaches = absurd (true≢false (sym is))
 
 -- a sync that was done leaves what was read, which a crash might have left before
-pub sync_leaves : (events more : List Event) → more ≡ synced true ∷ events → (replay events).has_failed ≡ false → (replay events).is_moved ≡ false → (c : List ℕ) → MayLeave more c → MayLeave events c
-sync_leaves events more is sound named c left =
+pub sync_leaves : (mode : SyncMode) (events more : List Event) → more ≡ synced mode true ∷ events → (replay events).has_failed ≡ false → (replay events).is_moved ≡ false → (c : List ℕ) → MayLeave more c → MayLeave events c
+sync_leaves mode events more is sound named c left =
     let m = replay events in
     let keeps : keeps_file true m ≡ true = ap (λ (b : Bool). true && not b && not m.is_moved) sound ∙ ap (λ (b : Bool). true && not false && not b) named in
     let only : c ≡ m.seen = kept_only (keeps_file true m) m c keeps (subst (λ (l : List Event). MayLeave l c) is left) in

@@ -3,10 +3,17 @@
 -- record says is assumed; no proof shows it.
 --
 -- A new file takes five calls: begun, added, settled, named, folder synced. So their order is
--- proved: a file that takes the name unsynced may leave anything.
-use Rattle.std.specs.Prelude.{◌≡◌, ◌⊎◌, ℕ, zero, suc, ◌+◌, Bool, true, false, not, ◌&&◌, ◌||◌, if◌then◌else◌, List, [], ◌∷◌, ◌++◌, length, take, drop}
+-- proved: a file that takes the name unsynced may leave anything. So may one to which a write
+-- failed, and one that wasn't begun: no sync makes such a file whole.
+--
+-- With the mode `Never` a sync asks nothing of the disk, and is noted as skipped. From the first
+-- such event on, a crash means the end of this process alone. If the machine stops or loses power
+-- then, anything may be lost, and the record says nothing of it.
+use Rattle.std.specs.Prelude.{◌≡◌, ◌⊎◌, ℕ, zero, suc, ◌+◌, ◌==◌, Bool, true, false, not, ◌&&◌, ◌||◌, if◌then◌else◌, List, [], ◌∷◌, ◌++◌, length, take, drop}
 use Rattle.std.proofs.Common.{inl, inr}
 use Rattle.zjournal.specs.Device.{Torn, Cut}
+use Rattle.zjournal.specs.declared.file.mode.SyncMode.{SyncMode}
+use Rattle.zjournal.specs.declared.file.mode.SyncMode.TheVariants.{Batch, Never}
 
 -- a call with its result: which call, an offset or a length, whether it was done, and bytes
 abbrev pub Event : Type 0
@@ -24,9 +31,18 @@ written at ok bytes = (1, at, ok, bytes)
 abbrev pub shortened : ℕ → Bool → Event
 shortened len ok = (2, len, ok, [])
 
+-- whether a sync asks the disk, and how one is noted: 0 if the disk was asked, 1 if skipped
+abbrev pub asks : SyncMode → Bool
+asks Batch = true
+asks Never = false
+
+abbrev pub skip_of : SyncMode → ℕ
+skip_of Batch = 0
+skip_of Never = 1
+
 -- the file was to be made durable
-abbrev pub synced : Bool → Event
-synced ok = (3, 0, ok, [])
+abbrev pub synced : SyncMode → Bool → Event
+synced mode ok = (3, skip_of mode, ok, [])
 
 -- the device was asked for something, and made no call on the file
 abbrev pub refused : Event
@@ -41,16 +57,25 @@ abbrev pub added : Bool → List ℕ → Event
 added ok bytes = (6, 0, ok, bytes)
 
 -- the new file was to be made durable
-abbrev pub settled : Bool → Event
-settled ok = (7, 0, ok, [])
+abbrev pub settled : SyncMode → Bool → Event
+settled mode ok = (7, skip_of mode, ok, [])
 
 -- the new file was to take the name of the old one
 abbrev pub named : Bool → Event
 named ok = (8, 0, ok, [])
 
 -- the folder, with the name, was to be made durable
-abbrev pub folder_synced : Bool → Event
-folder_synced ok = (9, 0, ok, [])
+abbrev pub folder_synced : SyncMode → Bool → Event
+folder_synced mode ok = (9, skip_of mode, ok, [])
+
+-- the call is a sync that asked nothing of the disk
+abbrev pub is_skipped : Event → Bool
+is_skipped e = (e.0 == 3 || e.0 == 7 || e.0 == 9) && not (e.1 == 0)
+
+-- such a call is among these
+abbrev pub skips : List Event → Bool
+skips [] = false
+skips (e ∷ earlier) = is_skipped e || skips earlier
 
 -- a change since the last sync: a write of that many bytes at an offset, or a cut to a length. Or a
 -- new file with these bytes took the name, synced or not
@@ -86,12 +111,14 @@ pub record FileModel : Type 0 where
   -- what was durable at the last sync, and the changes since
   pub kept : List ℕ
   pub changes : List Change
-  -- the content of the new file, and whether all of it is durable
+  -- the content of the new file, whether one is begun to which no write has failed, and whether all
+  -- of it is durable
   pub beside : List ℕ
+  pub is_begun : Bool
   pub is_whole : Bool
   -- whether a new file took the name, which may not be durable
   pub is_moved : Bool
-  -- whether a call has failed, and how many have
+  -- whether a call on the file has failed, and how many calls have failed
   pub has_failed : Bool
   pub faults : ℕ
 
@@ -107,11 +134,12 @@ abbrev pub keeps_name : Bool → FileModel → Bool
 keeps_name ok m = ok && not m.has_failed && ends_with_name m.changes
 
 -- The file after one more call. A failed change isn't seen, and may have been done in part. Once a
--- call has failed, a sync makes nothing durable. A new file changes nothing before it takes the
--- name. While the name isn't durable, no sync of the file makes anything durable.
+-- call on it has failed, a sync makes nothing durable. A new file changes nothing before it takes
+-- the name: where it isn't begun or written, it is ended, and the file takes calls as before. While
+-- the name isn't durable, no sync of the file makes anything durable.
 abbrev pub after_call : ℕ → ℕ → Bool → List ℕ → FileModel → FileModel
 after_call zero at ok bytes m =
-    record { seen = bytes; kept = bytes; changes = []; beside = []; is_whole = false; is_moved = false; has_failed = false; faults = 0 }
+    record { seen = bytes; kept = bytes; changes = []; beside = []; is_begun = false; is_whole = false; is_moved = false; has_failed = false; faults = 0 }
 after_call (suc zero) at ok bytes m =
     record m { seen = if ok then take at m.seen ++ bytes ++ drop (at + length bytes) m.seen else m.seen; changes = inl (at, length bytes) ∷ m.changes; has_failed = m.has_failed || not ok; faults = counted ok m.faults }
 after_call (suc (suc zero)) len ok bytes m =
@@ -120,19 +148,19 @@ after_call (suc (suc (suc zero))) at ok bytes m =
     record m { kept = if keeps_file ok m then m.seen else m.kept; changes = if keeps_file ok m then [] else m.changes; has_failed = m.has_failed || not ok; faults = counted ok m.faults }
 after_call (suc (suc (suc (suc zero)))) at ok bytes m = record m { faults = m.faults + 1 }
 after_call (suc (suc (suc (suc (suc zero))))) at ok bytes m =
-    record m { beside = []; is_whole = false; has_failed = m.has_failed || not ok; faults = counted ok m.faults }
+    record m { beside = []; is_begun = ok; is_whole = false; faults = counted ok m.faults }
 after_call (suc (suc (suc (suc (suc (suc zero)))))) at ok bytes m =
-    record m { beside = if ok then m.beside ++ bytes else m.beside; is_whole = false; has_failed = m.has_failed || not ok; faults = counted ok m.faults }
+    record m { beside = if ok then m.beside ++ bytes else []; is_begun = m.is_begun && ok; is_whole = false; faults = counted ok m.faults }
 after_call (suc (suc (suc (suc (suc (suc (suc zero))))))) at ok bytes m =
-    record m { is_whole = ok && not m.has_failed; has_failed = m.has_failed || not ok; faults = counted ok m.faults }
+    record m { is_whole = ok && m.is_begun && not m.has_failed; has_failed = m.has_failed || not ok; faults = counted ok m.faults }
 after_call (suc (suc (suc (suc (suc (suc (suc (suc zero)))))))) at ok bytes m =
-    record m { seen = if ok then m.beside else m.seen; changes = inr (inr (m.is_whole, m.beside)) ∷ m.changes; is_moved = true; has_failed = m.has_failed || not ok; faults = counted ok m.faults }
+    record m { seen = if ok then m.beside else m.seen; changes = inr (inr (m.is_whole, m.beside)) ∷ m.changes; is_begun = m.is_begun && not ok; is_moved = true; has_failed = m.has_failed || not ok; faults = counted ok m.faults }
 after_call (suc (suc (suc (suc (suc (suc (suc (suc (suc more))))))))) at ok bytes m =
     record m { kept = if keeps_name ok m then m.seen else m.kept; changes = if keeps_name ok m then [] else m.changes; is_moved = m.is_moved && not (keeps_name ok m); has_failed = m.has_failed || not ok; faults = counted ok m.faults }
 
 -- the file after these calls, of which the newest is first
 abbrev pub replay : List Event → FileModel
-replay [] = record { seen = []; kept = []; changes = []; beside = []; is_whole = false; is_moved = false; has_failed = false; faults = 0 }
+replay [] = record { seen = []; kept = []; changes = []; beside = []; is_begun = false; is_whole = false; is_moved = false; has_failed = false; faults = 0 }
 replay (e ∷ earlier) = after_call e.0 e.1 e.2 e.3 (replay earlier)
 
 -- what a crash may leave after these calls

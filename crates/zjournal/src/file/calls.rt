@@ -43,3 +43,8 @@ pub(crate) fn sync_all(file: &File) -> bool {
 pub(crate) fn rename<R: Files<File = File>>(files: &R, from: &str, to: &str) -> bool {
     fs::rename(files, from, to).is_ok()
 }
+
+/// Removes a file.
+pub(crate) fn remove<R: Files<File = File>>(files: &R, path: &str) -> bool {
+    fs::remove_file(files, path).is_ok()
+}

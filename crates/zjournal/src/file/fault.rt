@@ -21,6 +21,14 @@ pub enum FileFault {
     Denied,
     /// The folder above doesn't exist.
     NoParent,
+    /// The folder's name is a link to nothing.
+    DanglingLink,
+    /// A name is longer than the file system allows.
+    LongName,
+    /// This process, or the system, has no more descriptors for files.
+    NoDescriptor,
+    /// The file system can't lock files.
+    NoLock,
     /// A system call failed for another reason.
     Io,
 }
@@ -38,6 +46,10 @@ impl FileFault {
             FileFault::NotFile => "not a folder with a regular file",
             FileFault::Denied => "the rights are missing",
             FileFault::NoParent => "the folder above is missing",
+            FileFault::DanglingLink => "the folder is a link to nothing",
+            FileFault::LongName => "the name is too long",
+            FileFault::NoDescriptor => "no file descriptor is left",
+            FileFault::NoLock => "the file system has no locks",
             FileFault::Io => "the disk failed",
         }
     }
@@ -79,6 +91,16 @@ impl<T: Drop> From<AllocFailed<T>> for FileFault {
 // What the system returns for a socket at the name of a file.
 const ENXIO: i32 = 6;
 
+// What it returns if it, or this process, has too many open files.
+const ENFILE: i32 = 23;
+
+const EMFILE: i32 = 24;
+
+// What it returns for a lock that the file system doesn't support.
+const ENOLCK: i32 = 37;
+
+const EOPNOTSUPP: i32 = 95;
+
 impl From<io::Error> for FileFault {
     fn from(error: io::Error) -> Self {
         match error.kind() {
@@ -87,8 +109,12 @@ impl From<io::Error> for FileFault {
             ErrorKind::IsADirectory | ErrorKind::NotADirectory => FileFault::NotFile,
             ErrorKind::FilesystemLoop => FileFault::NotFile,
             ErrorKind::NotFound => FileFault::NoParent,
-            _ if error.raw_os_error() == Some(ENXIO) => FileFault::NotFile,
-            _ => FileFault::Io,
+            ErrorKind::InvalidFilename => FileFault::LongName,
+            _ => match error.raw_os_error() {
+                Some(ENXIO) => FileFault::NotFile,
+                Some(ENFILE | EMFILE) => FileFault::NoDescriptor,
+                _ => FileFault::Io,
+            },
         }
     }
 }
@@ -97,7 +123,10 @@ impl From<TryLockError> for FileFault {
     fn from(error: TryLockError) -> Self {
         match error {
             TryLockError::WouldBlock => FileFault::InUse,
-            TryLockError::Error(error) => FileFault::from(error),
+            TryLockError::Error(error) => match error.raw_os_error() {
+                Some(ENOLCK | EOPNOTSUPP) => FileFault::NoLock,
+                _ => FileFault::from(error),
+            },
         }
     }
 }

@@ -5,9 +5,13 @@
 //! A process that opened the file just before a rename could lock a file without a name: so an
 //! opening checks the name again under its lock. Each opening syncs the file, its folder and the
 //! folder above, since an earlier process may have been killed before it did.
+//!
+//! Two processes may find the folder missing at once. The one that makes it second opens it as it
+//! is, and then finds the file locked.
 
 use crate::file::FileFault;
 use crate::file::calls::read_all;
+use crate::file::marks::{is_marked, mark_failed};
 use std::alloc::Global;
 use std::fs;
 use std::fs::{DirBuilder, File, Files, OpenOptions};
@@ -23,28 +27,63 @@ pub(crate) struct Place {
     pub(crate) path: String,
     /// The path of a new file, before it replaces the other.
     pub(crate) new_path: String,
+    /// The path of a file with what an opening cuts off.
+    pub(crate) cut_path: String,
+    /// The path of the mark that a sync has failed.
+    pub(crate) failed_path: String,
 }
 
-/// The file of the folder with its content, durable. Both are made where they are missing. The lock
-/// is held as long as the file is open. An unfinished new file is ignored.
+/// What was found in a folder.
+#[derive(Drop)]
+pub(crate) struct Opened {
+    pub(crate) place: Place,
+    /// The file, locked as long as it is open.
+    pub(crate) file: File,
+    /// Its content.
+    pub(crate) bytes: Vec<u8>,
+    /// Whether a sync failed in an earlier process: then the content may not be durable.
+    pub(crate) had_failed: bool,
+}
+
+/// The file of the folder with its content, durable unless a sync has failed. Both are made where
+/// they are missing. An unfinished new file is ignored.
 pub(crate) fn open_locked<R: Files<File = File>>(
     alloc: Global,
     files: &R,
     folder: &str,
-) -> Result<(Place, File, Vec<u8>), FileFault> {
+) -> Result<Opened, FileFault> {
     let place = Place {
         folder: open_folder(alloc, files, folder)?,
         path: joined(alloc, folder, "/journal")?,
         new_path: joined(alloc, folder, "/journal.new")?,
+        cut_path: joined(alloc, folder, "/journal.cut")?,
+        failed_path: joined(alloc, folder, "/journal.failed")?,
     };
     let file = open_file(files, &place.path)?;
     lock(files, &file, &place.path)?;
-    file.sync_all()?;
-    place.folder.sync_all()?;
+    let had_failed = is_marked(files, &place)?;
+    sync(files, &place, &file)?;
     let above = joined(alloc, folder, "/..")?;
     File::open(files, &above)?.sync_all()?;
     let bytes = read_all(alloc, &file)?;
-    Ok((place, file, bytes))
+    Ok(Opened {
+        place,
+        file,
+        bytes,
+        had_failed,
+    })
+}
+
+// Makes the file and its name durable.
+fn sync<R: Files<File = File>>(files: &R, place: &Place, file: &File) -> Result<(), FileFault> {
+    let synced = match file.sync_all() {
+        Ok(()) => place.folder.sync_all(),
+        failed => failed,
+    };
+    if synced.is_err() {
+        mark_failed(files, place);
+    }
+    Ok(synced?)
 }
 
 // Locks the file. Another may have taken its name since it was opened: then the process that put it
@@ -75,8 +114,9 @@ pub(crate) fn new_file<R: Files<File = File>>(files: &R, path: &str) -> Result<F
     Ok(file)
 }
 
-// Makes a file that doesn't exist yet. Its descriptor is copied to one above 2.
-fn open_new<R: Files<File = File>>(files: &R, path: &str) -> Result<File, FileFault> {
+/// Makes a file that doesn't exist yet, for its owner alone. Its descriptor is copied to one above
+/// 2.
+pub(crate) fn open_new<R: Files<File = File>>(files: &R, path: &str) -> Result<File, FileFault> {
     let mut options = OpenOptions::new();
     options.read(true).write(true).create_new(true).mode(0o600);
     Ok(options.open(files, path)?.try_clone()?)
@@ -101,11 +141,27 @@ fn open_folder<R: Files<File = File>>(
     }
     let path = joined(alloc, folder, "/")?;
     match File::open(files, &path) {
-        Err(error) if error.kind() == ErrorKind::NotFound => {
-            DirBuilder::new().mode(0o700).create(files, folder)?;
-            Ok(File::open(files, &path)?)
-        }
+        Err(error) if error.kind() == ErrorKind::NotFound => make_folder(files, folder, &path),
         found => Ok(found?),
+    }
+}
+
+// Makes the folder, unless another process has made it meanwhile.
+fn make_folder<R: Files<File = File>>(
+    files: &R,
+    folder: &str,
+    path: &str,
+) -> Result<File, FileFault> {
+    match DirBuilder::new().mode(0o700).create(files, folder) {
+        Err(error) if error.kind() == ErrorKind::AlreadyExists => match File::open(files, path) {
+            // The name exists, and nothing at it: it is a link.
+            Err(error) if error.kind() == ErrorKind::NotFound => Err(FileFault::DanglingLink),
+            found => Ok(found?),
+        },
+        made => {
+            made?;
+            Ok(File::open(files, path)?)
+        }
     }
 }
 

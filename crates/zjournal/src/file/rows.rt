@@ -2,7 +2,8 @@
 
 ghost use Rattle.std.specs.Prelude.{◌≡◌, [], ◌∷◌, List, ℕ, true, false};
 ghost use Rattle.zjournal.specs.file.Events.{held, written, shortened, synced, refused, replay, MayLeave};
-ghost use Rattle.zjournal.specs.file.Events.{added, begun, folder_synced, named, settled};
+ghost use Rattle.zjournal.specs.declared.file.mode.SyncMode.TheVariants.{Batch, Never};
+ghost use Rattle.zjournal.specs.file.Events.{added, begun, folder_synced, named, settled, skips};
 
 /// What a read returns after some calls, the newest first. A failed call changes nothing of it.
 pub fn calls_change_a_file()
@@ -12,8 +13,8 @@ pub fn calls_change_a_file()
     ensures not_over { (replay (written 1 false (9 ∷ []) ∷ held (1 ∷ 2 ∷ []) ∷ [])).seen
         ≡ 1 ∷ 2 ∷ [] }
     ensures cut { (replay (shortened 1 true ∷ held (1 ∷ 2 ∷ []) ∷ [])).seen ≡ 1 ∷ [] }
-    ensures synced { (replay (synced true ∷ held (1 ∷ 2 ∷ []) ∷ [])).seen ≡ 1 ∷ 2 ∷ [] }
-    ensures faults { (replay (refused ∷ synced false ∷ held [] ∷ [])).faults ≡ 2 }
+    ensures synced { (replay (synced Batch true ∷ held (1 ∷ 2 ∷ []) ∷ [])).seen ≡ 1 ∷ 2 ∷ [] }
+    ensures faults { (replay (refused ∷ synced Batch false ∷ held [] ∷ [])).faults ≡ 2 }
 {}
 
 /// What a crash leaves. After a sync it is what is read; before it, anything in the range of a
@@ -21,13 +22,14 @@ pub fn calls_change_a_file()
 pub fn crashes_leave_what_was_synced()
     ensures opened { (c : List ℕ) → MayLeave (held (1 ∷ []) ∷ []) c → c ≡ 1 ∷ [] }
     ensures synced { (c : List ℕ)
-        → MayLeave (synced true ∷ written 0 true (9 ∷ []) ∷ held (1 ∷ []) ∷ []) c → c ≡ 9 ∷ [] }
+        → MayLeave (synced Batch true ∷ written 0 true (9 ∷ []) ∷ held (1 ∷ []) ∷ []) c
+        → c ≡ 9 ∷ [] }
     ensures torn { MayLeave (written 0 true (9 ∷ []) ∷ held (1 ∷ []) ∷ []) (7 ∷ []) }
     ensures before { MayLeave (written 0 true (9 ∷ []) ∷ held (1 ∷ []) ∷ []) (1 ∷ []) }
     ensures outside { MayLeave (written 1 true (9 ∷ []) ∷ held (1 ∷ []) ∷ []) (2 ∷ []) → ⊥ }
-    ensures failed { MayLeave (synced false ∷ written 0 true (9 ∷ []) ∷ held (1 ∷ []) ∷ [])
+    ensures failed { MayLeave (synced Batch false ∷ written 0 true (9 ∷ []) ∷ held (1 ∷ []) ∷ [])
         (1 ∷ []) }
-    ensures too_late { MayLeave (synced true ∷ written 0 false (9 ∷ []) ∷ held (1 ∷ []) ∷ [])
+    ensures too_late { MayLeave (synced Batch true ∷ written 0 false (9 ∷ []) ∷ held (1 ∷ []) ∷ [])
         (1 ∷ []) }
 {}
 
@@ -37,11 +39,11 @@ pub fn new_files_take_the_name()
         ≡ 8 ∷ [] }
     ensures before { (replay (added true (8 ∷ []) ∷ begun true ∷ held (1 ∷ []) ∷ [])).seen
         ≡ 1 ∷ [] }
-    ensures left { (c : List ℕ) → MayLeave (settled true ∷ added true (8 ∷ []) ∷ begun true
+    ensures left { (c : List ℕ) → MayLeave (settled Batch true ∷ added true (8 ∷ []) ∷ begun true
         ∷ held (1 ∷ []) ∷ []) c → c ≡ 1 ∷ [] }
-    ensures behind { (replay (named true ∷ settled true ∷ added true (8 ∷ []) ∷ begun true
+    ensures behind { (replay (named true ∷ settled Batch true ∷ added true (8 ∷ []) ∷ begun true
         ∷ held (1 ∷ []) ∷ [])).seen ≡ 8 ∷ [] }
-    ensures not_behind { (replay (named false ∷ settled true ∷ added true (8 ∷ []) ∷ begun true
+    ensures not_behind { (replay (named false ∷ settled Batch true ∷ added true (8 ∷ []) ∷ begun true
         ∷ held (1 ∷ []) ∷ [])).seen ≡ 1 ∷ [] }
 {}
 
@@ -49,16 +51,48 @@ pub fn new_files_take_the_name()
 /// synced before it took the name, a crash leaves anything. A sync of the file doesn't make its
 /// name durable.
 pub fn names_are_kept_by_the_folder()
-    ensures either_old { MayLeave (named true ∷ settled true ∷ added true (8 ∷ []) ∷ begun true
+    ensures either_old { MayLeave (named true ∷ settled Batch true ∷ added true (8 ∷ []) ∷ begun true
         ∷ held (1 ∷ []) ∷ []) (1 ∷ []) }
-    ensures either_new { MayLeave (named true ∷ settled true ∷ added true (8 ∷ []) ∷ begun true
+    ensures either_new { MayLeave (named true ∷ settled Batch true ∷ added true (8 ∷ []) ∷ begun true
         ∷ held (1 ∷ []) ∷ []) (8 ∷ []) }
-    ensures no_part { MayLeave (named true ∷ settled true ∷ added true (8 ∷ []) ∷ begun true
+    ensures no_part { MayLeave (named true ∷ settled Batch true ∷ added true (8 ∷ []) ∷ begun true
         ∷ held (1 ∷ []) ∷ []) [] → ⊥ }
-    ensures kept { (c : List ℕ) → MayLeave (folder_synced true ∷ named true ∷ settled true
-        ∷ added true (8 ∷ []) ∷ begun true ∷ held (1 ∷ []) ∷ []) c → c ≡ 8 ∷ [] }
-    ensures unsettled { MayLeave (folder_synced true ∷ named true ∷ added true (8 ∷ [])
+    ensures kept { (c : List ℕ) → MayLeave (folder_synced Batch true ∷ named true
+        ∷ settled Batch true ∷ added true (8 ∷ []) ∷ begun true ∷ held (1 ∷ []) ∷ []) c
+        → c ≡ 8 ∷ [] }
+    ensures unsettled { MayLeave (folder_synced Batch true ∷ named true ∷ added true (8 ∷ [])
         ∷ begun true ∷ held (1 ∷ []) ∷ []) (7 ∷ 7 ∷ []) }
-    ensures of_the_file { MayLeave (synced true ∷ named true ∷ settled true ∷ added true (8 ∷ [])
-        ∷ begun true ∷ held (1 ∷ []) ∷ []) (1 ∷ []) }
+    ensures of_the_file { MayLeave (synced Batch true ∷ named true ∷ settled Batch true
+        ∷ added true (8 ∷ []) ∷ begun true ∷ held (1 ∷ []) ∷ []) (1 ∷ []) }
+{}
+
+/// A sync that asked nothing of the disk is noted as skipped, and stays in the record. What a read
+/// returns is the same.
+pub fn skipped_syncs_are_noted()
+    ensures asked { skips (synced Batch true ∷ held [] ∷ []) ≡ false }
+    ensures file { skips (synced Never true ∷ held [] ∷ []) ≡ true }
+    ensures new_file { skips (settled Never true ∷ begun true ∷ held [] ∷ []) ≡ true }
+    ensures folder { skips (folder_synced Never true ∷ named true ∷ settled Batch true
+        ∷ begun true ∷ held [] ∷ []) ≡ true }
+    ensures earlier { skips (written 0 true (9 ∷ []) ∷ synced Never true ∷ held [] ∷ []) ≡ true }
+    ensures changes { skips (written 0 true (9 ∷ []) ∷ held [] ∷ []) ≡ false }
+    ensures seen { (replay (synced Never true ∷ held (1 ∷ []) ∷ [])).seen ≡ 1 ∷ [] }
+{}
+
+/// A new file that isn't begun or written is ended, and its fault is counted. The file takes calls as
+/// before, and another new file may replace it. A file in part leaves anything if it takes the name.
+pub fn failed_new_files_are_ended()
+    ensures counted { (replay (added false (8 ∷ []) ∷ begun false ∷ held (1 ∷ []) ∷ [])).faults
+        ≡ 2 }
+    ensures usable { (replay (added false (8 ∷ []) ∷ begun true ∷ held (1 ∷ []) ∷ [])).has_failed
+        ≡ false }
+    ensures seen { (replay (added false (8 ∷ []) ∷ begun true ∷ held (1 ∷ []) ∷ [])).seen
+        ≡ 1 ∷ [] }
+    ensures synced { (c : List ℕ) → MayLeave (synced Batch true ∷ written 0 true (9 ∷ [])
+        ∷ added false (8 ∷ []) ∷ begun true ∷ held (1 ∷ []) ∷ []) c → c ≡ 9 ∷ [] }
+    ensures again { (c : List ℕ) → MayLeave (folder_synced Batch true ∷ named true
+        ∷ settled Batch true ∷ added true (7 ∷ []) ∷ begun true ∷ added false (8 ∷ []) ∷ begun true
+        ∷ held (1 ∷ []) ∷ []) c → c ≡ 7 ∷ [] }
+    ensures in_part { MayLeave (folder_synced Batch true ∷ named true ∷ settled Batch true
+        ∷ added false (8 ∷ []) ∷ begun true ∷ held (1 ∷ []) ∷ []) (7 ∷ 7 ∷ []) }
 {}

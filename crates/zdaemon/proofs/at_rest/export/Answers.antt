@@ -7,4 +7,4 @@ pub returns-in-Ok-write_export-clause-exported : goal.returns-in-Ok-write_export
 returns-in-Ok-write_export-clause-exported g c =
     let wrote = c.in-Ok-write_export.ensures in
     let read = subst (λ t. HasLines t × g.K.Sink.took c.args.sink.now (export_text t) c.write_export.new.sink) c.in-Ok-machine.ensures.tree (wrote.has_lines, wrote.took) in
-    (c.in-Ok.found.tree.tree, c.in-Ok.ensures.keeps, read.0, read.1)
+    (c.in-Ok.it.found.tree.tree, c.in-Ok.ensures.keeps, read.0, read.1)

@@ -6,7 +6,7 @@ use Rattle.zjournal.specs.Journal.{Keeps, device_of}
 use Rattle.zjournal.proofs.Moments.{weaker}
 use Rattle.zdurable.specs.Compaction.{IsOldOrTree}
 use Rattle.zdurable.proofs.Opening.{full_is}
-use Rattle.zdurable.proofs.Renewing.{begun, goes_on, leaves_more, leaves_new, leaves_old, chunk_shorter}
+use Rattle.zdurable.proofs.Renewing.{begun, goes_on, keeps_more, leaves_more, leaves_new, leaves_old, chunk_shorter}
 use Rattle.zdurable.proofs.Renewing.{rest_now, stays_old, text_is, text_keeps, too_long}
 use Rattle.zdurable.proofs.compaction.compact.Goals as goal
 
@@ -16,19 +16,29 @@ returns-in_err-text-clause-any_moment g c servers batches rest =
     c.args.journal.now servers batches rest
     (g.met.D.Device.only_now (device_of c.args.journal.now))
 
-pub returns-in_err-begin_renewal-clause-any_moment : goal.returns-in_err-begin_renewal-clause-any_moment
-returns-in_err-begin_renewal-clause-any_moment g c servers batches rest =
-    weaker g.D.Device.moment g.D.Device.left_since (device_of c.args.journal.now) (device_of c.begin_renewal.new.self)
+pub returns-in_err-begin-clause-any_moment : goal.returns-in_err-begin-clause-any_moment
+returns-in_err-begin-clause-any_moment g c servers batches rest =
+    weaker g.D.Device.moment g.D.Device.left_since (device_of c.args.journal.now) (device_of c.begin.new.journal)
     (Keeps servers batches) (IsOldOrTree servers batches c.args.tree.now.tree)
-    (c.begin_renewal.ensures.any_moment servers batches rest) (λ file keeps. inl keeps)
+    (c.begin.ensures.any_moment servers batches rest) (λ file keeps. inl keeps)
+
+pub returns-then-not-branch-clause-untouched : goal.returns-then-not-branch-clause-untouched
+returns-then-not-branch-clause-untouched g c servers batches rest is = c.begin.ensures.any_moment servers batches rest
+
+pub returns-then-not-branch-clause-any_moment : goal.returns-then-not-branch-clause-any_moment
+returns-then-not-branch-clause-any_moment g c servers batches rest =
+    weaker g.D.Device.moment g.D.Device.left_since (device_of c.args.journal.now) (device_of c.begin.new.journal)
+    (Keeps servers batches) (IsOldOrTree servers batches c.args.tree.now.tree)
+    (c.begin.ensures.any_moment servers batches rest) (λ file keeps. inl keeps)
 
 pub loop-text-init : goal.loop-text-init
 loop-text-init g c = (
   begun g.D.Device.seen g.D.Device.may_leave g.D.Device.beside g.D.Device.moment g.D.Device.left_since c.args.tree.now.tree
-      c.args.journal.now c.begin_renewal.new.self c.in_ok-text.text c.in_ok-text.ensures.begun
-      c.in_ok-begin_renewal.ensures.open.0 c.in_ok-begin_renewal.ensures.open.1 c.in_ok-begin_renewal.ensures.renewing
-      c.in_ok-begin_renewal.ensures.begun c.begin_renewal.ensures.any_moment,
-  c.begin_renewal.ensures.faults,
+      c.args.journal.now c.begin.new.journal c.in_ok-text.text c.in_ok-text.ensures.begun
+      c.in_ok-begin.ensures.open.0 c.in_ok-begin.ensures.open.1 (c.in_ok-begin.ensures.renewing c.if-not-branch.false)
+      (λ servers batches was_open rest. c.in_ok-begin.ensures.begun servers batches was_open rest c.if-not-branch.false)
+      c.begin.ensures.any_moment,
+  c.begin.ensures.faults,
 )
 
 pub returns-in_err-chunk-clause-any_moment : goal.returns-in_err-chunk-clause-any_moment
@@ -47,13 +57,41 @@ returns-in_err-put_chunk-clause-any_moment g c servers batches rest =
     c.args.tree.now.tree c.args.journal.now c.loop-text.journal c.loop-text.text c.loop-text.invariant.0 servers batches
     rest))
 
+pub returns-then-not-branch-2-clause-kept : goal.returns-then-not-branch-2-clause-kept
+returns-then-not-branch-2-clause-kept g c servers batches was_open rest =
+    c.put_chunk.ensures.rest servers batches
+    (rest_now g.D.Device.seen g.D.Device.may_leave g.D.Device.beside g.D.Device.moment g.D.Device.left_since
+    c.args.tree.now.tree c.args.journal.now c.loop-text.journal c.loop-text.text c.loop-text.invariant.0 servers batches
+    rest)
+
+pub returns-then-not-branch-2-clause-untouched : goal.returns-then-not-branch-2-clause-untouched
+returns-then-not-branch-2-clause-untouched g c servers batches rest is =
+    keeps_more g.D.Device.seen g.D.Device.may_leave g.D.Device.beside g.D.Device.moment g.D.Device.left_since
+    c.args.tree.now.tree c.args.journal.now c.loop-text.journal c.loop-text.text c.loop-text.invariant.0 servers batches
+    rest c.put_chunk.new.journal
+    (c.put_chunk.ensures.any_moment servers batches
+    (rest_now g.D.Device.seen g.D.Device.may_leave g.D.Device.beside g.D.Device.moment g.D.Device.left_since
+    c.args.tree.now.tree c.args.journal.now c.loop-text.journal c.loop-text.text c.loop-text.invariant.0 servers batches
+    rest))
+
+pub returns-then-not-branch-2-clause-any_moment : goal.returns-then-not-branch-2-clause-any_moment
+returns-then-not-branch-2-clause-any_moment g c servers batches rest =
+    leaves_more g.D.Device.seen g.D.Device.may_leave g.D.Device.beside g.D.Device.moment g.D.Device.left_since
+    c.args.tree.now.tree c.args.journal.now c.loop-text.journal c.loop-text.text c.loop-text.invariant.0 servers batches
+    rest c.put_chunk.new.journal
+    (c.put_chunk.ensures.any_moment servers batches
+    (rest_now g.D.Device.seen g.D.Device.may_leave g.D.Device.beside g.D.Device.moment g.D.Device.left_since
+    c.args.tree.now.tree c.args.journal.now c.loop-text.journal c.loop-text.text c.loop-text.invariant.0 servers batches
+    rest))
+
 pub loop-text-preserved : goal.loop-text-preserved
 loop-text-preserved g c = (
   goes_on g.D.Device.seen g.D.Device.may_leave g.D.Device.beside g.D.Device.moment g.D.Device.left_since c.args.tree.now.tree
       c.args.journal.now c.loop-text.journal c.put_chunk.new.journal c.loop-text.text c.next_chunk.new.self
       c.in-Some.chunk.items c.deref.result.now c.loop-text.invariant.0 (rw c.in-Some.is at c.in_ok-chunk.ensures.chunk)
-      c.deref.ensures.value c.in_ok-put_chunk.ensures.open.1 c.in_ok-put_chunk.ensures.renewing
-      c.in_ok-put_chunk.ensures.added c.put_chunk.ensures.any_moment,
+      c.deref.ensures.value c.in_ok-put_chunk.ensures.open.1 (c.in_ok-put_chunk.ensures.renewing c.if-not-branch-2.false)
+      (λ servers batches next is_open renewing. c.in_ok-put_chunk.ensures.added servers batches next is_open renewing c.if-not-branch-2.false)
+      c.put_chunk.ensures.any_moment,
   omega (arith, c.loop-text.invariant.1, c.put_chunk.ensures.faults),
 )
 

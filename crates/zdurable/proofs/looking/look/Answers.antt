@@ -1,5 +1,6 @@
 use Rattle.std.proofs.Common.{◌≡◌, ℕ, List, length, sym, subst, ◌∙◌}
-use Rattle.zjournal.specs.Journal.{Represents}
+use Rattle.zjournal.specs.Blocks.{blocks}
+use Rattle.zjournal.specs.Journal.{Represents, holdings}
 use Rattle.zsnapshots.specs.folder.Entries.{ReportsPasswords}
 use Rattle.zsnapshots.specs.folder.Faults.{IsReadFault}
 use Rattle.zsnapshots.specs.folder.Texts.{IsTextOf}
@@ -41,5 +42,13 @@ returns-clause-fault g c =
     let read = c.in-Ok.ensures.text in
     subst (IsSuchFile c.args.servers (g.D.Device.seen c.args.device.now)) (sym c.from.ensures)
     (such_read c.in-Err-read.fault c.args.servers c.number.result (g.D.Device.seen c.args.device.now)
-    c.in-Ok.text.items c.number.ensures.same read.0 read.1 read.2
+    c.in-Ok.content.text.items c.number.ensures.same read.0 read.1 read.2
     (subst (λ t. IsReadFault t c.in-Err-read.fault) c.deref.ensures.value c.in-Err-read.ensures.fault))
+
+pub returns-in-Ok-read-clause-end : goal.returns-in-Ok-read-clause-end
+returns-in-Ok-read-clause-end g c =
+    let read = c.in-Ok.ensures.text in (
+      read.0,
+      subst (λ n. Represents n read.0 (g.D.Device.seen c.args.device.now)) c.number.ensures.same read.1,
+      subst (λ n. c.in-Ok.content.end ≡ length (blocks (holdings n read.0))) c.number.ensures.same read.3,
+    )

@@ -7,19 +7,19 @@ pub returns-in-Unmade-clause-text : goal.returns-in-Unmade-clause-text
 returns-in-Unmade-clause-text g c =
     let found = found_of c.args.servers c.deref.result.now (g.D.Device.seen c.args.device.now) c.in_ok-look.field-0 _
     (c.deref.ensures.value ∙ c.in_ok-bytes.ensures.bytes) c.in-Unmade.is c.in_ok-look.ensures.ok in
-    ([], inr (inl found, refl), c.new.ensures.items)
+    ([], inr (inl found, refl), c.new.ensures.items, refl)
 
 pub returns-in-Unopened-clause-text : goal.returns-in-Unopened-clause-text
 returns-in-Unopened-clause-text g c =
     let found = found_of c.args.servers c.deref.result.now (g.D.Device.seen c.args.device.now) c.in_ok-look.field-0 _
     (c.deref.ensures.value ∙ c.in_ok-bytes.ensures.bytes) c.in-Unopened.is c.in_ok-look.ensures.ok in
-    ([], inr (inr found, refl), c.new-in-Unopened.ensures.items)
+    ([], inr (inr found, refl), c.new-in-Unopened.ensures.items, refl)
 
 pub returns-clause-text : goal.returns-clause-text
 returns-clause-text g c =
     let found = found_of c.args.servers c.deref.result.now (g.D.Device.seen c.args.device.now) c.in_ok-look.field-0 _
     (c.deref.ensures.value ∙ c.in_ok-bytes.ensures.bytes) c.in-Cached.is c.in_ok-look.ensures.ok in
-    (found.0, inl (keeps c.args.servers found.0 (g.D.Device.seen c.args.device.now) _ found.1), found.2)
+    (found.0, inl (keeps c.args.servers found.0 (g.D.Device.seen c.args.device.now) _ found.1), found.2, found.1.long)
 
 pub returns-in_err-bytes-clause-durable : goal.returns-in_err-bytes-clause-durable
 returns-in_err-bytes-clause-durable g c =

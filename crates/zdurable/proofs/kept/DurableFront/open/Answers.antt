@@ -52,10 +52,10 @@ returns-in-Ok-open-clause-serving g c =
     } in
     let keeps = c.in-Ok.ensures.keeps in
     let is = serves g.D.Device.seen g.D.Device.may_leave c.args.secret c.args.tick c.args.now_ms c.args.servers c.number.result
-    (g.D.Device.seen c.args.device) (g.D.Device.seen c.look.new.device) c.in-Ok.found.tree.tree kept
+    (g.D.Device.seen c.args.device) (g.D.Device.seen c.look.new.device) c.in-Ok.it.found.tree.tree kept
     c.number.ensures.same c.look.ensures.seen keeps.batches keeps.stands keeps.text
     c.in-Ok-restored.ensures opened.0 opened.1 opened.2 opened.3 in
-    (opened.0, c.in-Ok.found.tree.tree, is.0, is.1, c.in-Ok-restored.ensures)
+    (opened.0, c.in-Ok.it.found.tree.tree, is.0, is.1, c.in-Ok-restored.ensures)
 
 pub returns-in-Ok-open-clause-sound : goal.returns-in-Ok-open-clause-sound
 returns-in-Ok-open-clause-sound g c is_open =
@@ -69,10 +69,10 @@ returns-in-Ok-open-clause-sound g c is_open =
     } in
     let keeps = c.in-Ok.ensures.keeps in
     let is = serves g.D.Device.seen g.D.Device.may_leave c.args.secret c.args.tick c.args.now_ms c.args.servers c.number.result
-    (g.D.Device.seen c.args.device) (g.D.Device.seen c.look.new.device) c.in-Ok.found.tree.tree kept
+    (g.D.Device.seen c.args.device) (g.D.Device.seen c.look.new.device) c.in-Ok.it.found.tree.tree kept
     c.number.ensures.same c.look.ensures.seen keeps.batches keeps.stands keeps.text
     c.in-Ok-restored.ensures opened.0 opened.1 opened.2 opened.3 in
-    (c.args.servers, opened.0, c.in-Ok.found.tree.tree, is.1)
+    (c.args.servers, opened.0, c.in-Ok.it.found.tree.tree, is.1)
 
 pub returns-clause-untouched : goal.returns-clause-untouched
 returns-clause-untouched g c of_content =

@@ -31,7 +31,7 @@ returns-clause-any_moment_err g c batches stands =
 pub returns-in-Ok-open-clause-stored : goal.returns-in-Ok-open-clause-stored
 returns-in-Ok-open-clause-stored g c =
     let opened = c.in-Ok-open.ensures.journal in
-    let kept : Stored g.row.D.Denot = record { alloc = c.args.alloc; tree = c.in-Ok.found.tree; journal = c.in-Ok-open.journal } in
+    let kept : Stored g.row.D.Denot = record { alloc = c.args.alloc; tree = c.in-Ok.it.found.tree; journal = c.in-Ok-open.journal } in
     let is = stores g.D.Device.seen g.D.Device.may_leave c.args.servers c.number.result (g.D.Device.seen c.args.device)
     (g.D.Device.seen c.look.new.device) kept
     c.number.ensures.same c.look.ensures.seen c.in-Ok.ensures.keeps.batches c.in-Ok.ensures.keeps.stands c.in-Ok.ensures.keeps.text
@@ -41,7 +41,7 @@ returns-in-Ok-open-clause-stored g c =
 pub returns-in-Ok-open-clause-good : goal.returns-in-Ok-open-clause-good
 returns-in-Ok-open-clause-good g c =
     let opened = c.in-Ok-open.ensures.journal in
-    let kept : Stored g.row.D.Denot = record { alloc = c.args.alloc; tree = c.in-Ok.found.tree; journal = c.in-Ok-open.journal } in
+    let kept : Stored g.row.D.Denot = record { alloc = c.args.alloc; tree = c.in-Ok.it.found.tree; journal = c.in-Ok-open.journal } in
     let is = stores g.D.Device.seen g.D.Device.may_leave c.args.servers c.number.result (g.D.Device.seen c.args.device)
     (g.D.Device.seen c.look.new.device) kept
     c.number.ensures.same c.look.ensures.seen c.in-Ok.ensures.keeps.batches c.in-Ok.ensures.keeps.stands c.in-Ok.ensures.keeps.text

@@ -18,8 +18,13 @@ returns-in_err-begin_file-clause-any_moment g c servers batches rest =
     batches rest c.begin_file.new.device c.begin_file.ensures.untouched
 
 pub returns-in_err-begin_file-clause-sound : goal.returns-in_err-begin_file-clause-sound
-returns-in_err-begin_file-clause-sound g c =
-    search rules
+returns-in_err-begin_file-clause-sound g c is_open =
+    let was = c.requires c.if-not-self.false in (
+      was.0,
+      was.1,
+      still_rests g.D.Device.seen g.D.Device.may_leave g.D.Device.moment g.D.Device.left_since c.args.self.now
+          was.0 was.1 was.2 _ refl refl c.begin_file.ensures.untouched,
+    )
 
 pub returns-clause-begun : goal.returns-clause-begun
 returns-clause-begun g c servers batches is_open rest =

@@ -40,8 +40,13 @@ returns-in_err-add_open_block-clause-any_moment g c servers batches rest =
     batches rest c.add_open_block.new.device c.add_open_block.ensures.untouched
 
 pub returns-in_err-add_open_block-clause-sound : goal.returns-in_err-add_open_block-clause-sound
-returns-in_err-add_open_block-clause-sound g c =
-    search rules
+returns-in_err-add_open_block-clause-sound g c is_open =
+    let was = c.requires c.if-not-self.false in (
+      was.0,
+      was.1,
+      still_rests g.D.Device.seen g.D.Device.may_leave g.D.Device.moment g.D.Device.left_since c.args.self.now
+          was.0 was.1 was.3.rest _ refl refl c.add_open_block.ensures.untouched,
+    )
 
 pub returns-clause-added : goal.returns-clause-added
 returns-clause-added g c servers batches next is_open renewing =
