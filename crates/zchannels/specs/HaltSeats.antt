@@ -7,7 +7,11 @@ use Rattle.zchannels.specs.declared.looks.Look.{Look}
 
 -- the bits that the seat has set or seen, as one number
 abbrev pub known_of : HaltSeat → ℕ
-known_of h = h.seat.me.0
+known_of h = h.seat.me.0.bits
+
+-- how many parts the halt has: that many seats have one part each
+abbrev pub all_parts : Halt → ℕ
+all_parts t = t.table.shared.key
 
 -- the seat has set or seen bit s
 abbrev pub Knows : HaltSeat → ℕ → Type 0

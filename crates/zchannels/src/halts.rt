@@ -1,41 +1,58 @@
 //! Bits that are set, and never cleared, by one atomic step on a shared word.
-ghost use Rattle.std.specs.Prelude.{◌≡◌, ◌^◌, ◌≤◌, bit_or, vec_len, All, IfOk, IsTrue, ◌↔◌};
+ghost use Rattle.std.specs.Prelude.{◌≡◌, ◌^◌, ◌≤◌, [], bit_or, vec_len, All, IfOk, IsTrue, ◌↔◌};
 ghost use Rattle.zchannels.specs.declared.limits.TheConstants.{LAST_BIT};
+ghost use Rattle.zchannels.specs.Raised.{known, NoneIsSet};
 
-use crate::halt_rule::{Seats, Sees, Sets, Stays};
+use crate::halt_rule::{Known, Seats, Sees, Sets, Stays};
 use crate::looks::Look;
 use atomic_table::{Seat, Table};
 use std::alloc::Global;
 use zalloc::Memory;
 
-/// The right to set and to read the bits of one halt. It is zero-sized.
+/// The right to set and to read the bits of one halt. It has one of the halt's parts, and is
+/// zero-sized.
 #[derive(Drop)]
 pub struct HaltSeat {
-    pub(crate) seat: Seat<(), u64>,
+    pub(crate) seat: Seat<(), Known>,
+    ghost one: { seat.me.0.parts ≡ 1 },
 }
 
 /// Bits 0 to `LAST_BIT`, which threads set and read. No bit is ever cleared.
 #[derive(Drop)]
 pub struct Halt {
-    pub(crate) table: Table<(), u64, (), Stays, Global>,
+    pub(crate) table: Table<(), Known, u64, Stays, Global>,
     ghost one_word: { table.shared.table_id.words ≡ 1 },
+}
+
+// Returns a seat that knows of no bit.
+fn fresh(seat: Seat<(), Known>) -> HaltSeat
+    requires { seat.me ≡ (known 1 0, []) }
+    ensures { result.seat ≡ seat }
+{
+    HaltSeat { seat }
 }
 
 impl Halt {
     ghost use Rattle.zchannels.specs.Raised.{Within};
-    ghost use Rattle.zchannels.specs.HaltSeats.{found_by, IsSeatOf, Knows, known_of};
+    ghost use Rattle.zchannels.specs.HaltSeats.{all_parts, found_by, IsSeatOf, Knows, known_of};
 
-    /// Returns a halt with no bit set, and `n` seats that know of no bit. The only error is out of
-    /// memory.
+    /// Returns a halt with no bit set, and `n` seats that know of no bit. They hold all its parts,
+    /// so no other seat has set one (`no_bit_is_set`). The only error is out of memory.
     pub fn new(alloc: Global, n: usize) -> Result<(Halt, Vec<HaltSeat>), Memory>
         ensures count { IfOk result (λ r. vec_len r.1 ≡ n) }
+        ensures parts { IfOk result (λ r. all_parts r.0 ≡ n) }
         ensures seats { IfOk result (λ r. All (λ h. IsSeatOf r.0 h × (known_of h ≡ 0)) r.1.items) }
     {
         let mut seats = Vec::with_capacity(alloc, n)?;
-        let (table, mut seat) = Table::<(), u64, (), Stays, Global>::of_words(alloc, &[0], &())?;
+        let parts = n as u64;
+        let (table, mut seat) = Table::<(), Known, u64, Stays, Global>::of_words(
+            alloc,
+            &[0],
+            &parts,
+        )?;
         for _ in 0..n {
             let one = table.shared.split_seat::<Seats>(&mut seat);
-            seats.push_reserved(HaltSeat { seat: one });
+            seats.push_reserved(fresh(one));
         }
         Ok((Halt { table }, seats))
     }
@@ -78,3 +95,9 @@ impl Halt {
         self.look(seat).has(s)
     }
 }
+
+/// Where seats that know of no bit hold all parts of a halt, no bit is set. So a new halt has none
+/// set: `Halt::new` hands out as many seats as it has parts, and each knows of none.
+pub fn no_bit_is_set()
+    ensures { NoneIsSet }
+{}
