@@ -12,26 +12,15 @@ use Rattle.zprotocol.specs.traces.Traces.{client_count, record_of, trace_of}
 use Rattle.zprotocol.specs.traces.Deeds.{GoesBy, puts, standing_in, takes, reported_by, trace_by}
 use Rattle.zprotocol.specs.traces.Lawful.{AreLawful, Begins}
 use Rattle.zprotocol.specs.Places.{process_at}
-use Rattle.zchannels.specs.declared.rings.Tx.{Tx}
-use Rattle.zchannels.specs.declared.rings.Rx.{Rx}
-use Rattle.zchannels.specs.Rings.{put_of, taken_of}
+use Rattle.zchannels.specs.Rings.{taken_of}
 use Rattle.zthreads.specs.declared.endpoint.Ending.{Ending}
-use Rattle.zthreads.specs.Endpoints.{IsOutside, opening_of, TreeDeed, TreeStamped}
+use Rattle.zthreads.specs.Endpoints.{IsOutside, opening_of, TreeDeed}
 use Rattle.zthreads.specs.Endings.{AccountsAtEnd}
 use Rattle.zchannels.proofs.Said.{within}
-use Rattle.zrun.specs.Left.{self_at}
-use Rattle.zrun.specs.Gone.{HasGone}
+use Rattle.zrun.specs.Left.{AreLinked, self_at}
+use Rattle.zrun.specs.Gone.{Went}
 use Rattle.zrun.proofs.Elements.{Chosen, chosen_at, element}
 use Rattle.zrun.proofs.Stands.{find, Found, Inside, one_place, Outside, same_at}
-
--- the links tell that what was taken begins what was put
-pub record Linked (es : List Ending) : Type 0 where
-  pub ins : (i : ℕ) (e : Ending) → get_elem? es i ≡ some e → length e.ins.items ≡ length es
-  pub outs : (i : ℕ) (e : Ending) → get_elem? es i ≡ some e → length e.outs.items ≡ length es
-  pub links : (i j : ℕ) (a b : Ending) (tx : Tx TreeStamped) (rx : Rx TreeStamped)
-      → get_elem? es i ≡ some a → get_elem? a.outs.items j ≡ some tx
-      → get_elem? es j ≡ some b → get_elem? b.ins.items i ≡ some rx
-      → Begins (taken_of rx) (put_of tx)
 
 -- the traces, none of which is cut, tell what was left
 pub record Reports (last n : ℕ) (t : Traces) (es : List Ending) : Type 0 where
@@ -46,7 +35,7 @@ pub record Reports (last n : ℕ) (t : Traces) (es : List Ending) : Type 0 where
 pub begins_so : {A : Type 0} (a b c : List A) → Begins a b → Begins b c → Begins a c
 begins_so a b c x y = (x.0 ++ y.0, y.1 ∙ ap (λ l. l ++ y.0) x.1 ∙ append_assoc a x.0 y.0)
 
-module _ (last n : ℕ) (es : List Ending) (ds : List (List TreeDeed)) (g : Linked es)
+module _ (last n : ℕ) (es : List Ending) (ds : List (List TreeDeed)) (g : AreLinked es)
     (all : Chosen (λ i e d. AccountsAtEnd (self_at last n i) e d) es ds) where
   mine : (i : ℕ) (e : Ending) → get_elem? es i ≡ some e → AccountsAtEnd (self_at last n i) e (get_or ds i [])
   mine i e at = chosen_at (λ i e d. AccountsAtEnd (self_at last n i) e d) es ds all i e [] at
@@ -86,8 +75,17 @@ module _ (last n : ℕ) (es : List Ending) (ds : List (List TreeDeed)) (g : Link
   left i e at (Inside j lt is) = subst (λ k. AccountsAtEnd (self_at last n i) e (get_or ds k [])) (one_place i j is) (mine i e at)
   left i e at (Outside out) = absurd (true≢false (sym (same_at (process_at i) i refl) ∙ out i (within es i e at)))
 
-  pub went : HasGone last n es
-  went =
+  -- what else holds of the steps of each
+  also : (P : ℕ → Ending → List TreeDeed → Type 0) → Chosen P es ds → (i : ℕ) (e : Ending) → get_elem? es i ≡ some e
+      → (f : Found (process_at i) (length es)) → P i e (deeds_in (process_at i) f)
+  also P held i e at (Inside j lt is) =
+      subst (λ k. P i e (get_or ds k [])) (one_place i j is) (chosen_at P es ds held i e [] at)
+  also P held i e at (Outside out) = absurd (true≢false (sym (same_at (process_at i) i refl) ∙ out i (within es i e at)))
+
+  pub went : (P : ℕ → Ending → List TreeDeed → Type 0) → Chosen P es ds
+      → (deeds : Process → List TreeDeed) × Went last n es deeds
+      × ((i : ℕ) (e : Ending) → get_elem? es i ≡ some e → P i e (deeds (process_at i)))
+  went P held =
       let there : (p : Process) → Found p (length es) = λ p. find p (length es) in (
         λ p. deeds_in p (there p),
         record {
@@ -95,6 +93,7 @@ module _ (last n : ℕ) (es : List Ending) (ds : List (List TreeDeed)) (g : Link
           linked = λ from to. linked from to (there from) (there to);
           left = λ i e at. left i e at (there (process_at i));
         },
+        λ i e at. also P held i e at (there (process_at i)),
       )
 
   module _ (t : Traces) (h : Reports last n t es) where

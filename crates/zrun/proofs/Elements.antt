@@ -45,6 +45,14 @@ choose P (e ∷ es) each =
     ∥∥₁_elim (each 0 e refl) ∥∥₁_prop (λ d.
     ∥∥₁_map (choose (λ i. P (suc i)) es (λ i x at. each (suc i) x at)) (λ ds. (d.0 ∷ ds.0, (d.1, ds.1))))
 
+pub chosen_weaker : {E D : Type 0} (P Q : ℕ → E → D → Type 0) (es : List E) (ds : List D) → Chosen P es ds
+    → ((i : ℕ) (e : E) (d : D) → P i e d → Q i e d) → Chosen Q es ds
+chosen_weaker P Q [] [] all weaker = tt
+chosen_weaker P Q [] (d ∷ ds) all weaker = absurd all
+chosen_weaker P Q (e ∷ es) [] all weaker = absurd all
+chosen_weaker P Q (e ∷ es) (d ∷ ds) all weaker =
+    (weaker 0 e d all.0, chosen_weaker (λ i. P (suc i)) (λ i. Q (suc i)) es ds all.1 (λ i. weaker (suc i)))
+
 pub chosen_at : {E D : Type 0} (P : ℕ → E → D → Type 0) (es : List E) (ds : List D) → Chosen P es ds
     → (i : ℕ) (e : E) (none : D) → get_elem? es i ≡ some e → P i e (get_or ds i none)
 chosen_at P [] ds all i e none at = absurd (some-ne-none e (sym at))

@@ -18,7 +18,7 @@ use Rattle.zthreads.specs.declared.endpoint.Endpoint.{Endpoint}
 use Rattle.zthreads.specs.declared.endpoint.Ending.{Ending}
 use Rattle.zthreads.specs.Endpoints.{Each, IsEndpointOf, SameEndpoint, Self, self_of}
 use Rattle.zthreads.specs.Endings.{HasEnded, LeavesNothing, SameWires}
-use Rattle.zthreads.proofs.Endings.{neither, same_self_of}
+use Rattle.zthreads.proofs.Endings.{has_ended, neither, same_self_of}
 use Rattle.zrun.specs.Left.{AreWired, by_place, client_trace_of, is_left_cut, is_left_lost, self_at}
 use Rattle.zrun.proofs.Elements.{element, element_map, element_or}
 use Rattle.zrun.proofs.Stands.{client_at, same_at}
@@ -26,7 +26,7 @@ use Rattle.zrun.specs.declared.client.Client as client
 use Rattle.zthreads.specs.Callers.{caller_endpoint, caller_id}
 use Rattle.zrun.specs.declared.posts.ClientPost.{ClientPost}
 use Rattle.zrun.specs.Origins.{client_endpoints, endpoint_wiring, Run}
-use Rattle.zrun.specs.Clients.{AreIn, client_endpoint, client_wiring, IsLeftIn}
+use Rattle.zrun.specs.Clients.{AccountsFor, AreIn, client_endpoint, client_wiring, IsLeftIn}
 use Rattle.zrun.specs.Members.{IsReported}
 use Rattle.zrun.specs.Runs.{AreEndpoints, AreLeftBy, AreTraced, in_rings_of, IsLeftBy, IsRun, out_rings_of, Pairs}
 use Rattle.zrun.proofs.Endpoints.{first_endpoint, other_endpoints}
@@ -50,7 +50,7 @@ left_by a b e same ended wires bare =
     )
 
 -- who has the endpoint of a place
-self_is : (last n i : ℕ) (d : Endpoint) → IsEndpointOf (process_at i) last n d → self_of d ≡ self_at last n i
+pub self_is : (last n i : ℕ) (d : Endpoint) → IsEndpointOf (process_at i) last n d → self_of d ≡ self_at last n i
 self_is last n i d is = rw (is.0, is.1, is.2) refl
 
 ended_by : (last n i : ℕ) (d : Endpoint) (e : Ending) → IsEndpointOf (process_at i) last n d → IsLeftBy d e → HasEnded (self_at last n i) e
@@ -159,16 +159,22 @@ module _ (run : Run) (places : List (Option client.Client)) (es : List Ending) (
   long : length es ≡ length run
   long = pairs_count IsLeftIn places es left ∙ many
 
+  -- a client is who was made at its place
+  pub same_made : (i : ℕ) (p : ClientPost) (c : client.Client) → get_elem? run i ≡ some p → get_elem? places i ≡ some (Some c)
+      → SameEndpoint (endpoint_of p) (client_endpoint c)
+  same_made i p c at there =
+      let is = own i (Some c) there c refl in
+      let made = element_map endpoint_wiring (client_endpoints run) i (endpoint_of p) (element_map endpoint_of run i p at) in
+      let one = subst (λ m. get_elem? (map endpoint_wiring (client_endpoints run)) m ≡ some (client_wiring c)) is.1 is.0 in
+      wired_alike (endpoint_of p) (client_endpoint c) (some-injective (client_wiring c) (endpoint_wiring (endpoint_of p)) (sym one ∙ made))
+
   -- what is left at a place is left by the client that was made there, or is lost
   left_at : (i : ℕ) (p : ClientPost) (place : Option client.Client) (e : Ending) → get_elem? run i ≡ some p → get_elem? places i ≡ some place
       → IsLeftIn place e → IsLeftBy (endpoint_of p) e
   left_at i p None e at there gone = inl gone.1
   left_at i p (Some c) e at there ended =
-      let is = own i (Some c) there c refl in
-      let made = element_map endpoint_wiring (client_endpoints run) i (endpoint_of p) (element_map endpoint_of run i p at) in
-      let one = subst (λ m. get_elem? (map endpoint_wiring (client_endpoints run)) m ≡ some (client_wiring c)) is.1 is.0 in
-      let same = wired_alike (endpoint_of p) (client_endpoint c) (some-injective (client_wiring c) (endpoint_wiring (endpoint_of p)) (sym one ∙ made)) in
-      left_by (endpoint_of p) (client_endpoint c) e same ended.0 ended.1 ended.4
+      left_by (endpoint_of p) (client_endpoint c) e (same_made i p c at there)
+      (has_ended (self_of (client_endpoint c)) e (AccountsFor c) ended.0) ended.1 ended.4
 
   pub clients_left : AreLeftBy (client_endpoints run) es
   clients_left = pairs_from IsLeftBy (client_endpoints run) es (long ∙ sym (length-map run endpoint_of)) (λ i d e at at'.
@@ -190,6 +196,8 @@ module _ (run : Run) (places : List (Option client.Client)) (es : List Ending) (
             ∙ element_or (λ (x : ClientTrace). x.trace.events.items) (map client_trace_of es) i (client_trace_of e) [] there ∙ ended.2,
         ap (λ l. get_or (map (λ (x : ClientTrace). x.«record».items) l) i []) is
             ∙ element_or (λ (x : ClientTrace). x.«record».items) (map client_trace_of es) i (client_trace_of e) [] there ∙ ended.3,
+        λ cut. ap (λ l. get_or (map (λ (x : ClientTrace). x.trace.is_cut) l) i false) is
+            ∙ element_or (λ (x : ClientTrace). x.trace.is_cut) (map client_trace_of es) i (client_trace_of e) false there ∙ ended.5 cut,
       )
 
   -- what each client left stands in the traces

@@ -26,13 +26,13 @@ use Rattle.zchannels.specs.Woven.{in_rings, IsWoven, out_rings}
 use Rattle.zchannels.specs.Reported.{AreReported, in_lists, out_lists}
 use Rattle.zchannels.proofs.Said.{within}
 use Rattle.zthreads.specs.declared.endpoint.Ending.{Ending}
-use Rattle.zthreads.specs.Endpoints.{Each, IsOutside, TreeStamped}
-use Rattle.zthreads.specs.Endings.{AccountsAtEnd}
+use Rattle.zthreads.specs.Endpoints.{Each, IsOutside, TreeDeed, TreeStamped}
+use Rattle.zthreads.specs.Endings.{AccountsAtEnd, HasEndedBy}
 use Rattle.zthreads.proofs.Endings.{neither}
-use Rattle.zrun.specs.Left.{AreLeft, AreWired, by_place, client_trace_of, is_left_cut, is_left_lost, self_at}
-use Rattle.zrun.specs.Gone.{HasGone}
-use Rattle.zrun.proofs.Accounts.{accounted, Linked, Reports, went}
-use Rattle.zrun.proofs.Elements.{choose, element_left, element_map, element_or, element_right}
+use Rattle.zrun.specs.Left.{AreLeft, AreLinked, AreWired, by_place, client_trace_of, is_left_cut, is_left_lost, self_at}
+use Rattle.zrun.specs.Gone.{Went}
+use Rattle.zrun.proofs.Accounts.{accounted, Reports, went}
+use Rattle.zrun.proofs.Elements.{choose, chosen_weaker, element_left, element_map, element_or, element_right}
 use Rattle.zrun.proofs.Stands.{client_at, client_here, master_at, same_at, server_at, server_here}
 
 -- what was kept of all, one behind the other
@@ -76,7 +76,7 @@ module _ (es : List Ending) (wired : AreWired es) (outs : List (Vec (Tx TreeStam
       j b.ins (element_map (λ (e : Ending). e.ins) es j b at_b)))
       (element_map taken_of b.ins.items i rx at_rx)
 
-  pub are_linked : Linked es
+  pub are_linked : AreLinked es
   are_linked =
       record {
         ins = λ i e at.
@@ -97,14 +97,19 @@ none_of_all test m ss cs none =
     let nowhere : list_any test (by_place m ss cs) ≡ false = rw first.0 (any_both test ss cs rest.0 rest.1) in
     none_passes test (by_place m ss cs) nowhere
 
--- where nothing is lost, all processes went by their tables
-pub gone : (last : ℕ) (m : Ending) (ss cs : List Ending) → Linked (by_place m ss cs) → is_left_lost m ss cs ≡ false
-    → AreLeft last (length cs) (by_place m ss cs) → ∥ HasGone last (length cs) (by_place m ss cs) ∥₁
-gone last m ss cs linked kept left =
+-- where nothing is lost, all processes went by their tables, by steps of which this holds too
+pub gone : (last : ℕ) (m : Ending) (ss cs : List Ending) (P : ℕ → Ending → List TreeDeed → Type 0) → AreLinked (by_place m ss cs)
+    → is_left_lost m ss cs ≡ false → Each (λ i e. HasEndedBy (self_at last (length cs) i) e (P i e)) (by_place m ss cs)
+    → ∥ ((deeds : Process → List TreeDeed) × Went last (length cs) (by_place m ss cs) deeds
+    × ((i : ℕ) (e : Ending) → get_elem? (by_place m ss cs) i ≡ some e → P i e (deeds (process_at i)))) ∥₁
+gone last m ss cs P linked kept left =
     let es = by_place m ss cs in
-    ∥∥₁_map (choose (λ i e d. AccountsAtEnd (self_at last (length cs) i) e d) es
-    (λ i e at. left i e at (none_of_all (λ (e : Ending). e.is_lost) m ss cs kept i e at)))
-    (λ ds. went last (length cs) es ds.0 linked ds.1)
+    let Q : ℕ → Ending → List TreeDeed → Type 0 = λ i e d. AccountsAtEnd (self_at last (length cs) i) e d in
+    let both : ℕ → Ending → List TreeDeed → Type 0 = λ i e d. Q i e d × P i e d in
+    ∥∥₁_map (choose both es
+    (λ i e at. ∥∥₁_map (left i e at (none_of_all (λ (e : Ending). e.is_lost) m ss cs kept i e at)) (λ x. (x.0, (x.1, x.2)))))
+    (λ ds. went last (length cs) es ds.0 linked (chosen_weaker both Q es ds.0 ds.1 (λ i e d two. two.0)) P
+    (chosen_weaker both P es ds.0 ds.1 (λ i e d two. two.1)))
 
 -- a number is below a bound, or not
 pub below : (i n : ℕ) → (i < n) ⊎ (n ≤ i)
@@ -183,7 +188,7 @@ module _ (last : ℕ) (m : Ending) (ss cs : List Ending) (t : Traces) (all_serve
       (below k MAX_SERVERS)
   no_events (Client c) out = none_beyond (λ (client : ClientTrace). client.trace.events.items) c out
 
-  pub lawful : Linked es → AreLeft last (length cs) es → is_left_cut m ss cs ≡ false → ∥ AreLawful t ∥₁
+  pub lawful : AreLinked es → AreLeft last (length cs) es → is_left_cut m ss cs ≡ false → ∥ AreLawful t ∥₁
   lawful linked left uncut =
       let whole = none_of_all (λ (e : Ending). e.trace.is_cut) m ss cs uncut in
       let reports : Reports last (length cs) t es = record {

@@ -8,9 +8,9 @@ use Rattle.zthreads.specs.declared.endpoint.Endpoint.{Endpoint}
 use Rattle.zthreads.specs.declared.endpoint.Ending.{Ending}
 use Rattle.zthreads.specs.Endpoints.{Each}
 use Rattle.zthreads.specs.Endpoints as endpoint
-use Rattle.zthreads.specs.Endings.{HasEnded, LeavesNothing, SameWires}
+use Rattle.zthreads.specs.Endings.{HasEndedBy, LeavesNothing, SameWires}
 use Rattle.zthreads.specs.declared.caller.Caller.{Caller}
-use Rattle.zthreads.specs.Callers.{caller_endpoint, caller_id, caller_view, Began, MayRefuse, SameCaller, Turned}
+use Rattle.zthreads.specs.Callers.{AccountsForCaller, caller_endpoint, caller_id, caller_view, Began, MayRefuse, SameCaller, Turned}
 use Rattle.zchannels.specs.declared.halts.HaltSeat.{HaltSeat}
 use Rattle.zrun.specs.declared.client.Client.{Client}
 use Rattle.zrun.specs.declared.faults.Unanswered.{Unanswered}
@@ -80,6 +80,10 @@ pub record SameClient (a b : Client) : Type 0 where
   pub number : number_of b ≡ number_of a
   pub wiring : client_wiring b ≡ client_wiring a
 
+-- it set no bit of the halt word, and saw none
+abbrev pub SameSeat : Client → Client → Type 0
+SameSeat a b = halt_seat b ≡ halt_seat a
+
 -- it is the client of that number
 abbrev pub IsClientOf : Run → ℕ → Client → Type 0
 IsClientOf run number c = BelongsTo run c × (number_of c ≡ number)
@@ -88,13 +92,19 @@ IsClientOf run number c = BelongsTo run c × (number_of c ≡ number)
 abbrev pub AreIn : Run → List (Option Client) → Type 0
 AreIn run places = Each (λ i place. (c : Client) → place ≡ Some c → IsClientOf run i c) places
 
--- it is what the client left, without trace and record if that isn't traced; what one did that
--- isn't there is lost, and its trace is cut
+-- the steps account for the client as it is
+abbrev pub AccountsFor : Client → List endpoint.TreeDeed → Type 0
+AccountsFor c deeds = AccountsForCaller c.caller deeds
+
+-- it is what the client left, by steps that account for the client; it has no trace and no record
+-- if that isn't traced, and its trace is cut if that is cut. What one did that isn't there is lost,
+-- and its trace is cut
 abbrev pub IsLeftIn : Option Client → Ending → Type 0
 IsLeftIn None e = (e.trace.is_cut ≡ true) × (e.is_lost ≡ true)
 IsLeftIn (Some c) e =
-    HasEnded (endpoint.self_of (client_endpoint c)) e
+    HasEndedBy (endpoint.self_of (client_endpoint c)) e (AccountsFor c)
     × SameWires (client_endpoint c) e
     × (e.trace.events.items ≡ endpoint.trace_of (client_endpoint c))
     × (e.seen.items ≡ endpoint.seen_of (client_endpoint c))
     × (endpoint.is_traced_of (client_endpoint c) ≡ false → LeavesNothing e)
+    × (endpoint.is_cut_of (client_endpoint c) ≡ true → e.trace.is_cut ≡ true)

@@ -1,5 +1,5 @@
 -- What the processes of a run did, by what they left, with or without traces.
-use Rattle.std.specs.Prelude.{◌≡◌, ℕ, true, false, List, length}
+use Rattle.std.specs.Prelude.{◌≡◌, ℕ, List}
 use Rattle.zprotocol.specs.declared.process.Process.{Process}
 use Rattle.zprotocol.specs.server.Machine.{cached_tree}
 use Rattle.zprotocol.specs.Places.{process_at}
@@ -8,7 +8,7 @@ use Rattle.zprotocol.specs.traces.Lawful.{Begins}
 use Rattle.zthreads.specs.declared.endpoint.Ending.{Ending}
 use Rattle.zthreads.specs.Endpoints.{Each, opening_of, TreeDeed}
 use Rattle.zthreads.specs.Endings.{AccountsAtEnd}
-use Rattle.zrun.specs.Left.{AreLeft, self_at}
+use Rattle.zrun.specs.Left.{self_at}
 
 -- the steps (deeds) of all processes account for what they left
 pub record Went (last clients : ℕ) (endings : List Ending) (deeds : Process → List TreeDeed) : Type 0 where
@@ -18,11 +18,3 @@ pub record Went (last clients : ℕ) (endings : List Ending) (deeds : Process �
   pub linked : (from to : Process) → Begins (takes from (deeds to)) (puts to (deeds from))
   -- the steps of each sent and received what its ends of the channels say
   pub left : Each (λ i e. AccountsAtEnd (self_at last clients i) e (deeds (process_at i))) endings
-
--- there are such steps
-abbrev pub HasGone : ℕ → ℕ → List Ending → Type 0
-HasGone last clients endings = (deeds : Process → List TreeDeed) × Went last clients endings deeds
-
--- there are, if each is what the process of its index left
-abbrev pub GoesIfLeft : List Ending → ℕ → Type 0
-GoesIfLeft endings clients = (last : ℕ) → AreLeft last clients endings → ∥ HasGone last clients endings ∥₁

@@ -1,15 +1,18 @@
 -- What the processes of a run left: the master, the servers by number, and the clients by number.
 use Rattle.std.specs.Prelude.{◌≡◌, ℕ, Bool, true, false, ◌||◌, List, ◌∷◌, ◌++◌, length, map}
 use Rattle.std.specs.List.{list_any}
+use mathlib.Core.Option.{some}
+use lib.ListN.{get_elem?}
 use Rattle.std.specs.declared.alloc.Global.{Global}
 use Rattle.std.specs.declared.vec.Vec.{Vec}
 use Rattle.zprotocol.specs.declared.traces.trace.Trace.{Trace}
 use Rattle.zprotocol.specs.declared.traces.trace.ClientTrace.{ClientTrace}
 use Rattle.zprotocol.specs.declared.traces.trace.Traces.{Traces}
 use Rattle.zprotocol.specs.Places.{process_at}
+use Rattle.zprotocol.specs.traces.Lawful.{Begins}
 use Rattle.zchannels.specs.declared.rings.Tx.{Tx}
 use Rattle.zchannels.specs.declared.rings.Rx.{Rx}
-use Rattle.zchannels.specs.Rings.{ring_of_rx, ring_of_tx}
+use Rattle.zchannels.specs.Rings.{put_of, ring_of_rx, ring_of_tx, taken_of}
 use Rattle.zchannels.specs.Woven.{IsWoven}
 use Rattle.zthreads.specs.declared.endpoint.Ending.{Ending}
 use Rattle.zthreads.specs.Endpoints.{Each, opening_of, Self, TreeStamped}
@@ -32,6 +35,15 @@ abbrev pub AreWired : List Ending → Type 0
 AreWired endings =
     IsWoven (length endings) (map (λ (e : Ending). map ring_of_tx e.outs.items) endings)
     (map (λ (e : Ending). map ring_of_rx e.ins.items) endings)
+
+-- their channels show that what was received from each is a prefix of what was sent there
+pub record AreLinked (endings : List Ending) : Type 0 where
+  pub ins : (i : ℕ) (e : Ending) → get_elem? endings i ≡ some e → length e.ins.items ≡ length endings
+  pub outs : (i : ℕ) (e : Ending) → get_elem? endings i ≡ some e → length e.outs.items ≡ length endings
+  pub links : (i j : ℕ) (a b : Ending) (tx : Tx TreeStamped) (rx : Rx TreeStamped)
+      → get_elem? endings i ≡ some a → get_elem? a.outs.items j ≡ some tx
+      → get_elem? endings j ≡ some b → get_elem? b.ins.items i ≡ some rx
+      → Begins (taken_of rx) (put_of tx)
 
 -- one of their traces is cut
 abbrev pub is_left_cut : Ending → List Ending → List Ending → Bool

@@ -1,9 +1,12 @@
 -- What a clause says of a cluster without traces.
 use Rattle.std.specs.Prelude.{ℕ, false, List}
+use Rattle.zprotocol.specs.declared.process.Process.{Process}
 use Rattle.zthreads.specs.declared.endpoint.Ending.{Ending}
-use Rattle.zthreads.specs.Endpoints.{Each}
+use Rattle.zthreads.specs.Endpoints.{Each, TreeDeed}
 use Rattle.zthreads.specs.Endings.{LeavesNothing, SameWires}
-use Rattle.zrun.specs.Gone.{HasGone}
+use Rattle.zrun.specs.Gone.{Went}
+use Rattle.zrun.specs.Members.{AccountForAll}
+use Rattle.zrun.specs.declared.clients.Clients.{Clients}
 use Rattle.zrun.specs.declared.untraced.Untraced.{Untraced}
 use Rattle.zrun.specs.Clusters.{client_count, cluster_endpoints, cluster_run, last_server}
 use Rattle.zrun.specs.Origins.{Run}
@@ -24,8 +27,13 @@ abbrev pub KeepsNoTrace : Untraced → Type 0
 KeepsNoTrace u = AreTraced false (cluster_endpoints u.cluster)
 
 -- Its processes left their ends of its channels, with no trace and no record. There are steps of
--- each, by its table from the initial state, that sent and received what those ends say.
-abbrev pub RanLawfully : Untraced → Type 0
-RanLawfully u =
-    (endings : List Ending) × Pairs SameWires (cluster_endpoints u.cluster) endings × Each (λ i e. LeavesNothing e) endings
-    × HasGone (untraced_last u) (untraced_count u) endings
+-- each, by its table from the initial state, that sent and received what those ends say. What each
+-- received from another, that one sent. The steps of each client account for it as it was handed
+-- in: they led to its view and last timestamp, and sent and received what it had.
+abbrev pub RanLawfully : Untraced → Clients → Type 0
+RanLawfully u clients =
+    (endings : List Ending) × (deeds : Process → List TreeDeed)
+    × Pairs SameWires (cluster_endpoints u.cluster) endings
+    × Each (λ i e. LeavesNothing e) endings
+    × Went (untraced_last u) (untraced_count u) endings deeds
+    × AccountForAll clients deeds

@@ -5,11 +5,12 @@
 //! No clause says that a call is sent again: a body that never tries looks like one out of memory.
 //! So a test counts the resends in the trace.
 
-ghost use Rattle.std.specs.Prelude.{IfErr, IfOk};
+ghost use Rattle.std.specs.Prelude.{◌≡◌, IfErr, IfOk};
 ghost use Rattle.zthreads.specs.Callers.{SameLearnt};
+ghost use Rattle.zrun.specs.declared.asking.TheConstants.{TURNS};
 ghost use Rattle.zrun.specs.Asked.{AskedWithinInVain, AskedWithinUntil};
 ghost use Rattle.zrun.specs.Asked.{InsistedWithinInVain, InsistedWithinUntil};
-ghost use Rattle.zrun.specs.Clients.{BeganNothing, caller_of, SameClient};
+ghost use Rattle.zrun.specs.Clients.{BeganNothing, caller_of, SameClient, SameSeat};
 
 use crate::client::Client;
 use crate::faults::Unanswered;
@@ -18,6 +19,11 @@ use zcalls::{Call, Reply};
 
 /// How often a client calls `turn` between two looks at the clock. Then it sends the call again.
 pub const TURNS: u64 = 2_000;
+
+/// The limit, as a number.
+pub fn limit_is_a_number()
+    ensures { TURNS ≡ 2000 }
+{}
 
 impl Client {
     /// Invokes a call, and waits for its reply up to this limit. Meanwhile it sends the same call
@@ -34,6 +40,7 @@ impl Client {
         ensures refused { IfErr result (BeganNothing self.old self.new) }
         ensures learnt { SameLearnt (caller_of self.old) (caller_of self.new) }
         ensures same { SameClient self.old self.new }
+        ensures seat { SameSeat self.old self.new }
     {
         // The number of the call isn't needed here.
         let _ = self.begin(call)?;
@@ -56,6 +63,7 @@ impl Client {
         ensures unanswered { IfErr result (InsistedWithinInVain self.old self.new) }
         ensures learnt { SameLearnt (caller_of self.old) (caller_of self.new) }
         ensures same { SameClient self.old self.new }
+        ensures seat { SameSeat self.old self.new }
     {
         for _ in 0..u64::MAX {
             if is_over(clock, began, limit) {

@@ -6,9 +6,9 @@
 //! it is. A `Snapshot` of the run in the client would say the same, but then the prover doesn't
 //! find that a client may be sent to another thread.
 
-ghost use Rattle.std.specs.Prelude.{◌≡◌, IfErr, IfOk, OnErr, OnOk, Some, max};
+ghost use Rattle.std.specs.Prelude.{◌≡◌, ◌^◌, bit_or, IfErr, IfOk, OnErr, OnOk, Some, max};
 ghost use Rattle.std.specs.Arc.{arc_value};
-ghost use Rattle.zchannels.specs.HaltSeats.{IsSeatOf, Knows};
+ghost use Rattle.zchannels.specs.HaltSeats.{IsSeatOf, Knows, known_of};
 ghost use Rattle.zthreads.specs.Callers.{Began, caller_stamp, caller_view, IsUncut, MayRefuse};
 ghost use Rattle.zthreads.specs.Callers.{Retried, SameCaller, SameLearnt, Turned};
 
@@ -38,7 +38,7 @@ pub struct Client {
 
 impl Client {
     ghost use Rattle.zrun.specs.Clients.{BeganNothing, CalledInVain, CalledUntil, caller_of};
-    ghost use Rattle.zrun.specs.Clients.{halt_seat, number_of, SameClient, TurnedUntil};
+    ghost use Rattle.zrun.specs.Clients.{halt_seat, number_of, SameClient, SameSeat, TurnedUntil};
     ghost use Rattle.zrun.specs.Clients.{WaitedInVain};
     ghost use Rattle.zrun.specs.Asked.{CalledPatientlyInVain, CalledPatientlyUntil, GaveUp};
     ghost use Rattle.zrun.specs.Asked.{InsistedUntil, SentAgain};
@@ -51,6 +51,7 @@ impl Client {
         ensures whole { OnOk result (IsUncut (caller_of self.old) (caller_of self.new)) }
         ensures learnt { SameLearnt (caller_of self.old) (caller_of self.new) }
         ensures same { SameClient self.old self.new }
+        ensures seat { SameSeat self.old self.new }
     {
         self.caller.begin(call)
     }
@@ -62,6 +63,7 @@ impl Client {
         ensures whole { IsUncut (caller_of self.old) (caller_of self.new) }
         ensures learnt { SameLearnt (caller_of self.old) (caller_of self.new) }
         ensures same { SameClient self.old self.new }
+        ensures seat { SameSeat self.old self.new }
     {
         self.caller.turn()
     }
@@ -73,14 +75,17 @@ impl Client {
         ensures whole { OnOk result (IsUncut (caller_of self.old) (caller_of self.new)) }
         ensures learnt { SameLearnt (caller_of self.old) (caller_of self.new) }
         ensures same { SameClient self.old self.new }
+        ensures seat { SameSeat self.old self.new }
     {
         self.caller.retry()
     }
 
-    /// Halts a server by setting its bit. Once its thread sees the bit the server receives nothing
-    /// more, and the master hears that it is gone.
+    /// Halts a server by setting its bit, and no other bit. Once its thread sees the bit the server
+    /// receives nothing more, and the master hears that it is gone.
     pub fn halt(&mut self, server: ServerId)
         ensures set { Knows (halt_seat self.new) server }
+        ensures only { known_of (halt_seat self.new)
+            ≡ bit_or (known_of (halt_seat self.old)) (2 ^ server) }
         ensures caller { caller_of self.new ≡ caller_of self.old }
         ensures same { SameClient self.old self.new }
     {
@@ -124,6 +129,7 @@ impl Client {
             ≡ max (caller_stamp (caller_of self.old)) stamp }
         ensures idle { SameCaller (caller_of self.old) (caller_of self.new) }
         ensures same { SameClient self.old self.new }
+        ensures seat { SameSeat self.old self.new }
     {
         self.caller.learn(stamp);
     }
@@ -135,6 +141,7 @@ impl Client {
         ensures refused { IfErr result (BeganNothing self.old self.new) }
         ensures learnt { SameLearnt (caller_of self.old) (caller_of self.new) }
         ensures same { SameClient self.old self.new }
+        ensures seat { SameSeat self.old self.new }
     {
         // The number of the call isn't needed here.
         let _ = self.begin(call)?;
@@ -149,6 +156,7 @@ impl Client {
         ensures refused { IfErr result (BeganNothing self.old self.new) }
         ensures learnt { SameLearnt (caller_of self.old) (caller_of self.new) }
         ensures same { SameClient self.old self.new }
+        ensures seat { SameSeat self.old self.new }
     {
         // The number of the call isn't needed here.
         let _ = self.begin(call)?;
@@ -165,6 +173,7 @@ impl Client {
         ensures unanswered { IfErr result (GaveUp patience self.old self.new) }
         ensures learnt { SameLearnt (caller_of self.old) (caller_of self.new) }
         ensures same { SameClient self.old self.new }
+        ensures seat { SameSeat self.old self.new }
     {
         for _ in 0..patience.retries {
             self.send_again();
@@ -181,6 +190,7 @@ impl Client {
         ensures sent { SentAgain (caller_of self.old) (caller_of self.new) }
         ensures learnt { SameLearnt (caller_of self.old) (caller_of self.new) }
         ensures same { SameClient self.old self.new }
+        ensures seat { SameSeat self.old self.new }
     {
         match self.retry() {
             Ok(_) => {}
@@ -195,6 +205,7 @@ impl Client {
         ensures unanswered { IfErr result (WaitedInVain turns self.old self.new) }
         ensures learnt { SameLearnt (caller_of self.old) (caller_of self.new) }
         ensures same { SameClient self.old self.new }
+        ensures seat { SameSeat self.old self.new }
     {
         for _ in 0..turns {
             match self.turn() {

@@ -6,7 +6,7 @@
 //! memory. `put` requires a client of this run (`BelongsTo`), which `take` ensures and each call
 //! preserves (`SameClient`).
 
-ghost use Rattle.std.specs.Prelude.{◌≡◌, ◌≢◌, ◌<◌, ℕ, IfOk, IfSome, None, Some, length};
+ghost use Rattle.std.specs.Prelude.{◌≡◌, ◌≢◌, ◌<◌, ℕ, IfOk, IfSome, None, Some, is_some, length};
 ghost use Rattle.zthreads.specs.Callers.{caller_id};
 ghost use Rattle.zthreads.specs.Endpoints.{Each};
 ghost use Rattle.zrun.specs.Clients.{AreIn, BelongsTo, IsClientOf, number_of};
@@ -44,6 +44,17 @@ impl Clients {
             places.push(Some(introduce(post)))?;
         }
         Ok(Clients { places, run })
+    }
+
+    /// Returns whether the client of this number is here.
+    pub fn has(&self, id: ClientId) -> bool
+        ensures { result ≡ is_some (client_at self.now id) }
+    {
+        let place = id.number() as usize;
+        if place >= self.places.len() {
+            return false;
+        }
+        self.places[place].is_some()
     }
 
     /// Takes out the client of this number, if it is here.

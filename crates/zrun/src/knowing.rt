@@ -1,8 +1,7 @@
 //! Whether a run is known to be lawful, with or without traces.
 
-ghost use Rattle.std.specs.Prelude.{◌≡◌, true, false, IfOk, length};
-ghost use Rattle.zrun.specs.Gone.{GoesIfLeft};
-ghost use Rattle.zrun.specs.Left.{AreWiredUnlessLost, by_place, is_left_lost};
+ghost use Rattle.std.specs.Prelude.{◌≡◌, true, false, IfOk};
+ghost use Rattle.zrun.specs.Left.{AreLinked, AreWiredUnlessLost, by_place, is_left_lost};
 
 use crate::keeping::{is_any_lost, keep, keep_clients, keep_servers};
 use std::alloc::Global;
@@ -22,8 +21,8 @@ pub(crate) fn is_known(
     clients: Vec<Ending>,
 ) -> Result<bool, Memory>
     requires { AreWiredUnlessLost master servers.items clients.items }
-    ensures lawful { IfOk result (λ is_known. is_known ≡ true
-        → GoesIfLeft (by_place master servers.items clients.items) (length clients.items)) }
+    ensures linked { IfOk result (λ is_known. is_known ≡ true
+        → AreLinked (by_place master servers.items clients.items)) }
     ensures lost { IfOk result (λ is_known.
         is_left_lost master servers.items clients.items ≡ true → is_known ≡ false) }
 {

@@ -69,8 +69,9 @@ impl Untraced {
     ghost use Rattle.zrun.specs.Untraced.{RanLawfully, untraced_count, untraced_run};
 
     /// Ends all threads, and takes the clients back. Returns whether every process is known to have
-    /// followed its table to the end, over FIFO channels. It isn't known if a client isn't among
-    /// `clients`, if there was no memory for a last message, or if a timestamp was the last one.
+    /// followed its table to the end, over FIFO channels, and each client to what it knows now. It
+    /// isn't known if a client isn't among `clients`, if there was no memory for a last message, or
+    /// if a timestamp was the last one.
     ///
     /// The only error is out of memory. Then too all threads have ended.
     pub fn end<R: Threads>(
@@ -81,7 +82,8 @@ impl Untraced {
         clients: Clients,
     ) -> Result<bool, Memory>
         requires own { clients_run clients ≡ untraced_run self }
-        ensures lawful { IfOk result (λ is_known. is_known ≡ true → ∥ RanLawfully self ∥₁) }
+        ensures lawful { IfOk result (λ is_known.
+            is_known ≡ true → ∥ RanLawfully self clients ∥₁) }
         ensures all { IfOk result (λ is_known.
             is_known ≡ true → HasAll (untraced_count self) clients) }
     {

@@ -51,6 +51,17 @@ master_stood d s learnt front is h none =
     subst (λ (x : TreeStanding). Stands d x None (pending d)) (at_master s (subst (λ (p : Process). can_stand p s ≡ true) is h.fits))
     (subst (λ (t : TreeTaken). Stands d s t (pending d)) (none_if front none) h.at)
 
+-- where a client is
+at_client : (c : ℕ) (s : TreeStanding) → can_stand (Client c) s ≡ true → s ≡ AtClient (client_known s)
+at_client c (AtClient v) fits = refl
+at_client c (AtMaster v) fits = never fits
+at_client c (AtServer v) fits = never fits
+at_client c Out fits = never fits
+
+pub client_stood : (c : ℕ) (d : Endpoint) (s : TreeStanding) (learnt : ℕ) (front : TreeTaken) → process_of d ≡ Client c
+    → IsHosted d s learnt front → s ≡ AtClient (client_known s)
+client_stood c d s learnt front is h = at_client c s (subst (λ (p : Process). can_stand p s ≡ true) is h.fits)
+
 -- what a client hands out is what callers see
 no_answer : (c : ℕ) (o : Option (ℕ × Reply)) → answer_reported c o ≡ [] → None ≡ option_map (λ g. g.1) o
 no_answer c None e = refl

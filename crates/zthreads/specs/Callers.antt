@@ -1,5 +1,5 @@
 -- What a clause says of a client with its endpoint.
-use Rattle.std.specs.Prelude.{◌≡◌, ◌⊎◌, ◌<◌, ℕ, Bool, true, false, Option, Some, max, is_some}
+use Rattle.std.specs.Prelude.{◌≡◌, ◌⊎◌, ◌<◌, ℕ, Bool, true, false, List, Option, Some, max, is_some}
 use Rattle.zcalls.specs.declared.call.Call.{Call}
 use Rattle.zcalls.specs.declared.reply.Reply.{Reply}
 use Rattle.zprotocol.specs.declared.client.begin_fault.BeginFault.{BeginFault}
@@ -8,10 +8,12 @@ use Rattle.zprotocol.specs.client.Table.{begin_fault}
 use Rattle.zprotocol.specs.client.View.{ClientView}
 use Rattle.zprotocol.specs.declared.process.Process.{Process}
 use Rattle.zprotocol.specs.traces.Stamps.{next_stamp}
+use Rattle.zprotocol.specs.world.Does.{AtClient}
 use Rattle.zthreads.specs.declared.endpoint.Endpoint.{Endpoint}
-use Rattle.zthreads.specs.Endpoints.{IsCutForNeed, IsLostForNeed, SameBooks, TreeStamped, is_cut_of, stamp_of_endpoint}
+use Rattle.zthreads.specs.Endpoints.{Accounts, IsCutForNeed, IsLostForNeed, SameBooks, TreeDeed, TreeStamped, books_of, is_cut_of, pending}
+use Rattle.zthreads.specs.Endpoints.{self_of, stamp_of_endpoint}
 use Rattle.zthreads.specs.Steps.{Begins, Heard, HeardNothing, SendsAgain}
-use Rattle.zthreads.specs.Hosts.{host_endpoint, host_learnt, host_stamp, host_standing}
+use Rattle.zthreads.specs.Hosts.{host_endpoint, host_front, host_learnt, host_stamp, host_standing}
 use Rattle.zthreads.specs.Standings.{client_known}
 use Rattle.zthreads.specs.declared.caller.Caller.{Caller}
 
@@ -27,6 +29,14 @@ caller_view c = client_known (host_standing c.host)
 
 abbrev pub caller_stamp : Caller → ℕ
 caller_stamp c = host_stamp c.host
+
+-- The steps account for the client as it is: they led to its view and last timestamp. They received
+-- what it received, except a message that counts as still in its ring. They sent what it sent, with
+-- what waits to be sent.
+abbrev pub AccountsForCaller : Caller → List TreeDeed → Type 0
+AccountsForCaller c deeds =
+    Accounts (self_of (caller_endpoint c)) (books_of (caller_endpoint c)) (AtClient (caller_view c)) (host_front c.host)
+    (pending (caller_endpoint c)) deeds
 
 -- the last timestamp that it learned
 abbrev pub learnt_of : Caller → ℕ

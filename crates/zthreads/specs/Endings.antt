@@ -8,7 +8,7 @@ use Rattle.zprotocol.specs.Places.{process_at}
 use Rattle.zchannels.specs.Rings.{put_of, ring_of_rx, ring_of_tx, taken_of}
 use Rattle.zthreads.specs.declared.endpoint.Endpoint.{Endpoint}
 use Rattle.zthreads.specs.declared.endpoint.Ending.{Ending}
-use Rattle.zthreads.specs.Endpoints.{TreeDeed, TreeStanding, TreeTaken, Each, IsOutside, IsSettled, Self, Stands, is_cut_of, is_lost_of, pending, self_of}
+use Rattle.zthreads.specs.Endpoints.{Accounts, TreeDeed, TreeStanding, TreeTaken, Each, IsOutside, IsSettled, Self, books_of, is_cut_of, is_lost_of, pending, self_of}
 use Rattle.zthreads.specs.Untraced.{RecordsNothing}
 
 -- The steps of a process account for what its endpoint left. What they received from each channel
@@ -26,9 +26,15 @@ pub record AccountsAtEnd (who : Self) (e : Ending) (deeds : List TreeDeed) : Typ
 abbrev pub HasEnded : Self → Ending → Type 0
 HasEnded who e = e.is_lost ≡ false → ∥ ((deeds : List TreeDeed) × AccountsAtEnd who e deeds) ∥₁
 
--- what the endpoint accounted for is accounted for at the end
+-- the same, and this holds of these steps
+abbrev pub HasEndedBy : Self → Ending → (List TreeDeed → Type 0) → Type 0
+HasEndedBy who e P = e.is_lost ≡ false → ∥ ((deeds : List TreeDeed) × AccountsAtEnd who e deeds × P deeds) ∥₁
+
+-- steps that account for the endpoint account for what it leaves, unless that is lost
 abbrev pub KeepsAtEnd : Endpoint → Ending → Type 0
-KeepsAtEnd d e = (s : TreeStanding) (t : TreeTaken) → Stands d s t (pending d) → HasEnded (self_of d) e
+KeepsAtEnd d e =
+    (s : TreeStanding) (t : TreeTaken) (deeds : List TreeDeed) → e.is_lost ≡ false
+    → Accounts (self_of d) (books_of d) s t (pending d) deeds → AccountsAtEnd (self_of d) e deeds
 
 -- if all messages are on their channels, its trace is cut exactly if it was before
 abbrev pub IsCutAsBefore : Endpoint → Ending → Type 0

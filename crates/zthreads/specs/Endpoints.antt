@@ -177,6 +177,16 @@ HasTaken a b t u = (s : TreeStanding) (waits : List TreePost) → Stands a s t w
 abbrev pub HasPut : Endpoint → Endpoint → List TreePost → List TreePost → Type 0
 HasPut a b posts rest = (s : TreeStanding) (t : TreeTaken) → Stands a s t posts → Stands b s t rest
 
+-- the same steps account for it, with `rest` of `posts` left to send
+abbrev pub PutsOn : Endpoint → Endpoint → List TreePost → List TreePost → Type 0
+PutsOn a b posts rest =
+    (s : TreeStanding) (t : TreeTaken) (deeds : List TreeDeed)
+    → Accounts (self_of a) (books_of a) s t posts deeds → Accounts (self_of b) (books_of b) s t rest deeds
+
+-- the same steps account for it, with the same left to send
+abbrev pub StaysSo : Endpoint → Endpoint → Type 0
+StaysSo a b = (waits : List TreePost) → PutsOn a b waits waits
+
 -- the same, once the caller has seen what it was to see
 abbrev pub HasReported : Endpoint → Endpoint → History → Type 0
 HasReported a b reported =

@@ -1,5 +1,5 @@
 -- What a clause says of a process with its endpoint.
-use Rattle.std.specs.Prelude.{◌≡◌, ℕ, [], max, Ok}
+use Rattle.std.specs.Prelude.{◌≡◌, ℕ, List, [], max, Ok}
 use Rattle.zprotocol.specs.declared.master.order.Order.{Order}
 use Rattle.zprotocol.specs.declared.process.Process.{Process}
 use Rattle.zprotocol.specs.declared.process.Process.TheVariants.{Client}
@@ -13,7 +13,8 @@ use Rattle.zactor.specs.declared.handed.Handed.{Handed}
 use Rattle.zactor.specs.Acting.{handed_by}
 use Rattle.zthreads.specs.declared.endpoint.Endpoint.{Endpoint}
 use Rattle.zthreads.specs.declared.host.Host.{Host}
-use Rattle.zthreads.specs.Endpoints.{IsEntered, process_of, SameBooks, stamp_of_endpoint, TreeStamped, TreeStanding, TreeTaken}
+use Rattle.zthreads.specs.Endpoints.{Accounts, books_of, IsEntered, pending, process_of, SameBooks, self_of, stamp_of_endpoint}
+use Rattle.zthreads.specs.Endpoints.{TreeDeed, TreeStamped, TreeStanding, TreeTaken}
 use Rattle.zthreads.specs.Hosting.{Did, IsUndone}
 
 -- its endpoint, its state, and the last timestamp that it learned
@@ -29,6 +30,12 @@ host_learnt h = h.learnt
 -- a message that it received, and that counts as still in its ring
 abbrev pub host_front : Host → TreeTaken
 host_front h = h.front
+
+-- the steps account for it as it is: they led to its state and last timestamp, they received what it
+-- received, except what counts as still in its ring, and sent what it sent, with what waits to be sent
+abbrev pub AccountsForHost : Host → List TreeDeed → Type 0
+AccountsForHost h deeds =
+    Accounts (self_of h.endpoint) (books_of h.endpoint) h.actor h.front (pending h.endpoint) deeds
 
 -- the last timestamp that it knows
 abbrev pub host_stamp : Host → ℕ

@@ -10,7 +10,7 @@ ghost use Rattle.zprotocol.specs.declared.process.Process.TheVariants.{Client};
 ghost use Rattle.zprotocol.specs.world.Does.{AtClient};
 ghost use Rattle.zthreads.specs.Endpoints.{is_cut_of, is_traced_of, IsAt, process_of, SameEndpoint};
 ghost use Rattle.zthreads.specs.Endpoints.{seen_of, self_of, stamp_of_endpoint, trace_of};
-ghost use Rattle.zthreads.specs.Endings.{HasEnded, IsCutAsBefore, IsLostAsBefore};
+ghost use Rattle.zthreads.specs.Endings.{HasEnded, HasEndedBy, IsCutAsBefore, IsLostAsBefore};
 ghost use Rattle.zthreads.specs.Endings.{LeavesNothing, SameWires};
 ghost use Rattle.zthreads.specs.Hosts.{host_endpoint};
 
@@ -40,7 +40,7 @@ pub struct Caller {
 impl Caller {
     ghost use Rattle.zthreads.specs.Callers.{Began, IsUncut, IsUnlost, Retried, SameCaller, Turned};
     ghost use Rattle.zthreads.specs.Callers.{caller_endpoint, caller_id, caller_stamp, caller_view};
-    ghost use Rattle.zthreads.specs.Callers.{learnt_of, MayRefuse, SameLearnt};
+    ghost use Rattle.zthreads.specs.Callers.{AccountsForCaller, learnt_of, MayRefuse, SameLearnt};
 
     /// Returns the client with an endpoint that has done nothing.
     pub fn new(id: ClientId, endpoint: Endpoint, core: ClientCore) -> Caller
@@ -179,6 +179,8 @@ impl Caller {
     pub fn into_ending(self) -> (ClientId, Ending)
         ensures id { result.0 ≡ caller_id self }
         ensures ended { HasEnded (self_of (caller_endpoint self)) result.1 }
+        ensures steps { HasEndedBy (self_of (caller_endpoint self)) result.1
+            (AccountsForCaller self) }
         ensures wires { SameWires (caller_endpoint self) result.1 }
         ensures trace { result.1.trace.events.items ≡ trace_of (caller_endpoint self) }
         ensures seen { result.1.seen.items ≡ seen_of (caller_endpoint self) }

@@ -133,6 +133,7 @@ impl Endpoint {
         ensures trace { result.trace.events.items ≡ trace_of self }
         ensures seen { result.seen.items ≡ seen_of self }
         ensures cut { is_cut_of self ≡ true → result.trace.is_cut ≡ true }
+        ensures lost { is_lost_of self ≡ true → result.is_lost ≡ true }
         ensures whole { IsCutAsBefore self result }
         ensures kept { IsLostAsBefore self result }
         ensures untraced { is_traced_of self ≡ false → LeavesNothing result }
@@ -149,6 +150,7 @@ impl Endpoint {
         ensures trace { result.trace.events.items ≡ trace_of self }
         ensures seen { result.seen.items ≡ seen_of self }
         ensures cut { is_cut_of self ≡ true → result.trace.is_cut ≡ true }
+        ensures lost { is_lost_of self ≡ true → result.is_lost ≡ true }
         ensures whole { IsCutAsBefore self result }
         ensures kept { IsLostAsBefore self result }
         ensures untraced { is_traced_of self ≡ false → LeavesNothing result }

@@ -12,7 +12,7 @@ ghost use Rattle.zprotocol.specs.traces.Deeds.{refuses};
 ghost use Rattle.zactor.specs.Acting.{has_stopped, message_of};
 ghost use Rattle.zthreads.specs.Endpoints.{HasRoom, is_cut_of, is_traced_of, IsAt, link_count};
 ghost use Rattle.zthreads.specs.Endpoints.{process_of, SameEndpoint, seen_of, self_of, trace_of, wires_of};
-ghost use Rattle.zthreads.specs.Endings.{HasEnded, IsCutAsBefore, IsLostAsBefore};
+ghost use Rattle.zthreads.specs.Endings.{HasEnded, HasEndedBy, IsCutAsBefore, IsLostAsBefore};
 ghost use Rattle.zthreads.specs.Endings.{LeavesNothing, SameWires};
 ghost use Rattle.zthreads.specs.Hosting.{Fits, IsHosted};
 ghost use Rattle.zthreads.specs.Waiting.{SeesNothing, SeesSome};
@@ -41,7 +41,7 @@ pub struct Host {
 impl Host {
     ghost use Rattle.zthreads.specs.Hosts.{DidIdle, Gave, GaveUp, host_endpoint, host_front, host_learnt};
     ghost use Rattle.zthreads.specs.Hosts.{host_stamp, host_standing, IsClientHost, Received};
-    ghost use Rattle.zthreads.specs.Hosts.{RefusesOrder};
+    ghost use Rattle.zthreads.specs.Hosts.{AccountsForHost, RefusesOrder};
 
     /// Returns a process with an endpoint that has done nothing.
     pub fn new(endpoint: Endpoint, actor: Actor) -> Host
@@ -220,6 +220,7 @@ impl Host {
     /// Returns what it leaves, once it does nothing more.
     pub fn into_ending(self) -> Ending
         ensures ended { HasEnded (self_of (host_endpoint self)) result }
+        ensures steps { HasEndedBy (self_of (host_endpoint self)) result (AccountsForHost self) }
         ensures wires { SameWires (host_endpoint self) result }
         ensures trace { result.trace.events.items ≡ trace_of (host_endpoint self) }
         ensures seen { result.seen.items ≡ seen_of (host_endpoint self) }

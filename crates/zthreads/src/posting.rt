@@ -2,8 +2,8 @@
 
 ghost use Rattle.std.specs.Prelude.{◌≡◌, ◌∷◌, [], false, None, IfNone, IfSome, IsTrue};
 ghost use Rattle.zprotocol.specs.world.Does.{last_post};
-ghost use Rattle.zthreads.specs.Endpoints.{HasPut, is_cut_of, IsSettled, Keeps, pending, SameBooks};
-ghost use Rattle.zthreads.specs.Endpoints.{SameEndpoint, stamp_of_endpoint};
+ghost use Rattle.zthreads.specs.Endpoints.{HasPut, is_cut_of, IsSettled, pending, PutsOn, SameBooks};
+ghost use Rattle.zthreads.specs.Endpoints.{SameEndpoint, stamp_of_endpoint, StaysSo};
 
 use crate::endpoint::Endpoint;
 use zprotocol::{Message, Process};
@@ -14,6 +14,7 @@ impl Endpoint {
     /// rest waits.
     pub fn settle(&mut self) -> bool
         ensures stands { HasPut self.old self.new (pending self.old) (pending self.new) }
+        ensures steps { PutsOn self.old self.new (pending self.old) (pending self.new) }
         ensures all { IsTrue result → IsSettled self.new }
         ensures settled { IsSettled self.old → IsSettled self.new }
         ensures same { SameEndpoint self.old self.new }
@@ -32,7 +33,7 @@ impl Endpoint {
         ensures none { IfNone result ((pending self.old ≡ []) × (self.new.out.posts ≡ [])) }
         ensures some { IfSome result (λ post. pending self.old ≡ post ∷ self.new.out.posts) }
         ensures held { self.new.held ≡ None }
-        ensures keeps { Keeps self.old self.new }
+        ensures steps { StaysSo self.old self.new }
         ensures same { SameEndpoint self.old self.new }
         ensures books { SameBooks self.old self.new }
     {
@@ -46,7 +47,7 @@ impl Endpoint {
     // its message is dropped.
     fn put_on_link(&mut self, to: Process, message: Message<Snapshot>) -> bool
         requires { self.old.held ≡ None }
-        ensures stands { HasPut self.old self.new
+        ensures steps { PutsOn self.old self.new
             ((to, message) ∷ self.old.out.posts) (pending self.new) }
         ensures held { IsTrue result → self.new.held ≡ None }
         ensures out { self.new.out ≡ self.old.out }

@@ -1,7 +1,7 @@
 use Rattle.std.proofs.Common.{rules, ◌≡◌, ◌||◌, Bool, false, sym, subst}
 use Rattle.zthreads.specs.declared.endpoint.Ending.{Ending}
 use Rattle.zrun.specs.Left.{by_place, is_left_lost}
-use Rattle.zrun.proofs.Whole.{are_linked, gone, kept_all, wired_lists}
+use Rattle.zrun.proofs.Whole.{are_linked, kept_all, wired_lists}
 use Rattle.zrun.proofs.knowing.is_known.Goals as goal
 
 pub are_reported-requires : goal.are_reported-requires
@@ -20,8 +20,8 @@ are_reported-requires c =
     c.if-master-is_any_lost.false in
     wired_lists (by_place m ss cs) c.keep_clients.new.mesh.outs.items c.keep_clients.new.mesh.ins.items outs ins (c.requires kept)
 
-pub returns-clause-lawful : goal.returns-clause-lawful
-returns-clause-lawful c is last left =
+pub returns-clause-linked : goal.returns-clause-linked
+returns-clause-linked c is =
     let m = c.args.master in
     let ss = c.args.servers.items in
     let cs = c.args.clients.items in
@@ -34,9 +34,8 @@ returns-clause-lawful c is last left =
     let kept : is_left_lost m ss cs ≡ false =
     subst (λ (b : Bool × Bool). (m.is_lost || (b.0 || b.1)) ≡ false) (λ k. (c.is_any_lost.ensures k, c.is_any_lost-2.ensures k))
     c.if-master-is_any_lost.false in
-    let linked = are_linked (by_place m ss cs) (c.requires kept) c.keep_clients.new.mesh.outs.items c.keep_clients.new.mesh.ins.items
-    outs ins (c.are_reported.ensures is) in
-    gone last m ss cs linked kept left
+    are_linked (by_place m ss cs) (c.requires kept) c.keep_clients.new.mesh.outs.items c.keep_clients.new.mesh.ins.items
+    outs ins (c.are_reported.ensures is)
 
 pub returns-clause-lost : goal.returns-clause-lost
 returns-clause-lost c = search rules

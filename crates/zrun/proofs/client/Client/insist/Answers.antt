@@ -13,4 +13,5 @@ loop-preserved c =
       subst (λ k. InsistedInVain c.args.patience.turns k c.args.self.now.caller c.wait.new.self.caller) up
           (c.loop.self.caller, c.send_again.new.self.caller, c.loop.invariant.1, sent.sent, c.in_default.ensures.unanswered.1),
       c.wait.ensures.learnt ∙ sent.learnt ∙ c.loop.invariant.2,
+      c.wait.ensures.seat ∙ sent.seat ∙ c.loop.invariant.3,
     )

@@ -1,5 +1,5 @@
 use Rattle.zthreads.specs.Callers.{SameLearnt}
-use Rattle.zrun.specs.Clients.{SameClient}
+use Rattle.zrun.specs.Clients.{SameClient, SameSeat}
 use Rattle.zrun.specs.Asked.{InsistedInVain}
 use Rattle.zrun.proofs.client.Client.insist.Given as goal
 
@@ -7,3 +7,4 @@ abbrev pub invariant-loop : goal.invariant-loop
 invariant-loop l =
     SameClient l.initial.self l.self × InsistedInVain l.patience.turns l.counter l.initial.self.caller l.self.caller
     × SameLearnt l.initial.self.caller l.self.caller
+    × SameSeat l.initial.self l.self

@@ -14,6 +14,7 @@ loop-preserved g c =
       subst (λ k. InsistedInVain TURNS k c.args.self.now.caller c.wait.new.self.caller) up
           (c.loop.self.caller, c.send_again.new.self.caller, c.loop.invariant.1, sent.sent, c.in_default.ensures.unanswered.1),
       c.wait.ensures.learnt ∙ sent.learnt ∙ c.loop.invariant.2,
+      c.wait.ensures.seat ∙ sent.seat ∙ c.loop.invariant.3,
     )
 
 pub returns-in-Ok-clause-reply : goal.returns-in-Ok-clause-reply

@@ -11,4 +11,5 @@ loop-preserved c =
       record { wiring = same.wiring ∙ c.loop.invariant.0.wiring; number = same.number ∙ c.loop.invariant.0.number },
       subst (λ k. TurnedInVain k c.args.self.now.caller c.turn.new.self.caller) up (was, c.loop.invariant.1, c.in-None.ensures.turned),
       c.turn.ensures.learnt ∙ c.loop.invariant.2,
+      c.turn.ensures.seat ∙ c.loop.invariant.3,
     )

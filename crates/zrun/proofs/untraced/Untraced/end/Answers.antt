@@ -1,7 +1,6 @@
 use Rattle.std.proofs.Common.{◌≡◌, ◌<◌, true, false, length, sym, ap, subst, ◌∙◌}
 use Rattle.std.specs.Prelude.{Result, Ok, Err, IfOk}
-use Rattle.zrun.specs.Gone.{GoesIfLeft}
-use Rattle.zrun.specs.Left.{by_place, is_left_lost}
+use Rattle.zrun.specs.Left.{AreLinked, by_place, is_left_lost}
 use Rattle.zrun.specs.Clusters.{cluster_endpoints}
 use Rattle.zrun.specs.Members.{HasAll}
 use Rattle.zrun.specs.Untraced.{RanLawfully, untraced_count}
@@ -26,10 +25,11 @@ returns-clause-lawful g c =
     let m = l.master in
     let ss = l.servers.items in
     let cs = l.clients.items in
-    both_ok c.is_known.result (λ known. is_left_lost m ss cs ≡ true → known ≡ false) (λ known. known ≡ true
-    → GoesIfLeft (by_place m ss cs) (length cs))
-    (λ known. known ≡ true → ∥ RanLawfully c.args.self ∥₁) c.is_known.ensures.lost c.is_known.ensures.lawful
-    (λ known never goes is. ran m ss cs known never is c.args.self l.ensures.servers l.ensures.left (goes is))
+    let given = c.args.clients in
+    both_ok c.is_known.result (λ known. is_left_lost m ss cs ≡ true → known ≡ false) (λ known. known ≡ true → AreLinked (by_place m ss cs))
+    (λ known. known ≡ true → ∥ RanLawfully c.args.self given ∥₁) c.is_known.ensures.lost c.is_known.ensures.linked
+    (λ known never linked is.
+    ran m ss cs known never is c.args.self given c.requires.own l.ensures.servers l.ensures.left l.ensures.kept (linked is))
 
 pub returns-clause-all : goal.returns-clause-all
 returns-clause-all g c =

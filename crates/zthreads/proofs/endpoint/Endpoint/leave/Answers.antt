@@ -1,4 +1,3 @@
-use mathlib.Core.Logic.{∥∥₁_map}
 use Rattle.std.proofs.Common.{◌||◌, refl, sym, ◌∙◌, subst}
 use Rattle.zthreads.specs.Endpoints.{Accounts, Self, books_of, self_of, pending}
 use Rattle.zthreads.specs.declared.endpoint.Ending.{Ending}
@@ -9,7 +8,7 @@ pub invariant_of-result : goal.invariant_of-result
 invariant_of-result c = record { kept = kept_at_end c.next_post-post.new.self c.is_some-waits.result }
 
 pub returns-clause-ended : goal.returns-clause-ended
-returns-clause-ended c s t h lost =
+returns-clause-ended c s t deeds lost a =
     let old = c.args.self in
     let d = c.next_post-post.new.self in
     let post = c.next_post-post.ensures in
@@ -25,8 +24,5 @@ returns-clause-ended c s t h lost =
     } in
     let none = if_none c.next_post-post.result post.none (sym c.is_some-waits.ensures ∙ unlost.1) in
     let who = same_self_of old d post.same in
-    ∥∥₁_map (post.keeps s t (pending old) h unlost.0) (λ a. (
-      a.0,
-      ended (self_of old) d e s t (pending old) a.0 (refl, refl, refl, refl) (λ whole. (neither d.is_cut waits whole).0)
-          none.0 (subst (λ (w : Self). Accounts w (books_of d) s t (pending old) a.0) who a.1),
-    ))
+    ended (self_of old) d e s t (pending old) deeds (refl, refl, refl, refl) (λ whole. (neither d.is_cut waits whole).0)
+    none.0 (subst (λ (w : Self). Accounts w (books_of d) s t (pending old) deeds) who (post.steps (pending old) s t deeds a))

@@ -1,4 +1,3 @@
-use mathlib.Core.Logic.{∥∥₁_map}
 use Rattle.std.proofs.Common.{◌<◌, ◌∷◌, ◌++◌, ◌∙◌, Option, Some, refl, ap, sym, subst, length, set, option_to_list, ◌≤◌, arith}
 use Rattle.zchannels.specs.Rings.{ring_of_tx}
 use Rattle.zthreads.specs.Endpoints.{self_of, books_of, Accounts, TreePost}
@@ -21,31 +20,25 @@ invariant_of-self-in-Err-clause-noticed c none =
     nothing_more d.outs.items k old c.put.new.self (at_index d.outs.items k old lt c.index_mut-out.ensures.value)
     c.in-Err.ensures.waits (d.noticed none)
 
-pub returns-then-place-len-clause-stands : goal.returns-then-place-len-clause-stands
-returns-then-place-len-clause-stands c s t h cut =
+pub returns-then-place-len-clause-steps : goal.returns-then-place-len-clause-steps
+returns-then-place-len-clause-steps c s t deeds a =
     let d = c.args.self.now in
     let beyond : length d.outs.items ≤ c.place-place.result = let n = c.if-place-len.true in let m = c.len.ensures
     in let o = d.outs.ok in omega arith in
-    ∥∥₁_map (h cut) (λ a. (
-      a.0,
-      subst (λ (w : Option TreePost). Accounts (self_of d) (books_of d) s t (option_to_list w ++ d.out.posts) a.0) (sym c.requires)
-          (out_lost (self_of d) (books_of d) s a.0 t c.args.to c.args.message d.out.posts c.place-place.result a.1 c.place-place.ensures.back beyond),
-    ))
+    subst (λ (w : Option TreePost). Accounts (self_of d) (books_of d) s t (option_to_list w ++ d.out.posts) deeds) (sym c.requires)
+    (out_lost (self_of d) (books_of d) s deeds t c.args.to c.args.message d.out.posts c.place-place.result a c.place-place.ensures.back beyond)
 
-pub returns-in-Ok-clause-stands : goal.returns-in-Ok-clause-stands
-returns-in-Ok-clause-stands c s t h cut =
+pub returns-in-Ok-clause-steps : goal.returns-in-Ok-clause-steps
+returns-in-Ok-clause-steps c s t deeds a =
     let d = c.args.self.now in
     let k = c.place-place.result in
     let old = c.index_mut-out.result.now in
     let lt : k < length d.outs.items = let n = c.if-place-len.false in let m = c.len.ensures in let o = d.outs.ok in omega arith in
     let at = at_index d.outs.items k old lt c.index_mut-out.ensures.value in
-    ∥∥₁_map (h cut) (λ a.
-    let more = out_more (self_of d) (books_of d) s a.0 t c.args.to c.args.message d.out.posts k old c.put.new.self a.1
-    at c.place-place.ensures.back c.in-Ok.ensures.ok in (
-      a.0,
-      subst (λ (w : Option TreePost). Accounts (self_of d) (record (books_of d) { outs = set d.outs.items k c.put.new.self })
-          s t (option_to_list w ++ d.out.posts) a.0) (sym c.requires) more,
-    ))
+    let more = out_more (self_of d) (books_of d) s deeds t c.args.to c.args.message d.out.posts k old c.put.new.self a
+    at c.place-place.ensures.back c.in-Ok.ensures.ok in
+    subst (λ (w : Option TreePost). Accounts (self_of d) (record (books_of d) { outs = set d.outs.items k c.put.new.self })
+    s t (option_to_list w ++ d.out.posts) deeds) (sym c.requires) more
 
 pub returns-in-Ok-clause-same : goal.returns-in-Ok-clause-same
 returns-in-Ok-clause-same c =
@@ -63,21 +56,18 @@ returns-in-Ok-clause-same c =
           d.outs.items k c.index_mut-out.result.now c.put.new.self lt c.index_mut-out.ensures.value c.put.ensures.ends;
     }
 
-pub returns-in-Err-clause-stands : goal.returns-in-Err-clause-stands
-returns-in-Err-clause-stands c s t h cut =
+pub returns-in-Err-clause-steps : goal.returns-in-Err-clause-steps
+returns-in-Err-clause-steps c s t deeds a =
     let d = c.args.self.now in
     let k = c.place-place.result in
     let old = c.index_mut-out.result.now in
     let lt : k < length d.outs.items = let n = c.if-place-len.false in let m = c.len.ensures in let o = d.outs.ok in omega arith in
     let at = at_index d.outs.items k old lt c.index_mut-out.ensures.value in
     let e = c.in-Err.ensures.err in
-    ∥∥₁_map (h cut) (λ a. (
-      a.0,
-      subst (λ (w : Option TreePost). Accounts (self_of d) (record (books_of d) { outs = set d.outs.items k c.put.new.self })
-          s t (option_to_list w ++ d.out.posts) a.0)
-          (ap (λ m. Some (c.args.to, m)) (sym (ap (λ x. x.1) e.0)) ∙ sym c.replace.ensures.after)
-          (out_same (self_of d) (books_of d) s a.0 t ((c.args.to, c.args.message) ∷ d.out.posts) k old c.put.new.self a.1 at e.1),
-    ))
+    subst (λ (w : Option TreePost). Accounts (self_of d) (record (books_of d) { outs = set d.outs.items k c.put.new.self })
+    s t (option_to_list w ++ d.out.posts) deeds)
+    (ap (λ m. Some (c.args.to, m)) (sym (ap (λ x. x.1) e.0)) ∙ sym c.replace.ensures.after)
+    (out_same (self_of d) (books_of d) s deeds t ((c.args.to, c.args.message) ∷ d.out.posts) k old c.put.new.self a at e.1)
 
 pub returns-in-Err-clause-same : goal.returns-in-Err-clause-same
 returns-in-Err-clause-same c =

@@ -1,10 +1,10 @@
 use Rattle.std.proofs.Common.{length}
-use Rattle.zthreads.specs.Endpoints.{HasPut, IsSettled, SameBooks, SameEndpoint, pending}
+use Rattle.zthreads.specs.Endpoints.{IsSettled, PutsOn, SameBooks, SameEndpoint, pending}
 use Rattle.zthreads.proofs.endpoint.Endpoint.settle.Given as goal
 
 abbrev pub invariant-loop-to : goal.invariant-loop-to
 invariant-loop-to l =
-    HasPut l.initial.self l.self (pending l.initial.self) (pending l.self)
+    PutsOn l.initial.self l.self (pending l.initial.self) (pending l.self)
     × SameEndpoint l.initial.self l.self
     × SameBooks l.initial.self l.self
     × (IsSettled l.initial.self → IsSettled l.self)
