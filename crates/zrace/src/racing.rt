@@ -29,8 +29,8 @@ pub struct Finish {
 /// Runs a race over real threads, joins them, and audits the run.
 ///
 /// The audit is that of the traces of a run over the race's servers and clients. Each version is
-/// one that a client of that run received. The audit never refutes the run: it is ok, or a trace
-/// is cut, or memory ran out.
+/// one that a client of that run received: unless a trace is cut, it is in the client's record. The
+/// audit never refutes the run: it is ok, or a trace is cut, or memory ran out.
 pub fn race<R: Threads + Wait + Copy + Send + 'static>(
     rt: R,
     alloc: Global,
