@@ -8,8 +8,10 @@
 ghost use Rattle.std.specs.Prelude.{◌≡◌};
 ghost use Rattle.zfront.specs.declared.limits.TheConstants.{MAX_KEPT};
 
+use zjute::MAX_FRAME;
+
 /// The most bytes of partial frames that are stored for all connections together.
-pub const MAX_KEPT: usize = 16_777_216;
+pub const MAX_KEPT: usize = 16 * (MAX_FRAME as usize + 1);
 
 /// The limit, as a number.
 pub fn limit_is_a_number()

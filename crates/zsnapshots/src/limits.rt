@@ -7,9 +7,11 @@
 ghost use Rattle.std.specs.Prelude.{◌≡◌};
 ghost use Rattle.zsnapshots.specs.declared.limits.TheConstants.{CHUNK, MAX_ROW};
 
+use zwire::records::MAX_ROW_BYTES;
+
 /// The greatest number of bytes after a row's length: those of a node with the longest path and the
 /// most data.
-pub const MAX_ROW: u32 = 66_648;
+pub const MAX_ROW: u32 = MAX_ROW_BYTES - 4;
 
 /// A chunk of a snapshot's text ends with the record that reaches this length.
 pub const CHUNK: usize = 65_536;

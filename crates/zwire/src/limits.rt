@@ -1,5 +1,8 @@
 //! The limit of a frame. It is this project's profile.
 
-/// The greatest number of bytes after a frame's length: 8 MiB. The longest call, a multi of 64
-/// parts with all of their data, has about half of them.
-pub const MAX_FRAME: u32 = 8_388_608;
+use zcalls::MAX_PARTS;
+use ztree::MAX_DATA;
+
+/// The greatest number of bytes after a frame's length: 8 MiB. The longest call, a multi with the
+/// most parts and the most data in each, has about half of them.
+pub const MAX_FRAME: u32 = 2 * (MAX_PARTS * MAX_DATA) as u32;
