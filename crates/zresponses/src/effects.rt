@@ -12,7 +12,6 @@ mod answering;
 mod frames;
 mod greeting;
 mod looking;
-mod numbers;
 mod replying;
 mod rows;
 mod seeing;

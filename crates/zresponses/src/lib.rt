@@ -16,6 +16,7 @@ mod answers;
 mod clock;
 pub mod effects;
 pub mod laws;
+mod numbers;
 mod parts;
 mod results;
 mod rows;

@@ -4,6 +4,7 @@ ghost use Rattle.std.specs.Prelude.{◌≡◌};
 ghost use Rattle.zresponses.specs.Stats as reported;
 
 use crate::clock::{Clock, Now};
+use crate::numbers::long_of;
 use zcalls::Create;
 use ztree::Stat;
 
@@ -51,13 +52,6 @@ fn time_of(clock: &Clock, ticks: u64) -> i64
 {
     let since = ticks.wrapping_mul(u64::from(clock.tick.millis()));
     clock.started.wrapping_add(since).cast_signed()
-}
-
-// Returns the low 64 bits of a number.
-fn long_of(number: u64) -> i64
-    ensures { result ≡ reported.long_of number }
-{
-    number.cast_signed()
 }
 
 // Returns the low 32 bits of a number.

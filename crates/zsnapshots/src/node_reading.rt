@@ -1,14 +1,14 @@
 //! Nodes, read from the front of bytes with what follows them.
 
-ghost use Rattle.zcodec.specs.Readers.{Reads, Gives};
-ghost use Rattle.zwire.specs.Fields.{three, four};
+ghost use Rattle.zcodec.specs.Readers.{Gives};
 ghost use Rattle.zsnapshots.specs.Rows.{node, node_text};
 
 use std::alloc::Global;
-use zcodec::{Fault, ReadError, u64_at};
+use zcodec::ReadError;
 use zpath::Path;
 use ztree::{Node, Zxid};
 use zwire::records::{content_of, path_of};
+use zwire::{four_at, three_at};
 
 /// Reads a node with its path.
 #[tactic(auto, unfolding(crate::specs::Rows::node_text))]
@@ -43,23 +43,4 @@ fn node_of(alloc: Global, bytes: &[u8]) -> Result<(Node, &[u8]), ReadError>
         ttl,
     };
     Ok((node, rest))
-}
-
-// Reads three numbers.
-fn three_at(bytes: &[u8]) -> Result<(u64, u64, u64, &[u8]), Fault>
-    ensures { Reads (λ x. ((x.0, (x.1, x.2)), x.3.now)) result (three.read bytes.now) }
-{
-    let (first, rest) = u64_at(bytes)?;
-    let (second, rest) = u64_at(rest)?;
-    let (third, rest) = u64_at(rest)?;
-    Ok((first, second, third, rest))
-}
-
-// Reads four numbers.
-fn four_at(bytes: &[u8]) -> Result<(u64, u64, u64, u64, &[u8]), Fault>
-    ensures { Reads (λ x. ((x.0, (x.1, (x.2, x.3))), x.4.now)) result (four.read bytes.now) }
-{
-    let (first, rest) = u64_at(bytes)?;
-    let (second, third, fourth, rest) = three_at(rest)?;
-    Ok((first, second, third, fourth, rest))
 }

@@ -141,8 +141,8 @@ pub(crate) fn stat_at(bytes: &[u8]) -> Result<(Stat, &[u8]), Fault>
     Ok((stat, rest))
 }
 
-// Reads three numbers.
-fn three_at(bytes: &[u8]) -> Result<(u64, u64, u64, &[u8]), Fault>
+/// Reads three numbers.
+pub fn three_at(bytes: &[u8]) -> Result<(u64, u64, u64, &[u8]), Fault>
     ensures { Reads (λ x. ((x.0, (x.1, x.2)), x.3.now)) result (three.read bytes.now) }
 {
     let (first, rest) = u64_at(bytes)?;
@@ -151,8 +151,8 @@ fn three_at(bytes: &[u8]) -> Result<(u64, u64, u64, &[u8]), Fault>
     Ok((first, second, third, rest))
 }
 
-// Reads four numbers.
-fn four_at(bytes: &[u8]) -> Result<(u64, u64, u64, u64, &[u8]), Fault>
+/// Reads four numbers.
+pub fn four_at(bytes: &[u8]) -> Result<(u64, u64, u64, u64, &[u8]), Fault>
     ensures { Reads (λ x. ((x.0, (x.1, (x.2, x.3))), x.4.now)) result (four.read bytes.now) }
 {
     let (first, rest) = u64_at(bytes)?;

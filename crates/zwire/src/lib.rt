@@ -37,7 +37,7 @@ mod rows;
 mod writing;
 
 pub use fault::{FrameFault, WriteError};
-pub use field_reading::{call_number_at, client_at, log_number_at};
+pub use field_reading::{call_number_at, client_at, four_at, log_number_at, three_at};
 pub use field_writing::{put_call_number, put_client, put_log_number};
 pub use frame::Frame;
 pub use limits::MAX_FRAME;

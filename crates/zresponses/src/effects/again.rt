@@ -4,9 +4,9 @@ ghost use Rattle.std.specs.Prelude.{◌≡◌, ◌++◌, take, drop, OnOk};
 ghost use Rattle.zresponses.specs.effects.Wishes as table;
 ghost use Rattle.zresponses.specs.effects.Wishes.{all_again, call_again};
 
-use crate::effects::numbers::long_of;
 use crate::effects::wish::Wish;
 use crate::effects::wishes::{reports, waits};
+use crate::numbers::long_of;
 use zalloc::Memory;
 use zcalls::{Call, Query, Refusal, Reply};
 use zjute::SetWatches;

@@ -11,7 +11,7 @@ ghost use Rattle.zresponses.specs.effects.Frames.{answer_text, too_long};
 ghost use Rattle.zjute.specs.Frames.{frame};
 
 use crate::Answer;
-use crate::effects::numbers::long_of;
+use crate::numbers::long_of;
 use std::alloc::Global;
 use zalloc::Memory;
 use zjute::{

@@ -5,7 +5,7 @@ ghost use Rattle.zresponses.specs.effects.Greeting as table;
 ghost use Rattle.zresponses.specs.effects.Greeting.{came_back, turned_away, welcomed};
 
 use crate::effects::frames::response_frame;
-use crate::effects::numbers::long_of;
+use crate::numbers::long_of;
 use std::alloc::Global;
 use zalloc::Memory;
 use zconnections::Tables;
