@@ -8,7 +8,7 @@ use Rattle.zjournal.specs.declared.fault.OpenError.{OpenError}
 use Rattle.zjournal.specs.declared.fault.OpenError.TheVariants.{Memory, Failed, NotJournal, Version, Other, Servers, Damaged}
 use Rattle.zjournal.specs.Blocks.{IsText, AreTexts, blocks, IsEnd}
 use Rattle.zjournal.specs.Checksum.{next_after, stamped, stamped_all}
-use Rattle.zjournal.specs.Journal.{mark, word_of, head, version_of, holdings, IsPlace, IsUnmade, IsUnopened}
+use Rattle.zjournal.specs.Journal.{mark, word_of, head, version_of, holdings, IsUnmade, IsUnopened}
 use Rattle.zjournal.specs.Faults.{Begins, IsJournal, IsOfOther, IsDamagedAt, IsSuch}
 use Rattle.zjournal.specs.Found.{KeepsTo}
 use Rattle.zjournal.specs.Scan.{AreBatches, IsOther}

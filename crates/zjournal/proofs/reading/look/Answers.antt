@@ -18,6 +18,9 @@ pub returns-clause-ok : goal.returns-clause-ok
 returns-clause-ok c =
     let headed = c.in_ok-format.ensures.ok
     ∙ ap (λ (f : Format). 1 ∷ (head f c.args.servers ++ 0 ∷ drop 34 c.args.bytes.now)) (sym c.first.ensures.format) in
-    let read = c.in_ok-text.ensures.ok in
-    (read.0, keeps_to c.args.servers c.args.bytes.now c.first.result c.requires c.first.ensures.end c.first.ensures.sum headed
-    read.0 c.in_ok-text.place read.1 read.3, read.2)
+    let read = c.in_ok-text.ensures.ok in (
+      read.0,
+      keeps_to c.args.servers c.args.bytes.now c.first.result c.requires c.first.ensures.end c.first.ensures.sum headed
+          read.0 c.in_ok-text.place read.1 read.3,
+      read.2,
+    )

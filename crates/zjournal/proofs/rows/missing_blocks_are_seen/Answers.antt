@@ -2,7 +2,7 @@ use Rattle.std.proofs.Common.{◌≡◌, ◌≢◌, inl, inr, ℕ, List, [], ◌
 use Rattle.std.specs.Prelude.{codes}
 use Rattle.zjournal.specs.declared.format.Format.TheVariants.{Running}
 use Rattle.zjournal.specs.declared.fault.OpenError.TheVariants.{Damaged}
-use Rattle.zjournal.specs.Blocks.{IsText, at_rest}
+use Rattle.zjournal.specs.Blocks.{IsText}
 use Rattle.zjournal.specs.Checksum.{stamped}
 use Rattle.zjournal.specs.Journal.{head, Keeps}
 use Rattle.zjournal.proofs.Blocks.{first_zero}
@@ -31,8 +31,13 @@ none_with : (others file : List ℕ) (batches : List (List ℕ))
     → file ≡ 1 ∷ (head Running 3 ++ 0 ∷ 1 ∷ (codes "012600c4b" ++ 0 ∷ others)) → Keeps 3 batches file → ⊥
 none_with others file batches is keeps =
     what_stands_has_no_fault 3 file batches (Damaged 34) (inl keeps) tt
-    (inr (Running, [], (head_text Running 3 (omega arith), tt), refl,
-    (codes "012600c4b" ++ 0 ∷ others, is, (λ empty. omega (arith, ap length empty)), not_first others)))
+    (inr (
+      Running,
+      [],
+      (head_text Running 3 (omega arith), tt),
+      refl,
+      (codes "012600c4b" ++ 0 ∷ others, is, (λ empty. omega (arith, ap length empty)), not_first others),
+    ))
 
 pub returns-clause-both : goal.returns-clause-both
 returns-clause-both c = record {
