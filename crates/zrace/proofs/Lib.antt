@@ -5,3 +5,6 @@ pub mod Lines
 pub mod Asked
 pub mod Faults
 pub mod Written
+pub mod Records
+pub mod Shown
+pub mod Own

@@ -3,6 +3,8 @@ pub mod Runners
 pub mod Ranges
 pub mod Text
 pub mod Seen
+pub mod Shown
+pub mod Records
 pub mod Races
 pub mod Asked
 pub mod Run

@@ -13,6 +13,7 @@ use Rattle.zrun.specs.Members.{AreReported, clients_run}
 use Rattle.zrace.specs.declared.plan.Race.{Race}
 use Rattle.zrace.specs.declared.outcome.Outcome.{Outcome}
 use Rattle.zrace.specs.declared.racing.Finish.{Finish}
+use Rattle.zrace.specs.Records.{AreInRecords}
 use Rattle.zrace.specs.Seen.{AreSeenIn}
 
 -- the traces are those of a run over the race's servers, with its clients and one that doesn't race
@@ -29,12 +30,13 @@ pub record IsAuditOf {X : Type 0} (t : Traces) (audit : Result X AuditFault) : T
   pub whole : is_any_cut t ≡ false → IsOkUnless audit Memory
 
 -- the traces say what these clients did, and each node's version is one that a client of their run
--- received
+-- received; unless a trace is cut, it is in the record of a client, in these traces
 pub record IsFinishOf (race : Race) (f : Finish) : Type 0 where
   pub over : AreOf race f.traces
   pub clients : Clients
   pub reported : AreReported (race.clients + 1) f.traces clients
   pub seen : AreSeenIn (clients_run clients) f.versions.items
+  pub recorded : AreInRecords f.traces f.versions.items
 
 -- the outcome is that of a run of the race, and the audit is that of its traces
 pub record IsOutcomeOf (race : Race) (outcome : Outcome) : Type 0 where

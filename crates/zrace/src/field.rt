@@ -6,6 +6,7 @@ ghost use Rattle.zrun.specs.Clients.{BelongsTo, SameClient};
 ghost use Rattle.zrun.specs.Members.{clients_run};
 ghost use Rattle.zrun.specs.declared.faults.StartFault.TheVariants.{Thread};
 ghost use Rattle.zrace.specs.Runners.{given_client};
+ghost use Rattle.zrace.specs.Shown.{AreShownAmong, KeepsShown, NotesShown};
 ghost use Rattle.zrace.specs.Seen.{AreSeenIn, KeepsSeen, NotesSeen};
 
 use crate::keeping::keep;
@@ -84,12 +85,31 @@ impl Field {
     pub(crate) fn join_all<R: Threads>(&mut self, rt: &R)
         ensures clients { clients_run self.new.clients ≡ clients_run self.old.clients }
         ensures nodes { length self.new.versions.items ≡ length self.old.versions.items }
+        ensures recorded { AreShownAmong self.old.clients self.old.versions.items
+            → AreShownAmong self.new.clients self.new.versions.items }
     {
         while let Some(handle) = self.handles.pop() {
-            let Racer { client, seen } = handle.join(rt);
-            note_all(&mut self.versions, &seen);
-            self.clients.put(client);
+            self.take_back(handle.join(rt));
         }
+    }
+
+    // Puts a client back, and notes the versions that it received. One of a number that is here is
+    // dropped.
+    fn take_back(&mut self, racer: Racer)
+        requires { BelongsTo (clients_run self.old.clients) racer.client }
+        ensures clients { clients_run self.new.clients ≡ clients_run self.old.clients }
+        ensures nodes { length self.new.versions.items ≡ length self.old.versions.items }
+        ensures handles { self.new.handles ≡ self.old.handles }
+        ensures recorded { AreShownAmong self.old.clients self.old.versions.items
+            → AreShownAmong self.new.clients self.new.versions.items }
+    {
+        let Racer { client, seen } = racer;
+        if self.clients.has(client.id()) {
+            drop(client);
+            return;
+        }
+        note_all(&mut self.versions, &seen);
+        self.clients.put(client);
     }
 
     // Takes out the client of this number, if it isn't in a thread.
@@ -138,6 +158,7 @@ fn racer(clients: &mut Clients, number: u8) -> Option<Client>
 fn note_all(versions: &mut Vec<Option<u64>>, seen: &Seen)
     ensures nodes { length versions.new.items ≡ length versions.old.items }
     ensures reported { KeepsSeen versions.old.items versions.new.items seen.now.items }
+    ensures recorded { KeepsShown versions.old.items versions.new.items seen.now.items }
 {
     for at in 0..seen.len() {
         let (node, version) = seen[at];
@@ -149,6 +170,7 @@ fn note_all(versions: &mut Vec<Option<u64>>, seen: &Seen)
 fn note(versions: &mut Vec<Option<u64>>, node: u64, version: u64)
     ensures nodes { length versions.new.items ≡ length versions.old.items }
     ensures reported { NotesSeen versions.old.items versions.new.items node version }
+    ensures recorded { NotesShown versions.old.items versions.new.items node version }
 {
     let place = node as usize;
     if place < versions.len() {

@@ -4,8 +4,8 @@
 //! # Why
 //!
 //! `zk race` has a command of its own, so `command` of a script, with its theorem on all scripts,
-//! takes no handle of threads. A version of a node is tied to the run's clients (`SameClient`), not
-//! to their records.
+//! takes no handle of threads. There are no traces before the join. So while clients race, what is
+//! proved of a version is what its client's own record shows (`Shown`).
 #![tactic(auto)]
 
 mod command;

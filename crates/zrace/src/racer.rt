@@ -3,8 +3,11 @@
 ghost use Rattle.std.specs.Prelude.{◌≡◌, [], All, IfSome};
 ghost use Rattle.zcalls.specs.declared.call.Call.TheVariants as call;
 ghost use Rattle.zcalls.specs.declared.call.Query.TheVariants as query;
+ghost use Rattle.zrun.specs.Asked.{CalledPatientlyUntil};
 ghost use Rattle.zrun.specs.Clients.{SameClient};
+ghost use Rattle.zrace.specs.Shown.{Continues, IsShownBy, IsShownOf};
 ghost use Rattle.zrace.specs.Seen.{HasSeen, IsPathOf, IsReportedOf, WasReportedSince};
+ghost use Rattle.zrace.specs.declared.racer.TheConstants.{PATIENCE};
 
 use crate::keeping::keep;
 use std::alloc::Global;
@@ -30,6 +33,7 @@ pub(crate) struct Racer {
     pub(crate) client: Client,
     pub(crate) seen: Seen,
     ghost reported: { All (λ it. HasSeen client it.0 it.1) seen.items },
+    ghost recorded: { All (λ it. IsShownBy client it.0 it.1) seen.items },
 }
 
 /// The promise to return this client, with the versions that it received.
@@ -70,20 +74,32 @@ fn call_thrice(
     halted: Option<ServerId>,
 ) -> Option<u64>
     ensures same { SameClient client.old client.new }
+    ensures goes { Continues client.old client.new }
     ensures reported { IfSome result (WasReportedSince node client.old client.new) }
+    ensures recorded { IfSome result (IsShownBy client.new node) }
 {
     let path = path_of(alloc, node)?;
-    let created = client.ask(create(alloc, &path)?, PATIENCE).ok()?;
+    let created = ask(client, create(alloc, &path)?)?;
     drop(created);
-    let set = client.ask(set(alloc, &path)?, PATIENCE).ok()?;
+    let set = ask(client, set(alloc, &path)?)?;
     drop(set);
     halt_one(client, halted);
     version_of(client, path)
 }
 
+// Invokes a call, and waits for its reply. Returns `None` if it gets none.
+fn ask(client: &mut Client, call: Call) -> Option<Reply>
+    ensures same { SameClient client.old client.new }
+    ensures goes { Continues client.old client.new }
+    ensures reply { IfSome result (CalledPatientlyUntil PATIENCE call client.old client.new) }
+{
+    client.ask(call, PATIENCE).ok()
+}
+
 // Halts this server, if any.
 fn halt_one(client: &mut Client, halted: Option<ServerId>)
-    ensures { SameClient client.old client.new }
+    ensures same { SameClient client.old client.new }
+    ensures goes { Continues client.old client.new }
 {
     if let Some(server) = halted {
         client.halt(server);
@@ -93,9 +109,11 @@ fn halt_one(client: &mut Client, halted: Option<ServerId>)
 // Asks for the version of the node with this path.
 fn version_of(client: &mut Client, path: Path) -> Option<u64>
     ensures same { SameClient client.old client.new }
+    ensures goes { Continues client.old client.new }
     ensures reported { IfSome result (λ version. IsReportedOf path version client.old client.new) }
+    ensures recorded { IfSome result (IsShownOf path client.new) }
 {
-    let Ok(reply) = client.ask(exists(path), PATIENCE) else {
+    let Some(reply) = ask(client, exists(path)) else {
         return None;
     };
     match reply {

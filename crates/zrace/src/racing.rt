@@ -29,8 +29,9 @@ pub struct Finish {
 /// Runs a race over real threads, joins them, and audits the run.
 ///
 /// The audit is that of the traces of a run over the race's servers and clients. Each version is
-/// one that a client of that run received. The audit never refutes the run: it is ok, or a trace
-/// is cut, or memory ran out.
+/// one that a client of that run received. Unless a trace is cut, the record of a client has it, in
+/// the reply to this client's call for the node. The audit never refutes the run: it is ok, or a
+/// trace is cut, or memory ran out.
 pub fn race<R: Threads + Wait + Copy + Send + 'static>(
     rt: R,
     alloc: Global,
@@ -47,7 +48,8 @@ pub fn race<R: Threads + Wait + Copy + Send + 'static>(
     Ok(Outcome { versions, audit })
 }
 
-/// Runs a race over real threads, and joins them.
+/// Runs a race over real threads, and joins them. Unless a trace is cut, each version is in the
+/// record of a client in the traces.
 pub fn run<R: Threads + Wait + Copy + Send + 'static>(
     rt: R,
     alloc: Global,
