@@ -1,5 +1,5 @@
 -- The record of a client through its calls.
-use Rattle.std.proofs.Common.{◌≡◌, ◌≢◌, ◌==◌, ◌+◌, ◌++◌, ◌∷◌, [], ℕ, zero, suc, Bool, true, false, true≢false, Option, None, Some, List}
+use Rattle.std.proofs.Common.{◌≡◌, ◌≢◌, ◌+◌, ◌++◌, ◌∷◌, [], ℕ, zero, suc, Bool, true, false, true≢false, Option, None, Some}
 use Rattle.std.proofs.Common.{if◌then◌else◌, inl, is_some, nat_lt, refl, sym, ap, subst, ◌∙◌, ⊎_elim, append-nil, append_assoc, eqb-true}
 use Rattle.std.specs.Prelude.{Result, Ok, Err, IfOk, IfErr}
 use Rattle.std.specs.Option.{option_map}

@@ -1,6 +1,6 @@
 -- What a client was reported stays reported.
 use Rattle.std.proofs.Common.{◌≡◌, ◌≢◌, ◌<◌, ⊎_elim, refl, ℕ, zero, suc, Option, None, Some, List, [], ◌∷◌, length}
-use Rattle.std.proofs.Common.{get_or, set, sym, subst, ap, ◌∙◌, true, false, true≢false}
+use Rattle.std.proofs.Common.{get_or, set, sym, subst, ap, ◌∙◌, true≢false}
 use Rattle.std.specs.Prelude.{All, IsNone, is_some}
 use mathlib.Core.Logic.{∥∥₁_map}
 use Rattle.std.proofs.lemmas.Bool.{cases_eq}
@@ -12,7 +12,7 @@ use Rattle.zrun.specs.Clients.{BelongsTo, SameClient}
 use Rattle.zrun.specs.Origins.{Run}
 use Rattle.zrun.proofs.Still.{still_belongs}
 use Rattle.zrace.specs.Cached.{IsKeptBehind}
-use Rattle.zrace.specs.Seen.{AreSeenIn, HasSeen, IsSeenIn, WasReported, WasReportedSince}
+use Rattle.zrace.specs.Seen.{AreSeenIn, HasSeen, IsSeenIn, WasReportedSince}
 use Rattle.zrace.proofs.Cached.{all_kept}
 
 -- a client is the same through one call and another

@@ -5,15 +5,13 @@ use Rattle.std.specs.Prelude.{All, IsNone}
 use Rattle.std.specs.List.{list_any}
 use mathlib.Core.Logic.{∥∥₁_elim, ∥∥₁_map, ∥∥₁_prop}
 use Rattle.std.proofs.lemmas.Bool.{cases_eq}
-use Rattle.std.proofs.lemmas.List.{get_or-set_same, get_or-set_other, length-map}
+use Rattle.std.proofs.lemmas.List.{get_or-set_same, get_or-set_other}
 use Rattle.std.proofs.lemmas.List.Elements.{All-head, All-tail, All-weaker}
 use Rattle.ztree.proofs.Maps.{same_some}
-use Rattle.zcalls.specs.Lists.{Among}
 use Rattle.zprotocol.specs.declared.traces.trace.ClientTrace.{ClientTrace}
 use Rattle.zprotocol.specs.declared.traces.trace.Trace.{Trace}
 use Rattle.zprotocol.specs.declared.traces.trace.Traces.{Traces}
-use Rattle.zprotocol.specs.declared.world.history.CallEvent.TheVariants as call_event
-use Rattle.zprotocol.specs.traces.Traces.{client_count, record_of}
+use Rattle.zprotocol.specs.traces.Traces.{client_count}
 use Rattle.zprotocol.specs.traces.Audit.{is_any_cut}
 use Rattle.zprotocol.specs.traces.Lawful.{AreLawful}
 use Rattle.zprotocol.specs.world.History.{History}

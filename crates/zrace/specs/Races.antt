@@ -1,5 +1,5 @@
 -- What a race leaves, and its outcome.
-use Rattle.std.specs.Prelude.{◌≡◌, ◌+◌, ℕ, Bool, true, false, Result, Err, OnOk, IsOkUnless, length}
+use Rattle.std.specs.Prelude.{◌≡◌, ◌+◌, true, false, Result, Err, OnOk, IsOkUnless, length}
 use Rattle.zprotocol.specs.declared.limits.TheConstants.{MAX_SERVERS}
 use Rattle.zprotocol.specs.world.History.{History}
 use Rattle.zprotocol.specs.world.PlainTree.{IsExplained}

@@ -1,4 +1,4 @@
-use Rattle.std.proofs.Common.{◌<◌, length, arith}
+use Rattle.std.proofs.Common.{arith}
 use Rattle.zrace.proofs.Seen.{one_seen}
 use Rattle.zrace.proofs.Shown.{one_recorded}
 use Rattle.zrace.proofs.field.note.Goals as goal

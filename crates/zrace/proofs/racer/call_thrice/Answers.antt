@@ -1,7 +1,5 @@
 use Rattle.std.proofs.lemmas.Option.{IfSome_then}
-use Rattle.zrace.specs.Seen.{WasReported, WasReportedSince}
-use Rattle.zrace.specs.Shown.{IsShownBy}
-use Rattle.zrace.proofs.Records.{continues_both, continues_self}
+use Rattle.zrace.proofs.Records.{continues_both}
 use Rattle.zrace.proofs.Seen.{same_through}
 use Rattle.zrace.proofs.racer.call_thrice.Goals as goal
 

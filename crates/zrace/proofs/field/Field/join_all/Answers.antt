@@ -1,5 +1,4 @@
 use Rattle.std.proofs.Common.{Some, ◌∙◌}
-use Rattle.std.specs.Prelude.{All}
 use Rattle.std.proofs.lemmas.List.Elements.{All-pop}
 use Rattle.zrun.specs.Clients.{BelongsTo}
 use Rattle.zrun.specs.Members.{clients_run}

@@ -1,4 +1,4 @@
-use Rattle.std.proofs.Common.{◌≡◌, Bool, false, sym, subst, ap, ◌∙◌}
+use Rattle.std.proofs.Common.{◌≡◌, false, sym, subst, ap, ◌∙◌}
 use Rattle.std.specs.Prelude.{All, is_some}
 use Rattle.zrun.specs.Clients.{BelongsTo, number_of}
 use Rattle.zrun.specs.Members.{client_at, clients_run}

@@ -1,5 +1,5 @@
-use Rattle.std.proofs.Common.{rules, arith, ◌≡◌, ◌++◌, IfOk, OnOk, string_bytes, ℕ, ◌+◌, ◌-◌, ◌*◌, ◌<◌, ◌≤◌, length, None, refl, subst, get_or, sym}
-use Rattle.zrace.specs.Text.{node_line, outcome_text, audit_line, node_lines}
+use Rattle.std.proofs.Common.{arith, string_bytes, refl}
+use Rattle.zrace.specs.Text.{audit_line, node_lines}
 use Rattle.zrace.proofs.Lines.{one_more, none_left}
 use Rattle.zrace.proofs.outcome.Outcome.text.Goals as goal
 
