@@ -29,7 +29,7 @@ fn a_file_of_version_1_goes_on(rt: HostRuntime) -> Result<(), Fail> {
     else {
         return Err("a journal".into());
     };
-    assert!(rt; text.as_slice() == b"Wikipedia");
+    assert!(rt; text.as_slice() == b"Wikipedia".as_slice());
     assert!(rt; journal.put(b"Wikipedia").is_ok());
     let seen = &journal.device().current().seen;
     assert!(rt; seen.starts_with(b"\x01jellqupas journal \x01\x03"));
