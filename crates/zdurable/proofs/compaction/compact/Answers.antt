@@ -22,6 +22,9 @@ returns-in_err-begin-clause-any_moment g c servers batches rest =
     (Keeps servers batches) (IsOldOrTree servers batches c.args.tree.now.tree)
     (c.begin.ensures.any_moment servers batches rest) (λ file keeps. inl keeps)
 
+pub returns-then-not-branch-clause-kept : goal.returns-then-not-branch-clause-kept
+returns-then-not-branch-clause-kept g c servers batches was_open rest = c.begin.ensures.rest servers batches rest
+
 pub returns-then-not-branch-clause-untouched : goal.returns-then-not-branch-clause-untouched
 returns-then-not-branch-clause-untouched g c servers batches rest is = c.begin.ensures.any_moment servers batches rest
 

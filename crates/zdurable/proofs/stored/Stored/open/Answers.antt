@@ -1,4 +1,4 @@
-use Rattle.std.proofs.Common.{sym, subst}
+use Rattle.std.proofs.Common.{◌≡◌, List, ℕ, refl, sym, subst, ◌∙◌}
 use Rattle.zjournal.specs.Device.{LeavesOnly}
 use Rattle.zjournal.specs.Journal.{Represents, device_of}
 use Rattle.zdurable.specs.declared.stored.Stored.{Stored}
@@ -27,6 +27,17 @@ returns-clause-any_moment_err g c batches stands =
     (c.in-Err-open.ensures.any_moment_err batches
     (subst (λ n. Represents n batches (g.D.Device.seen c.look.new.device)) (sym c.number.ensures.same)
     (subst (Represents c.args.servers batches) (sym c.look.ensures.seen) stands))))
+
+pub returns-clause-untouched : goal.returns-clause-untouched
+returns-clause-untouched g c of_content =
+    let left = c.in-Err-open.ensures.untouched of_content in
+    let is_old = λ (b : List ℕ). b ≡ g.D.Device.seen c.args.device in (
+      left.0 ∙ c.look.ensures.seen,
+      read_then g.D.Device.moment g.D.Device.left_since c.args.device c.look.new.device c.in-Err-open.device
+          (g.D.Device.seen c.args.device) c.look.ensures.any_moment is_old refl
+          (subst (λ (b : List ℕ). LeavesOnly g.D.Device.moment g.D.Device.left_since c.look.new.device c.in-Err-open.device (λ d. d ≡ b))
+          c.look.ensures.seen left.1),
+    )
 
 pub returns-in-Ok-open-clause-stored : goal.returns-in-Ok-open-clause-stored
 returns-in-Ok-open-clause-stored g c =
