@@ -58,9 +58,13 @@ def play(mode, command, words, _):
 def serve(mode, command, words, _):
     """Runs the server for ZooKeeper's clients, behind its host, which is compiled meanwhile."""
     with concurrent.futures.ThreadPoolExecutor(1) as aside:
-        host = aside.submit(serving.host)
-        program = get(mode, command)
-    become(host.result(), [f"--program={program}", *words])
+        made = aside.submit(serving.host)
+        try:
+            program = get(mode, command)
+        finally:
+            # (what keeps the host from being compiled is said first)
+            host = made.result()
+    become(host, [f"--program={program}", *words])
 
 
 def at_rest(mode, command, _, given):
