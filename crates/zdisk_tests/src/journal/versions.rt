@@ -1,7 +1,9 @@
 //! Files of version 1 are opened, and go on. A renewal makes version 2.
 
+ghost use Rattle.zjournal.specs.Journal.{IsSound};
+
 use std::test::Fail;
-use zjournal::{MemoryFile, open};
+use zjournal::{Device, Journal, MemoryFile, open};
 
 // A file of version 1 for three servers, with one batch.
 const BEFORE: &[u8] = b"\x01jellqupas journal \x01\x03            \0\x0111e60398Wikipedia\0\0";
@@ -9,6 +11,20 @@ const BEFORE: &[u8] = b"\x01jellqupas journal \x01\x03            \0\x0111e60398
 // One of version 2, with two batches.
 const AFTER: &[u8] =
     b"\x01jellqupas journal \x02\x03tree of zk  \0\x0103da0195Wiki\0\x0111e60398pedia\0\0";
+
+// Renews the file with this batch. Whether all of it was done.
+fn renew<D: Device>(journal: &mut Journal<D>, batch: &[u8]) -> bool
+    requires { IsSound D.seen D.may_leave journal.old }
+    ensures { IsSound D.seen D.may_leave journal.new }
+{
+    if journal.begin_renewal().is_err() {
+        return false;
+    }
+    if journal.put_renewed(batch).is_err() {
+        return false;
+    }
+    journal.end_renewal().is_ok()
+}
 
 #[test]
 fn a_new_file_has_version_2(rt: HostRuntime) -> Result<(), Fail> {
@@ -43,9 +59,7 @@ fn a_renewal_makes_version_2(rt: HostRuntime) -> Result<(), Fail> {
     let Ok((mut journal, _)) = open(alloc, MemoryFile::new(alloc, BEFORE, 0, u64::MAX)?, 3) else {
         return Err("a journal".into());
     };
-    assert!(rt; journal.begin_renewal().is_ok());
-    assert!(rt; journal.put_renewed(b"Wiki").is_ok());
-    assert!(rt; journal.end_renewal().is_ok());
+    assert!(rt; renew(&mut journal, b"Wiki"));
     assert!(rt; journal.put(b"pedia").is_ok());
     assert!(rt; journal.device().current().seen.as_slice() == AFTER);
     Ok(())
