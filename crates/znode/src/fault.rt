@@ -1,0 +1,168 @@
+//! What ends a node.
+
+ghost use Rattle.std.specs.Prelude.{◌≡◌};
+
+use crate::ending::BAD_INPUT;
+use std::alloc::{AllocError, AllocFailed};
+use std::fmt;
+use thiserror::Error;
+use zalloc::Memory;
+use zarguments::WordsFault;
+use zcodec::ReadError;
+use zmaster_log::PlayFault;
+use zpeers::PeerFault;
+
+/// Why an input wasn't taken, or not as a whole. The node takes no further one then.
+#[derive(Clone, Copy, Debug, PartialEq, Eq, Error)]
+pub enum NodeFault {
+    /// Out of memory.
+    Memory,
+    /// An entry's bytes are none.
+    Entry,
+    /// An entry isn't the next one, or the log is full.
+    Order,
+    /// A record of a link, while the node has no server.
+    NoServer,
+    /// A record of a link from the master, which has none.
+    Master,
+    /// A record of a link that no peer sends.
+    Peer(PeerFault),
+}
+
+impl NodeFault {
+    /// Returns the text of the fault.
+    pub fn text(self) -> &'static str {
+        match self {
+            NodeFault::Memory => "memory",
+            NodeFault::Entry => "an entry of the log is none",
+            NodeFault::Order => "an entry of the log isn't the next one",
+            NodeFault::NoServer => "a record of a link, and no server",
+            NodeFault::Master => "a record of a link from the master",
+            NodeFault::Peer(_) => "a record of a link that no peer sends",
+        }
+    }
+}
+
+impl fmt::Display for NodeFault {
+    fn fmt<W: fmt::Write>(&self, f: &mut fmt::Formatter<W>) -> fmt::Result {
+        f.write_str(self.text())
+    }
+}
+
+impl From<Memory> for NodeFault {
+    fn from(_: Memory) -> NodeFault {
+        NodeFault::Memory
+    }
+}
+
+impl From<AllocError> for NodeFault {
+    fn from(_: AllocError) -> NodeFault {
+        NodeFault::Memory
+    }
+}
+
+impl<T: Drop> From<AllocFailed<T>> for NodeFault {
+    fn from(_: AllocFailed<T>) -> NodeFault {
+        NodeFault::Memory
+    }
+}
+
+impl From<ReadError> for NodeFault {
+    fn from(error: ReadError) -> NodeFault {
+        match error {
+            ReadError::Memory => NodeFault::Memory,
+            ReadError::Fault(_) => NodeFault::Entry,
+        }
+    }
+}
+
+impl From<PlayFault> for NodeFault {
+    fn from(fault: PlayFault) -> NodeFault {
+        match fault {
+            PlayFault::Memory => NodeFault::Memory,
+            PlayFault::NotNext | PlayFault::Full => NodeFault::Order,
+        }
+    }
+}
+
+impl From<PeerFault> for NodeFault {
+    fn from(fault: PeerFault) -> NodeFault {
+        match fault {
+            PeerFault::Memory => NodeFault::Memory,
+            fault => NodeFault::Peer(fault),
+        }
+    }
+}
+
+/// What ends the program of a node before its host does.
+#[derive(Clone, Copy, Debug, PartialEq, Eq, Error)]
+pub enum RunFault {
+    /// Its words aren't understood, or there is no memory for them.
+    Words(WordsFault),
+    /// An input wasn't taken.
+    Node(NodeFault),
+    /// The bytes aren't those of a host.
+    NoInput,
+    /// The source failed.
+    Read,
+    /// The sink failed.
+    Write,
+}
+
+impl RunFault {
+    /// Returns the line that the program reports.
+    pub fn text(self) -> &'static str {
+        match self {
+            RunFault::Words(fault) => fault.text(),
+            RunFault::Node(NodeFault::Memory) => "zk: memory",
+            RunFault::Node(NodeFault::Entry) => "zk: an entry of the log is none",
+            RunFault::Node(NodeFault::Order) => "zk: an entry of the log isn't the next one",
+            RunFault::Node(NodeFault::NoServer) => "zk: a record of a link, and no server",
+            RunFault::Node(NodeFault::Master) => "zk: a record of a link from the master",
+            RunFault::Node(NodeFault::Peer(_)) => "zk: a record of a link that no peer sends",
+            RunFault::NoInput => "zk: no input of a host",
+            RunFault::Read => "zk: read failed",
+            RunFault::Write => "zk: write failed",
+        }
+    }
+
+    /// Returns the exit status: 1 where memory ran out, or a device failed; 2 for words; 65 for
+    /// what no host gives.
+    pub fn status(self) -> u8 {
+        match self {
+            RunFault::Words(fault) => fault.status(),
+            RunFault::Node(NodeFault::Memory) | RunFault::Read | RunFault::Write => 1,
+            RunFault::Node(_) | RunFault::NoInput => BAD_INPUT,
+        }
+    }
+}
+
+impl fmt::Display for RunFault {
+    fn fmt<W: fmt::Write>(&self, f: &mut fmt::Formatter<W>) -> fmt::Result {
+        f.write_str(self.text())
+    }
+}
+
+impl From<WordsFault> for RunFault {
+    fn from(fault: WordsFault) -> RunFault {
+        RunFault::Words(fault)
+    }
+}
+
+impl From<NodeFault> for RunFault {
+    fn from(fault: NodeFault) -> RunFault {
+        RunFault::Node(fault)
+    }
+}
+
+impl From<AllocError> for RunFault {
+    fn from(_: AllocError) -> RunFault {
+        RunFault::Node(NodeFault::Memory)
+    }
+}
+
+impl<T: Drop> From<AllocFailed<T>> for RunFault {
+    fn from(_: AllocFailed<T>) -> RunFault {
+        RunFault::Node(NodeFault::Memory)
+    }
+}
