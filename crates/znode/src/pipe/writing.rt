@@ -25,14 +25,9 @@ pub fn put_append(out: &mut Vec<u8>, index: EntryCount, entry: &[u8]) -> Result<
 
 /// Writes the status of the node.
 pub fn put_status(out: &mut Vec<u8>, status: &NodeStatus) -> Result<(), AllocError> {
-    let own = match status.own {
-        Some(own) => own.number(),
-        None => 0,
-    };
     put_u8(out, 2)?;
-    put_u8(out, own)?;
-    put_flag(out, status.is_live)?;
-    put_flag(out, status.has_state)
+    put_u8(out, status.number())?;
+    put_u8(out, status.flags())
 }
 
 /// Writes the end of an answer, and whether more waits.

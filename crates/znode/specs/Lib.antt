@@ -1,0 +1,7 @@
+pub mod Node
+pub mod Server
+pub mod Entries
+pub mod Turns
+pub mod Steps
+pub mod pipe
+pub mod support
