@@ -1,161 +1,206 @@
-//! What is received.
+//! What comes from other processes.
 
+ghost use Rattle.std.specs.Prelude.{◌≡◌, ◌≢◌, None, IfOk, IfErr, OnErr};
+ghost use Rattle.zprotocol.specs.declared.process.Process.{Process};
+ghost use Rattle.zpeers.specs.declared.fault.PeerFault.TheVariants.{Memory as OfMemory};
+ghost use Rattle.zpeers.specs.Incoming.{arriving_from, OthersArrive, Accepts, IsPeerFault};
+
+use crate::arriving::Arriving;
+use crate::fault::PeerFault;
+use crate::heard::{Heard, message_in};
+use crate::tags::{END, FRAME, ROW};
 use std::alloc::Global;
-use thiserror::Error;
-use zprotocol::{Epoch, Message, Process};
+use std::marker::Model;
+use zalloc::Memory;
+use zcodec::{ReadError, put_sized};
+use zprotocol::{Message, PROCESSES, Process};
 use zserver::Snapshot;
-use zsnapshots::{Loading, RowFault};
-use zwire::{FrameFault, read_frame};
+use zwire::{MAX_FRAME, read_contents};
 
-/// Why a record isn't taken.
-#[derive(Clone, Copy, Debug, PartialEq, Eq, Error)]
-pub enum PeerFault {
-    /// Not a frame.
-    #[error("{0}")]
-    Frame(FrameFault),
-    /// A frame of another sender.
-    #[error("a frame of another sender")]
-    Sender,
-    /// A frame for another receiver.
-    #[error("a frame for another receiver")]
-    Receiver,
-    /// A row while none is awaited.
-    #[error("a row while none is awaited")]
-    Row,
-    /// A bad row.
-    #[error("{0}")]
-    Rows(RowFault),
-    /// Another record while rows are awaited.
-    #[error("another record while rows are awaited")]
-    Awaited,
-    /// The state isn't whole.
-    #[error("the state isn't whole")]
-    Part,
-    /// Out of memory.
-    #[error("memory")]
-    Memory,
-}
-
-/// What is being received.
+/// The snapshots whose states are being loaded, at most one of each sender.
 #[derive(Drop)]
 pub struct Incoming {
     alloc: Global,
-    loads: Vec<(Process, Epoch, Loading)>,
+    // In the order of the senders.
+    slots: Vec<Option<Arriving>>,
+}
+
+impl Model for Incoming {
+    ghost use Rattle.std.specs.Prelude.{◌≡◌, length};
+    ghost use Rattle.zprotocol.specs.declared.limits.TheConstants.{PROCESSES};
+    ghost use Rattle.zpeers.specs.Incoming.{IncomingView};
+    ghost use Rattle.zpeers.specs.support.Codes.{coded_incoming};
+
+    ghost Value = { IncomingView };
+
+    ghost coded = { coded_incoming };
+
+    ghost view = { λ i. record { slots = i.slots.items } };
+
+    ghost invariant = { λ i. length i.slots.items ≡ PROCESSES };
 }
 
 impl Incoming {
-    /// Nothing is being received.
-    pub fn new(alloc: Global) -> Incoming {
-        Incoming {
-            alloc,
-            loads: Vec::new(alloc),
+    /// Begins with nothing loaded.
+    pub fn new(alloc: Global) -> Result<Incoming, Memory>
+        ensures { IfOk result (λ i. (from : Process) → arriving_from i from ≡ None) }
+    {
+        let mut slots = Vec::with_capacity(alloc, PROCESSES)?;
+        for _ in 0..PROCESSES {
+            slots.push(None)?;
         }
+        Ok(Incoming { alloc, slots })
     }
 
-    /// Takes a record.
+    /// Takes the next record of a sender: its tag, and its bytes without their length. Returns the
+    /// message that is whole by it, if one is.
+    ///
+    /// If it is refused, nothing has changed. Only if memory runs out at the end of a state, what
+    /// was loaded of this sender is dropped.
     pub fn take(
         &mut self,
         own: Process,
         from: Process,
         tag: u8,
         bytes: &[u8],
-    ) -> Result<Option<Message<Snapshot>>, PeerFault> {
-        let alloc = self.alloc;
-        let mut at = 0;
-        while at < self.loads.len() && self.loads[at].0 != from {
-            at += 1;
-        }
-        let is_loading = at < self.loads.len();
-        match tag {
-            0 => {
-                if is_loading {
-                    return Err(PeerFault::Awaited);
-                }
-                let text = framed(alloc, bytes)?;
-                let frame = match read_frame(alloc, &text) {
-                    Ok((frame, _)) => frame,
-                    Err(FrameFault::Memory) => return Err(PeerFault::Memory),
-                    Err(fault) => return Err(PeerFault::Frame(fault)),
-                };
-                if frame.sender != from {
-                    return Err(PeerFault::Sender);
-                }
-                if frame.receiver != own {
-                    return Err(PeerFault::Receiver);
-                }
-                let message = match frame.message {
-                    Message::Snapshot(k, _) => {
-                        if self.loads.push((from, k, Loading::new(alloc))).is_err() {
-                            return Err(PeerFault::Memory);
-                        }
-                        return Ok(None);
-                    }
-                    Message::Submit(n, u) => Message::Submit(n, u),
-                    Message::Query(n, q) => Message::Query(n, q),
-                    Message::Answer(n, r) => Message::Answer(n, r),
-                    Message::Update(k, n, e) => Message::Update(k, n, e),
-                    Message::Ack(k, n) => Message::Ack(k, n),
-                    Message::NewPred(k, s) => Message::NewPred(k, s),
-                    Message::Have(k, l) => Message::Have(k, l),
-                    Message::NewSucc(k, s, l) => Message::NewSucc(k, s, l),
-                    Message::BecomeHead(k) => Message::BecomeHead(k),
-                    Message::BecomeTail(k) => Message::BecomeTail(k),
-                    Message::Retire => Message::Retire,
-                    Message::Joined(k) => Message::Joined(k),
-                    Message::Gone => Message::Gone,
-                    Message::Config(k, h, t) => Message::Config(k, h, t),
-                };
-                Ok(Some(message))
-            }
-            1 => {
-                if !is_loading {
-                    return Err(PeerFault::Row);
-                }
-                let text = framed(alloc, bytes)?;
-                match self.loads[at].2.take(&text) {
-                    Ok(()) => Ok(None),
-                    Err(RowFault::Memory) => Err(PeerFault::Memory),
-                    Err(fault) => Err(PeerFault::Rows(fault)),
-                }
-            }
-            2 => {
-                if !is_loading {
-                    return Err(PeerFault::Row);
-                }
-                let (_, epoch, loading) = self.loads.remove(at);
-                let Some(machine) = loading.finish() else {
-                    return Err(PeerFault::Part);
-                };
-                match Snapshot::restored(alloc, machine) {
-                    Ok(snapshot) => Ok(Some(Message::Snapshot(epoch, snapshot))),
-                    Err(_) => Err(PeerFault::Memory),
-                }
-            }
-            _ => Err(PeerFault::Awaited),
-        }
+    ) -> Result<Option<Message<Snapshot>>, PeerFault>
+        ensures accepted { IfOk result (Accepts own from (record { tag = tag; bytes = bytes.now })
+            (arriving_from self.old from) (arriving_from self.new from)) }
+        ensures others { OthersArrive self.old self.new from }
+        ensures fault { IfErr result (IsPeerFault own from (record { tag = tag; bytes = bytes.now })
+            (arriving_from self.old from)) }
+        ensures same { IfErr result (λ fault. fault ≢ OfMemory → self.new ≡ self.old) }
+    {
+        take_at(
+            self.alloc,
+            &mut self.slots[from.place()],
+            own,
+            from,
+            tag,
+            bytes,
+        )
     }
 
-    /// Drops what is loaded of a process.
-    pub fn forget(&mut self, from: Process) {
-        for at in 0..self.loads.len() {
-            if self.loads[at].0 == from {
-                let gone = self.loads.remove(at);
-                drop(gone);
-                return;
-            }
+    /// Drops what is loaded of a sender.
+    pub fn forget(&mut self, from: Process)
+        ensures none { arriving_from self.new from ≡ None }
+        ensures others { OthersArrive self.old self.new from }
+    {
+        self.slots[from.place()] = None;
+    }
+}
+
+// Takes a record of a sender of which this is loaded.
+fn take_at(
+    alloc: Global,
+    slot: &mut Option<Arriving>,
+    own: Process,
+    from: Process,
+    tag: u8,
+    bytes: &[u8],
+) -> Result<Option<Message<Snapshot>>, PeerFault> {
+    if bytes.len() > MAX_FRAME as usize {
+        return Err(PeerFault::TooLong);
+    }
+    if tag > END {
+        return Err(PeerFault::NoTag);
+    }
+    match slot {
+        None => take_frame(alloc, slot, own, from, tag, bytes),
+        Some(_) => take_more(alloc, slot, tag, bytes),
+    }
+}
+
+// Takes a record while nothing is loaded.
+fn take_frame(
+    alloc: Global,
+    slot: &mut Option<Arriving>,
+    own: Process,
+    from: Process,
+    tag: u8,
+    bytes: &[u8],
+) -> Result<Option<Message<Snapshot>>, PeerFault> {
+    if tag != FRAME {
+        return Err(PeerFault::NothingLoaded);
+    }
+    match whole_frame(alloc, own, from, bytes)? {
+        Heard::Whole(message) => Ok(Some(message)),
+        Heard::Begun(epoch) => {
+            *slot = Some(Arriving::new(alloc, epoch));
+            Ok(None)
         }
     }
 }
 
-fn framed(alloc: Global, bytes: &[u8]) -> Result<Vec<u8>, PeerFault> {
-    let mut text = Vec::new(alloc);
-    for byte in (bytes.len() as u32).to_be_bytes() {
-        if text.push(byte).is_err() {
-            return Err(PeerFault::Memory);
-        }
+// Reads the frame of a message between these processes.
+fn whole_frame(
+    alloc: Global,
+    own: Process,
+    from: Process,
+    bytes: &[u8],
+) -> Result<Heard, PeerFault> {
+    let frame = match read_contents(alloc, bytes) {
+        Ok(frame) => frame,
+        Err(ReadError::Fault(fault)) => return Err(PeerFault::Contents(fault)),
+        Err(ReadError::Memory) => return Err(PeerFault::Memory),
+    };
+    if frame.sender != from {
+        drop(frame);
+        return Err(PeerFault::OtherSender);
     }
-    if text.extend_from_slice(bytes).is_err() {
+    if frame.receiver != own {
+        drop(frame);
+        return Err(PeerFault::OtherReceiver);
+    }
+    Ok(message_in(frame.message))
+}
+
+// Takes a record while a state is being loaded.
+fn take_more(
+    alloc: Global,
+    slot: &mut Option<Arriving>,
+    tag: u8,
+    bytes: &[u8],
+) -> Result<Option<Message<Snapshot>>, PeerFault> {
+    match tag {
+        FRAME => Err(PeerFault::RowsAwaited),
+        ROW => {
+            take_row(alloc, slot, bytes)?;
+            Ok(None)
+        }
+        _ => Ok(Some(take_end(alloc, slot, bytes)?)),
+    }
+}
+
+// Takes a row.
+fn take_row(alloc: Global, slot: &mut Option<Arriving>, bytes: &[u8]) -> Result<(), PeerFault> {
+    let Some(arriving) = slot else {
+        unreachable!();
+    };
+    let mut row = Vec::new(alloc);
+    if put_sized(&mut row, bytes).is_err() {
         return Err(PeerFault::Memory);
     }
-    Ok(text)
+    arriving.take(&row)
+}
+
+// Takes the end of a state, and returns its message.
+fn take_end(
+    alloc: Global,
+    slot: &mut Option<Arriving>,
+    bytes: &[u8],
+) -> Result<Message<Snapshot>, PeerFault> {
+    if !bytes.is_empty() {
+        return Err(PeerFault::NotEmpty);
+    }
+    let Some(arriving) = slot else {
+        unreachable!();
+    };
+    if !arriving.is_whole() {
+        return Err(PeerFault::Unfinished);
+    }
+    let Some(arriving) = slot.take() else {
+        unreachable!();
+    };
+    arriving.finish(alloc)
 }

@@ -1,152 +1,114 @@
-//! What waits to be sent.
+//! What waits to be sent to other processes.
 
+ghost use Rattle.std.specs.Prelude.{◌≡◌, ◌++◌, [], ◌∷◌, true, false, IfOk, IfErr};
+ghost use Rattle.std.specs.Prelude.{IfSome, IfNone, OnOk, OnErr};
+ghost use Rattle.zprotocol.specs.declared.process.Process.{Process};
+ghost use Rattle.zprotocol.specs.declared.limits.TheConstants.{PROCESSES};
+ghost use Rattle.zpeers.specs.Outgoing.{waiting_for, records_for, OthersWait, IsWritten, IsLong};
+ghost use Rattle.zpeers.specs.Outgoing.{place_after, NoneWaits, IsNextReceiver};
+ghost use Rattle.zpeers.specs.Records.{records_of};
+
+use crate::queue::Queue;
 use std::alloc::Global;
-use std::collections::VecDeque;
+use std::marker::Model;
 use zalloc::Memory;
-use zprotocol::{Message, Process};
+use zprotocol::{Message, PROCESSES, Process};
 use zserver::Snapshot;
-use zsnapshots::Writing;
-use zwire::{WriteError, write_frame};
+use zwire::WriteError;
 
-/// What waits for each process.
+/// The messages that wait to be sent, in a queue for each receiver.
 #[derive(Drop)]
 pub struct Outgoing {
     alloc: Global,
+    // In the order of the receivers.
     queues: Vec<Queue>,
 }
 
-#[derive(Drop)]
-struct Queue {
-    to: Process,
-    messages: VecDeque<Message<Snapshot>>,
-    rows: VecDeque<Vec<u8>>,
-}
+impl Model for Outgoing {
+    ghost use Rattle.std.specs.Prelude.{◌≡◌, length};
+    ghost use Rattle.zprotocol.specs.declared.limits.TheConstants.{PROCESSES};
+    ghost use Rattle.zpeers.specs.Outgoing.{OutgoingView};
+    ghost use Rattle.zpeers.specs.support.Codes.{coded_outgoing};
 
-fn place(process: Process) -> u8 {
-    match process {
-        Process::Master => 0,
-        Process::Server(server) => server.number(),
-        Process::Client(client) => 100 + client.number(),
-    }
+    ghost Value = { OutgoingView };
+
+    ghost coded = { coded_outgoing };
+
+    ghost view = { λ o. record { queues = o.queues.items } };
+
+    ghost invariant = { λ o. length o.queues.items ≡ PROCESSES };
 }
 
 impl Outgoing {
-    /// Nothing waits.
-    pub fn new(alloc: Global) -> Outgoing {
-        Outgoing {
-            alloc,
-            queues: Vec::new(alloc),
+    /// Returns empty queues.
+    pub fn new(alloc: Global) -> Result<Outgoing, Memory>
+        ensures { IfOk result (λ o. (to : Process) → waiting_for o to ≡ []) }
+    {
+        let mut queues = Vec::with_capacity(alloc, PROCESSES)?;
+        for _ in 0..PROCESSES {
+            queues.push(Queue::new(alloc))?;
         }
+        Ok(Outgoing { alloc, queues })
     }
 
-    /// Puts a message.
-    pub fn put(&mut self, to: Process, message: Message<Snapshot>) -> Result<(), Memory> {
-        let alloc = self.alloc;
-        let mut at = 0;
-        while at < self.queues.len() && place(self.queues[at].to) < place(to) {
-            at += 1;
-        }
-        if at == self.queues.len() || self.queues[at].to != to {
-            let queue = Queue {
-                to,
-                messages: VecDeque::new(alloc),
-                rows: VecDeque::new(alloc),
-            };
-            if self.queues.insert(at, queue).is_err() {
-                return Err(Memory);
-            }
-        }
-        match self.queues[at].messages.push_back(message) {
-            Ok(()) => Ok(()),
-            Err(_) => Err(Memory),
-        }
+    /// Appends a message to the queue of a receiver. If memory runs out it is dropped, and nothing
+    /// has changed.
+    pub fn put(&mut self, to: Process, message: Message<Snapshot>) -> Result<(), Memory>
+        ensures waits { OnOk result (waiting_for self.new to
+            ≡ waiting_for self.old to ++ record { message = message; written = 0 } ∷ []) }
+        // So its records come after all that wait for this receiver.
+        ensures records { OnOk result ((own : Process) → records_for self.new own to
+            ≡ records_for self.old own to ++ records_of own to message) }
+        ensures others { OthersWait self.old self.new to }
+        ensures err { OnErr result (self.new ≡ self.old) }
+    {
+        self.queues[to.place()].put(message)
     }
 
-    /// Writes the next record.
+    /// Appends the first record that waits for a receiver to the bytes, and returns true; or
+    /// returns false if none waits. On an error nothing has changed.
     pub fn write_next(
         &mut self,
         own: Process,
         to: Process,
         out: &mut Vec<u8>,
-    ) -> Result<bool, WriteError> {
-        let alloc = self.alloc;
-        for at in 0..self.queues.len() {
-            if self.queues[at].to == to {
-                return write_from(alloc, &mut self.queues[at], own, out);
-            }
-        }
-        Ok(false)
+    ) -> Result<bool, WriteError>
+        ensures some { IfOk result (λ some. some ≡ true
+            → IsWritten own to self.old self.new out.old.items out.new.items) }
+        ensures none { IfOk result (λ some. some ≡ false → waiting_for self.old to ≡ []) }
+        ensures same { IfOk result (λ some. some ≡ false → self.new ≡ self.old) }
+        ensures nothing { IfOk result (λ some. some ≡ false → out.new.items ≡ out.old.items) }
+        // `TooLong` if the frame would be longer than any frame may be.
+        ensures long { IfErr result (IsLong own to self.old) }
+        ensures err { OnErr result (self.new ≡ self.old) }
+        ensures out { OnErr result (out.new.items ≡ out.old.items) }
+    {
+        self.queues[to.place()].write_next(self.alloc, own, to, out)
     }
 
-    /// The next process for which something waits.
-    pub fn next_receiver(&self, after: Option<Process>) -> Option<Process> {
-        let from = match after {
+    /// Returns the first receiver after this one for which something waits: the first of all, if
+    /// none is given.
+    pub fn next_receiver(&self, after: Option<Process>) -> Option<Process>
+        ensures some { IfSome result (IsNextReceiver self.now after) }
+        ensures none { IfNone result (NoneWaits self.now (place_after after) PROCESSES) }
+    {
+        let first = match after {
+            Some(process) => process.place() + 1,
             None => 0,
-            Some(process) => place(process) + 1,
         };
-        for queue in &self.queues {
-            if place(queue.to) >= from && !(queue.messages.is_empty() && queue.rows.is_empty()) {
-                return Some(queue.to);
+        for place in first..PROCESSES {
+            if !self.queues[place].is_empty() {
+                return Process::at(place);
             }
         }
         None
     }
 
-    /// Drops what waits for a process.
-    pub fn forget(&mut self, to: Process) {
-        for at in 0..self.queues.len() {
-            if self.queues[at].to == to {
-                self.queues[at].messages.clear();
-                self.queues[at].rows.clear();
-                return;
-            }
-        }
+    /// Drops all that waits for a receiver.
+    pub fn forget(&mut self, to: Process)
+        ensures none { waiting_for self.new to ≡ [] }
+        ensures others { OthersWait self.old self.new to }
+    {
+        self.queues[to.place()].clear();
     }
-}
-
-fn push(out: &mut Vec<u8>, byte: u8) -> Result<(), WriteError> {
-    match out.push(byte) {
-        Ok(()) => Ok(()),
-        Err(_) => Err(WriteError::Memory),
-    }
-}
-
-fn write_from(
-    alloc: Global,
-    queue: &mut Queue,
-    own: Process,
-    out: &mut Vec<u8>,
-) -> Result<bool, WriteError> {
-    if let Some(row) = queue.rows.pop_front() {
-        out.extend_from_slice(&row)?;
-        return Ok(true);
-    }
-    let Some(message) = queue.messages.pop_front() else {
-        return Ok(false);
-    };
-    push(out, 0)?;
-    write_frame(alloc, out, own, queue.to, &message)?;
-    if let Message::Snapshot(_, snapshot) = &message {
-        let Ok(mut writing) = Writing::new(alloc, snapshot.machine()) else {
-            return Err(WriteError::Memory);
-        };
-        loop {
-            let mut row = Vec::new(alloc);
-            push(&mut row, 1)?;
-            if !writing.write_next(&mut row)? {
-                break;
-            }
-            if queue.rows.push_back(row).is_err() {
-                return Err(WriteError::Memory);
-            }
-        }
-        let mut end = Vec::new(alloc);
-        for byte in [2u8, 0, 0, 0, 0] {
-            push(&mut end, byte)?;
-        }
-        if queue.rows.push_back(end).is_err() {
-            return Err(WriteError::Memory);
-        }
-    }
-    Ok(true)
 }

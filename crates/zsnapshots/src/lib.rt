@@ -4,9 +4,10 @@
 //! by client. A row is a frame of its own (`zwire`), so that no buffer has to hold a state, which
 //! is up to 268 MB.
 //!
-//! `Writing` returns the rows of a machine in order, or those of its tree alone. `Reading` takes
-//! one row at a time, and returns the machine at the end, or says which row has which fault.
-//! `Loading` does the same where each row has bytes of its own.
+//! `Writing` returns the rows of a machine in order, or those of its tree alone. `RowKeys` borrows
+//! no machine, and writes a row by its number. `Reading` takes one row at a time, and returns the
+//! machine at the end, or says which row has which fault. `Loading` does the same where each row
+//! has bytes of its own.
 //!
 //! The next row of a state that a machine wrote is never refused, unless memory runs out. Whatever
 //! the bytes are, what is read in the end is a machine whose own rows they are.
@@ -25,6 +26,7 @@ mod fault;
 pub mod folder;
 mod head;
 mod header;
+mod keys;
 pub mod laws;
 mod limits;
 mod loading;
@@ -41,6 +43,7 @@ mod writing;
 
 pub use fault::RowFault;
 pub use header::Header;
+pub use keys::RowKeys;
 pub use limits::MAX_ROW;
 pub use loading::Loading;
 pub use reading::Reading;
