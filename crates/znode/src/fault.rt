@@ -27,6 +27,8 @@ pub enum NodeFault {
     Master,
     /// A record of a link that no peer sends.
     Peer(PeerFault),
+    /// A message that its server put is too long for a frame.
+    TooLong,
 }
 
 impl NodeFault {
@@ -39,6 +41,7 @@ impl NodeFault {
             NodeFault::NoServer => "a record of a link, and no server",
             NodeFault::Master => "a record of a link from the master",
             NodeFault::Peer(_) => "a record of a link that no peer sends",
+            NodeFault::TooLong => "a message is too long for a frame",
         }
     }
 }
@@ -120,6 +123,7 @@ impl RunFault {
             RunFault::Node(NodeFault::NoServer) => "zk: a record of a link, and no server",
             RunFault::Node(NodeFault::Master) => "zk: a record of a link from the master",
             RunFault::Node(NodeFault::Peer(_)) => "zk: a record of a link that no peer sends",
+            RunFault::Node(NodeFault::TooLong) => "zk: a message is too long for a frame",
             RunFault::NoInput => "zk: no input of a host",
             RunFault::Read => "zk: read failed",
             RunFault::Write => "zk: write failed",
@@ -152,6 +156,12 @@ impl From<WordsFault> for RunFault {
 impl From<NodeFault> for RunFault {
     fn from(fault: NodeFault) -> RunFault {
         RunFault::Node(fault)
+    }
+}
+
+impl From<Memory> for RunFault {
+    fn from(_: Memory) -> RunFault {
+        RunFault::Node(NodeFault::Memory)
     }
 }
 

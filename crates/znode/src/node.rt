@@ -5,6 +5,7 @@ use crate::pipe::NodeInput;
 use crate::seat::Seat;
 use crate::status::NodeStatus;
 use std::alloc::Global;
+use zalloc::Memory;
 use zmaster_log::{MasterReplica, News, NodeName};
 use zpeers::Incoming;
 use zprotocol::{Process, ServerId};
@@ -29,18 +30,18 @@ pub struct Node {
 
 impl Node {
     /// Returns a node that has read nothing. `opens`: it may open an empty log.
-    pub fn new(alloc: Global, name: NodeName, opens: bool) -> Node {
-        Node {
+    pub fn new(alloc: Global, name: NodeName, opens: bool) -> Result<Node, Memory> {
+        Ok(Node {
             alloc,
             name,
             opens,
             is_at_end: false,
             asked: None,
             replica: MasterReplica::new(),
-            incoming: Incoming::new(alloc),
-            seat: Seat::new(alloc),
+            incoming: Incoming::new(alloc)?,
+            seat: Seat::new(alloc)?,
             told: None,
-        }
+        })
     }
 
     /// Takes an input. What the host is to do goes to `out`, and only at a `Turn`.

@@ -36,6 +36,6 @@ fn run<S: Source, K: Sink>(
     sink: &mut K,
 ) -> Result<bool, RunFault> {
     let settings = node_settings(alloc, words)?;
-    let mut node = Node::new(alloc, settings.name, settings.opens);
+    let mut node = Node::new(alloc, settings.name, settings.opens)?;
     serve_node(alloc, &mut node, source, sink)
 }

@@ -21,13 +21,13 @@ pub(crate) struct Seat {
 
 impl Seat {
     /// Returns a server without state, which has put nothing.
-    pub(crate) fn new(alloc: Global) -> Seat {
-        Seat {
+    pub(crate) fn new(alloc: Global) -> Result<Seat, Memory> {
+        Ok(Seat {
             actor: Actor::server(Server::spare(alloc)),
             has_state: false,
             reports: Reports::new(alloc),
-            outgoing: Outgoing::new(alloc),
-        }
+            outgoing: Outgoing::new(alloc)?,
+        })
     }
 
     /// Begins as the only server of a chain, with an empty tree.
