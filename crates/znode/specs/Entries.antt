@@ -100,10 +100,14 @@ wanted_number v =
     let s = next_of v.replica.state in
     if is_server s then wanted_join v s else wanted_opening v
 
+abbrev pub first_of : List News → Option News
+first_of [] = None
+first_of (n ∷ reports) = Some n
+
 -- its first report, under the number of those that are in the log
-abbrev pub wanted_report : State → ℕ → List News → Option LogEntry
-wanted_report state s [] = None
-wanted_report state s (n ∷ reports) =
+abbrev pub wanted_report : State → ℕ → Option News → Option LogEntry
+wanted_report state s None = None
+wanted_report state s (Some n) =
     let earlier = reports_of state s in
     if nat_le earlier MAX_ENTRIES
     then Some (log.Reported (record { author = s; earlier = earlier; news = n }))
@@ -112,7 +116,7 @@ wanted_report state s (n ∷ reports) =
 -- the entry that the node wants as the next one
 abbrev pub wanted_by : Option ℕ → NodeView → Option LogEntry
 wanted_by None v = wanted_number v
-wanted_by (Some s) v = wanted_report v.replica.state s v.seat.reports
+wanted_by (Some s) v = wanted_report v.replica.state s (first_of v.seat.reports)
 
 abbrev pub wanted : NodeView → Option LogEntry
 wanted v = wanted_by v.replica.own v

@@ -1,12 +1,13 @@
 -- A node: its replica of the master, and its server with what it has put.
-use Rattle.std.specs.Prelude.{ℕ, Bool, true, false, not, ◌&&◌, is_some, Option, None, Some, List, []}
+use Rattle.std.specs.Prelude.{◌≡◌, ℕ, Bool, true, false, not, ◌&&◌, is_some, Option, None, Some, List, []}
+use Rattle.zprotocol.specs.declared.process.Process.{Process}
 use Rattle.zprotocol.specs.server.View.{spare}
 use Rattle.zprotocol.specs.world.Does.{AtServer}
 use Rattle.zactor.specs.Acting.{TreeStanding}
 use Rattle.zmaster_log.specs.declared.entry.News.{News}
 use Rattle.zmaster_log.specs.Log.{ReplicaView, State, has_live}
-use Rattle.zpeers.specs.Incoming.{IncomingView}
-use Rattle.zpeers.specs.Outgoing.{OutgoingView}
+use Rattle.zpeers.specs.Incoming.{IncomingView, arriving_from}
+use Rattle.zpeers.specs.Outgoing.{OutgoingView, waiting_for}
 use Rattle.znode.specs.declared.status.NodeStatus.{NodeStatus}
 
 -- The server: its standing, whether it has the state, its reports that aren't in the log yet, and
@@ -45,3 +46,18 @@ status_of v = record {
   is_live = is_some v.replica.own && not (has_ended v);
   has_state = v.seat.has_state;
 }
+
+-- a node that has read nothing: its server has no state, and has received nothing
+pub record IsNew (name : List ℕ) (opens : Bool) (v : NodeView) : Type 0 where
+  pub incoming : (from : Process) → arriving_from v.incoming from ≡ None
+  pub outgoing : (to : Process) → waiting_for v.seat.outgoing to ≡ []
+  pub rest : v ≡ record {
+    name = name;
+    opens = opens;
+    is_at_end = false;
+    asked = None;
+    replica = record { own = None; played = 0; state = None };
+    incoming = v.incoming;
+    seat = record { standing = AtServer spare; has_state = false; reports = []; outgoing = v.seat.outgoing };
+    told = None;
+  }

@@ -1,10 +1,14 @@
 -- What a node answers to a turn: its status, if the host doesn't know it; the entry that it asks for;
 -- records for each process; and an end.
-use Rattle.std.specs.Prelude.{◌≡◌, ◌≢◌, ◌⊎◌, ℕ, ◌+◌, ◌≤◌, Bool, true, false, ◌&&◌, not, is_some, is_none, if◌then◌else◌, List, [], ◌∷◌, ◌++◌, length, Option, None, Some, unwrap_or}
+use Rattle.std.specs.List.{AllByRecursion}
+use Rattle.std.specs.Prelude.{◌≡◌, ◌≢◌, ◌⊎◌, ℕ, ◌+◌, ◌==◌, ◌<◌, ◌≤◌, Bool, true, false, ◌&&◌, not, is_some, is_none, if◌then◌else◌, List, [], ◌∷◌, ◌++◌, length, Option, None, Some, unwrap_or}
 use Rattle.zprotocol.specs.declared.process.Process.{Process}
 use Rattle.zprotocol.specs.declared.process.Process.TheVariants.{Master, Server, Client}
+use Rattle.zprotocol.specs.declared.limits.TheConstants.{PROCESSES}
+use Rattle.zprotocol.specs.Places.{place_of}
 use Rattle.zmaster_log.specs.declared.entry.LogEntry.{LogEntry}
 use Rattle.zmaster_log.specs.Bytes.{entry}
+use Rattle.zwire.specs.declared.limits.TheConstants.{MAX_FRAME}
 use Rattle.zpeers.specs.Records.{LinkRecord}
 use Rattle.zpeers.specs.Outgoing.{OutgoingView, records_for, waiting_for}
 use Rattle.znode.specs.declared.limits.TheConstants.{MAX_WRITTEN}
@@ -23,13 +27,19 @@ flag b n = if b then n else 0
 abbrev pub flags_of : NodeStatus → ℕ
 flags_of s = flag s.is_live 1 + flag s.has_state 2 + flag (is_some s.own && not s.is_live) 4
 
-abbrev pub status_output : NodeStatus → OutputView
-status_output s = Status (unwrap_or s.own 0) (flags_of s)
+abbrev pub number_of : NodeStatus → ℕ
+number_of s = unwrap_or s.own 0
 
--- nothing, if the host knows this status
-pub data IsTold (s : NodeStatus) : Option NodeStatus → List OutputView → Type 0 where
-  Known : IsTold s (Some s) []
-  News : (told : Option NodeStatus) → told ≢ Some s → IsTold s told (status_output s ∷ [])
+abbrev pub status_output : NodeStatus → OutputView
+status_output s = Status (number_of s) (flags_of s)
+
+-- it has the number and the flags that the host knows
+abbrev pub is_told : Option NodeStatus → NodeStatus → Bool
+is_told None s = false
+is_told (Some told) s = number_of told == number_of s && flags_of told == flags_of s
+
+abbrev pub told_output : Option NodeStatus → NodeStatus → List OutputView
+told_output told s = if is_told told s then [] else status_output s ∷ []
 
 -- ---- the log
 
@@ -62,3 +72,43 @@ pub record AreSentTo (own p : Process) (records : List LinkRecord) (old new : Ou
   pub first : records_for old own p ≡ records ++ records_for new own p
   pub few : length records ≤ MAX_WRITTEN
   pub most : (length records ≡ MAX_WRITTEN) ⊎ (waiting_for new p ≡ [])
+
+-- a server or a client: each has a link
+abbrev pub HasLink : Process → Type 0
+HasLink p = (0 < place_of p) × (place_of p < PROCESSES)
+
+abbrev pub IsSend : OutputView → Type 0
+IsSend (Send to r) = HasLink to
+IsSend other = ⊥
+
+-- Records are sent, to each process its own. A node without a server sends none.
+abbrev pub Sends : Option ℕ → List OutputView → OutgoingView → OutgoingView → Type 0
+Sends None outputs old new = (outputs ≡ []) × (new ≡ old)
+Sends (Some own) outputs old new =
+    AllByRecursion IsSend outputs
+    × ((p : Process) → HasLink p → AreSentTo (Server own) p (sent_to p outputs) old new)
+
+-- something waits for some process, or nothing waits for any
+abbrev pub Waits : Bool → OutgoingView → Type 0
+Waits true o = (p : Process) × (waiting_for o p ≢ [])
+Waits false o = (p : Process) → HasLink p → waiting_for o p ≡ []
+
+-- a record that waits is longer than any may be
+abbrev pub HasLong : ℕ → OutgoingView → Type 0
+HasLong own o =
+    (to : Process) × (front : List LinkRecord) × (r : LinkRecord) × (back : List LinkRecord)
+    × (records_for o (Server own) to ≡ front ++ r ∷ back) × (MAX_FRAME < length r.bytes)
+
+-- ---- an answer
+
+pub record Answers (v : NodeView) (outputs : List OutputView) (w : NodeView) : Type 0 where
+  pub records : List OutputView
+  pub sends : Sends v.replica.own records v.seat.outgoing w.seat.outgoing
+  pub more : Bool
+  pub waits : Waits more w.seat.outgoing
+  pub all : outputs ≡ told_output v.told (status_of v) ++ asked_output v.replica.played (asking v) ++ records ++ End more ∷ []
+  pub rest : w ≡ record v {
+    told = Some (status_of v);
+    asked = asked_after v.asked (asking v);
+    seat = record v.seat { outgoing = w.seat.outgoing };
+  }

@@ -1,5 +1,8 @@
 //! What a node wants to be appended to the log.
 
+ghost use Rattle.std.specs.Prelude.{◌≡◌, IfOk};
+ghost use Rattle.znode.specs.Entries.{first_of, wanted, wanted_number, wanted_opening, wanted_report};
+
 use crate::node::Node;
 use std::alloc::{AllocError, Global};
 use zmaster_log::{EntryCount, LogEntry, NodeName, NodeNames, Report};
@@ -8,7 +11,9 @@ use zprotocol::{Order, ServerId};
 impl Node {
     /// Returns the entry that it wants as the next one: one that gives it a number, and from then
     /// on its first report.
-    pub(crate) fn wanted(&self) -> Result<Option<LogEntry>, AllocError> {
+    pub(crate) fn wanted(&self) -> Result<Option<LogEntry>, AllocError>
+        ensures { IfOk result (λ entry. entry ≡ wanted self.now) }
+    {
         match self.replica.own() {
             None => self.wanted_number(),
             Some(own) => Ok(self.wanted_report(own)),
@@ -16,7 +21,9 @@ impl Node {
     }
 
     // Returns the entry that gives it a number, if the master allows it now.
-    fn wanted_number(&self) -> Result<Option<LogEntry>, AllocError> {
+    fn wanted_number(&self) -> Result<Option<LogEntry>, AllocError>
+        ensures { IfOk result (λ entry. entry ≡ wanted_number self.now) }
+    {
         let Some(next) = self.replica.next_server() else {
             return self.wanted_opening();
         };
@@ -27,7 +34,9 @@ impl Node {
     }
 
     // Returns the entry that opens the log, if it is empty and the node may open it.
-    fn wanted_opening(&self) -> Result<Option<LogEntry>, AllocError> {
+    fn wanted_opening(&self) -> Result<Option<LogEntry>, AllocError>
+        ensures { IfOk result (λ entry. entry ≡ wanted_opening self.now) }
+    {
         if !self.opens || self.replica.played().number() != 0 {
             return Ok(None);
         }
@@ -40,7 +49,10 @@ impl Node {
     }
 
     // Returns its first report.
-    fn wanted_report(&self, own: ServerId) -> Option<LogEntry> {
+    fn wanted_report(&self, own: ServerId) -> Option<LogEntry>
+        ensures { result ≡ wanted_report self.now.replica.state own
+            (first_of self.now.seat.reports) }
+    {
         let news = self.seat.reports().first()?;
         let earlier = EntryCount::new(self.replica.reports_of(own))?;
         Some(LogEntry::Reported(Report {
@@ -52,7 +64,9 @@ impl Node {
 }
 
 // Returns a copy of a name.
-fn copied(alloc: Global, name: &NodeName) -> Result<NodeName, AllocError> {
+fn copied(alloc: Global, name: &NodeName) -> Result<NodeName, AllocError>
+    ensures { IfOk result (λ copy. copy ≡ name.now) }
+{
     match NodeName::new(Vec::from_slice(alloc, name.as_bytes())?) {
         Some(name) => Ok(name),
         None => unreachable!(),

@@ -11,6 +11,7 @@ use zarguments::WordsFault;
 use zcodec::ReadError;
 use zmaster_log::PlayFault;
 use zpeers::PeerFault;
+use zwire::WriteError;
 
 /// Why an input wasn't taken, or not as a whole. The node takes no further one then.
 #[derive(Clone, Copy, Debug, PartialEq, Eq, Error)]
@@ -53,24 +54,40 @@ impl fmt::Display for NodeFault {
 }
 
 impl From<Memory> for NodeFault {
+    ghost use Rattle.znode.specs.declared.fault.NodeFault.TheVariants as fault;
+
+    ghost from_gives = { λ _ e. e ≡ fault.Memory };
+
     fn from(_: Memory) -> NodeFault {
         NodeFault::Memory
     }
 }
 
 impl From<AllocError> for NodeFault {
+    ghost use Rattle.znode.specs.declared.fault.NodeFault.TheVariants as fault;
+
+    ghost from_gives = { λ _ e. e ≡ fault.Memory };
+
     fn from(_: AllocError) -> NodeFault {
         NodeFault::Memory
     }
 }
 
 impl<T: Drop> From<AllocFailed<T>> for NodeFault {
+    ghost use Rattle.znode.specs.declared.fault.NodeFault.TheVariants as fault;
+
+    ghost from_gives = { λ _ e. e ≡ fault.Memory };
+
     fn from(_: AllocFailed<T>) -> NodeFault {
         NodeFault::Memory
     }
 }
 
 impl From<ReadError> for NodeFault {
+    ghost use Rattle.znode.specs.support.Faults.{of_reading};
+
+    ghost from_gives = { λ cause e. e ≡ of_reading cause };
+
     fn from(error: ReadError) -> NodeFault {
         match error {
             ReadError::Memory => NodeFault::Memory,
@@ -80,6 +97,10 @@ impl From<ReadError> for NodeFault {
 }
 
 impl From<PlayFault> for NodeFault {
+    ghost use Rattle.znode.specs.support.Faults.{of_playing};
+
+    ghost from_gives = { λ cause e. e ≡ of_playing cause };
+
     fn from(fault: PlayFault) -> NodeFault {
         match fault {
             PlayFault::Memory => NodeFault::Memory,
@@ -88,7 +109,24 @@ impl From<PlayFault> for NodeFault {
     }
 }
 
+impl From<WriteError> for NodeFault {
+    ghost use Rattle.znode.specs.support.Faults.{of_writing};
+
+    ghost from_gives = { λ cause e. e ≡ of_writing cause };
+
+    fn from(fault: WriteError) -> NodeFault {
+        match fault {
+            WriteError::TooLong => NodeFault::TooLong,
+            WriteError::Memory => NodeFault::Memory,
+        }
+    }
+}
+
 impl From<PeerFault> for NodeFault {
+    ghost use Rattle.znode.specs.support.Faults.{of_peer};
+
+    ghost from_gives = { λ cause e. e ≡ of_peer cause };
+
     fn from(fault: PeerFault) -> NodeFault {
         match fault {
             PeerFault::Memory => NodeFault::Memory,
@@ -148,30 +186,53 @@ impl fmt::Display for RunFault {
 }
 
 impl From<WordsFault> for RunFault {
+    ghost use Rattle.znode.specs.declared.fault.RunFault.TheVariants as fault;
+
+    ghost from_gives = { λ cause e. e ≡ fault.Words cause };
+
     fn from(fault: WordsFault) -> RunFault {
         RunFault::Words(fault)
     }
 }
 
 impl From<NodeFault> for RunFault {
+    ghost use Rattle.znode.specs.declared.fault.RunFault.TheVariants as fault;
+
+    ghost from_gives = { λ cause e. e ≡ fault.Node cause };
+
     fn from(fault: NodeFault) -> RunFault {
         RunFault::Node(fault)
     }
 }
 
 impl From<Memory> for RunFault {
+    ghost use Rattle.znode.specs.declared.fault.NodeFault.TheVariants as node;
+    ghost use Rattle.znode.specs.declared.fault.RunFault.TheVariants as fault;
+
+    ghost from_gives = { λ _ e. e ≡ fault.Node node.Memory };
+
     fn from(_: Memory) -> RunFault {
         RunFault::Node(NodeFault::Memory)
     }
 }
 
 impl From<AllocError> for RunFault {
+    ghost use Rattle.znode.specs.declared.fault.NodeFault.TheVariants as node;
+    ghost use Rattle.znode.specs.declared.fault.RunFault.TheVariants as fault;
+
+    ghost from_gives = { λ _ e. e ≡ fault.Node node.Memory };
+
     fn from(_: AllocError) -> RunFault {
         RunFault::Node(NodeFault::Memory)
     }
 }
 
 impl<T: Drop> From<AllocFailed<T>> for RunFault {
+    ghost use Rattle.znode.specs.declared.fault.NodeFault.TheVariants as node;
+    ghost use Rattle.znode.specs.declared.fault.RunFault.TheVariants as fault;
+
+    ghost from_gives = { λ _ e. e ≡ fault.Node node.Memory };
+
     fn from(_: AllocFailed<T>) -> RunFault {
         RunFault::Node(NodeFault::Memory)
     }

@@ -1,12 +1,26 @@
 //! A node.
 
+ghost use Rattle.std.specs.Prelude.{◌≡◌, ◌∷◌, ◌++◌, [], None, true, false, IfOk, IfErr, OnOk, List};
+ghost use Rattle.zprotocol.specs.declared.process.Process.{Process};
+ghost use Rattle.zprotocol.specs.server.View.{spare};
+ghost use Rattle.zprotocol.specs.world.Does.{AtServer};
+ghost use Rattle.zpeers.specs.Incoming.{arriving_from};
+ghost use Rattle.zpeers.specs.Outgoing.{waiting_for};
+ghost use Rattle.znode.specs.Node.{has_ended, status_of, IsNew};
+ghost use Rattle.znode.specs.Steps.{Takes, IsNodeFault, Receives, Loses, Forgets, accusing, may_accuse};
+ghost use Rattle.znode.specs.pipe.Inputs.{InputView, input_of};
+ghost use Rattle.znode.specs.pipe.Inputs.InputView.{Link, Lost, Ended};
+ghost use Rattle.znode.specs.pipe.Outputs.{OutputView};
+ghost use Rattle.znode.specs.pipe.Serving.{outputs_text};
+
 use crate::fault::NodeFault;
 use crate::pipe::NodeInput;
 use crate::seat::Seat;
 use crate::status::NodeStatus;
 use std::alloc::Global;
+use std::marker::Model;
 use zalloc::Memory;
-use zmaster_log::{MasterReplica, News, NodeName};
+use zmaster_log::{MasterReplica, NodeName};
 use zpeers::Incoming;
 use zprotocol::{Process, ServerId};
 
@@ -28,9 +42,32 @@ pub struct Node {
     pub(crate) told: Option<NodeStatus>,
 }
 
+impl Model for Node {
+    ghost use Rattle.std.specs.Option.{option_map};
+    ghost use Rattle.znode.specs.Node.{NodeView};
+    ghost use Rattle.znode.specs.support.Codes.{coded_node};
+
+    ghost Value = { NodeView };
+
+    ghost coded = { coded_node };
+
+    ghost view = { λ n. record {
+      name = n.name;
+      opens = n.opens;
+      is_at_end = n.is_at_end;
+      asked = option_map (λ bytes. bytes.items) n.asked;
+      replica = n.replica;
+      incoming = n.incoming;
+      seat = n.seat;
+      told = n.told;
+    } };
+}
+
 impl Node {
     /// Returns a node that has read nothing. `opens`: it may open an empty log.
-    pub fn new(alloc: Global, name: NodeName, opens: bool) -> Result<Node, Memory> {
+    pub fn new(alloc: Global, name: NodeName, opens: bool) -> Result<Node, Memory>
+        ensures { IfOk result (IsNew name opens) }
+    {
         Ok(Node {
             alloc,
             name,
@@ -44,8 +81,14 @@ impl Node {
         })
     }
 
-    /// Takes an input. What the host is to do goes to `out`, and only at a `Turn`.
-    pub fn take(&mut self, input: NodeInput<'_>, out: &mut Vec<u8>) -> Result<(), NodeFault> {
+    /// Takes an input. What the host is to do goes to `out`, and only at a `Turn`. A node that fails
+    /// takes no further input.
+    pub fn take(&mut self, input: NodeInput<'_>, out: &mut Vec<u8>) -> Result<(), NodeFault>
+        ensures taken { OnOk result ((outputs : List OutputView)
+            × Takes self.old (input_of input.entry) outputs self.new
+            × (out.new.items ≡ out.old.items ++ outputs_text outputs)) }
+        ensures fault { IfErr result (IsNodeFault self.old (input_of input.entry)) }
+    {
         match input {
             NodeInput::Entry(index, bytes) => self.play(index, bytes),
             NodeInput::CaughtUp => {
@@ -63,7 +106,9 @@ impl Node {
     }
 
     /// Returns whether its server is gone, by the log. Then the node has ended.
-    pub fn is_gone(&self) -> bool {
+    pub fn has_ended(&self) -> bool
+        ensures { result ≡ has_ended self.now }
+    {
         match self.replica.own() {
             Some(own) => !self.replica.is_live(own),
             None => false,
@@ -71,21 +116,28 @@ impl Node {
     }
 
     /// Returns its status.
-    pub fn status(&self) -> NodeStatus {
+    pub fn status(&self) -> NodeStatus
+        ensures { result ≡ status_of self.now }
+    {
         let own = self.replica.own();
         NodeStatus {
             own,
-            is_live: own.is_some() && !self.is_gone(),
+            is_live: own.is_some() && !self.has_ended(),
             has_state: self.seat.has_state(),
         }
     }
 
-    // Takes a record of a link. The server handles the message that it completes, if it does.
-    fn receive(&mut self, from: Process, tag: u8, bytes: &[u8]) -> Result<(), NodeFault> {
+    // Takes a record of a link. The server handles the message that is whole by it, if one is.
+    fn receive(&mut self, from: Process, tag: u8, bytes: &[u8]) -> Result<(), NodeFault>
+        ensures taken { OnOk result (Receives self.old from
+            (record { tag = tag; bytes = bytes.now }) self.new) }
+        ensures fault { IfErr result (IsNodeFault self.old
+            (Link from (record { tag = tag; bytes = bytes.now }))) }
+    {
         let Some(own) = self.replica.own() else {
             return Err(NodeFault::NoServer);
         };
-        if from == Process::Master {
+        if let Process::Master = from {
             return Err(NodeFault::Master);
         }
         let came = self.incoming.take(Process::Server(own), from, tag, bytes)?;
@@ -95,24 +147,28 @@ impl Node {
         Ok(())
     }
 
-    // Drops what waits for a server whose link is lost, and reports that it is gone, if it is live
-    // and this node may say so.
-    fn lose(&mut self, server: ServerId) -> Result<(), NodeFault> {
-        self.seat.outgoing_mut().forget(Process::Server(server));
-        if self.may_accuse(server) {
-            self.seat.reports_mut().put(News::Gone(server))?;
+    // Drops what waits for a server whose link is lost, and reports that it is gone, if the node
+    // may do so.
+    fn lose(&mut self, server: ServerId) -> Result<(), NodeFault>
+        ensures taken { OnOk result (Loses self.old server self.new) }
+        ensures fault { IfErr result (IsNodeFault self.old (Lost server)) }
+    {
+        let accuses = self.may_accuse(server);
+        self.seat.forget(server);
+        if accuses {
+            self.seat.accuse(server)?;
         }
         Ok(())
     }
 
     // Returns whether the node is to report that the server is gone: its own server is live and has
-    // the state, the accused is live, and it isn't reported yet.
-    fn may_accuse(&self, server: ServerId) -> bool {
-        let Some(own) = self.replica.own() else {
-            return false;
-        };
-        self.seat.has_state()
-            && self.replica.is_live(own)
+    // the state, the other one is live, and it isn't reported yet.
+    fn may_accuse(&self, server: ServerId) -> bool
+        ensures { result ≡ may_accuse self.now server }
+    {
+        self.replica.own().is_some()
+            && !self.has_ended()
+            && self.seat.has_state()
             && self.replica.is_live(server)
             && !self.seat.reports().accuse(server)
     }

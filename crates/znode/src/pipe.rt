@@ -11,7 +11,9 @@
 //! answer ends.
 
 mod input;
+pub mod laws;
 mod reading;
+mod rows;
 mod serving;
 mod writing;
 
