@@ -4,4 +4,5 @@ pub mod Entries
 pub mod Turns
 pub mod Steps
 pub mod pipe
+pub mod Laws
 pub mod support

@@ -21,6 +21,7 @@
 mod asking;
 mod ending;
 mod fault;
+pub mod laws;
 mod limits;
 mod logging;
 mod node;

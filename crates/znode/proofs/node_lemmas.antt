@@ -1,0 +1,4 @@
+pub mod Runs
+pub mod Logs
+pub mod Links
+pub mod Accounts
