@@ -23,6 +23,7 @@ mod arriving;
 mod fault;
 mod heard;
 mod incoming;
+pub mod laws;
 mod outgoing;
 mod queue;
 mod tags;
