@@ -31,14 +31,15 @@ ok_same x y r ok also = let same : ◌≡◌ {A = Result _ E} (Ok x) (Ok y) = sy
 some_none : {A : Type 0} (x : A) → ◌≡◌ {A = Option A} (Some x) None → ⊥
 some_none x same = cc
 
+-- a frame that fits is short, and is spelled so that it is read again
+parts_fit : (f : Frame) → frame.Fits f → contents.Fits f × (length (contents.spell f) ≤ MAX_FRAME)
+unfolding frame
+parts_fit f fits = fits
+
 -- a frame that can be sent
 module _ (own from : Process) (m : TreeMessage) (can : CanBeSent from own m) where
-  frame_fits : frame.Fits (frame_of from own m)
-  frame_fits = can.frame
-
   both_fit : contents.Fits (frame_of from own m) × (length (contents.spell (frame_of from own m)) ≤ MAX_FRAME)
-  unfolding frame
-  both_fit = can.frame
+  both_fit = parts_fit (frame_of from own m) can.frame
 
   read_again : whole contents (contents.spell (frame_of from own m)) ≡ Ok (frame_of from own m)
   read_again = whole_again contents is_contents (frame_of from own m) both_fit.0

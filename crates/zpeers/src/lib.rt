@@ -26,6 +26,7 @@ mod incoming;
 pub mod laws;
 mod outgoing;
 mod queue;
+mod rows;
 mod tags;
 mod waiting;
 
