@@ -1,0 +1,4 @@
+pub mod Messages
+pub mod Coming
+pub mod Refusing
+pub mod Queues

@@ -1,8 +1,9 @@
 -- What comes from other processes: the records of each sender are taken in order. A state is
 -- loaded row by row, and its message is whole at the end.
-use Rattle.std.specs.Prelude.{◌≡◌, ◌≢◌, ℕ, ◌<◌, ◌≤◌, true, false, List, [], length, slice_index_or, Option, None, Some, Ok, Err}
+use Rattle.std.specs.Prelude.{◌≡◌, ◌≢◌, ℕ, ◌<◌, ◌≤◌, false, List, [], ◌∷◌, ◌++◌, map, length, slice_index_or, Option, None, Some, Ok, Err}
 use Rattle.zcodec.specs.Choices.{sized}
 use Rattle.zcodec.specs.Readers.{whole}
+use Rattle.zops.specs.Machine.{MachineState}
 use Rattle.zprotocol.specs.declared.message.Message.TheVariants.{Snapshot}
 use Rattle.zprotocol.specs.declared.process.Process.{Process}
 use Rattle.zprotocol.specs.Places.{place_of}
@@ -11,8 +12,8 @@ use Rattle.zwire.specs.declared.frame.Frame.{Frame}
 use Rattle.zwire.specs.declared.limits.TheConstants.{MAX_FRAME}
 use Rattle.zwire.specs.Frames.{contents}
 use Rattle.zwire.specs.Messages.{Bare, bare}
-use Rattle.zsnapshots.specs.States.{IsReadable, rows_of}
-use Rattle.zsnapshots.specs.Loading.{LoadingView, nothing_loaded, rows_loaded, is_whole, IsLoaded, IsLoadingFault}
+use Rattle.zsnapshots.specs.States.{IsReadable, spelled, rows_of}
+use Rattle.zsnapshots.specs.Loading.{LoadingView, nothing_loaded, rows_loaded, bytes_loaded, is_whole, AreOfNone, IsLoaded, IsLoadingFault}
 use Rattle.zpeers.specs.declared.fault.PeerFault.{PeerFault}
 use Rattle.zpeers.specs.declared.fault.PeerFault.TheVariants as fault
 use Rattle.zpeers.specs.declared.tags.TheConstants.{FRAME, ROW, END}
@@ -80,6 +81,12 @@ abbrev pub OfLoaded : Option ArrivingView → LinkRecord → ℕ → (LoadingVie
 OfLoaded None r tag it = ⊥
 OfLoaded (Some a) r tag it = (r.tag ≡ tag) × it a.rows
 
+-- no state that can be read has these bytes as its next row
+abbrev pub IsNextOfNone : LoadingView → List ℕ → Type 0
+IsNextOfNone l bytes =
+    (s : MachineState) (rest : List (List ℕ)) → IsReadable s →
+    map spelled (rows_of s) ≢ bytes_loaded l ++ bytes ∷ rest
+
 -- the fault of a record that isn't too long
 abbrev pub IsFaultAt : Process → Process → LinkRecord → Option ArrivingView → PeerFault → Type 0
 IsFaultAt own from r loaded fault.TooLong = ⊥
@@ -95,10 +102,10 @@ IsFaultAt own from r loaded fault.OtherReceiver =
     OfFrame loaded r ((f : Frame) × (whole contents r.bytes ≡ Ok f) × (f.sender ≡ from) ×
     (f.receiver ≢ own))
 IsFaultAt own from r loaded (fault.Row it) =
-    OfLoaded loaded r ROW (λ l. IsLoadingFault l (row_bytes r) it)
+    OfLoaded loaded r ROW (λ l. IsLoadingFault l (row_bytes r) it × IsNextOfNone l (row_bytes r))
 IsFaultAt own from r loaded fault.NotEmpty = OfLoaded loaded r END (λ l. r.bytes ≢ [])
 IsFaultAt own from r loaded fault.Unfinished =
-    OfLoaded loaded r END (λ l. (r.bytes ≡ []) × (is_whole l ≡ false))
+    OfLoaded loaded r END (λ l. (r.bytes ≡ []) × (is_whole l ≡ false) × AreOfNone (bytes_loaded l))
 IsFaultAt own from r loaded fault.Memory = Unit {0}
 
 -- why a record is refused

@@ -1,5 +1,7 @@
 //! What a frame is: a message that is whole, or the beginning of a snapshot.
 
+ghost use Rattle.zpeers.specs.support.Arriving.{IsHeard};
+
 use zprotocol::{Epoch, Message};
 use zserver::Snapshot;
 
@@ -13,7 +15,9 @@ pub(crate) enum Heard {
 }
 
 /// Returns what the message of a frame is.
-pub(crate) fn message_in(message: Message<()>) -> Heard {
+pub(crate) fn message_in(message: Message<()>) -> Heard
+    ensures { IsHeard message result }
+{
     let message = match message {
         Message::Submit(number, update) => Message::Submit(number, update),
         Message::Query(number, query) => Message::Query(number, query),

@@ -1,9 +1,15 @@
 //! What comes from other processes.
 
-ghost use Rattle.std.specs.Prelude.{◌≡◌, ◌≢◌, None, IfOk, IfErr, OnErr};
+ghost use Rattle.std.specs.Prelude.{◌≡◌, ◌≢◌, ◌≤◌, length, None, Some, IfOk, IfErr, OnOk, OnErr};
+ghost use Rattle.zcodec.specs.Choices.{sized};
 ghost use Rattle.zprotocol.specs.declared.process.Process.{Process};
+ghost use Rattle.zwire.specs.declared.limits.TheConstants.{MAX_FRAME};
+ghost use Rattle.zsnapshots.specs.Loading.{rows_loaded, IsLoaded};
+ghost use Rattle.zpeers.specs.declared.tags.TheConstants.{FRAME as AFrame, END as TheEnd};
 ghost use Rattle.zpeers.specs.declared.fault.PeerFault.TheVariants.{Memory as OfMemory};
 ghost use Rattle.zpeers.specs.Incoming.{arriving_from, OthersArrive, Accepts, IsPeerFault};
+ghost use Rattle.zpeers.specs.Incoming.{IsFaultAt};
+ghost use Rattle.zpeers.specs.support.Arriving.{IsHeardFrame, IsRowRefused, IsWholeIn};
 
 use crate::arriving::Arriving;
 use crate::fault::PeerFault;
@@ -98,7 +104,13 @@ fn take_at(
     from: Process,
     tag: u8,
     bytes: &[u8],
-) -> Result<Option<Message<Snapshot>>, PeerFault> {
+) -> Result<Option<Message<Snapshot>>, PeerFault>
+    ensures accepted { IfOk result (Accepts own from (record { tag = tag; bytes = bytes.now })
+        slot.old slot.new) }
+    ensures fault { IfErr result
+        (IsPeerFault own from (record { tag = tag; bytes = bytes.now }) slot.old) }
+    ensures same { IfErr result (λ fault. fault ≢ OfMemory → slot.new ≡ slot.old) }
+{
     if bytes.len() > MAX_FRAME as usize {
         return Err(PeerFault::TooLong);
     }
@@ -119,7 +131,15 @@ fn take_frame(
     from: Process,
     tag: u8,
     bytes: &[u8],
-) -> Result<Option<Message<Snapshot>>, PeerFault> {
+) -> Result<Option<Message<Snapshot>>, PeerFault>
+    requires none { slot.old ≡ None }
+    requires tag { tag ≤ TheEnd }
+    ensures accepted { IfOk result (Accepts own from (record { tag = tag; bytes = bytes.now })
+        None slot.new) }
+    ensures fault { IfErr result
+        (IsFaultAt own from (record { tag = tag; bytes = bytes.now }) None) }
+    ensures same { OnErr result (slot.new ≡ slot.old) }
+{
     if tag != FRAME {
         return Err(PeerFault::NothingLoaded);
     }
@@ -133,12 +153,11 @@ fn take_frame(
 }
 
 // Reads the frame of a message between these processes.
-fn whole_frame(
-    alloc: Global,
-    own: Process,
-    from: Process,
-    bytes: &[u8],
-) -> Result<Heard, PeerFault> {
+fn whole_frame(alloc: Global, own: Process, from: Process, bytes: &[u8]) -> Result<Heard, PeerFault>
+    ensures heard { IfOk result (IsHeardFrame own from bytes.now) }
+    ensures fault { IfErr result
+        (IsFaultAt own from (record { tag = AFrame; bytes = bytes.now }) None) }
+{
     let frame = match read_contents(alloc, bytes) {
         Ok(frame) => frame,
         Err(ReadError::Fault(fault)) => return Err(PeerFault::Contents(fault)),
@@ -161,11 +180,23 @@ fn take_more(
     slot: &mut Option<Arriving>,
     tag: u8,
     bytes: &[u8],
-) -> Result<Option<Message<Snapshot>>, PeerFault> {
+) -> Result<Option<Message<Snapshot>>, PeerFault>
+    requires some { slot.old ≢ None }
+    requires tag { tag ≤ TheEnd }
+    requires short { length bytes.now ≤ MAX_FRAME }
+    ensures accepted { IfOk result (Accepts own from (record { tag = tag; bytes = bytes.now })
+        slot.old slot.new) }
+    ensures fault { IfErr result
+        (IsFaultAt own from (record { tag = tag; bytes = bytes.now }) slot.old) }
+    ensures same { IfErr result (λ fault. fault ≢ OfMemory → slot.new ≡ slot.old) }
+{
     match tag {
         FRAME => Err(PeerFault::RowsAwaited),
         ROW => {
-            take_row(alloc, slot, bytes)?;
+            let Some(arriving) = slot else {
+                unreachable!();
+            };
+            take_row(alloc, arriving, bytes)?;
             Ok(None)
         }
         _ => Ok(Some(take_end(alloc, slot, bytes)?)),
@@ -173,10 +204,15 @@ fn take_more(
 }
 
 // Takes a row.
-fn take_row(alloc: Global, slot: &mut Option<Arriving>, bytes: &[u8]) -> Result<(), PeerFault> {
-    let Some(arriving) = slot else {
-        unreachable!();
-    };
+fn take_row(alloc: Global, arriving: &mut Arriving, bytes: &[u8]) -> Result<(), PeerFault>
+    requires short { length bytes.now ≤ MAX_FRAME }
+    ensures taken { OnOk result (IsLoaded (rows_loaded arriving.old.rows)
+        (rows_loaded arriving.new.rows) ((sized MAX_FRAME).spell bytes.now)) }
+    ensures epoch { arriving.new.epoch ≡ arriving.old.epoch }
+    ensures fault { IfErr result
+        (IsRowRefused arriving.old.rows ((sized MAX_FRAME).spell bytes.now)) }
+    ensures same { OnErr result (arriving.new ≡ arriving.old) }
+{
     let mut row = Vec::new(alloc);
     if put_sized(&mut row, bytes).is_err() {
         return Err(PeerFault::Memory);
@@ -189,18 +225,33 @@ fn take_end(
     alloc: Global,
     slot: &mut Option<Arriving>,
     bytes: &[u8],
-) -> Result<Message<Snapshot>, PeerFault> {
+) -> Result<Message<Snapshot>, PeerFault>
+    requires some { slot.old ≢ None }
+    ensures accepted { IfOk result (λ m. (own from : Process)
+        → Accepts own from (record { tag = TheEnd; bytes = bytes.now }) slot.old slot.new (Some m)) }
+    ensures fault { IfErr result (λ fault. (own from : Process)
+        → IsFaultAt own from (record { tag = TheEnd; bytes = bytes.now }) slot.old fault) }
+    ensures same { IfErr result (λ fault. fault ≢ OfMemory → slot.new ≡ slot.old) }
+{
     if !bytes.is_empty() {
         return Err(PeerFault::NotEmpty);
     }
-    let Some(arriving) = slot else {
-        unreachable!();
-    };
-    if !arriving.is_whole() {
+    if !is_whole(slot) {
         return Err(PeerFault::Unfinished);
     }
     let Some(arriving) = slot.take() else {
         unreachable!();
     };
     arriving.finish(alloc)
+}
+
+// Returns whether the state is whole.
+fn is_whole(slot: &Option<Arriving>) -> bool
+    requires { slot.now ≢ None }
+    ensures { IsWholeIn slot.now result }
+{
+    match slot {
+        Some(arriving) => arriving.is_whole(),
+        None => unreachable!(),
+    }
 }

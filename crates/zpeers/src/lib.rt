@@ -23,8 +23,10 @@ mod arriving;
 mod fault;
 mod heard;
 mod incoming;
+pub mod laws;
 mod outgoing;
 mod queue;
+mod rows;
 mod tags;
 mod waiting;
 

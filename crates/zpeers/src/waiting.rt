@@ -1,14 +1,21 @@
 //! A message that waits to be sent.
 
-ghost use Rattle.std.specs.Prelude.{◌≡◌, true, false, IfOk, IfErr};
-ghost use Rattle.std.specs.Prelude.{OnErr};
+ghost use Rattle.std.specs.Prelude.{◌≡◌, ◌+◌, ◌<◌, ◌++◌, [], true, false, Some, length, drop};
+ghost use Rattle.std.specs.Prelude.{IfOk, IfErr, OnOk, OnErr};
+ghost use Rattle.zwire.specs.declared.fault.WriteError.TheVariants.{TooLong};
+ghost use Rattle.zwire.specs.declared.limits.TheConstants.{MAX_FRAME};
+ghost use Rattle.zwire.specs.Frames.{contents, frame_of};
+ghost use Rattle.zsnapshots.specs.States.{AreKeysOf};
+ghost use Rattle.zpeers.specs.Records.{link_record, frame_record, state_records, after_frame};
 ghost use Rattle.zpeers.specs.Outgoing.{IsLongFrame};
+ghost use Rattle.zpeers.specs.support.Waiting.{HasKeys, IsRecordWritten};
 ghost use Rattle.zpeers.specs.support.Waiting.{IsFirstWritten, IsLastWritten};
 
 use crate::tags::{END, FRAME, ROW};
 use std::alloc::{AllocError, Global};
 use std::marker::Model;
 use zalloc::Memory;
+use zops::Machine;
 use zprotocol::{Message, Process};
 use zserver::Snapshot;
 use zsnapshots::RowKeys;
@@ -66,10 +73,14 @@ impl Waiting {
         ensures err { OnErr result (self.new ≡ self.old) }
         ensures out { OnErr result (out.new.items ≡ out.old.items) }
     {
-        match &self.keys {
-            None => self.write_first(alloc, own, to, out),
-            Some(_) => self.write_further(alloc, out),
+        let Some(keys) = &self.keys else {
+            return self.write_first(alloc, own, to, out);
+        };
+        let more = put_further(alloc, &self.message, keys, self.written - 1, out)?;
+        if more {
+            self.written += 1;
         }
+        Ok(more)
     }
 
     // Appends the frame.
@@ -79,43 +90,36 @@ impl Waiting {
         own: Process,
         to: Process,
         out: &mut Vec<u8>,
-    ) -> Result<bool, WriteError> {
+    ) -> Result<bool, WriteError>
+        requires { self.old.written ≡ 0 }
+        ensures more { IfOk result (λ more. more ≡ true
+            → IsFirstWritten own to self.old self.new out.old.items out.new.items) }
+        ensures last { IfOk result (λ more. more ≡ false
+            → IsLastWritten own to self.old out.old.items out.new.items) }
+        ensures long { IfErr result (IsLongFrame own to self.old) }
+        ensures err { OnErr result (self.new ≡ self.old) }
+        ensures out { OnErr result (out.new.items ≡ out.old.items) }
+    {
         let Ok(keys) = keys_of(&self.message) else {
             return Err(WriteError::Memory);
         };
-        put_frame(alloc, own, to, &self.message, out)?;
-        self.keys = keys;
-        self.written = 1;
-        Ok(self.keys.is_some())
-    }
-
-    // Appends the next row, or the end.
-    fn write_further(&mut self, alloc: Global, out: &mut Vec<u8>) -> Result<bool, WriteError> {
-        let (Message::Snapshot(_, snapshot), Some(keys)) = (&self.message, &self.keys) else {
-            unreachable!();
-        };
-        let before = out.len();
-        out.extend_from_slice(&[ROW])?;
-        match keys.write_row(alloc, snapshot.machine(), self.written - 1, out) {
-            Ok(true) => {
-                self.written += 1;
-                Ok(true)
-            }
-            Ok(false) => {
-                out.truncate(before);
-                out.extend_from_slice(&[END, 0, 0, 0, 0])?;
-                Ok(false)
-            }
-            Err(_) => {
-                out.truncate(before);
-                Err(WriteError::Memory)
-            }
+        if let Err(error) = put_frame(alloc, own, to, &self.message, out) {
+            drop(keys);
+            return Err(error);
         }
+        let Some(keys) = keys else {
+            return Ok(false);
+        };
+        self.keys = Some(keys);
+        self.written = 1;
+        Ok(true)
     }
 }
 
 // Returns the keys of the rows of a message's state, if it has one.
-fn keys_of(message: &Message<Snapshot>) -> Result<Option<RowKeys>, Memory> {
+fn keys_of(message: &Message<Snapshot>) -> Result<Option<RowKeys>, Memory>
+    ensures { IfOk result (HasKeys message.now) }
+{
     let Message::Snapshot(_, snapshot) = message else {
         return Ok(None);
     };
@@ -129,11 +133,81 @@ fn put_frame(
     to: Process,
     message: &Message<Snapshot>,
     out: &mut Vec<u8>,
-) -> Result<(), WriteError> {
+) -> Result<(), WriteError>
+    ensures ok { OnOk result (out.new.items
+        ≡ out.old.items ++ link_record.spell (frame_record own to message.now)) }
+    ensures fits { OnOk result (link_record.Fits (frame_record own to message.now)) }
+    ensures long { IfErr result (λ error. error ≡ TooLong
+        → MAX_FRAME < length (contents.spell (frame_of own to message.now))) }
+    ensures err { OnErr result (out.new.items ≡ out.old.items) }
+{
     let before = out.len();
     out.extend_from_slice(&[FRAME])?;
     match write_frame(alloc, out, own, to, message) {
         Ok(()) => Ok(()),
+        Err(error) => {
+            out.truncate(before);
+            Err(error)
+        }
+    }
+}
+
+// Appends a record of a message's state: the row with this number, or else the end. Returns whether
+// it was a row.
+fn put_further(
+    alloc: Global,
+    message: &Message<Snapshot>,
+    keys: &RowKeys,
+    number: usize,
+    out: &mut Vec<u8>,
+) -> Result<bool, AllocError>
+    requires keys { HasKeys message.now (Some keys.now) }
+    requires within { number < length (after_frame message.now) }
+    ensures row { IfOk result (λ more. more ≡ true → IsRecordWritten
+        (drop number (after_frame message.now)) (drop (number + 1) (after_frame message.now))
+        out.old.items out.new.items) }
+    ensures rest { IfOk result (λ more. more ≡ true → number + 1 < length (after_frame message.now)) }
+    ensures end { IfOk result (λ more. more ≡ false
+        → IsRecordWritten (drop number (after_frame message.now)) [] out.old.items out.new.items) }
+    ensures err { OnErr result (out.new.items ≡ out.old.items) }
+{
+    let Message::Snapshot(_, snapshot) = message else {
+        unreachable!();
+    };
+    put_state_record(alloc, snapshot.machine(), keys, number, out)
+}
+
+// Appends a record of a machine's state: the row with this number, or else the end. Returns whether
+// it was a row.
+fn put_state_record(
+    alloc: Global,
+    machine: &Machine,
+    keys: &RowKeys,
+    number: usize,
+    out: &mut Vec<u8>,
+) -> Result<bool, AllocError>
+    requires whole { machine.now.is_broken ≡ false }
+    requires keys { AreKeysOf keys.now machine.now.state }
+    requires all { keys.now.is_alone ≡ false }
+    requires within { number < length (state_records machine.now.state) }
+    ensures row { IfOk result (λ more. more ≡ true → IsRecordWritten
+        (drop number (state_records machine.now.state))
+        (drop (number + 1) (state_records machine.now.state)) out.old.items out.new.items) }
+    ensures rest { IfOk result (λ more. more ≡ true
+        → number + 1 < length (state_records machine.now.state)) }
+    ensures end { IfOk result (λ more. more ≡ false → IsRecordWritten
+        (drop number (state_records machine.now.state)) [] out.old.items out.new.items) }
+    ensures err { OnErr result (out.new.items ≡ out.old.items) }
+{
+    let before = out.len();
+    out.extend_from_slice(&[ROW])?;
+    match keys.write_row(alloc, machine, number, out) {
+        Ok(true) => Ok(true),
+        Ok(false) => {
+            out.truncate(before);
+            out.extend_from_slice(&[END, 0, 0, 0, 0])?;
+            Ok(false)
+        }
         Err(error) => {
             out.truncate(before);
             Err(error)

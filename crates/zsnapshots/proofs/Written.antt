@@ -16,7 +16,7 @@ use Rattle.zops.specs.Machine.{MachineState}
 use Rattle.zops.specs.declared.limits.TheConstants.{MAX_APPLIED}
 use Rattle.zsnapshots.specs.States.{StateRow, Fits, spelled, head_of, sessions_of, nodes_of, replies_of, below_of, body_of, rows_of, written_of}
 use Rattle.zsnapshots.specs.States.StateRow.{OfHeader, OfSession, OfNode, OfReply}
-use Rattle.zsnapshots.specs.support.Writing.{IsItem, IsRow}
+use Rattle.zsnapshots.specs.States.{IsItem, IsRow}
 use Rattle.zsnapshots.proofs.Keys.{entries-empty}
 use Rattle.zsnapshots.proofs.Places.{At, at_left, at_right, at_below, at_map}
 

@@ -163,7 +163,9 @@ impl Loading {
 
     /// Returns whether all rows that the header announces were taken.
     pub fn is_whole(&self) -> bool
-        ensures { result ≡ is_whole self.now }
+        ensures whole { result ≡ is_whole self.now }
+        // If not, no state that can be read has exactly these rows.
+        ensures part { IsFalse result → AreOfNone (bytes_loaded self.now) }
     {
         match &self.reading {
             Some(reading) => reading.is_done(),

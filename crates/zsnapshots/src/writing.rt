@@ -8,7 +8,7 @@ ghost use Rattle.zsnapshots.specs.States.{rows_of, IsWritten, tree_alone};
 ghost use Rattle.zops.specs.declared.limits.TheConstants.{MAX_APPLIED};
 ghost use Rattle.zops.specs.RestoredLaws.{IsSettled};
 
-use crate::keys::RowKeys;
+use crate::row_keys::RowKeys;
 use std::alloc::{AllocError, Global};
 use std::marker::Model;
 use zalloc::Memory;

@@ -1,21 +1,25 @@
 -- A message that waits, and the queue of one receiver.
-use Rattle.std.specs.Prelude.{◌≡◌, ℕ, ◌+◌, ◌<◌, ◌≤◌, false, List, [], ◌∷◌, ◌++◌, length, Option, None, Some}
+use Rattle.std.specs.Prelude.{◌≡◌, ℕ, ◌<◌, ◌≤◌, false, List, [], ◌∷◌, ◌++◌, length, Option, None, Some}
 use Rattle.std.specs.List.{flat_map}
 use Rattle.zprotocol.specs.declared.message.Message.TheVariants.{Snapshot}
 use Rattle.zprotocol.specs.declared.process.Process.{Process}
 use Rattle.zserver.specs.Server.{TreeMessage}
-use Rattle.zsnapshots.specs.States.{KeysView, AreKeysOf, rows_of}
-use Rattle.zpeers.specs.Records.{LinkRecord, link_record, state_of}
+use Rattle.zsnapshots.specs.States.{KeysView, AreKeysOf}
+use Rattle.zpeers.specs.Records.{LinkRecord, link_record, state_of, after_frame}
 use Rattle.zpeers.specs.Outgoing.{WaitingView, left_of}
 
--- Nothing was written; or the message is a snapshot, these are the keys of its rows, its frame was
--- written, and no more rows than it has.
+-- the keys of the rows of a message's state, if it has one
+abbrev pub HasKeys : TreeMessage → Option KeysView → Type 0
+HasKeys (Snapshot epoch t) None = ⊥
+HasKeys (Snapshot epoch t) (Some keys) = AreKeysOf keys (state_of t) × (keys.is_alone ≡ false)
+HasKeys m None = Unit {0}
+HasKeys m (Some keys) = ⊥
+
+-- nothing was written; or the frame was, and part of what comes after it
 abbrev pub IsWaiting : TreeMessage → Option KeysView → ℕ → Type 0
 IsWaiting m None written = written ≡ 0
-IsWaiting (Snapshot epoch t) (Some keys) written =
-    AreKeysOf keys (state_of t) × (keys.is_alone ≡ false) × (0 < written) ×
-    (written ≤ length (rows_of (state_of t)) + 1)
-IsWaiting m (Some keys) written = ⊥
+IsWaiting m (Some keys) written =
+    HasKeys m (Some keys) × (0 < written) × (written ≤ length (after_frame m))
 
 -- a record was written at the end of the bytes: the first of those that wait
 pub record IsRecordWritten (old new : List LinkRecord) (before after : List ℕ) : Type 0 where

@@ -222,7 +222,8 @@ impl RowKeys {
     ) -> Result<(), AllocError>
         requires whole { machine.now.is_broken ≡ false }
         requires keys { AreKeysOf self.now (written_of self.now.is_alone machine.now.state) }
-        requires within { place < length (replies_of (written_of self.now.is_alone machine.now.state)) }
+        requires within { place
+            < length (replies_of (written_of self.now.is_alone machine.now.state)) }
         ensures ok { OnOk result
             (IsItem OfReply (replies_of (written_of self.now.is_alone machine.now.state)) place
             out.old.items out.new.items) }
