@@ -2,3 +2,5 @@ pub mod Runs
 pub mod Logs
 pub mod Links
 pub mod Accounts
+pub mod Sending
+pub mod Putting

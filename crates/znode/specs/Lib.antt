@@ -5,4 +5,5 @@ pub mod Turns
 pub mod Steps
 pub mod pipe
 pub mod Laws
+pub mod Running
 pub mod support

@@ -93,11 +93,14 @@ abbrev pub Waits : Bool → OutgoingView → Type 0
 Waits true o = (p : Process) × (waiting_for o p ≢ [])
 Waits false o = (p : Process) → HasLink p → waiting_for o p ≡ []
 
--- a record that waits is longer than any may be
-abbrev pub HasLong : ℕ → OutgoingView → Type 0
-HasLong own o =
-    (to : Process) × (front : List LinkRecord) × (r : LinkRecord) × (back : List LinkRecord)
+-- a record that waits for a process is longer than any may be
+abbrev pub HasLongFor : ℕ → Process → OutgoingView → Type 0
+HasLongFor own to o =
+    (front : List LinkRecord) × (r : LinkRecord) × (back : List LinkRecord)
     × (records_for o (Server own) to ≡ front ++ r ∷ back) × (MAX_FRAME < length r.bytes)
+
+abbrev pub HasLong : ℕ → OutgoingView → Type 0
+HasLong own o = (to : Process) × HasLongFor own to o
 
 -- ---- an answer
 

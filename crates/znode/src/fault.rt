@@ -2,7 +2,6 @@
 
 ghost use Rattle.std.specs.Prelude.{◌≡◌};
 
-use crate::ending::BAD_INPUT;
 use std::alloc::{AllocError, AllocFailed};
 use std::fmt;
 use thiserror::Error;
@@ -33,21 +32,45 @@ pub enum NodeFault {
 }
 
 impl NodeFault {
-    /// Returns the text of the fault.
-    pub fn text(self) -> &'static str {
+    ghost use Rattle.znode.specs.Running.{node_status, node_text};
+
+    /// Returns the line that a program reports.
+    pub fn text(self) -> &'static str
+        ensures { result.now ≡ node_text self }
+    {
         match self {
-            NodeFault::Memory => "memory",
-            NodeFault::Entry => "an entry of the log is none",
-            NodeFault::Order => "an entry of the log isn't the next one",
-            NodeFault::NoServer => "a record of a link, and no server",
-            NodeFault::Master => "a record of a link from the master",
-            NodeFault::Peer(_) => "a record of a link that no peer sends",
-            NodeFault::TooLong => "a message is too long for a frame",
+            NodeFault::Memory => "zk: memory",
+            NodeFault::Entry => "zk: an entry of the log is none",
+            NodeFault::Order => "zk: an entry of the log isn't the next one",
+            NodeFault::NoServer => "zk: a record of a link, and no server",
+            NodeFault::Master => "zk: a record of a link from the master",
+            NodeFault::Peer(_) => "zk: a record of a link that no peer sends",
+            NodeFault::TooLong => "zk: a message is too long for a frame",
+        }
+    }
+
+    /// Returns the exit status: 1 where memory ran out, else 65.
+    pub fn status(self) -> u8
+        ensures { result ≡ node_status self }
+    {
+        match self {
+            NodeFault::Memory => 1,
+            NodeFault::Entry
+            | NodeFault::Order
+            | NodeFault::NoServer
+            | NodeFault::Master
+            | NodeFault::Peer(_)
+            | NodeFault::TooLong => 65,
         }
     }
 }
 
 impl fmt::Display for NodeFault {
+    ghost use Rattle.std.specs.Prelude.{Some};
+    ghost use Rattle.znode.specs.Running.{node_text};
+
+    ghost output = { λ fault. Some (node_text fault) };
+
     fn fmt<W: fmt::Write>(&self, f: &mut fmt::Formatter<W>) -> fmt::Result {
         f.write_str(self.text())
     }
@@ -151,17 +174,15 @@ pub enum RunFault {
 }
 
 impl RunFault {
+    ghost use Rattle.znode.specs.Running.{run_status, run_text};
+
     /// Returns the line that the program reports.
-    pub fn text(self) -> &'static str {
+    pub fn text(self) -> &'static str
+        ensures { result.now ≡ run_text self }
+    {
         match self {
             RunFault::Words(fault) => fault.text(),
-            RunFault::Node(NodeFault::Memory) => "zk: memory",
-            RunFault::Node(NodeFault::Entry) => "zk: an entry of the log is none",
-            RunFault::Node(NodeFault::Order) => "zk: an entry of the log isn't the next one",
-            RunFault::Node(NodeFault::NoServer) => "zk: a record of a link, and no server",
-            RunFault::Node(NodeFault::Master) => "zk: a record of a link from the master",
-            RunFault::Node(NodeFault::Peer(_)) => "zk: a record of a link that no peer sends",
-            RunFault::Node(NodeFault::TooLong) => "zk: a message is too long for a frame",
+            RunFault::Node(fault) => fault.text(),
             RunFault::NoInput => "zk: no input of a host",
             RunFault::Read => "zk: read failed",
             RunFault::Write => "zk: write failed",
@@ -170,16 +191,24 @@ impl RunFault {
 
     /// Returns the exit status: 1 where memory ran out, or a device failed; 2 for words; 65 for
     /// what no host gives.
-    pub fn status(self) -> u8 {
+    pub fn status(self) -> u8
+        ensures { result ≡ run_status self }
+    {
         match self {
             RunFault::Words(fault) => fault.status(),
-            RunFault::Node(NodeFault::Memory) | RunFault::Read | RunFault::Write => 1,
-            RunFault::Node(_) | RunFault::NoInput => BAD_INPUT,
+            RunFault::Node(fault) => fault.status(),
+            RunFault::NoInput => 65,
+            RunFault::Read | RunFault::Write => 1,
         }
     }
 }
 
 impl fmt::Display for RunFault {
+    ghost use Rattle.std.specs.Prelude.{Some};
+    ghost use Rattle.znode.specs.Running.{run_text};
+
+    ghost output = { λ fault. Some (run_text fault) };
+
     fn fmt<W: fmt::Write>(&self, f: &mut fmt::Formatter<W>) -> fmt::Result {
         f.write_str(self.text())
     }

@@ -19,7 +19,6 @@
 #![tactic(auto)]
 
 mod asking;
-mod ending;
 mod fault;
 pub mod laws;
 mod limits;
@@ -27,6 +26,7 @@ mod logging;
 mod node;
 pub mod pipe;
 mod program;
+mod rows;
 mod seat;
 mod status;
 mod turn;

@@ -147,7 +147,9 @@ impl Seat {
     {
         let mut out = Out::new(alloc);
         let mut handed = Handed::Nothing;
-        let heard = self.actor.act(Input::Hear(from, message), &mut out, &mut handed);
+        let heard = self
+            .actor
+            .act(Input::Hear(from, message), &mut out, &mut handed);
         let Ok(done) = heard else {
             return Ok(());
         };
@@ -169,12 +171,7 @@ impl Seat {
     }
 
     // Puts a message: to the master it becomes a report.
-    fn put(
-        &mut self,
-        own: ServerId,
-        to: Process,
-        message: Message<Snapshot>,
-    ) -> Result<(), Memory>
+    fn put(&mut self, own: ServerId, to: Process, message: Message<Snapshot>) -> Result<(), Memory>
         ensures { OnOk result (ArePut own ((to, message) ∷ []) self.old self.new) }
     {
         match to {

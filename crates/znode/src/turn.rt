@@ -10,7 +10,7 @@ ghost use Rattle.znode.specs.pipe.Serving.{outputs_text};
 ghost use Rattle.znode.specs.Node.{status_of};
 ghost use Rattle.znode.specs.Turns.{Answers, Sends, Waits, asked_after, asked_output, asking, is_told, told_output};
 ghost use Rattle.znode.specs.Steps.{IsNodeFault};
-ghost use Rattle.znode.specs.support.Turns.{SendsAll, SendsSome, SendsOne, IsSendFault};
+ghost use Rattle.znode.specs.support.Turns.{SendsAll, SendsSome, SendsOne, IsSendFault, IsAnySendFault};
 
 use crate::fault::NodeFault;
 use crate::limits::MAX_WRITTEN;
@@ -112,7 +112,7 @@ fn send_all(
     ensures taken { OnOk result (SendsAll own seat.old.outgoing seat.new.outgoing
         out.old.items out.new.items) }
     ensures rest { seat.new ≡ record seat.old { outgoing = seat.new.outgoing } }
-    ensures fault { IfErr result (IsSendFault own seat.old.outgoing) }
+    ensures fault { IfErr result (IsAnySendFault own seat.old.outgoing) }
 {
     for place in 1..PROCESSES {
         if let Some(to) = Process::at(place) {
@@ -133,7 +133,7 @@ fn send_to(
     ensures taken { OnOk result (SendsSome own to seat.old.outgoing seat.new.outgoing
         out.old.items out.new.items) }
     ensures rest { seat.new ≡ record seat.old { outgoing = seat.new.outgoing } }
-    ensures fault { IfErr result (IsSendFault own seat.old.outgoing) }
+    ensures fault { IfErr result (IsSendFault own to seat.old.outgoing) }
 {
     for _ in 0..MAX_WRITTEN {
         if !send_next(alloc, seat, own, to, out)? {
@@ -157,7 +157,7 @@ fn send_next(
     ensures same { IfOk result (λ some. some ≡ false → seat.new ≡ seat.old) }
     ensures out { IfOk result (λ some. some ≡ false → out.new.items ≡ out.old.items) }
     ensures rest { seat.new ≡ record seat.old { outgoing = seat.new.outgoing } }
-    ensures fault { IfErr result (IsSendFault own seat.old.outgoing) }
+    ensures fault { IfErr result (IsSendFault own to seat.old.outgoing) }
 {
     let mut text = Vec::new(alloc);
     if !seat.write_next(own, to, &mut text)? {

@@ -32,8 +32,8 @@ all_from from messages = map (λ (m : TreeMessage). (from, m)) messages
 
 pub said-all : (p from : Process) (o : Option TreeMessage)
     → said_by p (all_from from (option_to_list o)) ≡ cond (is_same p from) (option_to_list o) []
-said-all p from None = elim (is_same p from) [ | true ↦ refl | false ↦ refl ]
-said-all p from (Some m) = elim (is_same p from) [ | true ↦ refl | false ↦ refl ]
+said-all p from None = elim (is_same p from) [ true ↦ refl | false ↦ refl ]
+said-all p from (Some m) = elim (is_same p from) [ true ↦ refl | false ↦ refl ]
 
 -- what a server has handled, and what it put
 pub record HasHeard (own : ℕ) (heard : List Heard) (old new : SeatView) : Type 0 where

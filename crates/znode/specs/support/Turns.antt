@@ -9,7 +9,7 @@ use Rattle.zpeers.specs.Outgoing.{OutgoingView, OthersWait, records_for, waiting
 use Rattle.znode.specs.declared.limits.TheConstants.{MAX_WRITTEN}
 use Rattle.znode.specs.pipe.Outputs.{OutputView, Send, output}
 use Rattle.znode.specs.pipe.Serving.{outputs_text}
-use Rattle.znode.specs.Turns.{AreSentTo, HasLong, Sends}
+use Rattle.znode.specs.Turns.{AreSentTo, HasLong, HasLongFor, Sends}
 
 -- the first record that waits for a process is sent
 pub record SendsOne (own : ℕ) (to : Process) (old new : OutgoingView) (before after : List ℕ) : Type 0 where
@@ -31,7 +31,12 @@ pub record SendsAll (own : ℕ) (old new : OutgoingView) (before after : List �
   pub sends : Sends (Some own) outputs old new
   pub text : after ≡ before ++ outputs_text outputs
 
--- why no record is sent
-abbrev pub IsSendFault : ℕ → OutgoingView → WriteError → Type 0
-IsSendFault own o Memory = Unit {0}
-IsSendFault own o TooLong = HasLong own o
+-- why no record is sent to a process
+abbrev pub IsSendFault : ℕ → Process → OutgoingView → WriteError → Type 0
+IsSendFault own to o Memory = Unit {0}
+IsSendFault own to o TooLong = HasLongFor own to o
+
+-- and to any
+abbrev pub IsAnySendFault : ℕ → OutgoingView → WriteError → Type 0
+IsAnySendFault own o Memory = Unit {0}
+IsAnySendFault own o TooLong = HasLong own o
