@@ -4,3 +4,4 @@ pub mod Links
 pub mod Accounts
 pub mod Sending
 pub mod Putting
+pub mod Results

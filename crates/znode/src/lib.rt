@@ -20,6 +20,7 @@
 
 mod asking;
 mod fault;
+mod flags;
 pub mod laws;
 mod limits;
 mod logging;
@@ -34,7 +35,7 @@ mod waiting;
 mod words;
 
 pub use fault::{NodeFault, RunFault};
-pub use limits::{BLOCK, MAX_ENTRY, MAX_RECORD, MAX_WRITTEN};
+pub use limits::{BLOCK, MAX_ENTRY, MAX_WRITTEN};
 pub use node::Node;
 pub use program::node_command;
 pub use status::NodeStatus;

@@ -1,12 +1,7 @@
 //! The limits of a node.
 
-use zwire::MAX_FRAME;
-
 /// The most bytes of an entry of the log, above all that entries have.
 pub const MAX_ENTRY: u32 = 4_096;
-
-/// The most bytes of a link's record, after its tag and its length.
-pub const MAX_RECORD: u32 = MAX_FRAME;
 
 /// The most records that are written for one process at one turn.
 pub const MAX_WRITTEN: usize = 128;

@@ -13,11 +13,12 @@ ghost use Rattle.znode.specs.Steps.{IsNodeFault};
 ghost use Rattle.znode.specs.support.Turns.{SendsAll, SendsSome, SendsOne, IsSendFault, IsAnySendFault};
 
 use crate::fault::NodeFault;
+use crate::flags::{flags_of, number_of};
 use crate::limits::MAX_WRITTEN;
 use crate::node::Node;
 use crate::pipe::{put_append, put_end, put_send, put_status};
 use crate::seat::Seat;
-use crate::status::{NodeStatus, flags_of, number_of};
+use crate::status::NodeStatus;
 use std::alloc::{AllocError, Global};
 use zmaster_log::entry_text;
 use zprotocol::{PROCESSES, Process, ServerId};

@@ -6,13 +6,13 @@ ghost use Rattle.zwire.specs.Fields.{process, process_at};
 ghost use Rattle.zmaster_log.specs.Bytes.{count};
 ghost use Rattle.znode.specs.pipe.Inputs.{InputView, input_of, input, input_at, listed, came};
 
-use crate::limits::{MAX_ENTRY, MAX_RECORD};
+use crate::limits::MAX_ENTRY;
 use crate::pipe::input::NodeInput;
 use zcodec::{Fault, sized_at, u8_at, u64_at};
 use zmaster_log::EntryCount;
 use zprotocol::Process;
-use zwire::client_at;
 use zwire::records::server_at;
+use zwire::{MAX_FRAME, client_at};
 
 /// Reads the first input of the bytes, with what follows it.
 ///
@@ -87,7 +87,7 @@ fn record_at(bytes: &[u8]) -> Result<(Process, u8, &[u8], &[u8]), Fault>
 {
     let (from, rest) = process_at(bytes)?;
     let (tag, rest) = u8_at(rest)?;
-    let (text, rest) = sized_at(MAX_RECORD, rest)?;
+    let (text, rest) = sized_at(MAX_FRAME, rest)?;
     Ok((from, tag, text, rest))
 }
 

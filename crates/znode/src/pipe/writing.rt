@@ -7,7 +7,8 @@ ghost use Rattle.znode.specs.pipe.Outputs.{output};
 ghost use Rattle.znode.specs.pipe.Outputs.OutputView.{Send, Append, Status, End};
 ghost use Rattle.znode.specs.Turns.{status_output};
 
-use crate::status::{NodeStatus, flags_of, number_of};
+use crate::flags::{flags_of, number_of};
+use crate::status::NodeStatus;
 use std::alloc::AllocError;
 use zcodec::{put_flag, put_sized, put_u8, put_u64};
 use zmaster_log::EntryCount;
