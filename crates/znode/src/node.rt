@@ -1,6 +1,6 @@
 //! A node.
 
-ghost use Rattle.std.specs.Prelude.{◌≡◌, ◌∷◌, ◌++◌, [], None, true, false, IfOk, IfErr, OnOk, List};
+ghost use Rattle.std.specs.Prelude.{◌≡◌, ◌≢◌, ◌++◌, IfOk, IfErr, IsTrue, IsFalse, OnOk, List};
 ghost use Rattle.zprotocol.specs.declared.process.Process.{Process};
 ghost use Rattle.zprotocol.specs.server.View.{spare};
 ghost use Rattle.zprotocol.specs.world.Does.{AtServer};
@@ -83,23 +83,23 @@ impl Node {
 
     /// Takes an input. What the host is to do goes to `out`, and only at a `Turn`. A node that fails
     /// takes no further input.
-    pub fn take(&mut self, input: NodeInput<'_>, out: &mut Vec<u8>) -> Result<(), NodeFault>
+    pub fn take(&mut self, input: &NodeInput<'_>, out: &mut Vec<u8>) -> Result<(), NodeFault>
         ensures taken { OnOk result ((outputs : List OutputView)
-            × Takes self.old (input_of input.entry) outputs self.new
+            × Takes self.old (input_of input.now) outputs self.new
             × (out.new.items ≡ out.old.items ++ outputs_text outputs)) }
-        ensures fault { IfErr result (IsNodeFault self.old (input_of input.entry)) }
+        ensures fault { IfErr result (IsNodeFault self.old (input_of input.now)) }
     {
         match input {
-            NodeInput::Entry(index, bytes) => self.play(index, bytes),
+            NodeInput::Entry(index, bytes) => self.play(*index, bytes),
             NodeInput::CaughtUp => {
                 self.is_at_end = true;
                 Ok(())
             }
-            NodeInput::Link(from, tag, bytes) => self.receive(from, tag, bytes),
-            NodeInput::Lost(server) => self.lose(server),
+            NodeInput::Link(from, tag, bytes) => self.receive(*from, *tag, bytes),
+            NodeInput::Lost(server) => self.lose(*server),
             NodeInput::Turn => self.answer(out),
             NodeInput::Ended(from) => {
-                self.incoming.forget(from);
+                self.incoming.forget(*from);
                 Ok(())
             }
         }
@@ -137,7 +137,7 @@ impl Node {
         let Some(own) = self.replica.own() else {
             return Err(NodeFault::NoServer);
         };
-        if let Process::Master = from {
+        if is_master(from) {
             return Err(NodeFault::Master);
         }
         let came = self.incoming.take(Process::Server(own), from, tag, bytes)?;
@@ -171,5 +171,16 @@ impl Node {
             && self.seat.has_state()
             && self.replica.is_live(server)
             && !self.seat.reports().accuse(server)
+    }
+}
+
+// Returns whether the process is the master.
+fn is_master(process: Process) -> bool
+    ensures yes { IsTrue result → process ≡ Process.Master }
+    ensures no { IsFalse result → process ≢ Process.Master }
+{
+    match process {
+        Process::Master => true,
+        Process::Server(_) | Process::Client(_) => false,
     }
 }

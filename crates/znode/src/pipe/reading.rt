@@ -47,23 +47,23 @@ fn read_behind(tag: u8, bytes: &[u8]) -> Result<(NodeInput<'_>, &[u8]), Fault>
     ensures { Reads (λ x. (input_of x.0, x.1.now)) result (input_at tag bytes.now) }
 {
     match tag {
-        0 => {
-            let (index, text, rest) = entry_at(bytes)?;
-            Ok((NodeInput::Entry(index, text), rest))
+        0 => match entry_at(bytes) {
+            Ok((index, text, rest)) => Ok((NodeInput::Entry(index, text), rest)),
+            Err(fault) => Err(fault),
         }
         1 => Ok((NodeInput::CaughtUp, bytes)),
-        2 => {
-            let (from, tag, text, rest) = record_at(bytes)?;
-            Ok((NodeInput::Link(from, tag, text), rest))
+        2 => match record_at(bytes) {
+            Ok((from, tag, text, rest)) => Ok((NodeInput::Link(from, tag, text), rest)),
+            Err(fault) => Err(fault),
         }
-        3 => {
-            let (server, rest) = server_at(bytes)?;
-            Ok((NodeInput::Lost(server), rest))
+        3 => match server_at(bytes) {
+            Ok((server, rest)) => Ok((NodeInput::Lost(server), rest)),
+            Err(fault) => Err(fault),
         }
         4 => Ok((NodeInput::Turn, bytes)),
-        5 => {
-            let (from, rest) = process_at(bytes)?;
-            Ok((NodeInput::Ended(from), rest))
+        5 => match process_at(bytes) {
+            Ok((from, rest)) => Ok((NodeInput::Ended(from), rest)),
+            Err(fault) => Err(fault),
         }
         _ => Err(Fault::Invalid),
     }
@@ -74,9 +74,14 @@ fn read_behind(tag: u8, bytes: &[u8]) -> Result<(NodeInput<'_>, &[u8]), Fault>
 fn entry_at(bytes: &[u8]) -> Result<(EntryCount, &[u8], &[u8]), Fault>
     ensures { Reads (λ x. ((x.0, x.1.now), x.2.now)) result (listed.read bytes.now) }
 {
-    let (index, rest) = count_at(bytes)?;
-    let (text, rest) = sized_at(MAX_ENTRY, rest)?;
-    Ok((index, text, rest))
+    let (index, rest) = match count_at(bytes) {
+        Ok(read) => read,
+        Err(fault) => return Err(fault),
+    };
+    match sized_at(MAX_ENTRY, rest) {
+        Ok((text, rest)) => Ok((index, text, rest)),
+        Err(fault) => Err(fault),
+    }
 }
 
 // Reads a process, and a record of a link.
@@ -85,10 +90,18 @@ fn record_at(bytes: &[u8]) -> Result<(Process, u8, &[u8], &[u8]), Fault>
     ensures { Reads (λ x. ((x.0, record { tag = x.1; bytes = x.2.now }), x.3.now)) result
         (came.read bytes.now) }
 {
-    let (from, rest) = process_at(bytes)?;
-    let (tag, rest) = u8_at(rest)?;
-    let (text, rest) = sized_at(MAX_FRAME, rest)?;
-    Ok((from, tag, text, rest))
+    let (from, rest) = match process_at(bytes) {
+        Ok(read) => read,
+        Err(fault) => return Err(fault),
+    };
+    let (tag, rest) = match u8_at(rest) {
+        Ok(read) => read,
+        Err(fault) => return Err(fault),
+    };
+    match sized_at(MAX_FRAME, rest) {
+        Ok((text, rest)) => Ok((from, tag, text, rest)),
+        Err(fault) => Err(fault),
+    }
 }
 
 // Reads a number of entries.
@@ -119,13 +132,13 @@ fn process_behind(tag: u8, bytes: &[u8]) -> Result<(Process, &[u8]), Fault>
 {
     match tag {
         0 => Ok((Process::Master, bytes)),
-        1 => {
-            let (server, rest) = server_at(bytes)?;
-            Ok((Process::Server(server), rest))
+        1 => match server_at(bytes) {
+            Ok((server, rest)) => Ok((Process::Server(server), rest)),
+            Err(fault) => Err(fault),
         }
-        2 => {
-            let (client, rest) = client_at(bytes)?;
-            Ok((Process::Client(client), rest))
+        2 => match client_at(bytes) {
+            Ok((client, rest)) => Ok((Process::Client(client), rest)),
+            Err(fault) => Err(fault),
         }
         _ => Err(Fault::Invalid),
     }

@@ -35,7 +35,7 @@ pub fn serve_node<S: Source, K: Sink>(
     let mut block = vec![in alloc; 0; BLOCK]?;
     let has_ended = serve_blocks(alloc, node, source, sink, &mut block)?;
     if has_ended {
-        take(alloc, node, NodeInput::Turn, sink)?;
+        take(alloc, node, &NodeInput::Turn, sink)?;
     }
     Ok(has_ended)
 }
@@ -106,7 +106,7 @@ fn take_whole<'a, K: Sink>(
         }
         match next_input(rest) {
             Ok((input, more)) => {
-                take(alloc, node, input, sink)?;
+                take(alloc, node, &input, sink)?;
                 rest = more;
             }
             Err(Fault::Short) => return Ok(rest),
@@ -119,12 +119,12 @@ fn take_whole<'a, K: Sink>(
 fn take<K: Sink>(
     alloc: Global,
     node: &mut Node,
-    input: NodeInput<'_>,
+    input: &NodeInput<'_>,
     sink: &mut K,
 ) -> Result<(), RunFault>
-    ensures done { OnOk result (SendsFor Takes (input_of input.entry)
+    ensures done { OnOk result (SendsFor Takes (input_of input.now)
         (Between K.took sink.old sink.new) node.old node.new) }
-    ensures some { OnErr result (SendsPart Takes (input_of input.entry)
+    ensures some { OnErr result (SendsPart Takes (input_of input.now)
         (Between K.took sink.old sink.new) node.old) }
 {
     let mut out = Vec::new(alloc);

@@ -18,13 +18,13 @@ use zwire::records::put_server;
 
 /// Writes that the record of a link that these bytes spell is to be sent to this process.
 #[tactic(auto, unfolding(crate::specs::pipe::Outputs::output, crate::specs::pipe::Outputs::sent))]
-pub fn put_send(out: &mut Vec<u8>, to: Process, record: &[u8]) -> Result<(), AllocError>
-    ensures { OnOk result ((it : LinkRecord) → record.now ≡ link_record.spell it
+pub fn put_send(out: &mut Vec<u8>, to: Process, text: &[u8]) -> Result<(), AllocError>
+    ensures { OnOk result ((it : LinkRecord) → text.now ≡ link_record.spell it
         → out.new.items ≡ out.old.items ++ output.spell (Send to it)) }
 {
     put_u8(out, 0)?;
     put_process(out, to)?;
-    out.extend_from_slice(record)?;
+    out.extend_from_slice(text)?;
     Ok(())
 }
 
