@@ -4,6 +4,7 @@ use zmaster_log::EntryCount;
 use zprotocol::{Process, ServerId};
 
 /// What a host says to a node.
+#[derive(Drop)]
 pub enum NodeInput<'a> {
     /// The log has this entry at this index. Entries come in order, each once.
     Entry(EntryCount, &'a [u8]),
