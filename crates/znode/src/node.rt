@@ -4,7 +4,8 @@ ghost use Rattle.std.specs.Prelude.{◌≡◌, ◌≢◌, ◌++◌, IfOk, IfErr,
 ghost use Rattle.zprotocol.specs.declared.process.Process.{Process};
 ghost use Rattle.zprotocol.specs.server.View.{spare};
 ghost use Rattle.zprotocol.specs.world.Does.{AtServer};
-ghost use Rattle.zpeers.specs.Incoming.{arriving_from};
+ghost use Rattle.zprotocol.specs.declared.process.Process.TheVariants.{Server as OfServer};
+ghost use Rattle.zpeers.specs.Incoming.{Accepts, IsPeerFault, OthersArrive, arriving_from};
 ghost use Rattle.zpeers.specs.Outgoing.{waiting_for};
 ghost use Rattle.znode.specs.Node.{has_ended, status_of, IsNew};
 ghost use Rattle.znode.specs.Steps.{Takes, IsNodeFault, Receives, Loses, Forgets, accusing, may_accuse};
@@ -21,8 +22,9 @@ use std::alloc::Global;
 use std::marker::Model;
 use zalloc::Memory;
 use zmaster_log::{MasterReplica, NodeName};
-use zpeers::Incoming;
-use zprotocol::{Process, ServerId};
+use zpeers::{Incoming, PeerFault};
+use zprotocol::{Message, Process, ServerId};
+use zserver::Snapshot;
 
 /// A node: its replica of the master, and its server.
 #[derive(Drop)]
@@ -140,7 +142,7 @@ impl Node {
         if is_master(from) {
             return Err(NodeFault::Master);
         }
-        let came = self.incoming.take(Process::Server(own), from, tag, bytes)?;
+        let came = record_came(&mut self.incoming, own, from, tag, bytes)?;
         if let Some(message) = came {
             self.seat.hear(self.alloc, own, from, message)?;
         }
@@ -172,6 +174,24 @@ impl Node {
             && self.replica.is_live(server)
             && !self.seat.reports().accuse(server)
     }
+}
+
+// Takes a record of a link, and returns the message that is whole by it, if one is.
+fn record_came(
+    incoming: &mut Incoming,
+    own: ServerId,
+    from: Process,
+    tag: u8,
+    bytes: &[u8],
+) -> Result<Option<Message<Snapshot>>, PeerFault>
+    ensures accepted { IfOk result (Accepts (OfServer own) from
+        (record { tag = tag; bytes = bytes.now })
+        (arriving_from incoming.old from) (arriving_from incoming.new from)) }
+    ensures others { OthersArrive incoming.old incoming.new from }
+    ensures fault { IfErr result (IsPeerFault (OfServer own) from
+        (record { tag = tag; bytes = bytes.now }) (arriving_from incoming.old from)) }
+{
+    incoming.take(Process::Server(own), from, tag, bytes)
 }
 
 // Returns whether the process is the master.
