@@ -2,3 +2,5 @@ pub mod Messages
 pub mod Coming
 pub mod Refusing
 pub mod Queues
+pub mod Receivers
+pub mod Waits

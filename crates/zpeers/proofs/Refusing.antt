@@ -60,7 +60,7 @@ module _ (own from : Process) (m : TreeMessage) (can : CanBeSent from own m) whe
   frame_not_refused fault.Memory refused = refl
 
 -- a row that fits is short
-row_short : (x : StateRow) → Fits x → length (row_text x) ≤ MAX_FRAME
+pub row_short : (x : StateRow) → Fits x → length (row_text x) ≤ MAX_FRAME
 row_short (OfHeader h) fits = fits.1
 row_short (OfSession e) fits = fits.1
 row_short (OfNode e) fits = fits.1
