@@ -78,7 +78,7 @@ module _ (own from : Process) where
   frame_is : (m : TreeMessage) (b : Bare) → CanBeSent from own m → IsFrame own from (frame_record from own m) b → bare m ≡ b
   frame_is m b can is =
       let f : Frame = record { sender = from; receiver = own; message = b } in
-      let again = whole_again contents is_contents (frame_of from own m) (fits_contents (frame_of from own m) can.frame) in
+      let again = whole_again contents is_contents (frame_of from own m) (fits_contents (frame_of from own m) can.fits) in
       ap (λ (f : Frame). f.message) (ok_is {E = Fault} (frame_of from own m) f (sym again ∙ is.1))
 
   -- the frame of a message that is one record gives it

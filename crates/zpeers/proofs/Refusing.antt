@@ -39,7 +39,7 @@ parts_fit f fits = fits
 -- a frame that can be sent
 module _ (own from : Process) (m : TreeMessage) (can : CanBeSent from own m) where
   both_fit : contents.Fits (frame_of from own m) × (length (contents.spell (frame_of from own m)) ≤ MAX_FRAME)
-  both_fit = parts_fit (frame_of from own m) can.frame
+  both_fit = parts_fit (frame_of from own m) can.fits
 
   read_again : whole contents (contents.spell (frame_of from own m)) ≡ Ok (frame_of from own m)
   read_again = whole_again contents is_contents (frame_of from own m) both_fit.0
