@@ -4,3 +4,5 @@ pub mod Refusing
 pub mod Queues
 pub mod Receivers
 pub mod Waits
+pub mod Outs
+pub mod Ins

@@ -1,7 +1,7 @@
 -- The places of processes, and what stands there.
 use Rattle.std.proofs.Common.{◌≡◌, ◌≢◌, ℕ, zero, suc, ◌+◌, ◌-◌, ◌<◌, ◌≤◌, Bool, true, false, List, [], ◌∷◌, length, replicate, get_or, set, Option, None, Some, refl, sym, ap, subst, ◌∙◌, inl, inr, if◌then◌else◌, arith}
 use Rattle.std.specs.Prelude.{◌⊎◌, nat_lt, nat_le, IfSome, IfNone}
-use Rattle.std.proofs.lemmas.List.{get_or-replicate, get_or-set_same, get_or-set_other}
+use Rattle.std.proofs.lemmas.List.{get_or_read, get_or-set_same, get_or-set_other, set-get_or}
 use Rattle.std.proofs.lemmas.Bool.Decides.{nat_tests}
 use Rattle.ztree.specs.declared.limits.TheConstants.{MAX_CLIENTS}
 use Rattle.zcalls.proofs.Among.{test}
@@ -81,3 +81,23 @@ is_next o after low place to begins inside from none some is =
 pub if_some : {A : Type 0} (P Q : A → Type 0) (o : Option A) → ((x : A) → P x → Q x) → IfSome o P → IfSome o Q
 if_some P Q None so p = tt
 if_some P Q (Some x) so p = so x p
+
+-- ---- one place is written
+
+module _ {A : Type 0} (d : A) (xs : List A) (i : ℕ) (p : Process) (here : i ≡ place_of p) (inside : i < PROCESSES) (all : length xs ≡ PROCESSES) where
+  within : place_of p < PROCESSES
+  within = subst (λ (k : ℕ). k < PROCESSES) here inside
+
+  -- what is read there is what stands in the process's place
+  pub read_is : (x : A) → x ≡ get_or xs i x → x ≡ get_or xs (place_of p) d
+  read_is x read = get_or_read xs i x (omega (arith, inside, all)) read d ∙ ap (λ (k : ℕ). get_or xs k d) here
+
+  pub new_is : (y : A) → get_or (set xs i y) (place_of p) d ≡ y
+  new_is y = ap (λ (k : ℕ). get_or (set xs k y) (place_of p) d) here ∙ there d xs p y within all
+
+  pub others_are : (y : A) (q : Process) → q ≢ p → get_or (set xs i y) (place_of q) d ≡ get_or xs (place_of q) d
+  others_are y q other = ap (λ (k : ℕ). get_or (set xs k y) (place_of q) d) here ∙ elsewhere d xs p y within all q other
+
+-- what is put back changes nothing
+pub put_back : {A : Type 0} (xs : List A) (i : ℕ) (x y : A) → y ≡ x → x ≡ get_or xs i x → set xs i y ≡ xs
+put_back xs i x y same read = ap (λ z. set xs i z) (same ∙ read) ∙ set-get_or xs i x

@@ -85,7 +85,7 @@ module _ (own from : Process) (a : ArrivingView) (rest : List LinkRecord) (gives
   row_not_refused r part x xs rows fault.OtherSender refused = absurd (some_none a refused.1.0)
   row_not_refused r part x xs rows fault.OtherReceiver refused = absurd (some_none a refused.1.0)
   row_not_refused r part x xs rows (fault.Row it) refused =
-      let text = ap (map spelled) rows ∙ map-append part.front (x ∷ xs) spelled
+      let text = ap (map spelled) rows ∙ map-append spelled part.front (x ∷ xs)
       ∙ ap (λ (l : List (List ℕ)). l ++ spelled x ∷ map spelled xs) (sym part.loaded)
       ∙ ap (λ (t : List ℕ). bytes_loaded a.rows ++ t ∷ map spelled xs) (sym (row_is_spelled x)) in
       absurd (refused.1.1.1 (state_of part.state) (map spelled xs) part.readable text)

@@ -15,7 +15,7 @@ use Rattle.zsnapshots.specs.States.{StateRow, KeysView, AreKeysOf, Fits, IsRow, 
 use Rattle.zsnapshots.proofs.Places.{At, at_left, at_map}
 use Rattle.zpeers.specs.declared.tags.TheConstants.{FRAME, ROW, END}
 use Rattle.zpeers.specs.Records.{LinkRecord, TreeTransfer, link_record, frame_record, row_record, row_text, end_record, state_of, state_records, after_frame, records_of}
-use Rattle.zpeers.specs.Incoming.{HasNoState}
+use Rattle.zpeers.specs.Incoming.{HasNoState, row_bytes}
 use Rattle.zpeers.specs.Outgoing.{WaitingView, left_of, IsLongFrame}
 use Rattle.zpeers.specs.support.Waiting.{HasKeys, IsRecordWritten, IsFirstWritten, IsLastWritten}
 use Rattle.zpeers.proofs.Messages.{kinds}
@@ -33,7 +33,7 @@ as_written old old2 new new2 before after same same_new w =
 pub frame_bytes : (own to : Process) (m : TreeMessage) (before : List ℕ) → (before ++ FRAME ∷ []) ++ frame.spell (frame_of own to m)
     ≡ before ++ link_record.spell (frame_record own to m)
 unfolding frame
-frame_bytes own to m before = rw append_assoc refl
+frame_bytes own to m before = append_assoc before (FRAME ∷ []) (frame.spell (frame_of own to m))
 
 pub frame_fits : (own to : Process) (m : TreeMessage) → frame.Fits (frame_of own to m) → link_record.Fits (frame_record own to m)
 unfolding frame
@@ -134,7 +134,8 @@ module _ (s : MachineState) (n : ℕ) (before after : List ℕ) where
         it = row_record is.item;
         next = at_left (map row_record rows) (end_record ∷ []) n (row_record is.item) (omega (arith, inside, long))
             (at_map row_record rows n is.item is.next);
-        bytes = is.bytes ∙ ap (λ (t : List ℕ). (before ++ ROW ∷ []) ++ t) (sym (row_is_spelled is.item)) ∙ rw append_assoc refl;
+        bytes = is.bytes ∙ ap (λ (t : List ℕ). (before ++ ROW ∷ []) ++ t) (sym (row_is_spelled is.item))
+            ∙ append_assoc before (ROW ∷ []) (row_bytes (row_record is.item));
         fits = (omega arith, (row_short is.item is.fits, refl));
       }
 
