@@ -65,8 +65,11 @@ Expected own from None rest gives = IsExpected own from rest gives
 Expected own from (Some a) rest gives = IsPartExpected own from a rest gives
 
 -- what the record gives is what was expected next, and the rest is expected after it
-abbrev pub GoesOn : Process → Process → Option ArrivingView → List LinkRecord → List (Option TreeMessage) → Option TreeMessage → Type 0
-GoesOn own from next rest gives it = (more : List (Option TreeMessage)) × (gives ≡ it ∷ more) × Expected own from next rest more
+pub record GoesOn (own from : Process) (next : Option ArrivingView) (rest : List LinkRecord) (gives : List (Option TreeMessage))
+    (it : Option TreeMessage) : Type 0 where
+  pub others : List (Option TreeMessage)
+  pub first : gives ≡ it ∷ others
+  pub expected : Expected own from next rest others
 
 -- the message of a frame that fits is spelled so that it is read again
 fits_contents : (f : Frame) → frame.Fits f → contents.Fits f
@@ -78,7 +81,7 @@ module _ (own from : Process) where
   frame_is : (m : TreeMessage) (b : Bare) → CanBeSent from own m → IsFrame own from (frame_record from own m) b → bare m ≡ b
   frame_is m b can is =
       let f : Frame = record { sender = from; receiver = own; message = b } in
-      let again = whole_again contents is_contents (frame_of from own m) (fits_contents (frame_of from own m) can.frame) in
+      let again = whole_again contents is_contents (frame_of from own m) (fits_contents (frame_of from own m) can.fits) in
       ap (λ (f : Frame). f.message) (ok_is {E = Fault} (frame_of from own m) f (sym again ∙ is.1))
 
   -- the frame of a message that is one record gives it
@@ -86,15 +89,14 @@ module _ (own from : Process) where
       → AllByRecursion (CanBeSent from own) ms → IsAlone m → Accepts own from (frame_record from own m) None next it
       → GoesOn own from next (flat_map (records_of from own) ms) (given_by m ++ flat_map given_by ms) it
   alone_goes_on m ms next (Some n) can rest alone takes =
-      let same : m ≡ n = one_message m n alone.none takes.1 (frame_is m (bare n) can takes.0) in (
-        flat_map given_by ms,
-        (
-          ap (λ (records : List LinkRecord). (map (λ (_ : LinkRecord). None) records ++ Some m ∷ []) ++ flat_map given_by ms) alone.alone
-              ∙ ap (λ (n : TreeMessage). Some n ∷ flat_map given_by ms) same,
-          subst (λ (next : Option ArrivingView). Expected own from next (flat_map (records_of from own) ms) (flat_map given_by ms)) (sym takes.2)
-              (record { messages = ms; can = rest; records = refl; given = refl }),
-        ),
-      )
+      let same : m ≡ n = one_message m n alone.none takes.1 (frame_is m (bare n) can takes.0) in
+      record {
+        others = flat_map given_by ms;
+        first = ap (λ (records : List LinkRecord). (map (λ (_ : LinkRecord). None) records ++ Some m ∷ []) ++ flat_map given_by ms) alone.alone
+            ∙ ap (λ (n : TreeMessage). Some n ∷ flat_map given_by ms) same;
+        expected = subst (λ (next : Option ArrivingView). Expected own from next (flat_map (records_of from own) ms) (flat_map given_by ms))
+            (sym takes.2) (record { messages = ms; can = rest; records = refl; given = refl });
+      }
   alone_goes_on m ms next None can rest alone takes =
       let bad : true ≡ false = sym (ap begins (frame_is m (message.Snapshot takes.0 tt) can takes.1)) ∙ alone.whole in
       absurd (let no : true ≡ false = bad in cc)
@@ -112,27 +114,26 @@ module _ (own from : Process) where
   snapshot_goes_on epoch t ms next None can rest takes =
       let same : epoch ≡ takes.0 = ap epoch_of (frame_is (message.Snapshot epoch t) (message.Snapshot takes.0 tt) can takes.1) in
       let rows = rows_of (state_of t) in
-      let more = map (λ (_ : StateRow). None) rows ++ Some (message.Snapshot epoch t) ∷ flat_map given_by ms in (
-        more,
-        (
-          nones_are rows (message.Snapshot epoch t) (flat_map given_by ms),
-          subst (λ (next : Option ArrivingView). Expected own from next (after_frame (message.Snapshot epoch t) ++ flat_map (records_of from own) ms) more)
-              (ap (λ (e : ℕ). Some (record { epoch = e; rows = nothing_loaded })) same ∙ sym takes.2)
-              (record {
-                state = t;
-                readable = can.state;
-                front = [];
-                xs = rows;
-                rows = refl;
-                loaded = refl;
-                after = flat_map (records_of from own) ms;
-                more = flat_map given_by ms;
-                messages = record { messages = ms; can = rest; records = refl; given = refl };
-                records = rw append_assoc refl;
-                given = refl;
-              }),
-        ),
-      )
+      let more = map (λ (_ : StateRow). None) rows ++ Some (message.Snapshot epoch t) ∷ flat_map given_by ms in
+      record {
+        others = more;
+        first = nones_are rows (message.Snapshot epoch t) (flat_map given_by ms);
+        expected = subst (λ (next : Option ArrivingView). Expected own from next (after_frame (message.Snapshot epoch t) ++ flat_map (records_of from own) ms) more)
+            (ap (λ (e : ℕ). Some (record { epoch = e; rows = nothing_loaded })) same ∙ sym takes.2)
+            (record {
+              state = t;
+              readable = can.state;
+              front = [];
+              xs = rows;
+              rows = refl;
+              loaded = refl;
+              after = flat_map (records_of from own) ms;
+              more = flat_map given_by ms;
+              messages = record { messages = ms; can = rest; records = refl; given = refl };
+              records = append_assoc (map row_record rows) (end_record ∷ []) (flat_map (records_of from own) ms);
+              given = refl;
+            });
+      }
     where
       nones_are : (rows : List StateRow) (m : TreeMessage) (more : List (Option TreeMessage))
           → (map (λ (_ : LinkRecord). None) (map row_record rows ++ end_record ∷ []) ++ Some m ∷ []) ++ more
@@ -166,8 +167,8 @@ module _ (own from : Process) where
       more_loaded : (x : StateRow) (y : StateRow) (before after : List StateRow) (front : List StateRow) → map spelled before ≡ map spelled front
           → after ≡ before ++ y ∷ [] → spelled x ≡ spelled y → map spelled after ≡ map spelled (front ++ x ∷ [])
       more_loaded x y before after front loaded rows same =
-          ap (map spelled) rows ∙ map-append before (y ∷ []) spelled ∙ ap (λ (l : List (List ℕ)). l ++ spelled y ∷ []) loaded
-          ∙ ap (λ (t : List ℕ). map spelled front ++ t ∷ []) (sym same) ∙ sym (map-append front (x ∷ []) spelled)
+          ap (map spelled) rows ∙ map-append spelled before (y ∷ []) ∙ ap (λ (l : List (List ℕ)). l ++ spelled y ∷ []) loaded
+          ∙ ap (λ (t : List ℕ). map spelled front ++ t ∷ []) (sym same) ∙ sym (map-append spelled front (x ∷ []))
 
       by : (xs : List StateRow) (it : Option TreeMessage) → rows_of (state_of part.state) ≡ part.front ++ xs
           → r ∷ rest ≡ map row_record xs ++ end_record ∷ part.after
@@ -179,38 +180,36 @@ module _ (own from : Process) where
           let all : map spelled (rows_of (state_of t)) ≡ map spelled (rows_of (state_of part.state)) =
           ap (map spelled) takes.3 ∙ part.loaded ∙ ap (map spelled) (sym (rows ∙ append-nil part.front)) in
           let one : state_of t ≡ state_of part.state = rows_apart (state_of t) (state_of part.state) takes.4 part.readable all in
-          let same : t ≡ part.state = ap (λ (s : MachineState). record { last = s.applied; machine = s.service }) one in (
-            part.more,
-            (
-              given ∙ ap (λ (t : TreeTransfer). Some (message.Snapshot a.epoch t) ∷ part.more) (sym same)
-                  ∙ ap (λ (m : TreeMessage). Some m ∷ part.more) (sym takes.2),
-              subst (λ (next : Option ArrivingView). Expected own from next rest part.more) (sym takes.5)
-                  (subst (λ (l : List LinkRecord). IsExpected own from l part.more) (sym (tail_is r end_record rest part.after records)) part.messages),
-            ),
-          )
+          let same : t ≡ part.state = ap (λ (s : MachineState). record { last = s.applied; machine = s.service }) one in
+          record {
+            others = part.more;
+            first = given ∙ ap (λ (t : TreeTransfer). Some (message.Snapshot a.epoch t) ∷ part.more) (sym same)
+                ∙ ap (λ (m : TreeMessage). Some m ∷ part.more) (sym takes.2);
+            expected = subst (λ (next : Option ArrivingView). Expected own from next rest part.more) (sym takes.5)
+                (subst (λ (l : List LinkRecord). IsExpected own from l part.more) (sym (tail_is r end_record rest part.after records)) part.messages);
+          }
       by (x ∷ xs) (Some m) rows records given takes = absurd (early x xs m records takes)
       by (x ∷ xs) None rows records given takes =
           let is : r ≡ row_record x = head_is r (row_record x) rest (map row_record xs ++ end_record ∷ part.after) records in
-          let same : spelled x ≡ spelled takes.2.x = sym (row_is_spelled x) ∙ ap row_bytes (sym is) ∙ takes.2.text in (
-            map (λ (_ : StateRow). None) xs ++ Some (message.Snapshot a.epoch part.state) ∷ part.more,
-            (
-              given,
-              subst (λ (next : Option ArrivingView). Expected own from next rest (map (λ (_ : StateRow). None) xs ++ Some (message.Snapshot a.epoch part.state) ∷ part.more))
-                  (sym takes.3) (record {
-                    state = part.state;
-                    readable = part.readable;
-                    front = part.front ++ x ∷ [];
-                    xs = xs;
-                    rows = rows ∙ rw append_assoc refl;
-                    loaded = more_loaded x takes.2.x (rows_loaded a.rows) (rows_loaded takes.0) part.front part.loaded takes.2.rows same;
-                    after = part.after;
-                    more = part.more;
-                    messages = part.messages;
-                    records = tail_is r (row_record x) rest (map row_record xs ++ end_record ∷ part.after) records;
-                    given = refl;
-                  }),
-            ),
-          )
+          let same : spelled x ≡ spelled takes.2.x = sym (row_is_spelled x) ∙ ap row_bytes (sym is) ∙ takes.2.text in
+          record {
+            others = map (λ (_ : StateRow). None) xs ++ Some (message.Snapshot a.epoch part.state) ∷ part.more;
+            first = given;
+            expected = subst (λ (next : Option ArrivingView). Expected own from next rest (map (λ (_ : StateRow). None) xs ++ Some (message.Snapshot a.epoch part.state) ∷ part.more))
+                (sym takes.3) (record {
+                  state = part.state;
+                  readable = part.readable;
+                  front = part.front ++ x ∷ [];
+                  xs = xs;
+                  rows = rows ∙ sym (append_assoc part.front (x ∷ []) xs);
+                  loaded = more_loaded x takes.2.x (rows_loaded a.rows) (rows_loaded takes.0) part.front part.loaded takes.2.rows same;
+                  after = part.after;
+                  more = part.more;
+                  messages = part.messages;
+                  records = tail_is r (row_record x) rest (map row_record xs ++ end_record ∷ part.after) records;
+                  given = refl;
+                });
+          }
 
   -- a frame leads to the next message, or begins a state
   frame_goes_on : (r : LinkRecord) (rest : List LinkRecord) (gives : List (Option TreeMessage)) (next : Option ArrivingView)
@@ -265,8 +264,8 @@ module _ (own from : Process) where
       (all.1 ∙ sym none.1, all.0 ∙ none.0)
   all_come (r ∷ rs) old new given gives expected all =
       let next = goes_on old r rs gives all.0 all.1 expected all.3 in
-      let rest = all_come rs all.0 new all.2 next.0 next.2 all.4 in
-      (all.5 ∙ ap (λ (l : List (Option TreeMessage)). all.1 ∷ l) rest.0 ∙ sym next.1, rest.1)
+      let rest = all_come rs all.0 new all.2 next.others next.expected all.4 in
+      (all.5 ∙ ap (λ (l : List (Option TreeMessage)). all.1 ∷ l) rest.0 ∙ sym next.first, rest.1)
 
   -- after some records, the others are expected
   pub still_expected : (front rest : List LinkRecord) (old new : Option ArrivingView) (given gives : List (Option TreeMessage))
@@ -276,7 +275,7 @@ module _ (own from : Process) where
       (gives, subst (λ (l : Option ArrivingView). Expected own from l rest gives) (sym all.0) expected)
   still_expected (r ∷ front) rest old new given gives expected all =
       let next = goes_on old r (front ++ rest) gives all.0 all.1 expected all.3 in
-      still_expected front rest all.0 new all.2 next.0 next.2 all.4
+      still_expected front rest all.0 new all.2 next.others next.expected all.4
 
 pub come_whole : MessagesComeWhole
 come_whole own from ms new given can all =

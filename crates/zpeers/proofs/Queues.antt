@@ -2,6 +2,7 @@
 use Rattle.std.proofs.Common.{◌≡◌, ◌≢◌, ℕ, ◌<◌, ◌≤◌, Bool, true, false, List, [], ◌∷◌, ◌++◌, length, drop, refl, sym, ap, subst, ◌∙◌, append_assoc, append-nil, inl, inr, arith}
 use Rattle.std.specs.Prelude.{◌⊎◌, if◌then◌else◌}
 use Rattle.std.specs.List.{flat_map}
+use Rattle.std.proofs.lemmas.Grind.{flat_map-append}
 use Rattle.zprotocol.specs.declared.process.Process.{Process}
 use Rattle.zprotocol.specs.world.Links.{is_same}
 use Rattle.zprotocol.proofs.world_lemmas.Processes.{same_process, same_itself}
@@ -38,16 +39,16 @@ module _ (own to : Process) where
           let apart : to ≢ other = λ same. (let bad : true ≡ false = sym (same_itself other) ∙ ap (is_same other) (sym same) ∙ is in cc) in
           rw is (append-nil (records_for old own to) ∙ ap (flat_map (left_of own to)) (sym (does.1 to apart)))
 
-flat_map-append : {A B : Type 0} (f : A → List B) (xs ys : List A) → flat_map f (xs ++ ys) ≡ flat_map f xs ++ flat_map f ys
-flat_map-append f [] ys = refl
-flat_map-append f (x ∷ xs) ys = ap (λ l. f x ++ l) (flat_map-append f xs ys) ∙ rw append_assoc refl
-
 pub keep_order : QueuesKeepOrder
 keep_order own to [] old new all = append-nil (records_for old own to) ∙ ap (λ (o : OutgoingView). records_for o own to) (sym all)
 keep_order own to (step ∷ steps) old new all =
     let here = step_keeps own to step old all.0 all.1 in
     let rest = keep_order own to steps all.0 new all.2 in
+    let waited = records_for old own to in
+    let first = flat_map (records_of own to) (put_by to step) in
     let put = flat_map (records_of own to) (messages_put to steps) in
-    ap (λ (l : List LinkRecord). records_for old own to ++ l) (flat_map-append (records_of own to) (put_by to step) (messages_put to steps))
-    ∙ sym (rw append_assoc refl) ∙ ap (λ (l : List LinkRecord). l ++ put) here ∙ rw append_assoc refl
-    ∙ ap (λ (l : List LinkRecord). written_by to step ++ l) rest ∙ sym (rw append_assoc refl)
+    let written = records_written to steps in
+    ap (λ (l : List LinkRecord). waited ++ l) (flat_map-append (records_of own to) (put_by to step) (messages_put to steps))
+    ∙ sym (append_assoc waited first put) ∙ ap (λ (l : List LinkRecord). l ++ put) here
+    ∙ append_assoc (written_by to step) (records_for all.0 own to) put ∙ ap (λ (l : List LinkRecord). written_by to step ++ l) rest
+    ∙ sym (append_assoc (written_by to step) written (records_for new own to))

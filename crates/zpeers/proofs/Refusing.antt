@@ -39,7 +39,7 @@ parts_fit f fits = fits
 -- a frame that can be sent
 module _ (own from : Process) (m : TreeMessage) (can : CanBeSent from own m) where
   both_fit : contents.Fits (frame_of from own m) × (length (contents.spell (frame_of from own m)) ≤ MAX_FRAME)
-  both_fit = parts_fit (frame_of from own m) can.frame
+  both_fit = parts_fit (frame_of from own m) can.fits
 
   read_again : whole contents (contents.spell (frame_of from own m)) ≡ Ok (frame_of from own m)
   read_again = whole_again contents is_contents (frame_of from own m) both_fit.0
@@ -60,7 +60,7 @@ module _ (own from : Process) (m : TreeMessage) (can : CanBeSent from own m) whe
   frame_not_refused fault.Memory refused = refl
 
 -- a row that fits is short
-row_short : (x : StateRow) → Fits x → length (row_text x) ≤ MAX_FRAME
+pub row_short : (x : StateRow) → Fits x → length (row_text x) ≤ MAX_FRAME
 row_short (OfHeader h) fits = fits.1
 row_short (OfSession e) fits = fits.1
 row_short (OfNode e) fits = fits.1
@@ -85,7 +85,7 @@ module _ (own from : Process) (a : ArrivingView) (rest : List LinkRecord) (gives
   row_not_refused r part x xs rows fault.OtherSender refused = absurd (some_none a refused.1.0)
   row_not_refused r part x xs rows fault.OtherReceiver refused = absurd (some_none a refused.1.0)
   row_not_refused r part x xs rows (fault.Row it) refused =
-      let text = ap (map spelled) rows ∙ map-append part.front (x ∷ xs) spelled
+      let text = ap (map spelled) rows ∙ map-append spelled part.front (x ∷ xs)
       ∙ ap (λ (l : List (List ℕ)). l ++ spelled x ∷ map spelled xs) (sym part.loaded)
       ∙ ap (λ (t : List ℕ). bytes_loaded a.rows ++ t ∷ map spelled xs) (sym (row_is_spelled x)) in
       absurd (refused.1.1.1 (state_of part.state) (map spelled xs) part.readable text)

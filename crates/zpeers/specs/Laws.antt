@@ -21,7 +21,7 @@ HasReadableState (Snapshot epoch t) = IsReadable (state_of t)
 HasReadableState m = Unit {0}
 
 pub record CanBeSent (own to : Process) (m : TreeMessage) : Type 0 where
-  pub frame : frame.Fits (frame_of own to m)
+  pub fits : frame.Fits (frame_of own to m)
   pub state : HasReadableState m
 
 -- these records of a sender are accepted one after the other, and each gives this

@@ -6,7 +6,7 @@ ghost use Rattle.zsnapshots.specs.Loading.{AreOfNone};
 ghost use Rattle.zpeers.specs.declared.fault.PeerFault.TheVariants.{Memory as OfMemory};
 ghost use Rattle.zpeers.specs.support.Arriving.{IsFinished, IsRowRefused};
 
-use crate::fault::{PeerFault, PeerFault};
+use crate::fault::PeerFault;
 use std::alloc::Global;
 use std::marker::Model;
 use zprotocol::{Epoch, Message};

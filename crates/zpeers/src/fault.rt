@@ -9,7 +9,8 @@ use zalloc::Memory;
 use zcodec::Fault;
 use zsnapshots::RowFault;
 
-/// Why a record is refused. None but `Memory` comes from a peer that writes with `Outgoing`.
+/// Why a record is refused. The records of messages have no fault but `Memory`, if each frame and
+/// each state can be read (`messages_come_whole`).
 #[derive(Clone, Copy, Debug, PartialEq, Eq, Error)]
 pub enum PeerFault {
     /// It has more than `zwire::MAX_FRAME` bytes.

@@ -184,10 +184,10 @@ fn take_more(
     requires some { slot.old ≢ None }
     requires tag { tag ≤ TheEnd }
     requires short { length bytes.now ≤ MAX_FRAME }
-    ensures accepted { IfOk result (Accepts own from (record { tag = tag; bytes = bytes.now })
-        slot.old slot.new) }
-    ensures fault { IfErr result
-        (IsFaultAt own from (record { tag = tag; bytes = bytes.now }) slot.old) }
+    ensures accepted { IfOk result (λ it. (own from : Process)
+        → Accepts own from (record { tag = tag; bytes = bytes.now }) slot.old slot.new it) }
+    ensures fault { IfErr result (λ fault. (own from : Process)
+        → IsFaultAt own from (record { tag = tag; bytes = bytes.now }) slot.old fault) }
     ensures same { IfErr result (λ fault. fault ≢ OfMemory → slot.new ≡ slot.old) }
 {
     match tag {

@@ -92,11 +92,7 @@ impl Outgoing {
         ensures some { IfSome result (IsNextReceiver self.now after) }
         ensures none { IfNone result (NoneWaits self.now (place_after after) PROCESSES) }
     {
-        let first = match after {
-            Some(process) => process.place() + 1,
-            None => 0,
-        };
-        for place in first..PROCESSES {
+        for place in place_after(after)..PROCESSES {
             if !self.queues[place].is_empty() {
                 return Process::at(place);
             }
@@ -110,5 +106,15 @@ impl Outgoing {
         ensures others { OthersWait self.old self.new to }
     {
         self.queues[to.place()].clear();
+    }
+}
+
+// Returns the first position after this process, or after none.
+fn place_after(process: Option<Process>) -> usize
+    ensures { result ≡ place_after process }
+{
+    match process {
+        Some(process) => process.place() + 1,
+        None => 0,
     }
 }

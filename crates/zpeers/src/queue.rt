@@ -14,10 +14,13 @@ use zprotocol::{Message, Process};
 use zserver::Snapshot;
 use zwire::WriteError;
 
-/// The messages that wait for one receiver, in order.
+/// The messages that wait for one receiver, in order. Mostly there is none or one, so the first is
+/// stored in the queue itself, and needs no block.
 #[derive(Drop)]
 pub(crate) struct Queue {
-    messages: VecDeque<Waiting>,
+    first: Option<Waiting>,
+    // None, where there is no first one.
+    others: VecDeque<Waiting>,
 }
 
 impl Model for Queue {
@@ -25,12 +28,15 @@ impl Model for Queue {
     ghost use Rattle.std.specs.Coded.{coded_list};
     ghost use Rattle.zpeers.specs.Outgoing.{WaitingView};
     ghost use Rattle.zpeers.specs.support.Codes.{coded_waiting};
+    ghost use Rattle.zpeers.specs.support.Waiting.{queue_of, IsQueue};
 
     ghost Value = { List WaitingView };
 
     ghost coded = { coded_list coded_waiting };
 
-    ghost view = { λ q. q.messages.items };
+    ghost view = { λ q. queue_of q.first q.others.items };
+
+    ghost invariant = { λ q. IsQueue q.first q.others.items };
 }
 
 impl Queue {
@@ -39,7 +45,8 @@ impl Queue {
         ensures { result ≡ [] }
     {
         Queue {
-            messages: VecDeque::new(alloc),
+            first: None,
+            others: VecDeque::new(alloc),
         }
     }
 
@@ -48,7 +55,10 @@ impl Queue {
         ensures yes { IsTrue result → self.now ≡ [] }
         ensures no { IsFalse result → self.now ≢ [] }
     {
-        self.messages.is_empty()
+        match &self.first {
+            Some(_) => false,
+            None => true,
+        }
     }
 
     /// Appends a message, or drops it if memory runs out.
@@ -57,9 +67,17 @@ impl Queue {
             (self.new ≡ self.old ++ record { message = message; written = 0 } ∷ []) }
         ensures err { OnErr result (self.new ≡ self.old) }
     {
-        match self.messages.push_back(Waiting::new(message)) {
+        let waiting = Waiting::new(message);
+        if self.is_empty() {
+            self.first = Some(waiting);
+            return Ok(());
+        }
+        match self.others.push_back(waiting) {
             Ok(()) => Ok(()),
-            Err(_) => Err(Memory),
+            Err(refused) => {
+                drop(refused);
+                Err(Memory)
+            }
         }
     }
 
@@ -81,12 +99,12 @@ impl Queue {
         ensures err { OnErr result (self.new ≡ self.old) }
         ensures out { OnErr result (out.new.items ≡ out.old.items) }
     {
-        let Some(first) = self.messages.front_mut() else {
+        let Some(first) = &mut self.first else {
             return Ok(false);
         };
         let more = first.write_next(alloc, own, to, out)?;
         if !more {
-            drop(self.messages.pop_front());
+            self.first = self.others.pop_front();
         }
         Ok(true)
     }
@@ -95,6 +113,7 @@ impl Queue {
     pub(crate) fn clear(&mut self)
         ensures { self.new ≡ [] }
     {
-        self.messages.clear();
+        self.first = None;
+        self.others.clear();
     }
 }

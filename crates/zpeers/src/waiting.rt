@@ -76,7 +76,9 @@ impl Waiting {
         let Some(keys) = &self.keys else {
             return self.write_first(alloc, own, to, out);
         };
-        let more = put_further(alloc, &self.message, keys, self.written - 1, out)?;
+        let Ok(more) = put_further(alloc, &self.message, keys, self.written - 1, out) else {
+            return Err(WriteError::Memory);
+        };
         if more {
             self.written += 1;
         }
@@ -142,7 +144,9 @@ fn put_frame(
     ensures err { OnErr result (out.new.items ≡ out.old.items) }
 {
     let before = out.len();
-    out.extend_from_slice(&[FRAME])?;
+    let Ok(()) = out.extend_from_slice(&[FRAME]) else {
+        return Err(WriteError::Memory);
+    };
     match write_frame(alloc, out, own, to, message) {
         Ok(()) => Ok(()),
         Err(error) => {

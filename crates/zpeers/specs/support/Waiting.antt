@@ -37,6 +37,16 @@ pub record IsFirstWritten (own to : Process) (old new : WaitingView) (before aft
 abbrev pub IsLastWritten : Process → Process → WaitingView → List ℕ → List ℕ → Type 0
 IsLastWritten own to old = IsRecordWritten (left_of own to old) []
 
+-- a queue, by its first message and the others
+abbrev pub queue_of : Option WaitingView → List WaitingView → List WaitingView
+queue_of None others = others
+queue_of (Some w) others = w ∷ others
+
+-- there are others only after a first one
+abbrev pub IsQueue : Option WaitingView → List WaitingView → Type 0
+IsQueue None others = others ≡ []
+IsQueue (Some w) others = Unit {0}
+
 -- the first record of a queue was
 abbrev pub IsQueueWritten : Process → Process → List WaitingView → List WaitingView → List ℕ → List ℕ → Type 0
 IsQueueWritten own to old new =

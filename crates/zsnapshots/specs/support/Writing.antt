@@ -25,4 +25,4 @@ coded_writing =
 -- the machine can be read, and these are the keys of its rows, or of those of its tree alone
 pub record IsWriting (m : MachineView) (keys : KeysView) : Type 0 where
   pub whole : m.is_broken ≡ false
-  pub keys : AreKeysOf keys (written_of keys.is_alone m.state)
+  pub rows : AreKeysOf keys (written_of keys.is_alone m.state)

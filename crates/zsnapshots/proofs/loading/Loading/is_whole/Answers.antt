@@ -12,8 +12,8 @@ returns-in-Some-clause-part c = λ no.
     let are = subst (λ (r : Option ReadingView). AreLoaded (rows_from i.header r)) c.in-Some.is c.self.invariant in
     subst (λ (l : LoadingView). AreOfNone (bytes_loaded l)) c.self.view_is
     (subst (λ (r : Option ReadingView). AreOfNone (map spelled (rows_from i.header r))) (sym c.in-Some.is)
-    (of_none (rows_so_far c.in-Some.reading.now) are (λ s rows.
-    let bad : true ≡ false = sym (no_row_is_missing s c.in-Some.reading.now rows) ∙ sym c.is_done.ensures ∙ no in cc)))
+    (of_none (rows_so_far c.in-Some.reading) are (λ s rows.
+    let bad : true ≡ false = sym (no_row_is_missing s c.in-Some.reading rows) ∙ sym c.is_done.ensures ∙ no in cc)))
 
 pub returns-in-None-clause-part : goal.returns-in-None-clause-part
 returns-in-None-clause-part c = λ no.
