@@ -1,7 +1,7 @@
 -- Which row of a state has which number.
-use Rattle.std.proofs.Common.{◌≡◌, ℕ, ◌+◌, ◌<◌, ◌≤◌, List, [], ◌∷◌, ◌++◌, length, map, take, drop, Bool, true, false}
+use Rattle.std.proofs.Common.{◌≡◌, ℕ, ◌+◌, ◌^◌, ◌<◌, ◌≤◌, List, [], ◌∷◌, ◌++◌, length, map, take, drop, Bool, true, false}
 use Rattle.std.proofs.Common.{Option, Some, None, Result, Ok, Err, refl, sym, ap, subst, ◌∙◌, arith}
-use Rattle.std.proofs.lemmas.List.{length-map}
+use Rattle.std.proofs.lemmas.List.{length-map, length-take, length-append, length-drop}
 use Rattle.std.specs.Prelude.{OnOk, is_some}
 use Rattle.std.specs.Ordering.{nat_cmp}
 use Rattle.std.specs.FinMap as finite
@@ -14,9 +14,9 @@ use Rattle.ztree.proofs.Maps.{none_some}
 use Rattle.zcalls.specs.Cached.{Cached}
 use Rattle.zops.specs.Machine.{MachineState}
 use Rattle.zops.specs.declared.limits.TheConstants.{MAX_APPLIED}
-use Rattle.zsnapshots.specs.States.{StateRow, Fits, spelled, head_of, sessions_of, nodes_of, replies_of, below_of, body_of, rows_of, written_of}
+use Rattle.zsnapshots.specs.States.{StateRow, KeysView, AreKeysOf, Fits, spelled, head_of, sessions_of, nodes_of, replies_of, below_of, body_of, rows_of, written_of}
 use Rattle.zsnapshots.specs.States.StateRow.{OfHeader, OfSession, OfNode, OfReply}
-use Rattle.zsnapshots.specs.support.Writing.{IsItem, IsRow}
+use Rattle.zsnapshots.specs.States.{IsItem, IsRow}
 use Rattle.zsnapshots.proofs.Keys.{entries-empty}
 use Rattle.zsnapshots.proofs.Places.{At, at_left, at_right, at_below, at_map}
 
@@ -133,3 +133,29 @@ nodes_some t lawful = by (finite.entries t.nodes) refl
         let found = sym lawful.root.1 ∙ finite.get-entries t.nodes [] ∙ ap (finite.find path_cmp []) none in
         absurd (none_some lawful.root.0 (sym found))
     by (e ∷ es) some = omega arith
+
+-- a row's number is small
+pub row_room : (keys : KeysView) (s : MachineState) (n : ℕ) (before after : List ℕ) → AreKeysOf keys s → IsRow s n before after → n + 1 < 2 ^ 64
+row_room keys s n before after are row =
+    let t = s.service.plain in
+    let last = map OfReply (replies_of s) in
+    let nodes = map OfNode (below_of s) ++ last in
+    let sessions = map OfSession (sessions_of s) ++ nodes in
+    let left = length-drop n (rows_of s) in
+    let some : 0 < length (drop n (rows_of s)) = subst (λ (l : List StateRow). 0 < length l) (sym row.next) (omega arith) in
+    let whole = length-append (map OfNode (take 1 (nodes_of s))) sessions in
+    let further = length-append (map OfSession (sessions_of s)) nodes in
+    let rest = length-append (map OfNode (below_of s)) last in
+    let root = length-map (take 1 (nodes_of s)) OfNode in
+    let one = length-take 1 (nodes_of s) in
+    let ids = length-map (sessions_of s) OfSession in
+    let below = length-map (below_of s) OfNode in
+    let less = length-drop 1 (nodes_of s) in
+    let replies = length-map (replies_of s) OfReply in
+    let kept = ap length are.clients ∙ length-map (replies_of s) (λ e. e.0) in
+    let all_sessions = finite.len-entries t.sessions in
+    let all_nodes = finite.len-entries t.nodes in
+    let few_sessions = are.settled.lawful.few_sessions in
+    let few_nodes = are.settled.lawful.few_nodes in
+    let few_clients = are.few_clients in
+    omega (arith, left, some, whole, further, rest, root, one, ids, below, less, replies, kept, all_sessions, all_nodes, few_sessions, few_nodes, few_clients)

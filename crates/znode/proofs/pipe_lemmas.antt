@@ -1,0 +1,5 @@
+pub mod Inputs
+pub mod Outputs
+pub mod Readers
+pub mod Apart
+pub mod Serving
