@@ -7,6 +7,8 @@ import os
 import signal
 import sys
 
+import calling
+import clusters
 import places
 import programs
 import proof
@@ -59,6 +61,17 @@ def serve(mode, command, words, _):
     become(serving.host(), [f"--program={get(mode, command)}", *words])
 
 
+def node(mode, words):
+    """Runs a node of a cluster, behind its host: `node FILE [--self NODE]`."""
+    if len(words) not in (1, 3) or words[1:2] not in ([], ["--self"]):
+        refuse("node takes FILE [--self NODE]")
+    cluster = clusters.read(words[0], *words[2:])
+    if not cluster.self:
+        raise Stopped(f"{words[0]}: self= or --self is to name the node", 2)
+    host, program = serving.node_host(), get(mode, "node")
+    become(host, clusters.words_of(cluster, program))
+
+
 def at_rest(mode, command, _, given):
     """Does with a server's folder, on which no server runs, what the command says."""
     servers = serving.servers_of(given.data)
@@ -91,8 +104,12 @@ def do(is_folder, words):
             raise Stopped("standard input is a folder")
         by_command = {"serve": serve, **dict.fromkeys(words_of.AT_REST, at_rest)}
         by_command.get(command, play)(mode, command, words, given)
+    elif command == "node":
+        node(mode, words)
     elif mode:
-        refuse(f"{mode} takes script, race, serve, compact, export or stat, not '{command}'")
+        refuse(f"{mode} takes script, race, serve, node, compact, export or stat, not '{command}'")
+    elif command in ("cluster", "call"):
+        {"cluster": clusters, "call": calling}[command].command(words)
     elif command == "prove":
         prove(words)
     elif command == "clean" and words in ([], ["--all"]):

@@ -25,11 +25,18 @@ A coordination service with ZooKeeper's data model and chain replication.
 ./zk serve --data DIR [--sync batch|never] [--journal MIB] ..
                               stores its state in DIR; with never a power cut may
                               lose it; compacts its journal from MIB on (64)
+./zk node FILE [--self NODE]  runs a server of a chain as a process of its own:
+                              FILE describes the cluster (docs/GUIDE.md)
+./zk cluster FILE init [NODE] makes the cluster's log, which NODE opens
+./zk cluster FILE status      lists its servers: number, node and state
+./zk cluster FILE retire NODE orders the server of a node to leave
+./zk call FILE [--client N]   plays calls of clients over the cluster; with N, 1
+                              to 31, each line is a call of client N
 ./zk compact --data DIR       compacts a server's journal that isn't in use
 ./zk export|stat --data DIR   writes its tree as a script; says how large it is
 Without a proved program each builds one without proof, in a minute, and says so.
 
-./zk prove [script|race|serve|library]
+./zk prove [script|race|serve|node|library]
                               proves the program of a command, or the library, by
                               the toolchain's rt ci, in an hour on four
                               cores; some toolchains continue a stopped one
