@@ -11,6 +11,9 @@
 /* The tags of records to the child, and of records from it. */
 enum { ENTRY, CAUGHT_UP, LINK, LOST, TURN, ENDED };
 enum { SEND, APPEND, STATUS, END };
+/* The flags of a status that are printed. */
+enum { HAS_STATE = 2, IS_GONE = 4 };
+
 static struct child child = {.name = "zk_node"};
 static struct bytes inputs, outputs;
 /* Whether it answers a turn; whether inputs came after that; whether more waits in it. */
@@ -70,17 +73,18 @@ size_t seat_owed(void) { return bytes_left(&inputs); }
 
 /* ---- outputs */
 
-/* Prints what became of the server: whether it is live by the log, and has the state. */
-static void take_status(uint8_t own, bool is_live, bool has_state) {
+/* Prints what became of the server. */
+static void take_status(uint8_t own, uint8_t flags) {
     if (own > SERVERS) stop(1, "zk_node sent a status of server %u", own);
     node.own = own;
-    const char *state = !is_live ? "is gone" : has_state ? "is a member" : "waits for the state";
+    const char *state = flags & IS_GONE ? "is gone"
+        : flags & HAS_STATE ? "is a member" : "waits for the state";
     if (own) say("server %u on node %s %s", own, node.self, state);
 }
 
 /* A record from the child: its tag and fields, as far as they came. Returns its length, or 0. */
 static size_t length_of(const uint8_t *it, size_t count) {
-    static const uint8_t FIXED[] = {[SEND] = 8, [APPEND] = 13, [STATUS] = 4, [END] = 2};
+    static const uint8_t FIXED[] = {[SEND] = 8, [APPEND] = 13, [STATUS] = 3, [END] = 2};
     if (!count) return 0;
     if (it[0] > END) stop(1, "zk_node sent a record with tag %u", it[0]);
     size_t length = FIXED[it[0]];
@@ -102,7 +106,7 @@ static void take_send(const uint8_t *it, size_t length) {
 static void take_record(const uint8_t *it, size_t length) {
     if (it[0] == SEND) take_send(it, length);
     if (it[0] == APPEND) log_append(number_at(it + 1, 8), it + 13, length - 13);
-    if (it[0] == STATUS) take_status(it[1], it[2], it[3]);
+    if (it[0] == STATUS) take_status(it[1], it[2]);
     if (it[0] == END) is_at_work = false, has_more = it[1] != 0;
 }
 
