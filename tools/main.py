@@ -3,6 +3,7 @@
 Its first word says what standard input is: 'folder', or 'open' for anything else. A folder can't
 be handed to Python itself.
 """
+import concurrent.futures
 import os
 import signal
 import sys
@@ -57,8 +58,11 @@ def play(mode, command, words, _):
 
 
 def serve(mode, command, words, _):
-    """Runs the server for ZooKeeper's clients, behind its host."""
-    become(serving.host(), [f"--program={get(mode, command)}", *words])
+    """Runs the server for ZooKeeper's clients, behind its host, which is compiled meanwhile."""
+    with concurrent.futures.ThreadPoolExecutor(1) as aside:
+        host = aside.submit(serving.host)
+        program = get(mode, command)
+    become(host.result(), [f"--program={program}", *words])
 
 
 def node(mode, words):

@@ -11,3 +11,5 @@ mod faults;
 mod incarnations;
 #[cfg(test)]
 mod renewals;
+#[cfg(test)]
+mod versions;

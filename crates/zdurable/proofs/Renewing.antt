@@ -3,7 +3,9 @@ use Rattle.std.proofs.Common.{◌≡◌, inl, inr, ⊎_elim, ◌∙◌, ℕ, ◌
 use Rattle.std.proofs.Common.{sym, ap, subst, arith, append_assoc, append-nil}
 use Rattle.ztree.specs.Tree.{Tree}
 use Rattle.zjournal.specs.Device.{LeavesOnly}
-use Rattle.zjournal.specs.Journal.{IsAtRest, Keeps, IsOpen, device_of}
+use Rattle.zjournal.specs.declared.format.Format.{Format}
+use Rattle.zjournal.specs.Blocks.{blocks}
+use Rattle.zjournal.specs.Journal.{holdings, IsAtRest, Keeps, IsOpen, device_of, format_of}
 use Rattle.zjournal.specs.Renewal.{IsRenewing, IsInRenewal, IsOldOrNew, renewed_size_of}
 use Rattle.zjournal.specs.Scan.{joined}
 use Rattle.zjournal.specs.declared.journal.Journal.{Journal}
@@ -46,6 +48,7 @@ module _ {D : Type 0} (seen : D → List ℕ) (may_leave : D → List ℕ → Ty
   pub stays_keeping : LeavesOnly moment left_since (device_of old) (device_of old) (Keeps servers batches)
   stays_keeping =
       let keeps : Keeps servers batches (seen (device_of old)) = record {
+        format = format_of old;
         texts = rest.texts;
         end = 0
             ∷ [];
@@ -102,7 +105,8 @@ module _ {D : Type 0} (seen : D → List ℕ) (may_leave : D → List ℕ → Ty
     pub too_long : 2 ^ 60 ≤ renewed_size_of now → IsTooLong servers tree
     too_long full =
         let so_far = going.so_far servers batches rest in
-        (so_far.0, text_left text, sym so_far.2, subst (λ (n : ℕ). 2 ^ 60 ≤ n) so_far.1.size full)
+        (so_far.0, text_left text, sym so_far.2, subst (λ (n : ℕ). 2 ^ 60 ≤ n)
+        (so_far.1.place.end ∙ ap (λ (f : Format). length (blocks (holdings f servers so_far.0))) so_far.1.format) full)
 
     -- and the end
     module _ (all : IsAllWritten text) where

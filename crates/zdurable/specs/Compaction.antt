@@ -2,6 +2,7 @@
 -- fails before that file is written, the compaction is postponed.
 use Rattle.std.specs.Prelude.{◌≡◌, ◌⊎◌, ◌≤◌, ◌^◌, ◌/◌, ℕ, List, ◌++◌, length}
 use Rattle.ztree.specs.Tree.{Tree}
+use Rattle.zjournal.specs.declared.format.Format.TheVariants.{Running}
 use Rattle.zjournal.specs.declared.journal.Journal.{Journal}
 use Rattle.zjournal.specs.Blocks.{blocks}
 use Rattle.zjournal.specs.Journal.{IsAtRest, Keeps, holdings}
@@ -26,7 +27,7 @@ KeepsEither servers before now file = KeepsTree servers before file ⊎ KeepsTre
 -- the new file would be too long: the blocks of the first chunks of its text have 2 ^ 60 bytes
 abbrev pub IsTooLong : ℕ → Tree → Type 0
 IsTooLong servers t = (chunks : List (List ℕ)) × (more : List ℕ) × (snapshot_text t ≡ joined chunks ++ more)
-    × (2 ^ 60 ≤ length (blocks (holdings servers chunks)))
+    × (2 ^ 60 ≤ length (blocks (holdings Running servers chunks)))
 
 -- the journal afterwards: it is at rest with the text of the tree, or with the batches of before
 abbrev pub RestsAfter : {D : Type 0} → (D → List ℕ) → (D → List ℕ → Type 0) → Compacted → ℕ → List (List ℕ) → Tree → Journal D → Type 0

@@ -1,10 +1,9 @@
 -- Blocks one behind the other, and what they can't be mistaken for.
-use Rattle.std.proofs.Common.{◌≡◌, ◌≢◌, ℕ, ◌+◌, Bool, true, false, if◌then◌else◌, List, [], ◌∷◌, ◌++◌, length, map}
+use Rattle.std.proofs.Common.{◌≡◌, ◌≢◌, ℕ, ◌+◌, List, [], ◌∷◌, ◌++◌, length}
 use Rattle.std.proofs.Common.{drop, get_or, take, zero, suc, refl, sym, ◌∙◌, ap, subst, arith, append_assoc}
 use Rattle.std.proofs.Common.{length-append}
 use Rattle.std.proofs.lemmas.List.{append-nil}
 use Rattle.zjournal.specs.Blocks.{IsText, AreTexts, blocks, IsEnd}
-use Rattle.zjournal.specs.Checksum.{digit, stamped}
 
 -- one block more
 pub blocks-push : (holds : List (List ℕ)) (held rest : List ℕ) → blocks (holds ++ held ∷ []) ++ rest ≡ blocks holds ++ 1 ∷ (held ++ 0 ∷ rest)
@@ -80,35 +79,3 @@ front_of_end zero (g ∷ end) h = tt
 front_of_end (suc zero) (g ∷ end) h = tt
 front_of_end (suc (suc n)) (g ∷ []) h = tt
 front_of_end (suc (suc n)) (g ∷ b ∷ end) h = h
-
--- a checksum has no byte 0
-digit_is_none : (low : Bool) (n : ℕ) → (if low then 48 + n else 87 + n) ≡ 0 → ⊥
-digit_is_none true n is = omega (arith, is)
-digit_is_none false n is = omega (arith, is)
-
-pub digit_counts : (n : ℕ) → digit n ≢ 0
-digit_counts n = digit_is_none _ n
-
-pub stamped_text : (text : List ℕ) → IsText text → IsText (stamped text)
-stamped_text text h = (
-  digit_counts _,
-  (digit_counts _, (digit_counts _, (digit_counts _, (digit_counts _, (digit_counts _, (digit_counts _, (digit_counts _, h))))))),
-)
-
--- what stands behind the checksum
-pub unstamped : (batches : List (List ℕ)) → map (λ (t : List ℕ). drop 8 t) (map stamped batches) ≡ batches
-unstamped [] = refl
-unstamped (t ∷ batches) = ap (λ (l : List (List ℕ)). t ∷ l) (unstamped batches)
-
-pub stamped_among : (a b after : List (List ℕ)) (held : List ℕ) → map stamped a ≡ map stamped b ++ held ∷ after
-    → (text : List ℕ) × (held ≡ stamped text)
-stamped_among [] [] after held is = absurd (none is)
-  where
-    none : [] ≡ held ∷ after → ⊥
-    none is = cc is
-stamped_among [] (t ∷ b) after held is = absurd (none is)
-  where
-    none : [] ≡ stamped t ∷ (map stamped b ++ held ∷ after) → ⊥
-    none is = cc is
-stamped_among (s ∷ a) [] after held is = (s, sym (ap (λ (l : List (List ℕ)). get_or l 0 held) is))
-stamped_among (s ∷ a) (t ∷ b) after held is = stamped_among a b after held (ap (λ (l : List (List ℕ)). drop 1 l) is)

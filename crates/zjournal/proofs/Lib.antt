@@ -1,6 +1,6 @@
 pub mod file_lemmas
 mod Blocks
-mod Files
+pub mod Files
 mod Heads
 mod Cached
 pub mod Moments
@@ -11,3 +11,4 @@ mod Renewals
 mod Runs
 pub mod Scan
 mod Steps
+pub mod Sums

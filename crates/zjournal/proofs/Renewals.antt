@@ -1,17 +1,20 @@
 -- What the steps of a renewal leave.
-use Rattle.std.proofs.Common.{◌≡◌, ◌-◌, inl, inr, ⊎_elim, ℕ, ◌+◌, List, [], ◌∷◌, ◌++◌, length, take, refl, sym, ◌∙◌, ap}
+use Rattle.std.proofs.Common.{◌≡◌, ◌-◌, inl, inr, ⊎_elim, ℕ, ◌+◌, List, [], ◌∷◌, ◌++◌, length, take, sym, ◌∙◌, ap}
 use Rattle.std.proofs.Common.{subst, arith, append_assoc, length-append}
 use Rattle.std.proofs.lemmas.List.{take_at}
 use Rattle.zjournal.specs.declared.journal.Journal.{Journal}
 use Rattle.zjournal.specs.Device.{Only, Elapses, LeavesOnly, IsEither}
-use Rattle.zjournal.specs.Blocks.{IsText, blocks}
-use Rattle.zjournal.specs.Checksum.{stamped}
-use Rattle.zjournal.specs.Journal.{head, holdings, Keeps, IsAtRest}
+use Rattle.zjournal.specs.Blocks.{IsText, AreTexts, at_rest, blocks}
+use Rattle.zjournal.specs.Checksum.{adler_after, next, next_after, stamped}
+use Rattle.zjournal.specs.declared.format.Format.{Format}
+use Rattle.zjournal.specs.declared.format.Format.TheVariants.{Running}
+use Rattle.zjournal.specs.Journal.{head, holdings, Keeps, IsAtRest, IsPlace}
+use Rattle.zjournal.specs.declared.place.Place.{Place}
 use Rattle.zjournal.specs.Renewal.{IsRenewing, IsOldOrNew}
 use Rattle.zjournal.specs.Untouched.{IsUntouched, IsTaking}
 use Rattle.zjournal.proofs.Moments.{started, goes_on, joined_runs, weaker}
 use Rattle.zjournal.proofs.Opens.{only_read, only_left}
-use Rattle.zjournal.proofs.Files.{rest_keeps, more_texts, one_more, more_size}
+use Rattle.zjournal.proofs.Files.{head_text_now, stamped_after, first_place, rest_keeps, more_place, more_texts, one_more}
 
 -- a block without the closed commit_byte behind it
 pub without_commit_byte : (held block : List ℕ) → block ≡ held ++ 0 ∷ 0 ∷ [] → take (length block - 1) block ≡ held ++ 0 ∷ []
@@ -67,8 +70,8 @@ module _ {D : Type 0} (seen : D → List ℕ) (may_leave : D → List ℕ → Ty
 
   module _ (journal : Journal D) (servers : ℕ) (batches : List (List ℕ)) (rest : IsAtRest seen may_leave servers batches journal) where
     keeps_old : (c : List ℕ) → c ≡ seen journal.device → Keeps servers batches c
-    keeps_old c is = subst (Keeps servers batches) (sym is) (rest_keeps servers batches (seen journal.device) journal.end
-        rest.texts rest.file rest.end)
+    keeps_old c is = subst (Keeps servers batches) (sym is) (rest_keeps journal.place.format servers batches (seen journal.device)
+        journal.place.end rest.texts rest.file rest.place.end)
 
     -- nothing was asked of the device
     pub not_asked : ((c : List ℕ) → left_since journal.device (moment journal.device) c → may_leave journal.device c)
@@ -80,60 +83,72 @@ module _ {D : Type 0} (seen : D → List ℕ) (may_leave : D → List ℕ → Ty
     untouched_keeps new untouched = weaker moment left_since journal.device new (λ c. c ≡ seen journal.device)
         (Keeps servers batches) untouched.any_moment keeps_old
 
-    pub still_rests : (later : Journal D) → later.servers ≡ journal.servers → later.end ≡ journal.end
+    pub still_rests : (later : Journal D) → later.servers ≡ journal.servers → later.place ≡ journal.place
         → IsUntouched seen may_leave moment left_since journal.device later.device → IsAtRest seen may_leave servers batches later
-    still_rests later same end untouched = record {
-      texts = rest.texts;
-      file = untouched.same ∙ rest.file;
+    still_rests later same place untouched = record {
+      texts = subst (λ (p : Place). AreTexts (holdings p.format servers batches)) (sym place) rest.texts;
+      file = untouched.same ∙ rest.file ∙ ap (λ (p : Place). at_rest (holdings p.format servers batches)) (sym place);
       head_is = same ∙ rest.head_is;
-      end = end ∙ rest.end;
+      place = subst (λ (p : Place). IsPlace servers batches p) (sym place) rest.place;
       durable = untouched.durable;
     }
 
     -- the new file has its head
-    pub renewal_begun : (beside : D → List ℕ) (later : Journal D) → later.servers ≡ journal.servers → later.end ≡ journal.end
+    pub renewal_begun : (beside : D → List ℕ) (later : Journal D) → later.servers ≡ journal.servers → later.place ≡ journal.place
         → IsUntouched seen may_leave moment left_since journal.device later.device
-        → beside later.device ≡ blocks (head journal.servers ∷ []) → later.renewed_end ≡ 34
-        → IsRenewing seen may_leave beside servers batches [] later
-    renewal_begun beside later same end untouched begun size = record {
-      rest = still_rests later same end untouched;
-      texts = (rest.texts.0, tt);
-      so_far = begun ∙ ap (λ (n : ℕ). blocks (head n ∷ [])) rest.head_is;
-      size = size ∙ size_of_head;
+        → beside later.device ≡ blocks (head Running journal.servers ∷ []) → later.renewed.format ≡ Running → later.renewed.end ≡ 34
+        → later.renewed.sum ≡ 1 → IsRenewing seen may_leave beside servers batches [] later
+    renewal_begun beside later same place untouched begun format end sum = record {
+      rest = still_rests later same place untouched;
+      format = format;
+      texts = (head_text_now journal.place.format servers rest.texts.0, tt);
+      so_far = begun ∙ ap (λ (n : ℕ). blocks (head Running n ∷ [])) rest.head_is;
+      place = first_place servers later.renewed end sum;
     }
-      where
-        size_of_head : 34 ≡ length (blocks (holdings servers []))
-        size_of_head = refl
 
-  module _ (beside : D → List ℕ) (journal : Journal D) (servers : ℕ) (batches next : List (List ℕ)) (renewing : IsRenewing
-      seen may_leave beside servers batches next journal) where
+  module _ (beside : D → List ℕ) (journal : Journal D) (servers : ℕ) (batches next_ones : List (List ℕ)) (renewing : IsRenewing
+      seen may_leave beside servers batches next_ones journal) where
     -- one batch more
-    pub renewal_added : (batch : List ℕ) (later : Journal D) → IsText (stamped batch) → later.servers ≡ journal.servers
-        → later.end ≡ journal.end → IsUntouched seen may_leave moment left_since journal.device later.device
-        → beside later.device ≡ beside journal.device ++ 1 ∷ (stamped batch ++ 0 ∷ []) → (block : List ℕ)
-        → block ≡ stamped batch ++ 0 ∷ 0 ∷ [] → later.renewed_end ≡ journal.renewed_end + length block
-        → IsRenewing seen may_leave beside servers batches (next ++ batch ∷ []) later
-    renewal_added batch later text same end untouched added block is size = record {
-      rest = still_rests journal servers batches renewing.rest later same end untouched;
-      texts = more_texts servers next renewing.texts batch text;
-      so_far = added ∙ ap (λ (l : List ℕ). l ++ 1 ∷ (stamped batch ++ 0 ∷ [])) renewing.so_far ∙ one_more servers next batch;
-      size = size ∙ more_size servers next journal.renewed_end renewing.size batch block is;
-    }
+    pub renewal_added : (batch : List ℕ) (later : Journal D) → IsText (stamped journal.renewed.sum batch) → later.servers ≡ journal.servers
+        → later.place ≡ journal.place → IsUntouched seen may_leave moment left_since journal.device later.device
+        → beside later.device ≡ beside journal.device ++ 1 ∷ (stamped journal.renewed.sum batch ++ 0 ∷ []) → (block : List ℕ)
+        → block ≡ stamped journal.renewed.sum batch ++ 0 ∷ 0 ∷ [] → later.renewed.format ≡ journal.renewed.format
+        → later.renewed.end ≡ journal.renewed.end + length block
+        → later.renewed.sum ≡ next journal.renewed.format (adler_after journal.renewed.sum batch)
+        → IsRenewing seen may_leave beside servers batches (next_ones ++ batch ∷ []) later
+    renewal_added batch later text same place untouched added block is format end sum =
+        let held_is : stamped journal.renewed.sum batch ≡ stamped_after Running next_ones batch =
+        ap (λ (n : ℕ). stamped n batch) (renewing.place.sum ∙ ap (λ (f : Format). next_after f 1 next_ones) renewing.format) in
+        record {
+          rest = still_rests journal servers batches renewing.rest later same place untouched;
+          format = format ∙ renewing.format;
+          texts = more_texts Running servers next_ones renewing.texts batch (subst IsText held_is text);
+          so_far = added
+              ∙ ap (λ (l : List ℕ). l ++ 1 ∷ (stamped journal.renewed.sum batch ++ 0 ∷ [])) renewing.so_far
+              ∙ ap (λ (l : List ℕ). blocks (holdings Running servers next_ones) ++ 1 ∷ (l ++ 0 ∷ [])) held_is
+              ∙ one_more Running servers next_ones batch;
+          place = more_place servers next_ones journal.renewed later.renewed batch block renewing.place is format end sum;
+        }
 
     -- and the new file has taken the place
-    pub renewed : (later : Journal D) → later.servers ≡ journal.servers → later.end ≡ journal.renewed_end
+    pub renewed : (later : Journal D) → later.servers ≡ journal.servers → later.place ≡ journal.renewed
         → seen later.device ≡ beside journal.device ++ 0 ∷ [] → Only (seen later.device) (may_leave later.device)
-        → IsAtRest seen may_leave servers next later
-    renewed later same end taken only = record {
-      texts = renewing.texts;
-      file = taken ∙ ap (λ (l : List ℕ). l ++ 0 ∷ []) renewing.so_far;
-      head_is = same ∙ renewing.rest.head_is;
-      end = end ∙ renewing.size;
-      durable = only;
-    }
+        → IsAtRest seen may_leave servers next_ones later
+    renewed later same place taken only =
+        let format : later.place.format ≡ Running = ap (λ (p : Place). p.format) place ∙ renewing.format in
+        record {
+          texts = subst (λ (f : Format). AreTexts (holdings f servers next_ones)) (sym format) renewing.texts;
+          file = taken
+              ∙ ap (λ (l : List ℕ). l ++ 0 ∷ []) renewing.so_far
+              ∙ ap (λ (f : Format). at_rest (holdings f servers next_ones)) (sym format);
+          head_is = same ∙ renewing.rest.head_is;
+          place = subst (λ (p : Place). IsPlace servers next_ones p) (sym place) renewing.place;
+          durable = only;
+        }
 
-    keeps_new : (c : List ℕ) → c ≡ beside journal.device ++ 0 ∷ [] → Keeps servers next c
+    keeps_new : (c : List ℕ) → c ≡ beside journal.device ++ 0 ∷ [] → Keeps servers next_ones c
     keeps_new c is = record {
+      format = Running;
       texts = renewing.texts;
       end = 0 ∷ [];
       split = is
@@ -142,12 +157,12 @@ module _ {D : Type 0} (seen : D → List ℕ) (may_leave : D → List ℕ → Ty
     }
 
     pub old_or_new : (new : D) → LeavesOnly moment left_since journal.device new (IsTaking (seen journal.device) (beside journal.device))
-        → LeavesOnly moment left_since journal.device new (IsOldOrNew servers batches next)
+        → LeavesOnly moment left_since journal.device new (IsOldOrNew servers batches next_ones)
     old_or_new new run = weaker moment left_since journal.device new (IsTaking (seen journal.device) (beside journal.device))
-        (IsOldOrNew servers batches next) run
+        (IsOldOrNew servers batches next_ones) run
         (λ c left. ⊎_elim (λ is. inl (keeps_old journal servers batches renewing.rest c is)) (λ is. inr (keeps_new c is)) left)
 
     pub old_not_asked : ((c : List ℕ) → left_since journal.device (moment journal.device) c → may_leave journal.device c)
-        → LeavesOnly moment left_since journal.device journal.device (IsOldOrNew servers batches next)
-    old_not_asked now = started moment left_since journal.device (IsOldOrNew servers batches next)
+        → LeavesOnly moment left_since journal.device journal.device (IsOldOrNew servers batches next_ones)
+    old_not_asked now = started moment left_since journal.device (IsOldOrNew servers batches next_ones)
         (λ c left. inl (keeps_old journal servers batches renewing.rest c (renewing.rest.durable c (now c left))))

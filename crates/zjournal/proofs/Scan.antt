@@ -1,11 +1,14 @@
 -- How the blocks of a file are found, one behind the other.
-use Rattle.std.proofs.Common.{◌≡◌, ◌≢◌, ℕ, ◌+◌, ◌-◌, ◌<◌, ◌≤◌, List, [], ◌∷◌, ◌++◌, length, map, get_or, take, drop}
+use Rattle.std.proofs.Common.{◌≡◌, ◌≢◌, ℕ, ◌+◌, ◌-◌, ◌<◌, ◌≤◌, List, [], ◌∷◌, ◌++◌, length, get_or, take, drop}
 use Rattle.std.proofs.Common.{zero, suc, refl, sym, ◌∙◌, ap, subst, arith, append_assoc, length-append}
 use Rattle.std.proofs.lemmas.List.{append-nil, take_at, drop_all, drop_more}
 use Rattle.zjournal.specs.Blocks.{IsText, AreTexts, blocks, IsEnd}
-use Rattle.zjournal.specs.Checksum.{stamped}
+use Rattle.zjournal.specs.Checksum.{adler_after, next, next_after, stamped, stamped_all}
+use Rattle.zjournal.specs.declared.format.Format.{Format}
+use Rattle.zjournal.specs.declared.place.Place.{Place}
 use Rattle.zjournal.specs.Scan.{EndsAt, IsBatch, IsNoBatch, AreBatches, joined}
 use Rattle.zjournal.proofs.Blocks.{blocks-push, length-blocks-push, texts-push, first_zero, no_zero}
+use Rattle.zjournal.proofs.Sums.{next-push, stamped-push}
 
 -- what was read of a text so far
 abbrev pub ReadsTo : List ℕ → ℕ → ℕ → Type 0
@@ -38,52 +41,62 @@ text_slice bytes start at ends =
     ap (λ (l : List ℕ). take (at - start) l) ends.1.1 ∙ take_at ends.1.0 (0 ∷ drop (at + 1) bytes) (at - start) (omega (arith, place))
 
 -- a text that doesn't end is no batch
-pub endless_is_none : (bytes : List ℕ) (commit_byte : ℕ) → IsText (drop (commit_byte + 1) bytes) → IsNoBatch bytes commit_byte
-endless_is_none bytes commit_byte text batch more h is = no_zero (stamped batch) more (subst IsText is text)
+pub endless_is_none : (bytes : List ℕ) (place : Place) → IsText (drop (place.end + 1) bytes) → IsNoBatch bytes place
+endless_is_none bytes place text batch more h is = no_zero (stamped place.sum batch) more (subst IsText is text)
 
 -- a text behind no checksum of its own is no batch
-pub other_is_none : (bytes : List ℕ) (commit_byte at : ℕ) → (ends : EndsAt bytes (commit_byte + 1) at) → ((text : List ℕ) → ends.1.0 ≡ stamped text → ⊥)
-    → IsNoBatch bytes commit_byte
-other_is_none bytes commit_byte at ends none batch more h is =
-    none batch (first_zero ends.1.0 (stamped batch) (drop (at + 1) bytes) more ends.1.3 h (sym ends.1.1 ∙ is)).0
+pub other_is_none : (bytes : List ℕ) (place : Place) (at : ℕ) → (ends : EndsAt bytes (place.end + 1) at)
+    → ((text : List ℕ) → ends.1.0 ≡ stamped place.sum text → ⊥) → IsNoBatch bytes place
+other_is_none bytes place at ends none batch more h is =
+    none batch (first_zero ends.1.0 (stamped place.sum batch) (drop (at + 1) bytes) more ends.1.3 h (sym ends.1.1 ∙ is)).0
 
 -- a text behind its checksum is one
-pub checked_is_batch : (bytes : List ℕ) (commit_byte at : ℕ) (ends : EndsAt bytes (commit_byte + 1) at) (text : List ℕ)
-    → ends.1.0 ≡ stamped text → IsBatch bytes commit_byte text (at + 1)
-checked_is_batch bytes commit_byte at ends text is =
-    let within = ends.0 in let place = ends.1.2 in
+pub checked_is_batch : (bytes : List ℕ) (place there : Place) (at sum : ℕ) (ends : EndsAt bytes (place.end + 1) at) (text : List ℕ)
+    → ends.1.0 ≡ stamped place.sum text → sum ≡ adler_after place.sum text → there.format ≡ place.format → there.end ≡ at + 1
+    → there.sum ≡ next place.format sum → IsBatch bytes place text there
+checked_is_batch bytes place there at sum ends text is sum_is format end next_is =
+    let within = ends.0 in let place_is = ends.1.2 in
     record {
       text = subst IsText is ends.1.3;
-      within = omega (arith, within);
-      stands = ends.1.1 ∙ ap (λ (l : List ℕ). l ++ 0 ∷ drop (at + 1) bytes) is;
-      long = omega (arith, place, ap length is);
+      within = omega (arith, within, end);
+      stands = ends.1.1
+          ∙ ap (λ (l : List ℕ). l ++ 0 ∷ drop (at + 1) bytes) is
+          ∙ ap (λ (n : ℕ). stamped place.sum text ++ 0 ∷ drop n bytes) (sym end);
+      long = omega (arith, place_is, end, ap length is);
+      same = format;
+      goes_on = next_is ∙ ap (λ (n : ℕ). next place.format n) sum_is;
     }
 
 -- no batch yet
-pub no_batches : (bytes : List ℕ) (start : ℕ) → start ≤ length bytes → AreBatches bytes start [] start
-no_batches bytes start within = record { texts = tt; within = within; stand = refl; long = omega arith }
-
-map_more : (bs : List (List ℕ)) (b : List ℕ) → map stamped (bs ++ b ∷ []) ≡ map stamped bs ++ stamped b ∷ []
-map_more [] b = refl
-map_more (x ∷ bs) b = ap (λ (l : List (List ℕ)). stamped x ∷ l) (map_more bs b)
+pub no_batches : (bytes : List ℕ) (start : Place) → start.end ≤ length bytes → AreBatches bytes start [] start
+no_batches bytes start within =
+    record { texts = tt; within = within; stand = refl; long = omega arith; same = refl; goes_on = refl }
 
 -- one batch more
-pub more_batches : (bytes : List ℕ) (start commit_byte end : ℕ) (batches : List (List ℕ)) (batch : List ℕ)
-    → AreBatches bytes start batches commit_byte → commit_byte < length bytes → get_or bytes commit_byte 0 ≡ 1
-    → IsBatch bytes commit_byte batch end → AreBatches bytes start (batches ++ batch ∷ []) end
-more_batches bytes start commit_byte end batches batch so_far within set_commit_byte one = record {
-  texts = subst AreTexts (sym (map_more batches batch)) (texts-push (map stamped batches) (stamped batch) so_far.texts one.text);
-  within = one.within;
-  stand =
-      so_far.stand
-      ∙ ap (λ (l : List ℕ). blocks (map stamped batches) ++ l) (drop_more bytes commit_byte 0 within
-      ∙ ap (λ (g : ℕ). g ∷ drop (commit_byte + 1) bytes) set_commit_byte ∙ ap (λ (l : List ℕ). 1 ∷ l) one.stands)
-      ∙ sym (blocks-push (map stamped batches) (stamped batch) (drop end bytes))
-      ∙ ap (λ (l : List (List ℕ)). blocks l ++ drop end bytes) (sym (map_more batches batch));
-  long =
-      (let longer = ap (λ (l : List (List ℕ)). length (blocks l)) (map_more batches batch) in
-      omega (arith, so_far.long, one.long, longer, length-blocks-push (map stamped batches) (stamped batch)));
-}
+pub more_batches : (bytes : List ℕ) (start place there : Place) (batches : List (List ℕ)) (batch : List ℕ)
+    → AreBatches bytes start batches place → place.end < length bytes → get_or bytes place.end 0 ≡ 1
+    → IsBatch bytes place batch there → AreBatches bytes start (batches ++ batch ∷ []) there
+more_batches bytes start place there batches batch so_far within set_commit_byte one =
+    let all = stamped_all start.format start.sum batches in
+    let held = stamped place.sum batch in
+    let more : stamped_all start.format start.sum (batches ++ batch ∷ []) ≡ all ++ held ∷ [] =
+    stamped-push start.format start.sum batches batch ∙ ap (λ (n : ℕ). all ++ stamped n batch ∷ []) (sym so_far.goes_on) in
+    record {
+      texts = subst AreTexts (sym more) (texts-push all held so_far.texts one.text);
+      within = one.within;
+      stand = so_far.stand
+          ∙ ap (λ (l : List ℕ). blocks all ++ l) (drop_more bytes place.end 0 within
+          ∙ ap (λ (g : ℕ). g ∷ drop (place.end + 1) bytes) set_commit_byte ∙ ap (λ (l : List ℕ). 1 ∷ l) one.stands)
+          ∙ sym (blocks-push all held (drop there.end bytes))
+          ∙ ap (λ (l : List (List ℕ)). blocks l ++ drop there.end bytes) (sym more);
+      long = (let longer = ap (λ (l : List (List ℕ)). length (blocks l)) more in
+          omega (arith, so_far.long, one.long, longer, length-blocks-push all held));
+      same = one.same ∙ so_far.same;
+      goes_on = one.goes_on
+          ∙ ap (λ (n : ℕ). next place.format (adler_after n batch)) so_far.goes_on
+          ∙ ap (λ (f : Format). next f (adler_after (next_after start.format start.sum batches) batch)) so_far.same
+          ∙ sym (next-push start.format start.sum batches batch);
+    }
 
 pub joined_more : (batches : List (List ℕ)) (batch : List ℕ) → joined (batches ++ batch ∷ []) ≡ joined batches ++ batch
 joined_more [] batch = append-nil batch

@@ -1,14 +1,19 @@
--- The checksum of a text: Adler-32 (RFC 1950, sections 2.2 and 9), in eight hexadecimal digits, the
--- highest first. It detects a failing disk. No law relies on two texts having different checksums.
+-- The checksum of a block: Adler-32 (RFC 1950, sections 2.2 and 9), in eight hexadecimal digits, the
+-- highest first. In a file of version 1 it is that of the block's own text. In one of version 2 the
+-- sum runs on: it is that of all texts so far. So a block that is missing shows at the next one. A
+-- checksum detects a failing disk. No law relies on two texts having different checksums.
 use Rattle.std.specs.Prelude.{ℕ, ◌+◌, ◌*◌, ◌/◌, ◌%◌, nat_lt, if◌then◌else◌, List, [], ◌∷◌, ◌++◌}
+use Rattle.zjournal.specs.declared.format.Format.{Format}
+use Rattle.zjournal.specs.declared.format.Format.TheVariants.{Separate, Running}
 
 -- two sums, of the bytes and of these sums, each modulo 65521
 abbrev pub adler_from : ℕ → ℕ → List ℕ → ℕ
 adler_from a b [] = b * 65536 + a
 adler_from a b (byte ∷ text) = adler_from ((a + byte) % 65521) ((b + (a + byte) % 65521) % 65521) text
 
-abbrev pub adler : List ℕ → ℕ
-adler text = adler_from 1 0 text
+-- the sum goes on from this one over a text. The sum of nothing is 1
+abbrev pub adler_after : ℕ → List ℕ → ℕ
+adler_after sum text = adler_from (sum % 65536) (sum / 65536) text
 
 -- the digit of a number below 16
 abbrev pub digit : ℕ → ℕ
@@ -26,6 +31,21 @@ digits n =
     ∷ digit (n % 16)
     ∷ []
 
--- a text after its checksum
-abbrev pub stamped : List ℕ → List ℕ
-stamped text = digits (adler text) ++ text
+-- a text after its checksum, which goes on from this sum
+abbrev pub stamped : ℕ → List ℕ → List ℕ
+stamped sum text = digits (adler_after sum text) ++ text
+
+-- what the next checksum goes on from, after one of this sum
+abbrev pub next : Format → ℕ → ℕ
+next Separate sum = 1
+next Running sum = sum
+
+-- and after these texts
+abbrev pub next_after : Format → ℕ → List (List ℕ) → ℕ
+next_after format sum [] = sum
+next_after format sum (text ∷ texts) = next_after format (next format (adler_after sum text)) texts
+
+-- texts after their checksums, of which the first goes on from this sum
+abbrev pub stamped_all : Format → ℕ → List (List ℕ) → List (List ℕ)
+stamped_all format sum [] = []
+stamped_all format sum (text ∷ texts) = stamped sum text ∷ stamped_all format (next format (adler_after sum text)) texts

@@ -1,5 +1,7 @@
 -- When each fault occurs.
-use Rattle.std.specs.Prelude.{◌≡◌, ◌≢◌, ◌⊎◌, ℕ, List, [], ◌∷◌, ◌++◌, length}
+use Rattle.std.specs.Prelude.{◌≡◌, ◌≢◌, ◌⊎◌, ◌≤◌, ℕ, List, [], ◌∷◌, ◌++◌, length, take}
+use Rattle.zjournal.specs.declared.format.Format.{Format}
+use Rattle.zjournal.specs.declared.format.Format.TheVariants.{Running}
 use Rattle.zjournal.specs.declared.device.DeviceError.{DeviceError}
 use Rattle.zjournal.specs.declared.device.DeviceError.TheVariants as device
 use Rattle.zjournal.specs.declared.fault.OpenError.{OpenError}
@@ -7,8 +9,8 @@ use Rattle.zjournal.specs.declared.fault.OpenError.TheVariants as opening
 use Rattle.zjournal.specs.declared.fault.PutError.{PutError}
 use Rattle.zjournal.specs.declared.fault.PutError.TheVariants as put
 use Rattle.zjournal.specs.Blocks.{IsText, AreTexts, blocks}
-use Rattle.zjournal.specs.Checksum.{stamped}
-use Rattle.zjournal.specs.Journal.{head_of, version_now, room, holdings, IsBeingMade}
+use Rattle.zjournal.specs.Checksum.{next_after, stamped}
+use Rattle.zjournal.specs.Journal.{head_of, version_of, word_of, holdings, IsBeingMade}
 
 -- what a device's error becomes for an opening, and for a put
 abbrev pub open_error : DeviceError → OpenError
@@ -27,28 +29,38 @@ Begins version servers rest file = file ≡ 1 ∷ head_of version servers rest
 abbrev pub IsJournal : ℕ → List ℕ → Type 0
 IsJournal servers file = IsBeingMade servers file ⊎ ((version given : ℕ) × (rest : List ℕ) × Begins version given rest file)
 
--- the head has more than it should: its reserved bytes aren't empty, or it doesn't end
+-- the file begins as a journal of version 2, but says that it is of something else
+abbrev pub IsOfOther : List ℕ → Type 0
+IsOfOther file = (given : ℕ) × (rest : List ℕ) × Begins (version_of Running) given rest file × (12 ≤ length rest)
+    × (take 12 rest ≢ word_of Running)
+
+-- the head isn't as its format has it: in version 1 it has a word, or it doesn't end
 abbrev pub HasOtherHead : ℕ → List ℕ → Type 0
-HasOtherHead servers file = (rest : List ℕ) × Begins version_now servers rest file × ((more : List ℕ) → rest ≡ room ++ 0 ∷ more → ⊥)
+HasOtherHead servers file = (format : Format) × (rest : List ℕ) × Begins (version_of format) servers rest file
+    × ((more : List ℕ) → rest ≡ word_of format ++ 0 ∷ more → ⊥) × (IsOfOther file → ⊥)
 
 -- after these batches is a set commit byte, and something after it that is no block of a batch
-abbrev pub HasOtherBlock : ℕ → List (List ℕ) → List ℕ → Type 0
-HasOtherBlock servers batches file = (rest : List ℕ) × (file ≡ blocks (holdings servers batches) ++ 1 ∷ rest) × (rest ≢ [])
-    × ((text more : List ℕ) → IsText (stamped text) → rest ≡ stamped text ++ 0 ∷ more → ⊥)
+abbrev pub HasOtherBlock : Format → ℕ → List (List ℕ) → List ℕ → Type 0
+HasOtherBlock format servers batches file = (rest : List ℕ) × (file ≡ blocks (holdings format servers batches) ++ 1 ∷ rest) × (rest ≢ [])
+    × ((text more : List ℕ) → IsText (stamped (next_after format 1 batches) text) → rest ≡ stamped (next_after format 1 batches) text ++ 0 ∷ more → ⊥)
 
 -- the block at this index is damaged
 abbrev pub IsDamagedAt : ℕ → ℕ → List ℕ → Type 0
 IsDamagedAt servers at file =
     ((at ≡ 0) × HasOtherHead servers file)
-    ⊎ ((batches : List (List ℕ)) × AreTexts (holdings servers batches) × (at ≡ length (blocks (holdings servers batches))) × HasOtherBlock servers batches file)
+    ⊎ ((format : Format) × (batches : List (List ℕ)) × AreTexts (holdings format servers batches)
+    × (at ≡ length (blocks (holdings format servers batches))) × HasOtherBlock format servers batches file)
 
 -- the file is as the fault says; Memory and Failed say nothing of it
 abbrev pub IsSuch : ℕ → List ℕ → OpenError → Type 0
 IsSuch servers file opening.Memory = Unit {0}
 IsSuch servers file opening.Failed = Unit {0}
 IsSuch servers file opening.NotJournal = IsJournal servers file → ⊥
-IsSuch servers file (opening.Version version) = (given : ℕ) × (rest : List ℕ) × Begins version given rest file × (version ≢ version_now)
-IsSuch servers file (opening.Servers given) = (rest : List ℕ) × Begins version_now given rest file × (given ≢ servers)
+IsSuch servers file (opening.Version version) =
+    (given : ℕ) × (rest : List ℕ) × Begins version given rest file × ((format : Format) → version ≢ version_of format)
+IsSuch servers file opening.Other = IsOfOther file
+IsSuch servers file (opening.Servers given) =
+    (format : Format) × (rest : List ℕ) × Begins (version_of format) given rest file × (given ≢ servers) × (IsOfOther file → ⊥)
 IsSuch servers file (opening.Damaged at) = IsDamagedAt servers at file
 
 -- the fault is one of the file's content
@@ -57,5 +69,6 @@ IsOfContent opening.Memory = ⊥
 IsOfContent opening.Failed = ⊥
 IsOfContent opening.NotJournal = Unit {0}
 IsOfContent (opening.Version version) = Unit {0}
+IsOfContent opening.Other = Unit {0}
 IsOfContent (opening.Servers given) = Unit {0}
 IsOfContent (opening.Damaged at) = Unit {0}

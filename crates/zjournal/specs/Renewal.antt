@@ -1,23 +1,25 @@
 -- How a journal's file is renewed: a new file with other batches is written beside it, block by
 -- block. Then it is ended, and replaces the old one.
-use Rattle.std.specs.Prelude.{◌≡◌, ◌⊎◌, ℕ, List, length}
+use Rattle.std.specs.Prelude.{◌≡◌, ◌⊎◌, ℕ, List}
 use Rattle.zjournal.specs.declared.fault.PutError.{PutError}
 use Rattle.zjournal.specs.declared.fault.PutError.TheVariants.{Memory, Failed, NotText, Full, Closed}
+use Rattle.zjournal.specs.declared.format.Format.TheVariants.{Running}
 use Rattle.zjournal.specs.declared.journal.Journal.{Journal}
 use Rattle.zjournal.specs.Blocks.{AreTexts, blocks}
-use Rattle.zjournal.specs.Journal.{device_of, holdings, Keeps, IsAtRest, IsOpen}
+use Rattle.zjournal.specs.Journal.{device_of, holdings, Keeps, IsAtRest, IsOpen, IsPlace}
 
 -- the length in bytes of the new file's blocks
 abbrev pub renewed_size_of : {D : Type 0} → Journal D → ℕ
-renewed_size_of journal = journal.renewed_end
+renewed_size_of journal = journal.renewed.end
 
 -- the file is at rest with some batches, and the file beside it has the blocks of the next ones so
--- far
+-- far, in version 2
 pub record IsRenewing {D : Type 0} (seen : D → List ℕ) (may_leave : D → List ℕ → Type 0) (beside : D → List ℕ) (servers : ℕ) (batches next : List (List ℕ)) (journal : Journal D) : Type 0 where
   pub rest : IsAtRest seen may_leave servers batches journal
-  pub texts : AreTexts (holdings servers next)
-  pub so_far : beside journal.device ≡ blocks (holdings servers next)
-  pub size : journal.renewed_end ≡ length (blocks (holdings servers next))
+  pub format : journal.renewed.format ≡ Running
+  pub texts : AreTexts (holdings Running servers next)
+  pub so_far : beside journal.device ≡ blocks (holdings Running servers next)
+  pub place : IsPlace servers next journal.renewed
 
 -- a journal that takes batches is being renewed
 abbrev pub IsInRenewal : {D : Type 0} → (D → List ℕ) → (D → List ℕ → Type 0) → (D → List ℕ) → Journal D → Type 0

@@ -1,44 +1,49 @@
 -- How the blocks of a file are read in order.
-use Rattle.std.specs.Prelude.{◌≡◌, ℕ, ◌+◌, ◌<◌, ◌≤◌, List, [], ◌∷◌, ◌++◌, length, drop, map}
+use Rattle.std.specs.Prelude.{◌≡◌, ℕ, ◌+◌, ◌<◌, ◌≤◌, List, [], ◌∷◌, ◌++◌, length, drop}
+use Rattle.zjournal.specs.declared.place.Place.{Place}
 use Rattle.zjournal.specs.declared.fault.OpenError.{OpenError}
 use Rattle.zjournal.specs.declared.fault.OpenError.TheVariants as fault
 use Rattle.zjournal.specs.Blocks.{IsText, AreTexts, blocks}
-use Rattle.zjournal.specs.Checksum.{stamped}
+use Rattle.zjournal.specs.Checksum.{adler_after, next, next_after, stamped, stamped_all}
 
 -- a text from there on ends with the 0 here
 abbrev pub EndsAt : List ℕ → ℕ → ℕ → Type 0
 EndsAt bytes start at = (at < length bytes)
     × ((text : List ℕ) × (drop start bytes ≡ text ++ 0 ∷ drop (at + 1) bytes) × (at ≡ start + length text) × IsText text)
 
--- the batch is after this commit byte, and its block ends here
-pub record IsBatch (bytes : List ℕ) (commit_byte : ℕ) (batch : List ℕ) (end : ℕ) : Type 0 where
-  pub text : IsText (stamped batch)
-  pub within : end ≤ length bytes
-  pub stands : drop (commit_byte + 1) bytes ≡ stamped batch ++ 0 ∷ drop end bytes
-  pub long : end ≡ commit_byte + (length (stamped batch) + 2)
+-- the batch is in the block at this place, and the next block goes there
+pub record IsBatch (bytes : List ℕ) (place : Place) (batch : List ℕ) (there : Place) : Type 0 where
+  pub text : IsText (stamped place.sum batch)
+  pub within : there.end ≤ length bytes
+  pub stands : drop (place.end + 1) bytes ≡ stamped place.sum batch ++ 0 ∷ drop there.end bytes
+  pub long : there.end ≡ place.end + (length (stamped place.sum batch) + 2)
+  pub same : there.format ≡ place.format
+  pub goes_on : there.sum ≡ next place.format (adler_after place.sum batch)
 
--- no batch is after this commit byte
-abbrev pub IsNoBatch : List ℕ → ℕ → Type 0
-IsNoBatch bytes commit_byte = (batch more : List ℕ) → IsText (stamped batch) → drop (commit_byte + 1) bytes ≡ stamped batch ++ 0 ∷ more → ⊥
+-- no batch is in a block at this place
+abbrev pub IsNoBatch : List ℕ → Place → Type 0
+IsNoBatch bytes place = (batch more : List ℕ) → IsText (stamped place.sum batch) → drop (place.end + 1) bytes ≡ stamped place.sum batch ++ 0 ∷ more → ⊥
 
 -- all texts in order, joined
 abbrev pub joined : List (List ℕ) → List ℕ
 joined [] = []
 joined (text ∷ texts) = text ++ joined texts
 
--- the blocks of these batches reach from start to end
-pub record AreBatches (bytes : List ℕ) (start : ℕ) (batches : List (List ℕ)) (end : ℕ) : Type 0 where
-  pub texts : AreTexts (map stamped batches)
-  pub within : end ≤ length bytes
-  pub stand : drop start bytes ≡ blocks (map stamped batches) ++ drop end bytes
-  pub long : end ≡ start + length (blocks (map stamped batches))
+-- the blocks of these batches reach from one place to another
+pub record AreBatches (bytes : List ℕ) (start : Place) (batches : List (List ℕ)) (last : Place) : Type 0 where
+  pub texts : AreTexts (stamped_all start.format start.sum batches)
+  pub within : last.end ≤ length bytes
+  pub stand : drop start.end bytes ≡ blocks (stamped_all start.format start.sum batches) ++ drop last.end bytes
+  pub long : last.end ≡ start.end + length (blocks (stamped_all start.format start.sum batches))
+  pub same : last.format ≡ start.format
+  pub goes_on : last.sum ≡ next_after start.format start.sum batches
 
 -- after some batches is a set commit byte at this index, and after it something that is no batch
-abbrev pub IsOtherAt : List ℕ → ℕ → ℕ → Type 0
-IsOtherAt bytes start commit_byte = (batches : List (List ℕ)) × AreBatches bytes start batches commit_byte
-    × (drop commit_byte bytes ≡ 1 ∷ drop (commit_byte + 1) bytes) × (commit_byte + 1 < length bytes) × IsNoBatch bytes commit_byte
+abbrev pub IsOtherAt : List ℕ → Place → ℕ → Type 0
+IsOtherAt bytes start commit_byte = (batches : List (List ℕ)) × (last : Place) × AreBatches bytes start batches last × (commit_byte ≡ last.end)
+    × (drop last.end bytes ≡ 1 ∷ drop (last.end + 1) bytes) × (last.end + 1 < length bytes) × IsNoBatch bytes last
 
-abbrev pub IsOther : List ℕ → ℕ → OpenError → Type 0
+abbrev pub IsOther : List ℕ → Place → OpenError → Type 0
 IsOther bytes start fault.Memory = Unit {0}
 IsOther bytes start (fault.Damaged commit_byte) = IsOtherAt bytes start commit_byte
 IsOther bytes start e = ⊥

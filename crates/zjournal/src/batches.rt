@@ -12,43 +12,46 @@ ghost use Rattle.zjournal.specs.declared.fault.OpenError.TheVariants as fault;
 
 use crate::OpenError;
 use crate::checksum::checked;
+use crate::place::Place;
 use std::alloc::Global;
 
-/// Reads the batches that begin at `start`. Returns their texts in order, joined, and where the
-/// last one ends.
-pub fn batches(alloc: Global, bytes: &[u8], start: usize) -> Result<(Vec<u8>, usize), OpenError>
-    requires { start ≤ length bytes.now }
+/// Reads the batches that begin at `start`. Returns their texts in order, joined, and the place
+/// after the last one.
+pub fn batches(alloc: Global, bytes: &[u8], start: Place) -> Result<(Vec<u8>, Place), OpenError>
+    requires { start.end ≤ length bytes.now }
     ensures ok { IfOk result (λ read. (batches : List (List ℕ))
         × AreBatches bytes.now start batches read.1 × (read.0.items ≡ joined batches)
-        × IsEnd (drop read.1 bytes.now)) }
+        × IsEnd (drop read.1.end bytes.now)) }
     ensures err { IfErr result (IsOther bytes.now start) }
     ensures disk { IsErrOf result OpenError.Failed → ⊥ }
 {
     let mut text = Vec::new(alloc);
-    let mut end = start;
-    while end + 1 < bytes.len() && bytes[end] == 1 {
-        end = batch(bytes, end, &mut text)?;
+    let mut place = start;
+    while place.end + 1 < bytes.len() && bytes[place.end] == 1 {
+        place = batch(bytes, place, &mut text)?;
     }
-    Ok((text, end))
+    Ok((text, place))
 }
 
-// Reads the batch after this set commit byte, and appends its text. Returns where its block ends.
-fn batch(bytes: &[u8], commit_byte: usize, text: &mut Vec<u8>) -> Result<usize, OpenError>
-    requires within { commit_byte + 1 < length bytes.now }
-    requires open { get_or bytes.now commit_byte 0 ≡ 1 }
-    ensures ok { IfOk result (λ end. (batch : List ℕ) × IsBatch bytes.now commit_byte batch end
+// Reads the batch of the block at this place, whose commit byte is set, and appends its text.
+// Returns the place after it.
+fn batch(bytes: &[u8], place: Place, text: &mut Vec<u8>) -> Result<Place, OpenError>
+    requires within { place.end + 1 < length bytes.now }
+    requires open { get_or bytes.now place.end 0 ≡ 1 }
+    ensures ok { IfOk result (λ there. (batch : List ℕ) × IsBatch bytes.now place batch there
         × (text.new.items ≡ text.old.items ++ batch)) }
     ensures err { IfErr result (λ e. (e ≡ fault.Memory)
-        ⊎ ((e ≡ fault.Damaged commit_byte) × IsNoBatch bytes.now commit_byte)) }
+        ⊎ ((e ≡ fault.Damaged place.end) × IsNoBatch bytes.now place)) }
 {
-    let Some(end) = text_end(bytes, commit_byte + 1) else {
-        return Err(OpenError::Damaged(commit_byte));
+    let start = place.end + 1;
+    let Some(end) = text_end(bytes, start) else {
+        return Err(OpenError::Damaged(place.end));
     };
-    let Some(batch) = checked(&bytes[commit_byte + 1..end]) else {
-        return Err(OpenError::Damaged(commit_byte));
+    let Some((batch, sum)) = checked(&bytes[start..end], place.sum) else {
+        return Err(OpenError::Damaged(place.end));
     };
     text.extend_from_slice(batch)?;
-    Ok(end + 1)
+    Ok(place.after(end + 1 - place.end, sum))
 }
 
 // Returns the index of the first byte 0 from `start` on, if there is one.

@@ -5,9 +5,11 @@ ghost use Rattle.std.specs.Prelude.{OnOk, IsErrOf};
 ghost use Rattle.zjournal.specs.Blocks.{blocks};
 ghost use Rattle.zjournal.specs.Device.{LeavesOnly, Only};
 ghost use Rattle.zjournal.specs.Journal.{head};
+ghost use Rattle.zjournal.specs.declared.format.Format.TheVariants.{Running};
 ghost use Rattle.zjournal.specs.Untouched.{IsTaking, IsUntouched};
 
-use crate::reading::head_block;
+use crate::format::Format;
+use crate::head::head_block;
 use crate::{Device, DeviceError};
 
 // Begins a new, empty file.
@@ -54,10 +56,10 @@ pub fn add_open_block<D: Device>(device: &mut D, block: &[u8]) -> Result<(), Dev
     Ok(())
 }
 
-/// Begins a new file, and writes its head.
+/// Begins a new file, and writes its head, in version 2.
 pub fn begin_file<D: Device>(device: &mut D, servers: u8) -> Result<(), DeviceError>
     requires durable { Only (D.seen device.old) (D.may_leave device.old) }
-    ensures begun { OnOk result (D.beside device.new ≡ blocks (head servers ∷ [])) }
+    ensures begun { OnOk result (D.beside device.new ≡ blocks (head Running servers ∷ [])) }
     ensures untouched { IsUntouched D.seen D.may_leave D.moment D.left_since
         device.old device.new }
     ensures failed { IsErrOf result DeviceError.Failed
@@ -65,7 +67,7 @@ pub fn begin_file<D: Device>(device: &mut D, servers: u8) -> Result<(), DeviceEr
     ensures faults { D.faults device.old ≤ D.faults device.new }
 {
     begin(device)?;
-    add_open_block(device, &head_block(servers))?;
+    add_open_block(device, &head_block(Format::Running, servers))?;
     Ok(())
 }
 

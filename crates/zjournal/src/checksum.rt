@@ -5,17 +5,16 @@
 //! damage. The file is left as it is: cutting it would lose acknowledged batches.
 
 ghost use Rattle.std.specs.Prelude.{◌≡◌, ◌<◌, ◌++◌, [], ◌∷◌, List, ℕ, IfOk, IfSome, IfNone};
-ghost use Rattle.zjournal.specs.Blocks.{IsText};
-ghost use Rattle.zjournal.specs.Checksum.{adler, digit, digits, stamped};
+ghost use Rattle.zjournal.specs.Checksum.{adler_after, digit, digits, stamped};
 
 use std::alloc::{AllocError, Global};
 
-// Returns the Adler-32 of a text.
-fn sum_of(text: &[u8]) -> u32
-    ensures { result ≡ adler text.now }
+/// Returns the Adler-32 that goes on from this sum over a text.
+pub fn sum_after(sum: u32, text: &[u8]) -> u32
+    ensures { result ≡ adler_after sum text.now }
 {
-    let mut a: u32 = 1;
-    let mut b: u32 = 0;
+    let mut a = sum % 65536;
+    let mut b = sum / 65536;
     for byte in text {
         a = (a + u32::from(*byte)) % 65521;
         b = (b + a) % 65521;
@@ -31,11 +30,10 @@ fn digit_of(n: u32) -> u8
     if n < 10 { 48 + n as u8 } else { 87 + n as u8 }
 }
 
-/// Returns the checksum of a text as eight hexadecimal digits.
-pub fn checksum(text: &[u8]) -> [u8; 8]
-    ensures { result ≡ digits (adler text.now) }
+// Returns a checksum as eight hexadecimal digits.
+fn digits_of(sum: u32) -> [u8; 8]
+    ensures { result ≡ digits sum }
 {
-    let sum = sum_of(text);
     [
         digit_of(sum / 268435456 % 16),
         digit_of(sum / 16777216 % 16),
@@ -48,28 +46,32 @@ pub fn checksum(text: &[u8]) -> [u8; 8]
     ]
 }
 
-/// Returns the text after the checksum in front of it, if the checksum matches.
-pub fn checked(held: &[u8]) -> Option<&[u8]>
-    ensures some { IfSome result (λ text. held.now ≡ stamped text.now) }
-    ensures none { IfNone result ((text : List ℕ) → held.now ≡ stamped text → ⊥) }
+/// Returns the text after the checksum in front of it, and that checksum, if it matches one that
+/// goes on from this sum.
+pub fn checked(held: &[u8], sum: u32) -> Option<(&[u8], u32)>
+    ensures some { IfSome result (λ found. (held.now ≡ stamped sum found.0.now)
+        × (found.1 ≡ adler_after sum found.0.now)) }
+    ensures none { IfNone result ((text : List ℕ) → held.now ≡ stamped sum text → ⊥) }
 {
     if held.len() < 8 {
         return None;
     }
-    let (sum, text) = held.split_at(8);
-    if sum == checksum(text).as_slice() {
-        Some(text)
+    let (written, text) = held.split_at(8);
+    let sum = sum_after(sum, text);
+    if written == digits_of(sum).as_slice() {
+        Some((text, sum))
     } else {
         None
     }
 }
 
-/// Returns the block of a text: its checksum, the text, a byte 0, and the next, clear commit byte.
-pub fn block_of(alloc: Global, text: &[u8]) -> Result<Vec<u8>, AllocError>
-    ensures { IfOk result (λ block. block.items ≡ stamped text.now ++ 0 ∷ 0 ∷ []) }
+/// Returns the block of a text with this checksum: that, the text, a byte 0, and the next, clear
+/// commit byte.
+pub fn block_of(alloc: Global, sum: u32, text: &[u8]) -> Result<Vec<u8>, AllocError>
+    ensures { IfOk result (λ block. block.items ≡ (digits sum ++ text.now) ++ 0 ∷ 0 ∷ []) }
 {
     let mut block = Vec::new(alloc);
-    block.extend_from_slice(&checksum(text))?;
+    block.extend_from_slice(&digits_of(sum))?;
     block.extend_from_slice(text)?;
     block.extend_from_slice(&[0, 0])?;
     Ok(block)

@@ -4,7 +4,7 @@ use crate::DeviceError;
 use std::alloc::{AllocError, AllocFailed};
 use thiserror::Error;
 
-/// Why a file isn't opened. With the last four the file is unchanged.
+/// Why a file isn't opened. With the last five the file is unchanged.
 #[derive(Clone, Copy, Debug, PartialEq, Eq, Error)]
 pub enum OpenError {
     /// Out of memory.
@@ -19,6 +19,9 @@ pub enum OpenError {
     /// The journal has the format of this other version.
     #[error("a journal of version {0}")]
     Version(u8),
+    /// The journal is that of another program.
+    #[error("a journal of something else")]
+    Other,
     /// The journal is that of a service with this other number of servers.
     #[error("a journal for {0} server{end}", end = plural_end(.0))]
     Servers(u8),

@@ -9,12 +9,13 @@ ghost use Rattle.std.specs.Prelude.{OnOk, IfErr, IsErrOf};
 ghost use Rattle.zjournal.specs.Device.{LeavesOnly};
 ghost use Rattle.zjournal.specs.Blocks.{IsText};
 ghost use Rattle.zjournal.specs.Journal.{IsAtRest, IsOpen, IsSound, IsWithOrWithout};
-ghost use Rattle.zjournal.specs.Journal.{device_of, size_of};
+ghost use Rattle.zjournal.specs.Journal.{device_of, format_of, size_of};
 ghost use Rattle.zjournal.specs.Puts.{IsLeftBy};
 
-use crate::checksum::block_of;
+use crate::checksum::{block_of, sum_after};
 use crate::commit_bytes::add_block;
 use crate::limits::MAX_BYTES;
+use crate::place::Place;
 use crate::{Device, PutError};
 use std::alloc::Global;
 
@@ -24,9 +25,10 @@ pub struct Journal<D: Device> {
     pub(crate) alloc: Global,
     pub(crate) device: D,
     pub(crate) servers: u8,
-    pub(crate) end: usize,
-    // In a renewal, where the blocks of the new file end.
-    pub(crate) renewed_end: usize,
+    // Where the next block goes.
+    pub(crate) place: Place,
+    // In a renewal, where the next block of the new file goes.
+    pub(crate) renewed: Place,
     pub(crate) is_open: bool,
 }
 
@@ -42,12 +44,12 @@ impl<D: Device> Journal<D> {
     pub fn size(&self) -> usize
         ensures { result ≡ size_of self.now }
     {
-        self.end // of the blocks
+        self.place.end // of the blocks
     }
 
     /// Appends a batch. At `Ok` it is durable: from then on every crash leaves a file that holds
     /// it. After `Failed`, and sometimes after `Memory`, the journal takes nothing more. The file
-    /// then has the batch or hasn't; opening it again shows which.
+    /// then has the batch or hasn't; opening it again shows which. The file keeps its format.
     pub fn put(&mut self, batch: &[u8]) -> Result<(), PutError>
         requires { IsSound D.seen D.may_leave self.old }
         ensures kept { (servers : ℕ) (batches : List (List ℕ))
@@ -58,6 +60,7 @@ impl<D: Device> Journal<D> {
             → IsAtRest D.seen D.may_leave servers batches self.old
             → LeavesOnly D.moment D.left_since (device_of self.old) (device_of self.new)
             (IsWithOrWithout servers batches batch.now) }
+        ensures format { format_of self.new ≡ format_of self.old }
         ensures sound { IsSound D.seen D.may_leave self.new }
         ensures open { OnOk result (IsOpen self.old × IsOpen self.new) }
         ensures failed { IsErrOf result PutError.Failed
@@ -73,14 +76,15 @@ impl<D: Device> Journal<D> {
         if batch.contains(&0) {
             return Err(PutError::NotText);
         }
-        if self.end >= MAX_BYTES {
+        if self.place.end >= MAX_BYTES {
             return Err(PutError::Full);
         }
-        let block = block_of(self.alloc, batch)?;
+        let sum = sum_after(self.place.sum, batch);
+        let block = block_of(self.alloc, sum, batch)?;
         let block = block.as_slice();
         self.is_open = false;
-        add_block(&mut self.device, self.end, block)?;
-        self.end += block.len();
+        add_block(&mut self.device, self.place.end, block)?;
+        self.place = self.place.after(block.len(), sum);
         self.is_open = true;
         Ok(())
     }

@@ -4,6 +4,9 @@
 //! A file is read whole, and its text is returned as one string. Batches are whole lines, so no
 //! caller needs to know where they began.
 //!
+//! A file goes on in the version that it has. A new file, and one that is being made and has no whole
+//! head, gets version 2.
+//!
 //! What follows the last block that counts is one clear commit byte, or what a crash or a disk
 //! left. Where that is more than one byte it is a caller's to report it.
 
@@ -12,23 +15,28 @@ ghost use Rattle.std.specs.Prelude.{IfOk, IfErr, OnOk, IsErrOf};
 ghost use Rattle.zjournal.specs.Device.{Only, LeavesOnly};
 ghost use Rattle.zjournal.specs.Blocks.{AreTexts, blocks, at_rest};
 ghost use Rattle.zjournal.specs.Journal.{holdings, IsUnmade, Represents, IsAtRest, IsOpen, IsSound};
-ghost use Rattle.zjournal.specs.Journal.{device_of};
+ghost use Rattle.zjournal.specs.Journal.{device_of, format_of, Keeps};
+ghost use Rattle.zjournal.specs.declared.format.Format.{Format};
+ghost use Rattle.zjournal.specs.declared.format.Format.TheVariants.{Running};
 ghost use Rattle.zjournal.specs.Scan.{joined};
 ghost use Rattle.zjournal.specs.declared.fault.OpenError.TheVariants as open_fault;
 ghost use Rattle.zjournal.specs.Faults.{IsSuch, IsOfContent};
 ghost use Rattle.zjournal.specs.Opened.{IsRead};
 
 use crate::commit_bytes::{add_block, close, set_commit_byte};
-use crate::reading::{Found, HEAD_END, head_block, look};
+use crate::format::Format;
+use crate::head::head_block;
+use crate::place::{HEAD_END, Place};
+use crate::reading::{Found, look};
 use crate::{Content, Device, DeviceError, Journal, OpenError};
 use std::alloc::Global;
 
-// Makes a file that has nothing yet.
+// Makes a file that has nothing yet, in version 2.
 fn make<D: Device>(device: &mut D, servers: u8) -> Result<(), DeviceError>
     requires some { 0 < servers }
     requires unmade { IsUnmade servers (D.seen device.old) }
     requires durable { Only (D.seen device.old) (D.may_leave device.old) }
-    ensures made { OnOk result (D.seen device.new ≡ at_rest (holdings servers [])) }
+    ensures made { OnOk result (D.seen device.new ≡ at_rest (holdings Running servers [])) }
     ensures durable { OnOk result (Only (D.seen device.new) (D.may_leave device.new)) }
     ensures any_moment { LeavesOnly D.moment D.left_since device.old device.new
         (Represents servers []) }
@@ -36,7 +44,7 @@ fn make<D: Device>(device: &mut D, servers: u8) -> Result<(), DeviceError>
         → D.faults device.old < D.faults device.new }
 {
     close(device, 0)?;
-    add_block(device, 0, &head_block(servers))
+    add_block(device, 0, &head_block(Format::Running, servers))
 }
 
 /// Reads the batches of a file that a crash may have left, and repairs its end. A crash meanwhile
@@ -45,12 +53,16 @@ pub fn open_file<D: Device>(
     alloc: Global,
     device: &mut D,
     servers: u8,
-) -> Result<(Vec<u8>, usize), OpenError>
+) -> Result<(Vec<u8>, Place), OpenError>
     requires some { 0 < servers }
     requires durable { Only (D.seen device.old) (D.may_leave device.old) }
     ensures read { IfOk result (λ read. (batches : List (List ℕ))
         × Represents servers batches (D.seen device.old)
         × IsRead D.seen D.may_leave servers batches read.0.items read.1 device.new) }
+    ensures format { (batches : List (List ℕ)) (k : Keeps servers batches (D.seen device.old))
+        → IfOk result (λ read. read.1.format ≡ k.format) }
+    ensures new_format { IsUnmade servers (D.seen device.old)
+        → IfOk result (λ read. read.1.format ≡ Running) }
     ensures any_moment { (batches : List (List ℕ)) → Represents servers batches (D.seen device.old)
         → LeavesOnly D.moment D.left_since device.old device.new (Represents servers batches) }
     ensures fault { IfErr result (IsSuch servers (D.seen device.old)) }
@@ -63,15 +75,15 @@ pub fn open_file<D: Device>(
     match look(alloc, &bytes, servers)? {
         Found::Unmade => {
             make(device, servers)?;
-            Ok((Vec::new(alloc), HEAD_END))
+            Ok((Vec::new(alloc), Place::first(Format::Running)))
         }
-        Found::Unopened => {
+        Found::Unopened(format) => {
             set_commit_byte(device, 0)?;
-            Ok((Vec::new(alloc), HEAD_END))
+            Ok((Vec::new(alloc), Place::first(format)))
         }
-        Found::Cached(text, end) => {
-            close(device, end)?;
-            Ok((text, end))
+        Found::Cached(text, place) => {
+            close(device, place.end)?;
+            Ok((text, place))
         }
     }
 }
@@ -87,7 +99,7 @@ pub fn read_text<D: Device>(
     requires durable { Only (D.seen device.old) (D.may_leave device.old) }
     ensures text { IfOk result (λ read. (batches : List (List ℕ))
         × Represents servers batches (D.seen device.old) × (read.text.items ≡ joined batches)
-        × (read.end ≡ length (blocks (holdings servers batches)))) }
+        × ((format : Format) → read.end ≡ length (blocks (holdings format servers batches)))) }
     ensures size { IfOk result (λ read. read.size ≡ length (D.seen device.old)) }
     ensures seen { D.seen device.new ≡ D.seen device.old }
     ensures durable { Only (D.seen device.new) (D.may_leave device.new) }
@@ -106,18 +118,23 @@ pub fn read_text<D: Device>(
             end: HEAD_END,
             size,
         }),
-        Found::Unopened => Ok(Content {
+        Found::Unopened(_) => Ok(Content {
             text: Vec::new(alloc),
             end: HEAD_END,
             size,
         }),
-        Found::Cached(text, end) => Ok(Content { text, end, size }),
+        Found::Cached(text, place) => Ok(Content {
+            text,
+            end: place.end,
+            size,
+        }),
     }
 }
 
 /// Opens the journal of a file that a crash may have left, or makes one of a new file. Returns it
 /// with the text of all batches. A crash meanwhile leaves a file that represents the same batches.
-/// The file's head holds the number of servers, at least 1. An `Err` returns the device.
+/// The file's head holds the number of servers, at least 1. A file keeps its format, and a new one
+/// has version 2. An `Err` returns the device.
 pub fn open<D: Device>(
     alloc: Global,
     device: D,
@@ -130,6 +147,10 @@ pub fn open<D: Device>(
         × Represents servers batches (D.seen device)
         × IsAtRest D.seen D.may_leave servers batches opened.0
         × IsOpen opened.0 × (opened.1.items ≡ joined batches)) }
+    ensures format { (batches : List (List ℕ)) (k : Keeps servers batches (D.seen device))
+        → IfOk result (λ opened. format_of opened.0 ≡ k.format) }
+    ensures new_format { IsUnmade servers (D.seen device)
+        → IfOk result (λ opened. format_of opened.0 ≡ Running) }
     ensures sound { IfOk result (λ opened. IsSound D.seen D.may_leave opened.0) }
     ensures any_moment { (batches : List (List ℕ)) → Represents servers batches (D.seen device)
         → IfOk result (λ opened. LeavesOnly D.moment D.left_since device (device_of opened.0)
@@ -145,13 +166,13 @@ pub fn open<D: Device>(
 {
     let mut device = device;
     match open_file(alloc, &mut device, servers) {
-        Ok((text, end)) => Ok((
+        Ok((text, place)) => Ok((
             Journal {
                 alloc,
                 device,
                 servers,
-                end,
-                renewed_end: 0,
+                place,
+                renewed: Place::first(Format::Running),
                 is_open: true,
             },
             text,

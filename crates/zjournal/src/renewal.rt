@@ -4,20 +4,23 @@
 //! A new file replaces the old one by name, so each moment has one whole file. A renewal is three
 //! calls and no value that holds the journal, so the caller can add one batch at a time. A new file
 //! that can't be begun or written leaves the old one as it was. So only the last call ends a journal.
+//! The new file has version 2, whatever the old one has.
 
 ghost use Rattle.std.specs.Prelude.{◌≡◌, ◌<◌, ◌≤◌, ◌^◌, ◌++◌, [], ◌∷◌, List, ℕ};
 ghost use Rattle.std.specs.Prelude.{OnOk, IfErr, IsErrOf};
 ghost use Rattle.zjournal.specs.Blocks.{IsText};
 ghost use Rattle.zjournal.specs.Device.{LeavesOnly};
-ghost use Rattle.zjournal.specs.Journal.{IsAtRest, IsOpen, IsSound, Keeps, device_of};
+ghost use Rattle.zjournal.specs.Journal.{IsAtRest, IsOpen, IsSound, Keeps, device_of, format_of};
+ghost use Rattle.zjournal.specs.declared.format.Format.TheVariants.{Running};
 ghost use Rattle.zjournal.specs.Puts.{IsLeftBy};
 ghost use Rattle.zjournal.specs.Renewal.{IsInRenewal, IsOldOrNew, IsRenewing, IsStoppedBy};
 ghost use Rattle.zjournal.specs.Renewal.{renewed_size_of};
 
 use crate::beside::{add_open_block, begin_file, close_and_take};
-use crate::checksum::block_of;
+use crate::checksum::{block_of, sum_after};
+use crate::format::Format;
 use crate::limits::MAX_BYTES;
-use crate::reading::HEAD_END;
+use crate::place::Place;
 use crate::{Device, Journal, PutError};
 
 impl<D: Device> Journal<D> {
@@ -37,6 +40,7 @@ impl<D: Device> Journal<D> {
             → LeavesOnly D.moment D.left_since (device_of self.old) (device_of self.new)
             (Keeps servers batches) }
         ensures renewing { OnOk result (IsInRenewal D.seen D.may_leave D.beside self.new) }
+        ensures format { format_of self.new ≡ format_of self.old }
         ensures sound { IsSound D.seen D.may_leave self.new }
         ensures open { OnOk result (IsOpen self.old × IsOpen self.new) }
         ensures failed { IsErrOf result PutError.Failed
@@ -51,7 +55,7 @@ impl<D: Device> Journal<D> {
             return Err(PutError::Closed);
         }
         begin_file(&mut self.device, self.servers)?;
-        self.renewed_end = HEAD_END;
+        self.renewed = Place::first(Format::Running);
         Ok(())
     }
 
@@ -72,6 +76,7 @@ impl<D: Device> Journal<D> {
             → LeavesOnly D.moment D.left_since (device_of self.old) (device_of self.new)
             (Keeps servers batches) }
         ensures renewing { OnOk result (IsInRenewal D.seen D.may_leave D.beside self.new) }
+        ensures format { format_of self.new ≡ format_of self.old }
         ensures sound { IsSound D.seen D.may_leave self.new }
         ensures open { OnOk result (IsOpen self.old × IsOpen self.new) }
         ensures failed { IsErrOf result PutError.Failed
@@ -88,25 +93,27 @@ impl<D: Device> Journal<D> {
         if batch.contains(&0) {
             return Err(PutError::NotText);
         }
-        if self.renewed_end >= MAX_BYTES {
+        if self.renewed.end >= MAX_BYTES {
             return Err(PutError::Full);
         }
-        let block = block_of(self.alloc, batch)?;
+        let sum = sum_after(self.renewed.sum, batch);
+        let block = block_of(self.alloc, sum, batch)?;
         let block = block.as_slice();
         add_open_block(&mut self.device, block)?;
-        self.renewed_end += block.len();
+        self.renewed = self.renewed.after(block.len(), sum);
         Ok(())
     }
 
     /// Ends the new file, and replaces the old one with it. At `Ok` it is durable with its name:
-    /// from then on every crash leaves its batches, and no others. A crash meanwhile leaves the old
-    /// file or the new one, whole. After a fault the journal takes nothing more, and the file is
-    /// one of the two.
+    /// from then on every crash leaves its batches, and no others. It has version 2. A crash
+    /// meanwhile leaves the old file or the new one, whole. After a fault the journal takes nothing
+    /// more, and the file is one of the two.
     pub fn end_renewal(&mut self) -> Result<(), PutError>
         requires { IsInRenewal D.seen D.may_leave D.beside self.old }
         ensures renewed { (servers : ℕ) (batches next : List (List ℕ)) → IsOpen self.old
             → IsRenewing D.seen D.may_leave D.beside servers batches next self.old
             → OnOk result (IsAtRest D.seen D.may_leave servers next self.new) }
+        ensures format { OnOk result (format_of self.new ≡ Running) }
         ensures any_moment { (servers : ℕ) (batches next : List (List ℕ))
             → IsRenewing D.seen D.may_leave D.beside servers batches next self.old
             → LeavesOnly D.moment D.left_since (device_of self.old) (device_of self.new)
@@ -126,7 +133,7 @@ impl<D: Device> Journal<D> {
         }
         self.is_open = false; // until the file is replaced
         close_and_take(&mut self.device)?;
-        self.end = self.renewed_end;
+        self.place = self.renewed;
         self.is_open = true;
         Ok(())
     }

@@ -1,17 +1,39 @@
 //! Worked examples: each function's contract has some, and its body is empty.
 
-ghost use Rattle.std.specs.Prelude.{◌≡◌, [], ◌∷◌, codes};
+ghost use Rattle.std.specs.Prelude.{◌≡◌, [], ◌∷◌, ◌++◌, List, ℕ, codes, length};
 ghost use Rattle.zjournal.specs.Blocks.{at_rest, IsEnd};
-ghost use Rattle.zjournal.specs.Checksum.{adler, stamped};
+ghost use Rattle.zjournal.specs.Checksum.{adler_after, stamped, stamped_all};
+ghost use Rattle.zjournal.specs.declared.format.Format.TheVariants.{Separate, Running};
 ghost use Rattle.zjournal.specs.Device.{Cut, IsEither, Torn};
-ghost use Rattle.zjournal.specs.Journal.{holdings, IsUnmade, Keeps};
+ghost use Rattle.zjournal.specs.Journal.{head, holdings, IsUnmade, Keeps};
 ghost use Rattle.zjournal.specs.Renewal.{IsOldOrNew};
 
-/// A checksum, and a text after its own.
+/// A checksum, one that goes on from another, and a text after its own.
 pub fn texts_have_checksums()
-    ensures empty { adler [] ≡ 1 }
-    ensures known { adler (codes "Wikipedia") ≡ 300286872 }
-    ensures stamped { stamped (codes "Wikipedia") ≡ codes "11e60398Wikipedia" }
+    ensures empty { adler_after 1 [] ≡ 1 }
+    ensures known { adler_after 1 (codes "Wikipedia") ≡ 300286872 }
+    ensures goes_on { adler_after (adler_after 1 (codes "Wiki")) (codes "pedia") ≡ 300286872 }
+    ensures stamped { stamped 1 (codes "Wikipedia") ≡ codes "11e60398Wikipedia" }
+{}
+
+/// Two texts in each version: in version 2 the second checksum is that of both texts.
+pub fn checksums_run_on()
+    ensures separate { stamped_all Separate 1 (codes "a" ∷ codes "b" ∷ [])
+        ≡ codes "00620062a" ∷ codes "00630063b" ∷ [] }
+    ensures running { stamped_all Running 1 (codes "a" ∷ codes "b" ∷ [])
+        ≡ codes "00620062a" ∷ codes "012600c4b" ∷ [] }
+{}
+
+/// In version 2 a file without its first block holds no batches, nor does one whose blocks changed
+/// places.
+pub fn missing_blocks_are_seen()
+    ensures head { head Running 3 ≡ codes "jellqupas journal " ++ 2 ∷ 3 ∷ codes "tree of zk  " }
+    ensures both { Keeps 3 (codes "a" ∷ codes "b" ∷ [])
+        (at_rest (head Running 3 ∷ codes "00620062a" ∷ codes "012600c4b" ∷ [])) }
+    ensures first_missing { (batches : List (List ℕ))
+        → Keeps 3 batches (at_rest (head Running 3 ∷ codes "012600c4b" ∷ [])) → ⊥ }
+    ensures other_order { (batches : List (List ℕ)) → Keeps 3 batches
+        (at_rest (head Running 3 ∷ codes "012600c4b" ∷ codes "00620062a" ∷ [])) → ⊥ }
 {}
 
 /// A file at rest: blocks, and a clear commit byte.
@@ -36,7 +58,8 @@ pub fn files_are_made()
     ensures one_byte { IsUnmade 3 (74 ∷ []) }
     ensures clear_commit_byte { IsUnmade 3 (0 ∷ 1 ∷ 2 ∷ []) }
     ensures other { IsUnmade 3 (74 ∷ 101 ∷ []) → ⊥ }
-    ensures made { Keeps 3 [] (at_rest (holdings 3 [])) }
+    ensures made { Keeps 3 [] (at_rest (holdings Running 3 [])) }
+    ensures made_before { Keeps 3 [] (at_rest (holdings Separate 3 [])) }
 {}
 
 /// A torn write leaves what is before its range, and a cut leaves a prefix of the file.
@@ -54,5 +77,5 @@ pub fn new_files_take_the_place()
     ensures next { IsEither (λ c. c ≡ 1 ∷ []) (2 ∷ 3 ∷ []) (2 ∷ 3 ∷ []) }
     ensures part { IsEither (λ c. c ≡ 1 ∷ []) (2 ∷ 3 ∷ []) (2 ∷ []) → ⊥ }
     ensures nothing { IsEither (λ c. c ≡ 1 ∷ []) (2 ∷ 3 ∷ []) [] → ⊥ }
-    ensures renewed { IsOldOrNew 3 ((97 ∷ []) ∷ []) [] (at_rest (holdings 3 [])) }
+    ensures renewed { IsOldOrNew 3 ((97 ∷ []) ∷ []) [] (at_rest (holdings Running 3 [])) }
 {}

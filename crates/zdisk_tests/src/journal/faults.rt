@@ -62,14 +62,17 @@ fn other_files_are_reported(rt: HostRuntime) -> Result<(), Fail> {
     );
     let other = made(alloc, 5).ok_or("a journal for five")?;
     assert_eq!(rt; fault_of(alloc, &other), Some(OpenError::Servers(5)));
-    assert_eq!(rt; fault_with(alloc, 19, 2), Some(OpenError::Version(2)));
+    assert_eq!(rt; fault_with(alloc, 19, 3), Some(OpenError::Version(3)));
+    assert_eq!(rt; fault_with(alloc, 25, 33), Some(OpenError::Other));
     Ok(())
 }
 
 #[test]
 fn damage_is_reported_with_its_place(rt: HostRuntime) -> Result<(), Fail> {
     let alloc = rt.alloc();
-    assert_eq!(rt; fault_with(alloc, 25, 33), Some(OpenError::Damaged(0)));
+    assert_eq!(rt; fault_with(alloc, 33, 33), Some(OpenError::Damaged(0)));
+    // A head of version 1 has no word.
+    assert_eq!(rt; fault_with(alloc, 19, 1), Some(OpenError::Damaged(0)));
     assert_eq!(rt; fault_with(alloc, 36, 33), Some(OpenError::Damaged(34)));
     assert_eq!(rt; fault_with(alloc, 45, 33), Some(OpenError::Damaged(34)));
     // The first block has 29 bytes: a commit byte, a checksum, 19 bytes of text, and its end.
@@ -90,6 +93,19 @@ fn a_file_that_was_cut_short_is_damaged(rt: HostRuntime) -> Result<(), Fail> {
             );
         }
     }
+    Ok(())
+}
+
+#[test]
+fn a_block_that_is_missing_shows_at_the_next(rt: HostRuntime) -> Result<(), Fail> {
+    let alloc = rt.alloc();
+    let bytes = made(alloc, 3).ok_or("a journal")?;
+    let mut without = bytes[..34].to_vec(alloc)?;
+    without.extend_from_slice(&bytes[63..])?;
+    assert_eq!(rt;
+        fault_of(alloc, &without),
+        Some(OpenError::Damaged(34))
+    );
     Ok(())
 }
 

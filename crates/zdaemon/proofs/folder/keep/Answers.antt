@@ -1,5 +1,6 @@
 use Rattle.std.proofs.Common.{rules, ◌≡◌, ◌/◌, ℕ, None, Some, refl, sym, ap, subst, ◌∙◌}
-use Rattle.zjournal.specs.Journal.{size_of}
+use Rattle.zjournal.specs.Journal.{format_of, size_of}
+use Rattle.zjournal.proofs.Files.{same_end}
 use Rattle.zdurable.specs.declared.compacted.Compacted.TheVariants.{Replaced, Postponed}
 use Rattle.zfront.specs.Front.{FrontView}
 use Rattle.zfront.specs.Restoring.{all_taken}
@@ -34,7 +35,8 @@ returns-in_ok-commit-in-Postponed-clause-keeps g c =
     let same : front_in mid ≡ front_in c.args.kept.now = rw c.in-Postponed.is at c.in_ok-compact.ensures.taken in
     let was = c.requires.1 c.requires.0 in
     let is = rw c.in-Postponed.is at (c.in_ok-compact.ensures.kept was.0 was.1 was.2 c.requires.0 was.3) in
-    let size : size_of mid.journal ≡ size_of c.args.kept.now.journal = is.rest.end ∙ sym was.3.rest.end in record {
+    let size : size_of mid.journal ≡ size_of c.args.kept.now.journal =
+        is.rest.place.end ∙ same_end (format_of mid.journal) (format_of c.args.kept.now.journal) was.0 was.1 ∙ sym was.3.rest.place.end in record {
       how = Some Postponed;
       tried = search rules;
       measured = c.in_ok-commit-in-Postponed.ensures.measured ∙ (rw c.in-Postponed.is at c.in_ok-compact.ensures.measured) ∙ ap (λ (n : ℕ). n / 2) size;

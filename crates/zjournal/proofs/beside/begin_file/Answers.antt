@@ -1,4 +1,5 @@
 use Rattle.std.proofs.Common.{◌∙◌, ap, ◌++◌, ◌∷◌, [], List, ℕ}
+use Rattle.zjournal.specs.declared.format.Format.TheVariants.{Running}
 use Rattle.zjournal.specs.Journal.{head}
 use Rattle.zjournal.proofs.Renewals.{untouched_both}
 use Rattle.zjournal.proofs.beside.begin_file.Goals as goal
@@ -15,5 +16,5 @@ returns-clause-untouched g c =
 
 pub returns-clause-begun : goal.returns-clause-begun
 returns-clause-begun g c =
-    c.in_ok-add_open_block.ensures.added (head c.args.servers) c.head_block.ensures
-    ∙ ap (λ (l : List ℕ). l ++ 1 ∷ (head c.args.servers ++ 0 ∷ [])) c.in_ok-begin.ensures.begun
+    c.in_ok-add_open_block.ensures.added (head Running c.args.servers) c.head_block.ensures
+    ∙ ap (λ (l : List ℕ). l ++ 1 ∷ (head Running c.args.servers ++ 0 ∷ [])) c.in_ok-begin.ensures.begun

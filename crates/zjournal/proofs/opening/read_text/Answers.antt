@@ -1,5 +1,5 @@
-use Rattle.std.proofs.Common.{◌∙◌, inl, inr, refl, []}
-use Rattle.zjournal.proofs.Files.{keeps}
+use Rattle.std.proofs.Common.{◌∙◌, inl, inr, refl, sym, []}
+use Rattle.zjournal.proofs.Files.{head_end, keeps, same_end}
 use Rattle.zjournal.proofs.Opens.{found_of, only_read, only_left}
 use Rattle.zjournal.proofs.opening.read_text.Goals as goal
 
@@ -7,19 +7,23 @@ pub returns-in-Unmade-clause-text : goal.returns-in-Unmade-clause-text
 returns-in-Unmade-clause-text g c =
     let found = found_of c.args.servers c.deref.result.now (g.D.Device.seen c.args.device.now) c.in_ok-look.field-0 _
     (c.deref.ensures.value ∙ c.in_ok-bytes.ensures.bytes) c.in-Unmade.is c.in_ok-look.ensures.ok in
-    ([], inr (inl found, refl), c.new.ensures.items, refl)
+    ([], inr (inl found, refl), c.new.ensures.items, λ f. sym (head_end f c.args.servers))
 
 pub returns-in-Unopened-clause-text : goal.returns-in-Unopened-clause-text
 returns-in-Unopened-clause-text g c =
     let found = found_of c.args.servers c.deref.result.now (g.D.Device.seen c.args.device.now) c.in_ok-look.field-0 _
     (c.deref.ensures.value ∙ c.in_ok-bytes.ensures.bytes) c.in-Unopened.is c.in_ok-look.ensures.ok in
-    ([], inr (inr found, refl), c.new-in-Unopened.ensures.items, refl)
+    ([], inr (inr (_, found.0), refl), c.new-in-Unopened.ensures.items, λ f. sym (head_end f c.args.servers))
 
 pub returns-clause-text : goal.returns-clause-text
 returns-clause-text g c =
     let found = found_of c.args.servers c.deref.result.now (g.D.Device.seen c.args.device.now) c.in_ok-look.field-0 _
-    (c.deref.ensures.value ∙ c.in_ok-bytes.ensures.bytes) c.in-Cached.is c.in_ok-look.ensures.ok in
-    (found.0, inl (keeps c.args.servers found.0 (g.D.Device.seen c.args.device.now) _ found.1), found.2, found.1.long)
+    (c.deref.ensures.value ∙ c.in_ok-bytes.ensures.bytes) c.in-Cached.is c.in_ok-look.ensures.ok in (
+      found.0,
+      inl (keeps c.args.servers found.0 (g.D.Device.seen c.args.device.now) _ found.1),
+      found.2,
+      λ f. found.1.is_place.end ∙ same_end c.in-Cached.place.format f c.args.servers found.0,
+    )
 
 pub returns-in_err-bytes-clause-durable : goal.returns-in_err-bytes-clause-durable
 returns-in_err-bytes-clause-durable g c =

@@ -1,6 +1,6 @@
-use Rattle.std.proofs.Common.{refl, sym, ◌∙◌, ◌++◌, ◌∷◌, [], rules}
-use Rattle.zjournal.specs.Checksum.{stamped}
-use Rattle.zjournal.proofs.Blocks.{stamped_text}
+use Rattle.std.proofs.Common.{refl, sym, ap, ℕ, ◌∙◌, ◌++◌, ◌∷◌, [], rules}
+use Rattle.zjournal.specs.Checksum.{digits, stamped}
+use Rattle.zjournal.proofs.Sums.{stamped_text}
 use Rattle.zjournal.proofs.Puts.{tested_text, tested_zero}
 use Rattle.zjournal.proofs.Renewals.{not_asked, untouched_keeps, still_rests, renewal_added}
 use Rattle.zjournal.proofs.journal.Journal.put_renewed.Goals as goal
@@ -49,11 +49,15 @@ returns-in_err-add_open_block-clause-sound g c is_open =
     )
 
 pub returns-clause-added : goal.returns-clause-added
-returns-clause-added g c servers batches next is_open renewing =
+returns-clause-added g c servers batches next_ones is_open renewing =
+    let is = c.as_slice-block.ensures.value ∙ c.in_ok-block.ensures
+    ∙ ap (λ (n : ℕ). (digits n ++ c.args.batch.now) ++ 0 ∷ 0 ∷ []) c.sum_after-sum.ensures in
     renewal_added g.D.Device.seen g.D.Device.may_leave g.D.Device.moment g.D.Device.left_since g.D.Device.beside
-    c.args.self.now servers batches next renewing c.args.batch.now _
-    (stamped_text c.args.batch.now (tested_text c.args.batch.now (search rules))) refl (search rules) c.add_open_block.ensures.untouched
-    (c.in_ok-add_open_block.ensures.added (stamped c.args.batch.now) (search rules)) c.as_slice-block.result.now (search rules) (search rules)
+    c.args.self.now servers batches next_ones renewing c.args.batch.now _
+    (stamped_text c.args.self.now.renewed.sum c.args.batch.now (tested_text c.args.batch.now (sym c.contains.ensures.value ∙ c.if-contains.false)))
+    refl refl c.add_open_block.ensures.untouched
+    (c.in_ok-add_open_block.ensures.added (stamped c.args.self.now.renewed.sum c.args.batch.now) is) c.as_slice-block.result.now is
+    c.after-self.ensures.format (search rules) (search rules)
 
 pub returns-clause-rest : goal.returns-clause-rest
 returns-clause-rest g c servers batches rest =
@@ -67,16 +71,18 @@ returns-clause-any_moment g c servers batches rest =
 
 pub returns-clause-renewing : goal.returns-clause-renewing
 returns-clause-renewing g c is_open =
-    let was = c.requires c.if-not-self.false in (
+    let was = c.requires c.if-not-self.false in
+    let is = c.as_slice-block.ensures.value ∙ c.in_ok-block.ensures
+    ∙ ap (λ (n : ℕ). (digits n ++ c.args.batch.now) ++ 0 ∷ 0 ∷ []) c.sum_after-sum.ensures in (
       was.0,
       was.1,
       was.2 ++ c.args.batch.now ∷ [],
-      renewal_added g.D.Device.seen g.D.Device.may_leave g.D.Device.moment
-          g.D.Device.left_since g.D.Device.beside c.args.self.now was.0 was.1 was.2 was.3 c.args.batch.now _
-          (stamped_text c.args.batch.now (tested_text c.args.batch.now (sym c.contains.ensures.value ∙ c.if-contains.false)))
-          refl refl c.add_open_block.ensures.untouched (c.in_ok-add_open_block.ensures.added (stamped c.args.batch.now)
-          (c.as_slice-block.ensures.value ∙ c.in_ok-block.ensures)) c.as_slice-block.result.now (c.as_slice-block.ensures.value
-          ∙ c.in_ok-block.ensures) (search rules),
+      renewal_added g.D.Device.seen g.D.Device.may_leave g.D.Device.moment g.D.Device.left_since g.D.Device.beside
+          c.args.self.now was.0 was.1 was.2 was.3 c.args.batch.now _
+          (stamped_text c.args.self.now.renewed.sum c.args.batch.now (tested_text c.args.batch.now (sym c.contains.ensures.value
+          ∙ c.if-contains.false))) refl refl c.add_open_block.ensures.untouched
+          (c.in_ok-add_open_block.ensures.added (stamped c.args.self.now.renewed.sum c.args.batch.now) is) c.as_slice-block.result.now is
+          c.after-self.ensures.format (search rules) (search rules),
     )
 
 pub returns-clause-sound : goal.returns-clause-sound

@@ -3,7 +3,7 @@ use mathlib.Core.Bool.{true≢false}
 use lib.Pointwise.{pointwise}
 use Rattle.std.proofs.lemmas.Cmp.{nat_list_eq_equiv}
 use Rattle.std.proofs.lemmas.List.{take_at}
-use Rattle.zjournal.proofs.reading.behind.Goals as goal
+use Rattle.zjournal.proofs.head.behind.Goals as goal
 
 pub returns-else-eq-clause-none : goal.returns-else-eq-clause-none
 returns-else-eq-clause-none c rest is =
