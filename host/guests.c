@@ -81,7 +81,7 @@ static void refuse(struct guest *it, const char *why) {
     end(it);
 }
 
-void guests_gone(uint8_t server) {
+void guests_shut(uint8_t server) {
     for (struct guest *it = guests; it < guests + MOST; it++) {
         if (it->state == IS_OPEN && it->sender.kind == SERVER && it->sender.number == server) {
             shut(it);
@@ -100,7 +100,8 @@ static struct guest *guest_of(struct process sender) {
 }
 
 static bool is_process(const uint8_t *it) {
-    return (it[0] == SERVER && it[1] >= 1 && it[1] <= SERVERS) || (it[0] == CLIENT && it[1] < CLIENTS);
+    if (it[0] == SERVER) return it[1] >= 1 && it[1] <= SERVERS;
+    return it[0] == CLIENT && it[1] < CLIENTS;
 }
 
 /* What follows the cluster's name in a hello: why it is refused, or NULL. */
@@ -127,25 +128,30 @@ static void welcome(struct guest *it, const uint8_t *processes) {
         memcpy(nonces[sender.number], processes + 4, 8);
     }
     it->sender = sender, it->state = IS_OPEN, it->until = 0;
+    bytes_take(&it->in, BEFORE + strlen(node.cluster) + AFTER);
+}
+
+/* Why a hello is refused by what comes before its processes, as far as it came, or NULL. */
+static const char *fault_of_hello(const uint8_t *hello, size_t count) {
+    size_t name = strlen(node.cluster);
+    if (count && memcmp(hello, "jlqn", count < 4 ? count : 4)) return "it isn't one of a node";
+    if (count >= MAGIC && memcmp(hello + 4, "0001", 4)) return "it has another version";
+    if (count >= BEFORE && number_at(hello + MAGIC, 4) != name) return "its cluster is another";
+    bool has_name = count >= BEFORE + name;
+    if (has_name && memcmp(hello + BEFORE, node.cluster, name)) return "its cluster is another";
+    return NULL;
 }
 
 /* Looks at a hello, as far as it came. */
 static void greet(struct guest *it) {
     const uint8_t *hello = bytes_first(&it->in);
     size_t count = bytes_left(&it->in), name = strlen(node.cluster);
-    const char *fault = NULL;
-    if (count && memcmp(hello, "jlqn", count < 4 ? count : 4)) fault = "it isn't one of a node";
-    else if (count >= MAGIC && memcmp(hello + 4, "0001", 4)) fault = "it has another version";
-    else if (count >= BEFORE && number_at(hello + MAGIC, 4) != name) fault = "its cluster is another";
-    else if (count >= BEFORE + name && memcmp(hello + BEFORE, node.cluster, name)) {
-        fault = "its cluster is another";
-    } else if (count >= BEFORE + name + AFTER) {
+    const char *fault = fault_of_hello(hello, count);
+    if (!fault && count >= BEFORE + name + AFTER) {
         fault = fault_of_processes(hello + BEFORE + name);
-        if (!fault && !node.own && it->state == GREETS) {
+        if (!fault && node.own) welcome(it, hello + BEFORE + name);
+        else if (!fault && it->state == GREETS) {
             it->state = EXPECTS, it->until = now() + node.suspect;
-        } else if (!fault && node.own) {
-            welcome(it, hello + BEFORE + name);
-            bytes_take(&it->in, BEFORE + name + AFTER);
         }
     }
     if (fault) refuse(it, fault);
@@ -153,13 +159,13 @@ static void greet(struct guest *it) {
 
 /* ---- records */
 
-/* Why a record isn't passed on, or NULL. A frame begins with its sender and its receiver. */
-static const char *fault_of(const struct guest *it, const uint8_t *record, size_t length) {
-    if (record[0] > (it->sender.kind == CLIENT ? 0 : 2)) return "it sent a record of no kind";
-    if (length > MOST_RECORD) return "it sent too long a record";
-    return NULL;
+/* Why a record isn't passed on, by its tag and its length, or NULL. Clients send frames alone. */
+static const char *fault_of(const struct guest *it, uint8_t tag, size_t length) {
+    if (tag > (it->sender.kind == CLIENT ? 0 : 2)) return "it sent a record of no kind";
+    return length > MOST_RECORD ? "it sent too long a record" : NULL;
 }
 
+/* Whether a frame isn't from this sender, or not to this server. It begins with both. */
 static bool is_misled(const struct guest *it, const uint8_t *frame, size_t length) {
     const uint8_t processes[] = {it->sender.kind, it->sender.number, SERVER, node.own};
     return length < sizeof processes || memcmp(frame, processes, sizeof processes);
@@ -170,7 +176,7 @@ static void pass_on(struct guest *it) {
     while (it->state == IS_OPEN && bytes_left(&it->in) >= 5) {
         const uint8_t *record = bytes_first(&it->in);
         size_t length = number_at(record + 1, 4);
-        const char *fault = fault_of(it, record, length);
+        const char *fault = fault_of(it, record[0], length);
         if (!fault && bytes_left(&it->in) < 5 + length) return;
         if (!fault && !record[0] && is_misled(it, record + 5, length)) {
             fault = "it sent a frame of another sender or receiver";
@@ -216,7 +222,8 @@ static bool is_accepted(void) {
     return true;
 }
 
-/* Whether a connection is read now. Servers always are: else two nodes could wait for each other. */
+/* Whether a connection is read now. A server always is: else two nodes could wait for each
+   other. */
 static bool is_read(const struct guest *it, bool is_slow) {
     if (it->state == EXPECTS) return false;
     if (it->state != IS_OPEN || it->sender.kind == SERVER) return true;

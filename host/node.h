@@ -151,8 +151,8 @@ void guests_listen(const char *address);
 /* Sends a record to a client. It is dropped if the client has no connection. */
 void guests_send(uint8_t client, uint8_t tag, const uint8_t *bytes, size_t count);
 
-/* Closes the connection of a server that is gone. */
-void guests_gone(uint8_t server);
+/* Closes the connection of a server that is gone or lost. */
+void guests_shut(uint8_t server);
 
 void guests_wait(void);
 void guests_pass(void);

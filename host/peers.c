@@ -54,8 +54,8 @@ bool peers_has(const char *name) { return place_of(name) != NULL; }
 bool peers_node(const char *name, const char *address) {
     struct place *it = &places[place_count];
     if (place_count == MOST_NODES || !*name || peers_has(name)) return false;
-    if (strlen(name) >= NODE_NAME || !(it->size = read_address(address, &it->address))) return false;
-    it->name = name;
+    it->name = name, it->size = read_address(address, &it->address);
+    if (strlen(name) >= NODE_NAME || !it->size) return false;
     place_count++;
     return true;
 }
@@ -78,7 +78,7 @@ static void shut(struct peer *it, enum state state) {
 void peers_gone(uint8_t server) {
     peers[server].is_gone = true;
     shut(&peers[server], NONE);
-    guests_gone(server);
+    guests_shut(server);
 }
 
 bool peers_is_lost(uint8_t server) {
@@ -91,7 +91,7 @@ void peers_broke(uint8_t server) {
     const char *fault = it->state == DIALS || it->state == PAUSES ? "can't be reached" : "is lost";
     say("server %u on node %s %s", server, it->at ? it->at->name : "?", fault);
     shut(it, BROKEN);
-    guests_gone(server);
+    guests_shut(server);
     it->again = now() + node.suspect;
     seat_lost(server);
 }

@@ -21,7 +21,8 @@ class Client:
     """
 
     def __init__(self, number, cluster, followed, selector):
-        self.number, self.cluster, self.followed, self.selector = number, cluster, followed, selector
+        self.number, self.cluster = number, cluster
+        self.followed, self.selector = followed, selector
         self.last, self.sockets, self.nonce = time.time_ns() // 1000, {}, os.urandom(8)
         self.waits, self.reply = None, None
 
@@ -145,9 +146,9 @@ class Caller:
 
 def command(given):
     """`call FILE [--client N]`"""
-    path, *more = given or [""]
-    if more and (len(more) != 2 or more[0] != "--client" or not more[1].isdigit()
-                 or not 0 < int(more[1]) < messages.MAX_CLIENTS):
+    path, *more = given or [None]
+    is_number = len(more) == 2 and more[0] == "--client" and more[1].isdecimal()
+    if not path or more and not (is_number and 0 < int(more[1]) < messages.MAX_CLIENTS):
         raise Stopped("call takes FILE [--client N], where N is 1 to 31", 2)
     caller = Caller(clusters.read(path), int(more[1]) if more else None)
     for line in sys.stdin.buffer:

@@ -54,7 +54,8 @@ def read(path, own=None):
 
     need(not found, f"there is no setting '{next(iter(found), '')}'")
     need(NAME.fullmatch(name), "name= is 1 to 63 letters, digits, dots or hyphens")
-    need(0 < len(nodes) <= log_entries.SERVERS, "there are 1 to 16 lines node.NODE=ADDRESS:PORT")
+    is_some = 0 < len(nodes) <= log_entries.MAX_SERVERS
+    need(is_some, "there are 1 to 16 lines node.NODE=ADDRESS:PORT")
     for node, address in nodes.items():
         need(NODE.fullmatch(node), f"'{node}' is no name of a node")
         need(is_read(words.address, address), f"node.{node}= is ADDRESS:PORT, not '{address}'")

@@ -3,8 +3,7 @@ import struct
 
 OPENING, JOIN, RETIRE, REPORT = range(4)
 HAVE, JOINED, GONE = range(3)
-# The greatest number of servers.
-SERVERS = 16
+MAX_SERVERS = 16
 
 
 def sized(data):

@@ -57,12 +57,18 @@ def play(mode, command, words, _):
     become(get(mode, command), [command, *words])
 
 
-def serve(mode, command, words, _):
-    """Runs the server for ZooKeeper's clients, behind its host, which is compiled meanwhile."""
+def hosted(host, mode, command):
+    """The host of a command, which is compiled while its program is built, and that program."""
     with concurrent.futures.ThreadPoolExecutor(1) as aside:
-        host = aside.submit(serving.host)
+        made = aside.submit(host)
         program = get(mode, command)
-    become(host.result(), [f"--program={program}", *words])
+    return made.result(), program
+
+
+def serve(mode, command, words, _):
+    """Runs the server for ZooKeeper's clients, behind its host."""
+    host, program = hosted(serving.host, mode, command)
+    become(host, [f"--program={program}", *words])
 
 
 def node(mode, words):
@@ -72,7 +78,7 @@ def node(mode, words):
     cluster = clusters.read(words[0], *words[2:])
     if not cluster.self:
         raise Stopped(f"{words[0]}: self= or --self is to name the node", 2)
-    host, program = serving.node_host(), get(mode, "node")
+    host, program = hosted(serving.node_host, mode, "node")
     become(host, clusters.words_of(cluster, program))
 
 

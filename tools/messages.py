@@ -9,7 +9,10 @@ import struct
 
 from log_entries import sized
 
-MAX_LINE, MAX_DATA, MAX_PARTS, MAX_TTL, MAX_CLIENTS = 8 * 65536, 65536, 64, 1 << 20, 32
+MAX_DATA = 65_536
+MAX_TTL = 1 << 20
+MAX_CLIENTS = 32
+MAX_LINE, MAX_PARTS = 8 * MAX_DATA, 64
 SUBMIT, QUERY, ANSWER = range(3)
 UPDATES = ("create", "delete", "set", "multi", "open", "ping", "close", "tick")
 QUERIES = ("get", "exists", "ls")

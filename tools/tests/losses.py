@@ -22,7 +22,7 @@ CALLS = 200
 # What is lost in one cluster: it has sixteen numbers.
 LOSSES = (
     "kill head", "kill tail", "kill middle", "kill joiner", "kill helper", "stop head", "stop tail",
-    "stop middle", "kill head", "kill any", "stop any",
+    "stop middle", "kill head", "kill any", "delay helper",
 )
 
 
@@ -157,6 +157,17 @@ class Losing:
         node.signal(GO_ON)
         self.load.until(lambda: node.ran.poll() is not None, "it ends")
         want_same(node.ran.returncode, 75, f"the end of one that is gone: {node.said()}")
+
+    def delay(self, _):
+        """Stops the helper of a node while another node is killed, and lets it go on then."""
+        lost, slow = self.load.random.sample(self.chain.view().chain, 2)
+        helper = self.of(slow).helper()
+        os.kill(helper, STOP)
+        self.load.answers(CALLS, "while a helper is stopped")
+        self.of(lost).kill()
+        self.repaired(lost)
+        os.kill(helper, GO_ON)
+        self.load.answers(CALLS, "after the helper goes on")
 
     def lose(self, loss):
         how, where = loss.split(" ")
