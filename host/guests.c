@@ -3,7 +3,8 @@
    Each begins with a hello: the magic and the version, the cluster's name with its length, the
    sender and the receiver, and a nonce of the sender. Then it has records: a tag, a length and so
    many bytes. What isn't so is refused by a line on standard error, and the connection is closed.
-   A hello that comes before this node has a number waits for it. */
+   A hello that comes before this node has read in the log which server is here, or where its
+   sender is, waits for that. */
 #define _GNU_SOURCE
 #include <arpa/inet.h>
 #include <errno.h>
@@ -108,13 +109,17 @@ static bool is_process(const uint8_t *it) {
 static const char *fault_of_processes(const uint8_t *it) {
     if (!is_process(it)) return "its sender is no server or client";
     if (it[2] != SERVER || !is_process(it + 2)) return "its receiver is no server";
-    if (!node.own) return NULL;
-    if (it[3] != node.own) return "it is for another server";
+    if (node.own && it[3] != node.own) return "it is for another server";
     if (it[0] == CLIENT) return NULL;
     if (it[1] == node.own) return "its sender has this server's number";
     if (peers_is_lost(it[1])) return "its sender is lost";
     bool is_other = is_known[it[1]] && memcmp(nonces[it[1]], it + 4, 8);
     return is_other ? "another process has its sender's number" : NULL;
+}
+
+/* Whether the log has both ends of a connection. Clients aren't in it. */
+static bool is_expected(const uint8_t *it) {
+    return node.own && (it[0] == CLIENT || peers_is_named(it[1]));
 }
 
 /* Opens a connection by its hello, of which this is what follows the cluster's name. The former
@@ -149,7 +154,7 @@ static void greet(struct guest *it) {
     const char *fault = fault_of_hello(hello, count);
     if (!fault && count >= BEFORE + name + AFTER) {
         fault = fault_of_processes(hello + BEFORE + name);
-        if (!fault && node.own) welcome(it, hello + BEFORE + name);
+        if (!fault && is_expected(hello + BEFORE + name)) welcome(it, hello + BEFORE + name);
         else if (!fault && it->state == GREETS) {
             it->state = EXPECTS, it->until = now() + node.suspect;
         }
@@ -247,13 +252,12 @@ void guests_wait(void) {
 static void pass(struct guest *it) {
     short came = it->place < MOST_WAITS ? came_of(it->place) : 0;
     bool is_open = !(came & ~POLLOUT) || bytes_read(it->socket, &it->in);
-    if (it->state == GREETS) greet(it);
-    if (it->state == EXPECTS && node.own) greet(it);
+    if (it->state == GREETS || it->state == EXPECTS) greet(it);
     if (it->state == IS_OPEN) pass_on(it);
     if (it->state == IS_OPEN && !bytes_write(it->socket, &it->out)) is_open = false;
     if (it->state == FREE) return;
     if (!is_open) end(it);
-    else if (it->until && now() >= it->until) refuse(it, "it waited too long");
+    else if (it->until && now() >= it->until) refuse(it, it->state == GREETS ? "it has no hello" : "the log hasn't its ends");
 }
 
 void guests_pass(void) {

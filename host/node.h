@@ -128,6 +128,9 @@ bool peers_has(const char *name);
 void peers_named(uint8_t server, const char *name);
 void peers_gone(uint8_t server);
 
+/* Whether the log has named it. */
+bool peers_is_named(uint8_t server);
+
 /* Whether it is gone, or a link to or from it broke. */
 bool peers_is_lost(uint8_t server);
 

@@ -64,7 +64,7 @@ void peers_named(uint8_t server, const char *name) {
     struct peer *it = &peers[server];
     if (it->at) stop(1, "the log's helper named server %u twice", server);
     it->at = place_of(name);
-    if (it->state == NONE) it->state = PAUSES;
+    it->state = PAUSES;
 }
 
 /* Closes a link. What waits is dropped. */
@@ -81,6 +81,8 @@ void peers_gone(uint8_t server) {
     guests_shut(server);
 }
 
+bool peers_is_named(uint8_t server) { return peers[server].at != NULL; }
+
 bool peers_is_lost(uint8_t server) {
     return peers[server].is_gone || peers[server].state == BROKEN;
 }
@@ -89,7 +91,7 @@ void peers_broke(uint8_t server) {
     struct peer *it = &peers[server];
     if (it->is_gone || it->state == BROKEN) return;
     const char *fault = it->state == DIALS || it->state == PAUSES ? "can't be reached" : "is lost";
-    say("server %u on node %s %s", server, it->at ? it->at->name : "?", fault);
+    say("server %u on node %s %s", server, it->at->name, fault);
     shut(it, BROKEN);
     guests_shut(server);
     it->again = now() + node.suspect;
@@ -184,8 +186,7 @@ static bool is_sent(struct peer *it) {
     return bytes_left(&it->hello) || bytes_write(it->socket, &it->out);
 }
 
-/* Waits for a link, or dials it. Before this node has a number, and once it has read the log, it
-   dials no one. */
+/* Waits for a link, or dials it. It dials no one before it has a number and has read the log. */
 static void wait_on(struct peer *it) {
     if (it->state == PAUSES && node.own && node.is_caught_up && it->again <= now()) dial(it);
     bool has_more = it->state == DIALS || bytes_left(&it->hello) || bytes_left(&it->out);

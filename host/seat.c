@@ -113,7 +113,7 @@ static void take_record(const uint8_t *it, size_t length) {
 void seat_wait(void) {
     from_place = wait_for(child.from, POLLIN);
     to_place = wait_for(child.to, bytes_left(&inputs) ? POLLOUT : 0);
-    if (!is_at_work && has_more) wait_until(0);
+    if (!is_at_work && has_more && !peers_are_slow()) wait_until(0);
 }
 
 void seat_pass(void) {
@@ -128,7 +128,7 @@ void seat_pass(void) {
 }
 
 void seat_send(void) {
-    if (!is_at_work && (has_inputs || has_more)) {
+    if (!is_at_work && (has_inputs || (has_more && !peers_are_slow()))) {
         put_tag(TURN);
         is_at_work = true, has_inputs = has_more = false;
     }

@@ -83,28 +83,29 @@ def words_of(cluster, program):
     return [*found, "--program", program, "--", *helper]
 
 
+def of_log(do, *given):
+    """What a call on the log gives; `Stopped` where the log can't be used."""
+    try:
+        return do(*given)
+    except FileNotFoundError as error:
+        raise Stopped(f"log: {error.filename}: {log_file.NONE}") from None
+    except log_file.Fault as error:
+        raise Stopped(f"log: {error}") from None
+
+
 class Followed:
     """The cluster's log, and what it makes."""
 
     def __init__(self, cluster):
-        try:
-            self.log = log_file.Log(cluster.log)
-        except FileNotFoundError:
-            raise Stopped(f"log: {cluster.log}: there is no log; './zk cluster FILE init' makes it")
-        except log_file.Fault as error:
-            raise Stopped(f"log: {error}") from None
-        self.chain = log_entries.Chain()
-        self.play(())
+        self.log, self.chain = of_log(log_file.Log, cluster.log), log_entries.Chain()
+        self.play()
         if self.log.cluster != cluster.name:
             raise Stopped(f"log: {cluster.log}: it is of the cluster '{self.log.cluster}'")
 
     def play(self, entries=()):
-        """Plays what is new in the log."""
-        try:
-            for _, entry in [*entries, *self.log.new_entries()]:
-                self.chain.play(entry)
-        except log_file.Fault as error:
-            raise Stopped(f"log: {error}") from None
+        """Plays these entries, and what is new in the log after them."""
+        for _, entry in [*entries, *of_log(self.log.new_entries)]:
+            self.chain.play(entry)
         return self.chain
 
     def append(self, entry):
@@ -114,7 +115,7 @@ class Followed:
         """
         while (made := entry(self.play())) is not None:
             index = self.chain.played
-            added = self.log.append(index, made)
+            added = of_log(self.log.append, index, made)
             self.play(added)
             if added and added[0] == (index, made):
                 return True
@@ -144,16 +145,15 @@ def status(cluster):
 
 def retire(cluster, node):
     """Orders the server of a node to leave, and prints what became of it."""
-    followed, faults = Followed(cluster), []
+    followed = Followed(cluster)
+    server = followed.chain.live_on(node)
 
     def order(chain):
-        server = chain.live_on(node)
-        faults[:] = [it for it in (chain.retire_fault(server),) if it]
-        return None if faults else log_entries.retire(server)
+        return None if chain.retire_fault(server) else log_entries.retire(server)
 
     if not followed.append(order):
-        raise Stopped(f"no {faults[0]}", 1)
-    server, until = followed.chain.retiring, time.monotonic() + PATIENCE
+        raise Stopped(f"no {followed.chain.retire_fault(server)}", 1)
+    until = time.monotonic() + PATIENCE
     while followed.play().is_live(server) and time.monotonic() < until:
         time.sleep(log_file.EACH)
     print(f"server {server} on node {node} "

@@ -25,6 +25,7 @@ sys.dont_write_bytecode = True
 import log_entries
 
 HEAD = b"jellqupas log 1 "
+NONE = "there is no log; './zk cluster FILE init' makes it"
 # The bytes of the longest line, and the seconds between two looks at the file.
 MOST, EACH = 16384, 0.02
 
@@ -167,7 +168,7 @@ def main(path):
     try:
         Helper(path).follow()
     except FileNotFoundError:
-        raise Fault(f"{path}: there is no log; './zk cluster FILE init' makes it") from None
+        raise Fault(f"{path}: {NONE}") from None
 
 
 if __name__ == "__main__":

@@ -1,9 +1,11 @@
 """Servers as processes: refusals, rows over a chain of three, and losses under load."""
+import base64
 import os
 import re
 import socket
 import subprocess
 
+import calling
 import clusters
 import losses
 import messages
@@ -18,12 +20,13 @@ ROWS = (
     "multi_at_size", "multi_counters", "refusals", "sequential_names", "session_ends",
     "session_is_its_clients", "ttl_and_sessions", "ttl_removes_a_leaf", "versions",
 )
+# The nodes of a state of some MiB.
+NODES = 100
 FILES = {  # what is wrong in a file, and what the line must name
     "name=a b": "name=", "node.A=127.0.0.1:1": "'A'", "node.a=127.0.0.1": "node.a=", "tick=1":
     "'tick'", "suspect=9": "suspect=", "self=x": "'x'", "log=etcd:x": "log=", "a = b": "'a'",
 }
 SERVER, CLIENT = (messages.SERVER, 1), (messages.CLIENT, 7)
-OTHER = (messages.SERVER, 9)
 NONCE = bytes(8)
 
 
@@ -47,6 +50,7 @@ REFUSED = (
     (hello(sender=(2, 32)), "its sender is no server or client"),
     (hello(sender=SERVER), "its sender has this server's number"),
     (hello(sender=(1, 2)), "another process has its sender's number"),
+    (hello(sender=(1, 9)), "the log hasn't its ends"),
     (hello() + record(100 << 20), "it sent too long a record"),
     (hello() + record((8 << 20) + 1), "it sent too long a record"),
     (hello() + record(5, 1), "it sent a record of no kind"),
@@ -75,7 +79,7 @@ def is_closed(it):
 
 def garbage(builds):
     """What isn't a link is refused by one line, and nobody else notices."""
-    with Chain(builds, 2, suspect=5000) as chain:
+    with Chain(builds, 2, suspect=2000) as chain:
         chain.grown(2)
         node, before = chain.running["n1"], [it.said() for it in chain.started]
         with connected(chain, hello(sender=(2, 30))) as other:
@@ -196,6 +200,25 @@ def damaged(chain):
     want(chain.running["n2"].ran.poll() is None, "who has read it goes on")
 
 
+def state(builds):
+    """A server that joins has the whole state, of some MiB, also once it is the only one."""
+    with Chain(builds) as chain:
+        chain.grown(2)
+        caller, data = calling.Caller(chain.cluster), base64.b64encode(os.urandom(1 << 16)).decode()
+        for number in range(NODES):
+            line = f"{number % 31 + 1} create /n{number} p {data}"
+            want_same(caller.answer(line.encode()), f"ok /n{number}", "a node")
+        chain.join("n3")
+        for node in ("n1", "n2"):
+            chain.running[node].kill()
+        comes(lambda: chain.view().chain == [3], chain.said)
+        for number in range(0, NODES, 9):
+            got = caller.answer(f"1 get /n{number}".encode())
+            want(got.startswith(f"ok data {data} stat {number + 1} "), f"/n{number}: {got[:40]}")
+        want(caller.answer(b"1 ls /").startswith(f"ok {NODES} "), "all nodes")
+        caller.close()
+
+
 def row(builds, name):
     """Plays a file of rows over a chain of three."""
     rows = Rows(f"{ROOT}/rows/{name}.rows")
@@ -253,7 +276,7 @@ def lost(builds, seed):
 
 
 def tests(builds):
-    each = garbage, cut, refusals
+    each = garbage, cut, refusals, state
     found = [Test(f"nodes: {it.__name__}", 100, lambda _, it=it: it(builds)) for it in each]
     found += [Test(f"nodes: {it.__name__}", 1, it) for it in (codec, entries)]
     found += [Test(f"nodes: {it}.rows", 5, lambda _, it=it: row(builds, it)) for it in ROWS]
