@@ -157,17 +157,22 @@ def secret(builds):
 
 
 def of_before(builds):
-    """A folder whose journal has the password of its one session: that opens another one."""
+    """A folder whose journal has the password of its one session: that opens another one.
+
+    Its journal has version 1, and goes on in it until it is shortened.
+    """
     folder, note = new_folder(builds), "zk: data: clients of before open new sessions\n"
     os.mkdir(folder)
     with open(f"{folder}/journal", "wb") as file:
         file.write(base64.b64decode(OF_BEFORE))
-    for has_note in (True, False):
+    for has_note, version in ((True, 1), (False, 2)):
         with Server(builds, folder) as server, server.client() as it:
             want_same(it.get("/a")[0], b"hi", "its node")
             want_same(note in server.said(), has_note, "the note")
             it.session = 1
             want_same(greeted(server.address, it, bytes(range(1, 17))), NO_SESSION, "its session")
+        with open(f"{folder}/journal", "rb") as file:
+            want_same(file.read()[19], version, "the version of its journal")
         want_same(at_rest(builds, folder, "compact", 3)[0], 0, "compact")
 
 
@@ -237,8 +242,10 @@ def not_opened(builds):
     with open(f"{folder}/journal", "rb") as file:
         whole = file.read()
     for held, said in (
-        (b"hello, world\n", "not a journal"), (whole[:25] + b"x" + whole[26:], "damaged at byte 0"),
-        (whole[:19] + b"\x02" + whole[20:], "a journal of version 2"), (whole[:-20], "damaged at"),
+        (b"hello, world\n", "not a journal"), (whole[:33] + b"x" + whole[34:], "damaged at byte 0"),
+        (whole[:25] + b"x" + whole[26:], "a journal of something else"),
+        (whole[:19] + b"\x01" + whole[20:], "damaged at byte 0"),
+        (whole[:19] + b"\x03" + whole[20:], "a journal of version 3"), (whole[:-20], "damaged at"),
         (whole[:-20] + bytes([whole[-20] ^ 4]) + whole[-19:], "damaged at byte "),
     ):
         with open(f"{folder}/journal", "wb") as file:

@@ -71,6 +71,25 @@ def each_byte(builds):
     want_same(reported, 3 * len(found), "the changes of commit bytes")
 
 
+def each_block(builds):
+    """Each block is taken out, and neighbours change places: the journal is damaged there.
+
+    Where the last one is gone the rest is whole: nothing after it says that it was there.
+    """
+    folder, held, found = made(builds, BLOCKS)
+    ends = [*found[1:], len(held) - 1]
+    for at, end in zip(found, ends):
+        write(f"{folder}/journal", held[:at] + held[end:])
+        status, out, said = do(builds, folder, "export")
+        damaged = (3, "", f"zk: data: damaged at byte {at}\n")
+        is_seen = (status, out, said) == damaged if end < len(held) - 1 else status == 0
+        want(is_seen, f"without the block at {at}: {status} {said}")
+    for at, middle, end in zip(found, found[1:], ends[1:]):
+        write(f"{folder}/journal", held[:at] + held[middle:end] + held[at:middle] + held[end:])
+        damaged = (3, "", f"zk: data: damaged at byte {at}\n")
+        want_same(do(builds, folder, "export"), damaged, f"the blocks at {at} and {middle}")
+
+
 def cut(builds):
     """What an opening cuts off is in a file beside, and reported. If that fails, nothing is cut."""
     folder, held, found = made(builds, 6)
@@ -144,6 +163,9 @@ def lines(builds):
         write(f"{folder}/journal", held[:20] + bytes([servers]) + held[21:])
         got = do(builds, folder, "stat", 3)
         want_same(got, (3, "", f"zk: data: a journal for {said}\n"), said)
+    write(f"{folder}/journal", held[:21] + b"another one " + held[33:])
+    said = "zk: data: a journal of something else\n"
+    want_same(do(builds, folder, "stat"), (3, "", said), "another word")
 
 
 def failed_syncs(builds):
@@ -198,6 +220,6 @@ def failed_server(builds):
 
 
 def tests(builds):
-    each = cut, pairs, lines, failed_syncs, failed_server
+    each = each_block, cut, pairs, lines, failed_syncs, failed_server
     found = [Test(f"folder: {it.__name__}", 8, lambda _, it=it: it(builds)) for it in each]
     return [Test("folder: each byte", 30, lambda _: each_byte(builds)), *found]

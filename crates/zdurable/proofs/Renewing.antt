@@ -104,9 +104,13 @@ module _ {D : Type 0} (seen : D → List ℕ) (may_leave : D → List ℕ → Ty
     -- the new file is full before its end
     pub too_long : 2 ^ 60 ≤ renewed_size_of now → IsTooLong servers tree
     too_long full =
-        let so_far = going.so_far servers batches rest in
-        (so_far.0, text_left text, sym so_far.2, subst (λ (n : ℕ). 2 ^ 60 ≤ n)
-        (so_far.1.place.end ∙ ap (λ (f : Format). length (blocks (holdings f servers so_far.0))) so_far.1.format) full)
+        let so_far = going.so_far servers batches rest in (
+          so_far.0,
+          text_left text,
+          sym so_far.2,
+          subst (λ (n : ℕ). 2 ^ 60 ≤ n)
+              (so_far.1.place.end ∙ ap (λ (f : Format). length (blocks (holdings f servers so_far.0))) so_far.1.format) full,
+        )
 
     -- and the end
     module _ (all : IsAllWritten text) where

@@ -102,10 +102,7 @@ fn a_block_that_is_missing_shows_at_the_next(rt: HostRuntime) -> Result<(), Fail
     let bytes = made(alloc, 3).ok_or("a journal")?;
     let mut without = bytes[..34].to_vec(alloc)?;
     without.extend_from_slice(&bytes[63..])?;
-    assert_eq!(rt;
-        fault_of(alloc, &without),
-        Some(OpenError::Damaged(34))
-    );
+    assert_eq!(rt; fault_of(alloc, &without), Some(OpenError::Damaged(34)));
     Ok(())
 }
 

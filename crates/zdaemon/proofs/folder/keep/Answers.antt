@@ -36,7 +36,7 @@ returns-in_ok-commit-in-Postponed-clause-keeps g c =
     let was = c.requires.1 c.requires.0 in
     let is = rw c.in-Postponed.is at (c.in_ok-compact.ensures.kept was.0 was.1 was.2 c.requires.0 was.3) in
     let size : size_of mid.journal ≡ size_of c.args.kept.now.journal =
-        is.rest.place.end ∙ same_end (format_of mid.journal) (format_of c.args.kept.now.journal) was.0 was.1 ∙ sym was.3.rest.place.end in record {
+    is.rest.place.end ∙ same_end (format_of mid.journal) (format_of c.args.kept.now.journal) was.0 was.1 ∙ sym was.3.rest.place.end in record {
       how = Some Postponed;
       tried = search rules;
       measured = c.in_ok-commit-in-Postponed.ensures.measured ∙ (rw c.in-Postponed.is at c.in_ok-compact.ensures.measured) ∙ ap (λ (n : ℕ). n / 2) size;
