@@ -252,12 +252,13 @@ void guests_wait(void) {
 static void pass(struct guest *it) {
     short came = it->place < MOST_WAITS ? came_of(it->place) : 0;
     bool is_open = !(came & ~POLLOUT) || bytes_read(it->socket, &it->in);
+    const char *late = it->state == GREETS ? "it has no hello" : "the log hasn't its ends";
     if (it->state == GREETS || it->state == EXPECTS) greet(it);
     if (it->state == IS_OPEN) pass_on(it);
     if (it->state == IS_OPEN && !bytes_write(it->socket, &it->out)) is_open = false;
     if (it->state == FREE) return;
     if (!is_open) end(it);
-    else if (it->until && now() >= it->until) refuse(it, it->state == GREETS ? "it has no hello" : "the log hasn't its ends");
+    else if (it->until && now() >= it->until) refuse(it, late);
 }
 
 void guests_pass(void) {

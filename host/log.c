@@ -22,7 +22,7 @@ enum { MOST_LINE = 65536 };
 
 static struct child helper = {.name = "the log's helper"};
 static struct bytes lines, appends;
-static size_t to_place, from_place;
+static size_t place;
 static const char LETTERS[] = "ABCDEFGHIJKLMNOPQRSTUVWXYZabcdefghijklmnopqrstuvwxyz0123456789+/";
 
 static _Noreturn void refuse(const char *line) {
@@ -160,12 +160,12 @@ void log_append(uint64_t index, const uint8_t *bytes, size_t count) {
 }
 
 void log_wait(void) {
-    from_place = wait_for(helper.from, POLLIN);
-    to_place = wait_for(helper.to, bytes_left(&appends) ? POLLOUT : 0);
+    place = wait_for(helper.from, POLLIN);
+    wait_for(helper.to, bytes_left(&appends) ? POLLOUT : 0);
 }
 
 void log_pass(void) {
-    bool is_open = !came_of(from_place) || bytes_read(helper.from, &lines);
+    bool is_open = !came_of(place) || bytes_read(helper.from, &lines);
     take_lines();
     if (!is_open || !bytes_write(helper.to, &appends)) end_with(&helper);
 }

@@ -18,7 +18,7 @@ static struct child child = {.name = "zk_node"};
 static struct bytes inputs, outputs;
 /* Whether it answers a turn; whether inputs came after that; whether more waits in it. */
 static bool is_at_work, has_inputs, has_more;
-static size_t to_place, from_place;
+static size_t place;
 
 void seat_start(bool opens) {
     char *words[] = {(char *)node.program, (char *)node.self, opens ? "--opens" : NULL, NULL};
@@ -111,15 +111,15 @@ static void take_record(const uint8_t *it, size_t length) {
 }
 
 void seat_wait(void) {
-    from_place = wait_for(child.from, POLLIN);
-    to_place = wait_for(child.to, bytes_left(&inputs) ? POLLOUT : 0);
+    place = wait_for(child.from, POLLIN);
+    wait_for(child.to, bytes_left(&inputs) ? POLLOUT : 0);
     if (!is_at_work && has_more && !peers_are_slow()) wait_until(0);
 }
 
 void seat_pass(void) {
     size_t length;
     /* (what it sent before its end counts) */
-    bool is_open = !came_of(from_place) || bytes_read(child.from, &outputs);
+    bool is_open = !came_of(place) || bytes_read(child.from, &outputs);
     while ((length = length_of(bytes_first(&outputs), bytes_left(&outputs)))) {
         take_record(bytes_first(&outputs), length);
         bytes_take(&outputs, length);
@@ -132,7 +132,8 @@ void seat_send(void) {
         put_tag(TURN);
         is_at_work = true, has_inputs = has_more = false;
     }
-    if (!bytes_write(child.to, &inputs)) end_with(&child);
+    /* (what it sent before its end is still to be read) */
+    if (!bytes_write(child.to, &inputs)) bytes_clear(&inputs);
 }
 
 void seat_close(void) { child_kill(&child); }
