@@ -1,4 +1,3 @@
-#!/usr/bin/env python3
 """The master's log in one file, for the nodes of one machine.
 
     log_file.py PATH
