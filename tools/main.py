@@ -61,8 +61,12 @@ def hosted(host, mode, command):
     """The host of a command, which is compiled while its program is built, and that program."""
     with concurrent.futures.ThreadPoolExecutor(1) as aside:
         made = aside.submit(host)
-        program = get(mode, command)
-    return made.result(), program
+        try:
+            program = get(mode, command)
+        finally:
+            # (what keeps the host from being compiled is said first)
+            path = made.result()
+    return path, program
 
 
 def serve(mode, command, words, _):
