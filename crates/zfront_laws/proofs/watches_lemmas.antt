@@ -11,6 +11,7 @@ pub mod Changing
 pub mod Reaching
 pub mod Wishing
 pub mod Sorting
+pub mod Renewing
 pub mod Granting
 pub mod Looking
 pub mod Tidying

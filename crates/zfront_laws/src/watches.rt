@@ -3,9 +3,9 @@
 //!
 //! A watch is notified of a change once, before an answer on its connection can show the change.
 //! The one exception is the answer to the close of its session. An event has its cause in an
-//! answered call, or in a check of the tree. `specs/Watching.antt` defines the allowed happenings,
-//! and `specs/Laws.antt` says that no others happen. The law is the contract of a function whose
-//! body does nothing.
+//! answered call, in a check of the tree, or in a request that sets a watch again.
+//! `specs/Watching.antt` defines the allowed happenings, and `specs/Laws.antt` says that no others
+//! happen. The law is the contract of a function whose body does nothing.
 
 pub mod laws;
 mod rows;

@@ -10,7 +10,7 @@ use Rattle.zjute.specs.Frames.{next_of, IsEnd}
 use Rattle.zconnections.specs.declared.buffers.phase.Phase.{Phase}
 use Rattle.zconnections.specs.declared.buffers.phase.Phase.TheVariants.{Silent, Speaking, Closing}
 use Rattle.zconnections.specs.buffers.Outbox.{ChunkView}
-use Rattle.zconnections.specs.buffers.Streams.{StreamView, StreamRows, bytes_of, held_of, phase_of, with_bytes}
+use Rattle.zconnections.specs.buffers.Streams.{StreamView, bytes_of, held_of, phase_of, with_bytes}
 use Rattle.zresponses.specs.declared.clock.Clock.{Clock}
 use Rattle.ztree_service.specs.log.Logs.{Log}
 use Rattle.zconnections.specs.Tables.{TablesView, may_send, is_open, closed, sent}
@@ -23,7 +23,7 @@ use Rattle.zfront_laws.specs.Runs.{KeepsFew}
 use Rattle.zfront_laws.proofs.Coming as coming
 use Rattle.zfront_laws.specs.frames.Talk.{Talk, Quiet, Answers, Closes, chunks_of, is_closed, tree_behind, Greeted, SaysText, IsTalk}
 use Rattle.zfront_laws.specs.frames.Laws.{on}
-use Rattle.zfront_laws.proofs.frames_lemmas.Views.{view, phase_in, run, shut_open, view-sent, view-closed, changed-here}
+use Rattle.zfront_laws.proofs.frames_lemmas.Views.{view, phase_in, run, shut_open, view-sent, view-closed, changed-here, phase_with}
 use Rattle.zfront_laws.proofs.frames_lemmas.Free.{speaks, Free, free-sent, free-closed}
 use Rattle.zfront_laws.proofs.frames_lemmas.Talking.{answered_as, greeted_as, greeted_deeper}
 use Rattle.zfront_laws.proofs.frames_lemmas.Cutting.{cuts_more, cuts_both, cuts_word}
@@ -44,19 +44,11 @@ standing session first frames talk phase false still leaves =
     inr (inl (still, leaves ∙ ap (λ (b : Bool). if b then Some Closing else Some (Speaking session)) still, (first, frames, refl)))
 
 -- a stream with other bytes
-module _ (c : ℕ) where
-  phase_with : (rows : StreamRows) (bytes : List ℕ) → phase_of (with_bytes rows c bytes) c ≡ phase_of rows c
-  phase_with rows bytes = ap phase_in (changed-here (λ s. record s { bytes = bytes }) rows c) ∙ by (finite.get rows c)
-    where
-      by : (o : Option StreamView) → phase_in (option_map (λ (s : StreamView). record s { bytes = bytes }) o) ≡ phase_in o
-      by None = refl
-      by (Some s) = refl
-
-  free_with : (bytes : List ℕ) (t : TablesView) → Free c t → Free c (record t { streams = with_bytes t.streams c bytes })
-  free_with bytes t free = record {
-    seat = λ session is. phase_with t.streams bytes ∙ free.seat session is;
-    watch = λ w is own. ap speaks (phase_with t.streams bytes) ∙ free.watch w is own;
-  }
+free_with : (c : ℕ) (bytes : List ℕ) (t : TablesView) → Free c t → Free c (record t { streams = with_bytes t.streams c bytes })
+free_with c bytes t free = record {
+  seat = λ session is. phase_with c t.streams bytes ∙ free.seat session is;
+  watch = λ w is own. ap speaks (phase_with c t.streams bytes) ∙ free.watch w is own;
+}
 
 -- a server with this clock and this secret, whose tree this log leaves
 abbrev pub IsBehind : Clock → List ℕ → Log → FrontView → Type 0

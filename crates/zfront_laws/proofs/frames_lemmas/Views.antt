@@ -11,7 +11,7 @@ use Rattle.ztree.proofs.Maps.{get-insert-here, get-insert-elsewhere}
 use Rattle.zconnections.specs.declared.buffers.phase.Phase.{Phase}
 use Rattle.zconnections.specs.declared.buffers.phase.Phase.TheVariants.{Closing}
 use Rattle.zconnections.specs.buffers.Outbox.{ChunkView}
-use Rattle.zconnections.specs.buffers.Streams.{StreamView, StreamRows, changed, empty_in}
+use Rattle.zconnections.specs.buffers.Streams.{StreamView, StreamRows, changed, empty_in, phase_of, with_bytes}
 use Rattle.zconnections.specs.Tables.{TablesView, may_send, is_open, chunk, last_chunk, with_chunk, sent, closing, closed}
 use Rattle.zconnections.specs.Reporting.{event_frame}
 use Rattle.zfront_laws.specs.frames.Talk.{Talk, Quiet, Reports, Answers, Closes, chunks_of, is_closed}
@@ -172,6 +172,14 @@ module _ (to : StreamView → StreamView) (rows : StreamRows) (c : ℕ) where
       by : (o : Option StreamView) → get rows c ≡ o → get (option_map_or (λ s. insert rows c (to s)) o rows) c ≡ option_map to o
       by None is = is
       by (Some s) is = get-insert-here nat_cmp_total nat_cmp-IsAntisymmetric rows c (to s)
+
+-- other bytes leave the phase
+pub phase_with : (c : ℕ) (rows : StreamRows) (bytes : List ℕ) → phase_of (with_bytes rows c bytes) c ≡ phase_of rows c
+phase_with c rows bytes = ap phase_in (changed-here (λ s. record s { bytes = bytes }) rows c) ∙ by (get rows c)
+  where
+    by : (o : Option StreamView) → phase_in (option_map (λ (s : StreamView). record s { bytes = bytes }) o) ≡ phase_in o
+    by None = refl
+    by (Some s) = refl
 
 -- ---- what is sent and closed, seen of one connection
 

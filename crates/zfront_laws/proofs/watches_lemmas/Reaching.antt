@@ -10,7 +10,8 @@ use Rattle.zconnections.specs.Tables.{TablesView, sent, closed}
 use Rattle.zresponses.specs.effects.Frames.{answer_frame, ends_connection}
 use Rattle.zresponses.specs.effects.Replying.{replied}
 use Rattle.zfront.specs.Front.{FrontView, with_tables}
-use Rattle.zfront_laws.specs.watches.Watching.{Scene, Happening, Answered, Closed, Moved, tree_of, after, May, Happens, HasReportedAll, IsClose, IsMoved}
+use Rattle.zfront_laws.specs.watches.Watching.{Scene, Happening, Renewals, Answered, Closed, Moved, tree_of, after, May, Happens}
+use Rattle.zfront_laws.specs.watches.Watching.{HasReportedAll, IsClose, IsMoved}
 use Rattle.zfront_laws.proofs.watches_lemmas.Holding.{Holds, fewer_holds, owners_kept, settled}
 use Rattle.zfront_laws.proofs.watches_lemmas.Marks.{Marked, Keeps}
 use Rattle.zfront_laws.proofs.watches_lemmas.Marks as marks
@@ -28,79 +29,6 @@ pub record AtIf (must : Bool) (v : FrontView) (s : Scene) : Type 0 where
 abbrev pub At : FrontView → Scene → Type 0
 At v s = AtIf false v s
 
--- things happen, with these calls in the log, and then the server is there
-pub record Arrives (must : Bool) (v : FrontView) (s : Scene) (more : Log) : Type 0 where
-  pub happenings : List Happening
-  pub scene : Scene
-  pub happens : Happens happenings s scene
-  pub log : scene.log ≡ s.log ++ more
-  pub there : AtIf must v scene
-
-abbrev pub Reaches : FrontView → Scene → Log → Type 0
-Reaches v s more = Arrives false v s more
-
--- one thing happens, and no call is made
-pub once : (must : Bool) (v : FrontView) (s : Scene) (h : Happening) (t : Scene) → Happens (h ∷ []) s t → t.log ≡ s.log → AtIf must v t
-    → Arrives must v s []
-once must v s h t has same there =
-    record { happenings = h ∷ []; scene = t; happens = has; log = same ∙ sym (append-nil s.log); there = there }
-
-pub stays : (must : Bool) (v : FrontView) (s : Scene) → AtIf must v s → Arrives must v s []
-stays must v s there = record { happenings = []; scene = s; happens = refl; log = sym (append-nil s.log); there = there }
-
--- behind things that happened before
-precede : (n : Bool) (w : FrontView) (s t : Scene) (hs : List Happening) (first more : Log) → Happens hs s t → t.log ≡ s.log ++ first
-    → Arrives n w t more → Arrives n w s (first ++ more)
-precede n w s t hs first more has goes rest = record {
-  happenings = hs ++ rest.happenings;
-  scene = rest.scene;
-  happens = happens_both hs rest.happenings s t rest.scene has rest.happens;
-  log = rest.log ∙ ap (λ log. log ++ more) goes ∙ append_assoc s.log first more;
-  there = rest.there;
-}
-
-pub behind : (m n : Bool) (v w : FrontView) (s : Scene) (first more : Log) → Arrives m v s first
-    → ((t : Scene) → AtIf m v t → Arrives n w t more)
-    → Arrives n w s (first ++ more)
-behind m n v w s first more one next =
-    precede n w s one.scene one.happenings first more one.happens one.log (next one.scene one.there)
-
--- behind which no call is made
-pub still : (m n : Bool) (v w : FrontView) (s : Scene) (first : Log) → Arrives m v s first → ((t : Scene) → AtIf m v t → Arrives n w t [])
-    → Arrives n w s first
-still m n v w s first one next = subst (Arrives n w s) (append-nil first) (behind m n v w s first [] one next)
-
--- calls are made, and then none
-pub called : (w : FrontView) (s t : Scene) (hs : List Happening) (first : Log) → Happens hs s t → t.log ≡ s.log ++ first
-    → Reaches w t [] → Reaches w s first
-called w s t hs first has goes rest = subst (Reaches w s) (append-nil first) (precede false w s t hs first [] has goes rest)
-
--- what a server became
-pub becomes : (new like : FrontView) (s : Scene) (more : Log) → new ≡ like → Reaches like s more → Reaches new s more
-becomes new like s more is has = subst (λ (v : FrontView). Reaches v s more) (sym is) has
-
--- the tables move
-pub moves_if : (must : Bool) (v : FrontView) (s : Scene) (t : TablesView) → AtIf must v s → IsMoved v.tables t
-    → (OwnersAre (Marked v.tables.attachments) v.tree.nodes → OwnersAre (Marked t.attachments) v.tree.nodes)
-    → Arrives must (with_tables t v) s []
-moves_if must v s t there moved owners =
-    once must (with_tables t v) s (Moved t) (after (Moved t) s) (subst (λ old. IsMoved old t) (sym there.tables) moved, refl) refl (record {
-      tables = refl;
-      tree = there.tree;
-      holds = fewer_holds must (tree_of s) s.set_at s.tables t
-          (λ w is. ap (λ (u : TablesView). contains u.watches w) there.tables ∙ ap (λ table. contains table w) (sym moved.watches) ∙ is)
-          (λ all.
-          subst (λ (u : Tree). OwnersAre (Marked t.attachments) u.nodes) (sym there.tree)
-          (owners (subst (λ (u : Tree). OwnersAre (Marked v.tables.attachments) u.nodes) there.tree
-          (subst (λ (u : TablesView). OwnersAre (Marked u.attachments) (tree_of s).nodes) there.tables all))))
-          there.holds;
-    })
-
--- and its sessions keep their marks
-pub moves : (must : Bool) (v : FrontView) (s : Scene) (t : TablesView) → AtIf must v s → IsMoved v.tables t → Keeps v.tables.attachments t.attachments
-    → Arrives must (with_tables t v) s []
-moves must v s t there moved kept = moves_if must v s t there moved (owners_kept v.tables.attachments t.attachments v.tree.nodes kept)
-
 -- a connection is closed, or ends
 pub shuts : (must : Bool) (v : FrontView) (s : Scene) (to : TablesView → TablesView) → AtIf must v s → Fewer s.tables (to s.tables)
     → Keeps s.tables.attachments (to s.tables).attachments → AtIf must (with_tables (to v.tables) v) (record s { tables = to s.tables })
@@ -110,11 +38,6 @@ shuts must v s to there fewer kept = record {
   holds = fewer_holds must (tree_of s) s.set_at s.tables (to s.tables) fewer
       (owners_kept s.tables.attachments (to s.tables).attachments (tree_of s).nodes kept) there.holds;
 }
-
-pub closes : (must : Bool) (v : FrontView) (s : Scene) (c : ℕ) → AtIf must v s → Arrives must (with_tables (closed c v.tables) v) s []
-closes must v s c there =
-    once must (with_tables (closed c v.tables) v) s (Closed c) (after (Closed c) s) (tt, refl) refl
-    (shuts must v s (closed c) there (closed_fewer c s.tables) (marks.closed_keeps c s.tables))
 
 -- something is sent
 pub sends : (must : Bool) (v : FrontView) (s : Scene) (c : ℕ) (bytes : List ℕ) → AtIf must v s
@@ -128,35 +51,115 @@ sends must v s c bytes there = record {
       there.holds;
 }
 
--- by something that happens
-pub sends_as : (must : Bool) (v : FrontView) (s : Scene) (c : ℕ) (bytes : List ℕ) (h : Happening) → May h s
-    → after h s ≡ record s { tables = sent c bytes s.tables } → AtIf must v s → Arrives must (with_tables (sent c bytes v.tables) v) s []
-sends_as must v s c bytes h may is there =
-    once must (with_tables (sent c bytes v.tables) v) s h (record s { tables = sent c bytes s.tables }) (may, sym is) refl
-    (sends must v s c bytes there)
-
--- an answer
-answers : (must : Bool) (v : FrontView) (s : Scene) (c : ℕ) (xid : ℤ) (answer : Answer) → AtIf must v s → (HasReportedAll s c ⊎ IsClose s c)
-    → Arrives must (with_tables (sent c (answer_frame v.tree.zxid xid answer) v.tables) v) s []
-answers must v s c xid answer there may =
-    sends_as must v s c (answer_frame v.tree.zxid xid answer) (Answered c xid answer) may
-    (ap (λ (t : Tree). record s { tables = sent c (answer_frame t.zxid xid answer) s.tables }) there.tree) there
-
--- and behind one that ends the connection it is closed
-pub replies : (must : Bool) (v : FrontView) (s : Scene) (c : ℕ) (xid : ℤ) (answer : Answer) → AtIf must v s → (HasReportedAll s c ⊎ IsClose s c)
-    → Arrives must (with_tables (replied v.tree.zxid c xid answer v.tables) v) s []
-replies must v s c xid answer there may = elim (ends_connection answer.code) as (λ b. Arrives must (with_tables (
-    if b
-    then closed c (sent c (answer_frame v.tree.zxid xid answer) v.tables)
-    else sent c (answer_frame v.tree.zxid xid answer) v.tables
-    ) v) s []) [
-      | true ↦
-          let t = sent c (answer_frame v.tree.zxid xid answer) v.tables in
-          still must must (with_tables t v) (with_tables (closed c t) v) s [] (answers must v s c xid answer there may)
-          (λ next here. closes must (with_tables t v) next c here)
-      | false ↦ answers must v s c xid answer there may
-    ]
-
 -- where no look is due, all watches were reported all
 pub all_reported : (v : FrontView) (s : Scene) (c : ℕ) → At v s → HasReportedAll s c
 all_reported v s c there w stands mine = settled (tree_of s) (s.set_at w) w.kind w.path (there.holds.seen w stands)
+
+-- things happen, with these calls in the log, and then the server is there
+pub record Arrives (Renews : Renewals) (must : Bool) (v : FrontView) (s : Scene) (more : Log) : Type 0 where
+  pub happenings : List Happening
+  pub scene : Scene
+  pub happens : Happens Renews happenings s scene
+  pub log : scene.log ≡ s.log ++ more
+  pub there : AtIf must v scene
+
+abbrev pub Reaches : Renewals → FrontView → Scene → Log → Type 0
+Reaches Renews v s more = Arrives Renews false v s more
+
+module _ {Renews : Renewals} where
+  -- one thing happens, and no call is made
+  pub once : (must : Bool) (v : FrontView) (s : Scene) (h : Happening) (t : Scene) → Happens Renews (h ∷ []) s t → t.log ≡ s.log → AtIf must v t
+      → Arrives Renews must v s []
+  once must v s h t has same there =
+      record { happenings = h ∷ []; scene = t; happens = has; log = same ∙ sym (append-nil s.log); there = there }
+
+  pub stays : (must : Bool) (v : FrontView) (s : Scene) → AtIf must v s → Arrives Renews must v s []
+  stays must v s there = record { happenings = []; scene = s; happens = refl; log = sym (append-nil s.log); there = there }
+
+  -- behind things that happened before
+  precede : (n : Bool) (w : FrontView) (s t : Scene) (hs : List Happening) (first more : Log) → Happens Renews hs s t → t.log ≡ s.log ++ first
+      → Arrives Renews n w t more → Arrives Renews n w s (first ++ more)
+  precede n w s t hs first more has goes rest = record {
+    happenings = hs ++ rest.happenings;
+    scene = rest.scene;
+    happens = happens_both Renews hs rest.happenings s t rest.scene has rest.happens;
+    log = rest.log ∙ ap (λ log. log ++ more) goes ∙ append_assoc s.log first more;
+    there = rest.there;
+  }
+
+  pub behind : (m n : Bool) (v w : FrontView) (s : Scene) (first more : Log) → Arrives Renews m v s first
+      → ((t : Scene) → AtIf m v t → Arrives Renews n w t more)
+      → Arrives Renews n w s (first ++ more)
+  behind m n v w s first more one next =
+      precede n w s one.scene one.happenings first more one.happens one.log (next one.scene one.there)
+
+  -- behind which no call is made
+  pub still : (m n : Bool) (v w : FrontView) (s : Scene) (first : Log) → Arrives Renews m v s first → ((t : Scene) → AtIf m v t → Arrives Renews n w t [])
+      → Arrives Renews n w s first
+  still m n v w s first one next = subst (Arrives Renews n w s) (append-nil first) (behind m n v w s first [] one next)
+
+  -- calls are made, and then none
+  pub called : (w : FrontView) (s t : Scene) (hs : List Happening) (first : Log) → Happens Renews hs s t → t.log ≡ s.log ++ first
+      → Reaches Renews w t [] → Reaches Renews w s first
+  called w s t hs first has goes rest = subst (Reaches Renews w s) (append-nil first) (precede false w s t hs first [] has goes rest)
+
+  -- what a server became
+  pub becomes : (new like : FrontView) (s : Scene) (more : Log) → new ≡ like → Reaches Renews like s more → Reaches Renews new s more
+  becomes new like s more is has = subst (λ (v : FrontView). Reaches Renews v s more) (sym is) has
+
+  -- the tables move
+  pub moves_if : (must : Bool) (v : FrontView) (s : Scene) (t : TablesView) → AtIf must v s → IsMoved v.tables t
+      → (OwnersAre (Marked v.tables.attachments) v.tree.nodes → OwnersAre (Marked t.attachments) v.tree.nodes)
+      → Arrives Renews must (with_tables t v) s []
+  moves_if must v s t there moved owners =
+      once must (with_tables t v) s (Moved t) (after (Moved t) s) (subst (λ old. IsMoved old t) (sym there.tables) moved, refl) refl (record {
+        tables = refl;
+        tree = there.tree;
+        holds = fewer_holds must (tree_of s) s.set_at s.tables t
+            (λ w is. ap (λ (u : TablesView). contains u.watches w) there.tables ∙ ap (λ table. contains table w) (sym moved.watches) ∙ is)
+            (λ all.
+            subst (λ (u : Tree). OwnersAre (Marked t.attachments) u.nodes) (sym there.tree)
+            (owners (subst (λ (u : Tree). OwnersAre (Marked v.tables.attachments) u.nodes) there.tree
+            (subst (λ (u : TablesView). OwnersAre (Marked u.attachments) (tree_of s).nodes) there.tables all))))
+            there.holds;
+      })
+
+  -- and its sessions keep their marks
+  pub moves : (must : Bool) (v : FrontView) (s : Scene) (t : TablesView) → AtIf must v s → IsMoved v.tables t → Keeps v.tables.attachments t.attachments
+      → Arrives Renews must (with_tables t v) s []
+  moves must v s t there moved kept = moves_if must v s t there moved (owners_kept v.tables.attachments t.attachments v.tree.nodes kept)
+
+  -- a connection is closed
+  pub closes : (must : Bool) (v : FrontView) (s : Scene) (c : ℕ) → AtIf must v s → Arrives Renews must (with_tables (closed c v.tables) v) s []
+  closes must v s c there =
+      once must (with_tables (closed c v.tables) v) s (Closed c) (after (Closed c) s) (tt, refl) refl
+      (shuts must v s (closed c) there (closed_fewer c s.tables) (marks.closed_keeps c s.tables))
+
+  -- something is sent, by something that happens
+  pub sends_as : (must : Bool) (v : FrontView) (s : Scene) (c : ℕ) (bytes : List ℕ) (h : Happening) → May Renews h s
+      → after h s ≡ record s { tables = sent c bytes s.tables } → AtIf must v s → Arrives Renews must (with_tables (sent c bytes v.tables) v) s []
+  sends_as must v s c bytes h may is there =
+      once must (with_tables (sent c bytes v.tables) v) s h (record s { tables = sent c bytes s.tables }) (may, sym is) refl
+      (sends must v s c bytes there)
+
+  -- an answer
+  answers : (must : Bool) (v : FrontView) (s : Scene) (c : ℕ) (xid : ℤ) (answer : Answer) → AtIf must v s → (HasReportedAll s c ⊎ IsClose s c)
+      → Arrives Renews must (with_tables (sent c (answer_frame v.tree.zxid xid answer) v.tables) v) s []
+  answers must v s c xid answer there may =
+      sends_as must v s c (answer_frame v.tree.zxid xid answer) (Answered c xid answer) may
+      (ap (λ (t : Tree). record s { tables = sent c (answer_frame t.zxid xid answer) s.tables }) there.tree) there
+
+  -- and behind one that ends the connection it is closed
+  pub replies : (must : Bool) (v : FrontView) (s : Scene) (c : ℕ) (xid : ℤ) (answer : Answer) → AtIf must v s → (HasReportedAll s c ⊎ IsClose s c)
+      → Arrives Renews must (with_tables (replied v.tree.zxid c xid answer v.tables) v) s []
+  replies must v s c xid answer there may = elim (ends_connection answer.code) as (λ b. Arrives Renews must (with_tables (
+      if b
+      then closed c (sent c (answer_frame v.tree.zxid xid answer) v.tables)
+      else sent c (answer_frame v.tree.zxid xid answer) v.tables
+      ) v) s []) [
+        | true ↦
+            let t = sent c (answer_frame v.tree.zxid xid answer) v.tables in
+            still must must (with_tables t v) (with_tables (closed c t) v) s [] (answers must v s c xid answer there may)
+            (λ next here. closes must (with_tables t v) next c here)
+        | false ↦ answers must v s c xid answer there may
+      ]

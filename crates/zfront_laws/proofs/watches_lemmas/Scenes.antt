@@ -23,7 +23,7 @@ use Rattle.ztree_service.proofs.log_lemmas.Incarnations.{calls_zipped, incarnati
 use Rattle.ztree_service.proofs.log_lemmas.Logs.{last_tree}
 use Rattle.zconnections.specs.Tables.{TablesView}
 use Rattle.zconnections.specs.Reporting.{reported_all}
-use Rattle.zfront_laws.specs.watches.Watching.{Scene, Happening, Served, Fired, tree_of, after, May, Happens}
+use Rattle.zfront_laws.specs.watches.Watching.{Scene, Happening, Renewals, Served, Fired, tree_of, after, May, Happens}
 use Rattle.zfront_laws.proofs.watches_lemmas.Standing.{Fewer, reported_leaves}
 
 -- the tree of a scene can start a service: it is lawful
@@ -54,11 +54,6 @@ is_older s u path n change found =
     is : after_calls opening_tree (updates_in (calls_of s.log)) ≡ tree_of s
     is = same_tree (calls_of s.log) opening_tree
 
--- what happens behind something else
-pub happens_both : (hs more : List Happening) (a b c : Scene) → Happens hs a b → Happens more b c → Happens (hs ++ more) a c
-happens_both [] more a b c is rest = subst (λ s. Happens more s c) is rest
-happens_both (h ∷ hs) more a b c has rest = (has.0, happens_both hs more (after h a) b c has.1 rest)
-
 -- calls are made of a tree, one after the other
 abbrev pub servings : List Call → List Reply → List Happening
 servings (call ∷ calls) (reply ∷ replies) = Served call reply ∷ servings calls replies
@@ -67,30 +62,36 @@ servings calls replies = []
 abbrev pub logged : Scene → Log → Scene
 logged s more = record s { log = s.log ++ more }
 
-pub served_happens : (calls : List Call) (t : Tree) (s : Scene) → tree_of s ≡ t
-    → Happens (servings calls (served t calls)) s (logged s (zip calls (served t calls)))
-served_happens [] t s is = ap (λ (log : Log). record s { log = log }) (append-nil s.log)
-served_happens (call ∷ calls) t s is =
-    let did = serve t 0 call in
-    let next = after (Served call did.1) s in (
-      ap (λ u. (serve u 0 call).1) (sym is),
-      subst (λ log. Happens (servings calls (served did.0 calls)) next (record s { log = log }))
-          (append_assoc s.log ((call, did.1) ∷ []) (zip calls (served did.0 calls)))
-          (served_happens calls did.0 next (last_tree s.log opening_tree call did.1 ∙ ap (λ u. (serve u 0 call).0) is)),
-    )
-
 -- the tree behind them
 pub tree_logged : (calls : List Call) (t : Tree) (s : Scene) → tree_of s ≡ t → tree_of (logged s (zip calls (served t calls))) ≡ tree_after t calls
 tree_logged calls t s is =
     incarnations_leave_one_tree opening_tree s.log (zip calls (served t calls)) ∙ ap (tree_after (tree_of s)) (calls_zipped t calls)
     ∙ ap (λ u. tree_after u calls) is
 
--- events are reported, one after the other
-pub fired_happens : (es : List Event) (s : Scene)
-    → ((e : Event) (t : TablesView) → Among e es → Fewer s.tables t → May (Fired e) (record s { tables = t }))
-    → Happens (map (λ e. Fired e) es) s (record s { tables = reported_all es s.tables })
-fired_happens [] s cause = refl
-fired_happens (e ∷ es) s cause = (
-  cause e s.tables (inl refl) (λ w stands. stands),
-  fired_happens es (after (Fired e) s) (λ other t among fewer. cause other t (inr among) (λ w stands. (reported_leaves e s.tables w (fewer w stands)).0)),
-)
+module _ (Renews : Renewals) where
+  -- what happens behind something else
+  pub happens_both : (hs more : List Happening) (a b c : Scene) → Happens Renews hs a b → Happens Renews more b c → Happens Renews (hs ++ more) a c
+  happens_both [] more a b c is rest = subst (λ s. Happens Renews more s c) is rest
+  happens_both (h ∷ hs) more a b c has rest = (has.0, happens_both hs more (after h a) b c has.1 rest)
+
+  pub served_happens : (calls : List Call) (t : Tree) (s : Scene) → tree_of s ≡ t
+      → Happens Renews (servings calls (served t calls)) s (logged s (zip calls (served t calls)))
+  served_happens [] t s is = ap (λ (log : Log). record s { log = log }) (append-nil s.log)
+  served_happens (call ∷ calls) t s is =
+      let did = serve t 0 call in
+      let next = after (Served call did.1) s in (
+        ap (λ u. (serve u 0 call).1) (sym is),
+        subst (λ log. Happens Renews (servings calls (served did.0 calls)) next (record s { log = log }))
+            (append_assoc s.log ((call, did.1) ∷ []) (zip calls (served did.0 calls)))
+            (served_happens calls did.0 next (last_tree s.log opening_tree call did.1 ∙ ap (λ u. (serve u 0 call).0) is)),
+      )
+
+  -- events are reported, one after the other
+  pub fired_happens : (es : List Event) (s : Scene)
+      → ((e : Event) (t : TablesView) → Among e es → Fewer s.tables t → May Renews (Fired e) (record s { tables = t }))
+      → Happens Renews (map (λ e. Fired e) es) s (record s { tables = reported_all es s.tables })
+  fired_happens [] s cause = refl
+  fired_happens (e ∷ es) s cause = (
+    cause e s.tables (inl refl) (λ w stands. stands),
+    fired_happens es (after (Fired e) s) (λ other t among fewer. cause other t (inr among) (λ w stands. (reported_leaves e s.tables w (fewer w stands)).0)),
+  )

@@ -1,10 +1,11 @@
 -- A model of what a front does at its inputs, one happening after the other, and which happenings
 -- are allowed while watches are set. The source is the ZooKeeper Programmer's Guide, "ZooKeeper
 -- Watches" and "Semantics of Watches".
-use Rattle.std.specs.Prelude.{◌≡◌, ◌⊎◌, ℕ, ℤ, Bool, true, false, not, ◌&&◌, List, [], ◌∷◌, ◌++◌, Some, None, if◌then◌else◌}
+use Rattle.std.specs.Prelude.{◌≡◌, ◌⊎◌, ℕ, ℤ, int_lt, true, not, ◌&&◌, List, [], ◌∷◌, ◌++◌, Some, None, Ok, if◌then◌else◌}
 use Rattle.std.specs.FinMap.{get}
 use Rattle.std.specs.FinSet.{contains}
 use Rattle.std.specs.Ordering.{eq_by_cmp}
+use Rattle.ztree.specs.declared.node.Node.{Node}
 use Rattle.ztree.specs.Tree.{Tree, Nodes, Path, opening_tree, has_node}
 use Rattle.zcalls.specs.Lists.{Among}
 use Rattle.zcalls.specs.declared.call.Call.{Call}
@@ -16,10 +17,13 @@ use Rattle.zcalls.specs.declared.reply.Reply.{Reply}
 use Rattle.zcalls.specs.declared.reply.Reply.TheVariants as reply
 use Rattle.zjute.specs.declared.connecting.ConnectRequest.{ConnectRequest}
 use Rattle.zjute.specs.declared.event.EventKind.{EventKind}
-use Rattle.zjute.specs.declared.event.EventKind.TheVariants.{NodeDeleted, NodeChildrenChanged}
+use Rattle.zjute.specs.declared.event.EventKind.TheVariants.{NodeCreated, NodeDeleted, NodeDataChanged, NodeChildrenChanged}
+use Rattle.zjute.specs.declared.request.SetWatches.{SetWatches}
+use Rattle.zrequests.specs.Asking.{path_in}
 use Rattle.zwatches.specs.declared.changes.event.Event.{Event}
 use Rattle.zwatches.specs.changes.Events.{events_of}
 use Rattle.zwatches.specs.changes.Laws.{data_at, children_at}
+use Rattle.zresponses.specs.Stats.{long_of}
 use Rattle.zresponses.specs.declared.answer.Answer.{Answer}
 use Rattle.zprotocol.specs.world.PlainTree.{serve}
 use Rattle.ztree_service.specs.log.Logs.{Log, calls_of, tree_after}
@@ -137,27 +141,45 @@ IsClose s c =
     (log : Log) × (session : ℕ) × (s.log ≡ log ++ (Update (Close session), reply.Closed) ∷ [])
     × (phase_of s.tables.streams c ≡ Some (Speaking session))
 
--- whether the node exists, for an event that a watch missed
-abbrev pub reports_node : EventKind → Bool
-reports_node NodeDeleted = false
-reports_node other = true
+-- one of these texts is the path's
+abbrev pub Names : List (List ℕ) → Path → Type 0
+Names texts path = (text : List ℕ) × Among text texts × (path_in (Some text) ≡ Ok path)
+
+-- the node at the path exists, and this zxid of it is above the one that the client has seen
+abbrev pub IsNewer : ℤ → (Node → ℕ) → Nodes → Path → Type 0
+IsNewer seen zxid nodes path = (n : Node) × (get nodes path ≡ Some n) × (int_lt seen (long_of (zxid n)) ≡ true)
+
+-- which events a client has missed when it re-registers these watches, where the tree has these
+-- nodes. A data watch missed that its node is gone, or was written since. A watch for a creation
+-- missed that its node exists. A child watch missed that its node is gone, or that its children
+-- changed since. "Since" means after the zxid that the request names
+abbrev pub IsMissed : SetWatches → Nodes → EventKind → Path → Type 0
+IsMissed set nodes NodeDeleted path = (Names set.data_watches path ⊎ Names set.child_watches path) × (get nodes path ≡ None)
+IsMissed set nodes NodeCreated path = Names set.exist_watches path × (has_node nodes path ≡ true)
+IsMissed set nodes NodeDataChanged path = Names set.data_watches path × IsNewer set.relative_zxid (λ n. n.mzxid) nodes path
+IsMissed set nodes NodeChildrenChanged path = Names set.child_watches path × IsNewer set.relative_zxid (λ n. n.pzxid) nodes path
+IsMissed set nodes other path = ⊥
+
+-- which watches connections re-register in a step, each by a request
+abbrev pub Renewals : Type 1
+Renewals = ℕ → SetWatches → Type 0
 
 -- when each happening is allowed. A reply is the tree's. An event has a cause, and fires watches
--- with a change. A watch is set where its node exists, or where it doesn't. A connection gets an
--- answer only if no watch of it has missed a change. A word is answered where nothing was read yet,
--- so that connection has no watch
-abbrev pub May : Happening → Scene → Type 0
-May (Served call reply) s = reply ≡ (serve (tree_of s) 0 call).1
-May (Fired e) s = ((IsOfTheLast s e ⊎ IsGone s e) × FiresChanged s e) ⊎ LostChild s e
-May (Set c kind path) s = has_node (tree_of s).nodes path ≡ is_of_node kind
-May (Missed c e) s = has_node (tree_of s).nodes e.path ≡ reports_node e.kind
-May (Answered c xid answer) s = HasReportedAll s c ⊎ IsClose s c
-May (Greeted c greeting timeout session password) s = Unit {0}
-May (Said c bytes) s = phase_of s.tables.streams c ≡ Some Silent
-May (Closed c) s = Unit {0}
-May (Moved t) s = IsMoved s.tables t
+-- with a change. A watch is set where its node exists, or where it doesn't. A missed event goes to
+-- a connection that re-registers its watch. A connection gets an answer only if no watch of it has
+-- missed a change. A word is answered where nothing was read yet, so that connection has no watch
+abbrev pub May : Renewals → Happening → Scene → Type 0
+May Renews (Served call reply) s = reply ≡ (serve (tree_of s) 0 call).1
+May Renews (Fired e) s = ((IsOfTheLast s e ⊎ IsGone s e) × FiresChanged s e) ⊎ LostChild s e
+May Renews (Set c kind path) s = has_node (tree_of s).nodes path ≡ is_of_node kind
+May Renews (Missed c e) s = (set : SetWatches) × Renews c set × IsMissed set (tree_of s).nodes e.kind e.path
+May Renews (Answered c xid answer) s = HasReportedAll s c ⊎ IsClose s c
+May Renews (Greeted c greeting timeout session password) s = Unit {0}
+May Renews (Said c bytes) s = phase_of s.tables.streams c ≡ Some Silent
+May Renews (Closed c) s = Unit {0}
+May Renews (Moved t) s = IsMoved s.tables t
 
 -- happenings in order, each allowed
-abbrev pub Happens : List Happening → Scene → Scene → Type 0
-Happens [] s t = t ≡ s
-Happens (h ∷ hs) s t = May h s × Happens hs (after h s) t
+abbrev pub Happens : Renewals → List Happening → Scene → Scene → Type 0
+Happens Renews [] s t = t ≡ s
+Happens Renews (h ∷ hs) s t = May Renews h s × Happens Renews hs (after h s) t

@@ -4,8 +4,9 @@ ghost use Rattle.zfront_laws.specs.watches.Laws.{EveryWatchIsReported};
 
 /// Whatever the steps of a front were, its effect on the tables is a list of allowed happenings. So
 /// a connection gets an answer only after events for all changes that its watches waited for. The
-/// one exception is the answer to the close of its session. The log of the happenings is that of
-/// the steps.
+/// one exception is the answer to the close of its session. An event that a watch missed is sent
+/// only to the connection that sets this watch again in that step. The log of the happenings is
+/// that of the steps.
 pub fn every_watch_is_reported()
     ensures { EveryWatchIsReported }
 {}

@@ -1,24 +1,38 @@
 //! Worked examples of the definitions, as clauses. The functions do nothing.
 
-ghost use Rattle.std.specs.Prelude.{◌≡◌, ◌⊎◌, ℕ, ℤ, true, false, List, [], ◌∷◌, Some};
+ghost use Rattle.std.specs.Prelude.{◌≡◌, ◌⊎◌, ℕ, ℤ, true, false, List, [], ◌∷◌, None, Some, Ok};
+ghost use Rattle.std.specs.FinMap.{get};
+ghost use Rattle.zcodec.specs.Readers.{whole};
+ghost use Rattle.ztree.specs.declared.node.Node.{Node};
 ghost use Rattle.ztree.specs.Tree.{Nodes, has_node};
+ghost use Rattle.ztree.specs.support.Samples.{at_a, at_a_b};
+ghost use Rattle.zjute.specs.Asking.{request};
+ghost use Rattle.zjute.specs.Frames.{Whole, next_of};
+ghost use Rattle.zjute.specs.declared.request.Asked.TheVariants as asked;
+ghost use Rattle.zjute.specs.declared.request.Request.{Request};
+ghost use Rattle.zjute.specs.declared.request.SetWatches.{SetWatches};
+ghost use Rattle.zresponses.specs.effects.support.Samples.{set_again};
 ghost use Rattle.zresponses.specs.declared.answer.Answer.{Answer};
 ghost use Rattle.zwatches.specs.changes.Events.{event};
 ghost use Rattle.zwatches.specs.declared.changes.event.Event.{Event};
-ghost use Rattle.zjute.specs.declared.event.EventKind.TheVariants.{NodeDeleted, NodeDataChanged};
+ghost use Rattle.zjute.specs.declared.event.EventKind.TheVariants.{NodeChildrenChanged};
+ghost use Rattle.zjute.specs.declared.event.EventKind.TheVariants.{NodeDataChanged};
+ghost use Rattle.zjute.specs.declared.event.EventKind.TheVariants.{NodeDeleted};
 ghost use Rattle.zwatches.specs.changes.Laws.{data_at, children_at};
 ghost use Rattle.zwatches.specs.declared.kind.Kind.TheVariants.{Data, Missing, Children};
 ghost use Rattle.zwatches.specs.declared.watch.Watch.{Watch};
 ghost use Rattle.zwatches.specs.Events.{fires};
 ghost use Rattle.ztree_service.specs.log.Logs.{Log};
 ghost use Rattle.zconnections.specs.buffers.Inputs.InputView.{Opened};
-ghost use Rattle.zconnections.specs.buffers.Streams.{phase_of};
+ghost use Rattle.zconnections.specs.buffers.Streams.{bytes_of, phase_of};
 ghost use Rattle.zconnections.specs.declared.buffers.phase.Phase.TheVariants.{Silent, Speaking};
 ghost use Rattle.zconnections.specs.Tables.{TablesView, is_open};
 ghost use Rattle.zfront_laws.specs.Runs.{Sent, Took, Takes};
-ghost use Rattle.zfront_laws.specs.watches.Laws.{Brings, opening_scene};
+ghost use Rattle.zfront_laws.specs.watches.Laws.{Arriving, Brings, none_renewed, opening_scene};
+ghost use Rattle.zfront_laws.specs.watches.Laws.{requests_in};
 ghost use Rattle.zfront_laws.specs.watches.Watching.{Answered, Fired, Missed, Moved, Said, Set};
-ghost use Rattle.zfront_laws.specs.watches.Watching.{IsClose, IsGone, IsOfTheLast, IsSameAt, IsUnchanged, LostChild};
+ghost use Rattle.zfront_laws.specs.watches.Watching.{IsClose, IsGone, IsMissed, IsOfTheLast};
+ghost use Rattle.zfront_laws.specs.watches.Watching.{IsSameAt, IsUnchanged, LostChild};
 ghost use Rattle.zfront_laws.specs.watches.Watching.{May, Scene, Stands, tree_of};
 
 /// What a watch waits for, by its kind. A child watch ignores the data, and a data watch ignores
@@ -32,15 +46,46 @@ pub fn what_is_waited_for()
         → children_at now [] ≡ Some 5 → IsSameAt Children [] before now → ⊥ }
 {}
 
-/// `exists` sets a watch for a creation only where no node exists. For a re-registered watch,
-/// NodeDeleted is sent only if the node is gone.
+/// `exists` sets a watch for a creation only where no node exists.
 pub fn where_watches_are_set()
     ensures missing { (s : Scene) → has_node (tree_of s).nodes [] ≡ true
-        → May (Set 1 Missing []) s → ⊥ }
+        → May none_renewed (Set 1 Missing []) s → ⊥ }
     ensures data { (s : Scene) → has_node (tree_of s).nodes [] ≡ false
-        → May (Set 1 Data []) s → ⊥ }
-    ensures deleted { (s : Scene) → has_node (tree_of s).nodes [] ≡ true
-        → May (Missed 1 (event NodeDeleted [])) s → ⊥ }
+        → May none_renewed (Set 1 Data []) s → ⊥ }
+{}
+
+/// A client that has seen change 1 re-registers a data watch of /a, a watch for the creation of /a,
+/// and a child watch of /a/b. It missed a write of /a if that was after change 1. It missed none of
+/// a path that it doesn't name for that kind.
+#[tactic(auto, unfolding(zpath::specs::Faults::fault_of))]
+pub fn what_is_missed()
+    ensures written { (nodes : Nodes) (n : Node) → get nodes at_a ≡ Some n → n.mzxid ≡ 2
+        → IsMissed set_again nodes NodeDataChanged at_a }
+    ensures seen { (nodes : Nodes) (n : Node) → get nodes at_a ≡ Some n → n.mzxid ≡ 1
+        → IsMissed set_again nodes NodeDataChanged at_a → ⊥ }
+    ensures unnamed { (nodes : Nodes) → IsMissed set_again nodes NodeDataChanged at_a_b → ⊥ }
+    ensures other_list { (nodes : Nodes)
+        → IsMissed set_again nodes NodeChildrenChanged at_a → ⊥ }
+    ensures gone { (nodes : Nodes) → get nodes at_a ≡ None
+        → IsMissed set_again nodes NodeDeleted at_a }
+    ensures there { (nodes : Nodes) (n : Node) → get nodes at_a ≡ Some n
+        → IsMissed set_again nodes NodeDeleted at_a → ⊥ }
+{}
+
+/// A missed event is sent only to a connection that re-registers its watch, in that step: by a
+/// whole request on that connection. A tick re-registers none, and the first frame is no request.
+pub fn who_missed_it()
+    ensures own { (s : Scene) (bytes frame : List ℕ) (r : Request) (set : SetWatches)
+        → phase_of s.tables.streams 1 ≡ Some (Speaking 7) → bytes_of s.tables.streams 1 ≡ []
+        → next_of bytes ≡ Whole frame [] → whole request frame ≡ Ok r
+        → r.asked ≡ asked.SetWatches set → Arriving 1 bytes s 1 set }
+    ensures allowed { (s : Scene) (bytes : List ℕ) (set : SetWatches) (e : Event)
+        → Arriving 1 bytes s 1 set → IsMissed set (tree_of s).nodes e.kind e.path
+        → May (Arriving 1 bytes s) (Missed 1 e) s }
+    ensures other { (s : Scene) (bytes : List ℕ) (e : Event)
+        → May (Arriving 1 bytes s) (Missed 2 e) s → ⊥ }
+    ensures tick { (s : Scene) (e : Event) → May none_renewed (Missed 1 e) s → ⊥ }
+    ensures first { (frame : List ℕ) → requests_in (Some Silent) (frame ∷ []) ≡ [] }
 {}
 
 /// A connection gets no answer while one of its watches has missed a change, except the answer to
@@ -49,17 +94,18 @@ pub fn where_watches_are_set()
 pub fn what_may_not_happen()
     ensures answered { (s : Scene) (w : Watch) (xid : ℤ) (answer : Answer) → Stands s w
         → w.connection ≡ 1 → (IsUnchanged s w → ⊥) → (IsClose s 1 → ⊥)
-        → May (Answered 1 xid answer) s → ⊥ }
+        → May none_renewed (Answered 1 xid answer) s → ⊥ }
     ensures fired { (s : Scene) (e : Event) → (IsOfTheLast s e → ⊥) → (IsGone s e → ⊥)
-        → (LostChild s e → ⊥) → May (Fired e) s → ⊥ }
+        → (LostChild s e → ⊥) → May none_renewed (Fired e) s → ⊥ }
     ensures changed { (s : Scene) (w : Watch) → Stands s w → IsUnchanged s w
         → fires NodeDataChanged [] w ≡ true → (w.kind ≡ Missing → ⊥)
-        → May (Fired (event NodeDataChanged [])) s → ⊥ }
+        → May none_renewed (Fired (event NodeDataChanged [])) s → ⊥ }
     ensures own { (s : Scene) → phase_of s.tables.streams 1 ≡ Some Silent → IsClose s 1 → ⊥ }
     ensures said { (s : Scene) (session : ℕ) (bytes : List ℕ)
-        → phase_of s.tables.streams 1 ≡ Some (Speaking session) → May (Said 1 bytes) s → ⊥ }
+        → phase_of s.tables.streams 1 ≡ Some (Speaking session)
+        → May none_renewed (Said 1 bytes) s → ⊥ }
     ensures moved { (s : Scene) (t : TablesView) → is_open s.tables 1 ≡ true
-        → is_open t 1 ≡ false → May (Moved t) s → ⊥ }
+        → is_open t 1 ≡ false → May none_renewed (Moved t) s → ⊥ }
 {}
 
 /// A scene begins with the given log and tables. Taking updates leaves it unchanged. Opening a
