@@ -10,7 +10,7 @@ import clusters
 import losses
 import messages
 from chains import SECONDS, Chain, comes, zk
-from report import Test, want, want_same
+from report import Failed, Test, want, want_same
 from rows_part import Rows, differing
 from sources import ROOT
 
@@ -270,6 +270,40 @@ def entries(_):
     want_same(its.gone(2, 0, 1), b"\3\2" + bytes(8) + b"\2\1", "a report")
 
 
+def history():
+    """Calls one after the other: each node is set, and got, and set again, and got again."""
+    made, versions = [], [0] * losses.KEYS
+    for number in range(8 * losses.KEYS):
+        key, is_set = number // 2 % losses.KEYS, number % 2 == 0
+        versions[key] += is_set
+        data, zxid = b"%d" % (number // 2), number // 2 + 1
+        made.append(losses.Call(is_set, key, data, number, number + 0.5, versions[key], zxid))
+    return made
+
+
+def checks(_):
+    """The check of answers takes what is right, and refuses what is wrong."""
+    losses.check(history())
+    get, change, again = 1, 0, 2 * losses.KEYS
+    wrong = {  # how a history is changed
+        "an old state": lambda it: it[again + get].__dict__.update(
+            version=1, data=it[change].data, zxid=it[change].zxid),
+        "data of another": lambda it: it[get].__dict__.update(data=b"x"),
+        "a state of nobody": lambda it: it[get].__dict__.update(version=9),
+        "a set that is done twice": lambda it: it.insert(1, it[change]),
+        "a set that is lost": lambda it: it.pop(change),
+        "sets in another order": lambda it: it[change].__dict__.update(zxid=99),
+    }
+    for what, spoil in wrong.items():
+        calls = history()
+        spoil(calls)
+        try:
+            losses.check(calls)
+        except Failed:
+            continue
+        raise Failed(f"{what} isn't seen")
+
+
 def lost(builds, seed):
     return Test(f"nodes: {len(losses.LOSSES)} losses, {seed}", 40,
                 lambda _: losses.lose(builds, seed))
@@ -278,7 +312,7 @@ def lost(builds, seed):
 def tests(builds):
     each = garbage, cut, refusals, state
     found = [Test(f"nodes: {it.__name__}", 100, lambda _, it=it: it(builds)) for it in each]
-    found += [Test(f"nodes: {it.__name__}", 1, it) for it in (codec, entries)]
+    found += [Test(f"nodes: {it.__name__}", 1, it) for it in (codec, entries, checks)]
     found += [Test(f"nodes: {it}.rows", 5, lambda _, it=it: row(builds, it)) for it in ROWS]
     seeds = range(19) if builds.is_long else (int.from_bytes(os.urandom(3), "big"), 1)
     return found + [lost(builds, it) for it in seeds]
