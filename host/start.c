@@ -12,6 +12,7 @@
 #include <sys/resource.h>
 #include <sys/signalfd.h>
 #include <sys/socket.h>
+#include <time.h>
 #include <unistd.h>
 #include "jellqupas.h"
 #include "start.h"
@@ -25,22 +26,20 @@ _Noreturn void stop(int status, const char *format, ...) {
     exit(status);
 }
 
-/* A number from `least` to `most`, or -1. */
-static long number_in(const char *text, long least, long most) {
+uint64_t now(void) {
+    struct timespec at;
+    clock_gettime(CLOCK_MONOTONIC, &at);
+    return (uint64_t)at.tv_sec * 1000 + (uint64_t)at.tv_nsec / 1000000;
+}
+
+long number_in(const char *text, long least, long most) {
     char *end;
     text += *text == '+';
     long found = strtol(text, &end, 10);
     return *text >= '0' && *text <= '9' && !*end && least <= found && found <= most ? found : -1;
 }
 
-union address {
-    struct sockaddr any;
-    struct sockaddr_in four;
-    struct sockaddr_in6 six;
-};
-
-/* Reads ADDRESS:PORT. Returns its size, or 0 if it isn't one. */
-static socklen_t read_address(const char *text, union address *to) {
+socklen_t read_address(const char *text, union address *to) {
     char host[INET6_ADDRSTRLEN + 2];
     const char *colon = strrchr(text, ':');
     size_t length = colon ? (size_t)(colon - text) : 0;

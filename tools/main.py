@@ -8,6 +8,8 @@ import os
 import signal
 import sys
 
+import calling
+import clusters
 import places
 import programs
 import proof
@@ -55,16 +57,33 @@ def play(mode, command, words, _):
     become(get(mode, command), [command, *words])
 
 
-def serve(mode, command, words, _):
-    """Runs the server for ZooKeeper's clients, behind its host, which is compiled meanwhile."""
+def hosted(host, mode, command):
+    """The host of a command, which is compiled while its program is built, and that program."""
     with concurrent.futures.ThreadPoolExecutor(1) as aside:
-        made = aside.submit(serving.host)
+        made = aside.submit(host)
         try:
             program = get(mode, command)
         finally:
             # (what keeps the host from being compiled is said first)
-            host = made.result()
+            path = made.result()
+    return path, program
+
+
+def serve(mode, command, words, _):
+    """Runs the server for ZooKeeper's clients, behind its host."""
+    host, program = hosted(serving.host, mode, command)
     become(host, [f"--program={program}", *words])
+
+
+def node(mode, words):
+    """Runs a node of a cluster, behind its host: `node FILE [--self NODE]`."""
+    if len(words) not in (1, 3) or words[1:2] not in ([], ["--self"]):
+        refuse("node takes FILE [--self NODE]")
+    cluster = clusters.read(words[0], *words[2:])
+    if not cluster.self:
+        raise Stopped(f"{words[0]}: self= or --self is to name the node", 2)
+    host, program = hosted(serving.node_host, mode, "node")
+    become(host, clusters.words_of(cluster, program))
 
 
 def at_rest(mode, command, _, given):
@@ -99,8 +118,12 @@ def do(is_folder, words):
             raise Stopped("standard input is a folder")
         by_command = {"serve": serve, **dict.fromkeys(words_of.AT_REST, at_rest)}
         by_command.get(command, play)(mode, command, words, given)
+    elif command == "node":
+        node(mode, words)
     elif mode:
-        refuse(f"{mode} takes script, race, serve, compact, export or stat, not '{command}'")
+        refuse(f"{mode} takes script, race, serve, node, compact, export or stat, not '{command}'")
+    elif command in ("cluster", "call"):
+        {"cluster": clusters, "call": calling}[command].command(words)
     elif command == "prove":
         prove(words)
     elif command == "clean" and words in ([], ["--all"]):

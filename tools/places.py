@@ -13,7 +13,7 @@ import sources
 from ending import Stopped
 
 # What a checkout may have built.
-TOPS = ("zk", "zk_race", "zk_serve", "zc_library")
+TOPS = ("zk", "zk_race", "zk_serve", "zk_node", "zc_library")
 
 
 def cache():

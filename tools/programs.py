@@ -6,8 +6,8 @@ import kit
 import places
 import sources
 
-# The program that a command runs; that of a server is behind a host.
-NAMES = {"script": "zk", "race": "zk_race", "serve": "zk_serve"}
+# The program that a command runs; that of a server, or of a node, is behind a host.
+NAMES = {"script": "zk", "race": "zk_race", "serve": "zk_serve", "node": "zk_node"}
 
 
 def of_the_gate(name, lines):

@@ -25,16 +25,17 @@ A coordination service with ZooKeeper's data model and chain replication.
 ./zk serve --data DIR [--sync batch|never] [--journal MIB] ..
                               stores its state in DIR; with never a power cut may
                               lose it; compacts its journal from MIB on (64)
+./zk node FILE [--self NODE]  runs a server of a chain as a process of its own
+./zk cluster FILE init|status|retire ..  the log of the nodes (docs/GUIDE.md)
+./zk call FILE [--client N]   plays calls over the nodes, or those of client N
 ./zk compact --data DIR       compacts a server's journal that isn't in use
 ./zk export|stat --data DIR   writes its tree as a script; says how large it is
 Without a proved program each builds one without proof, in a minute, and says so.
 
-./zk prove [script|race|serve|library]
-                              proves the program of a command, or the library, by
-                              the toolchain's rt ci, in an hour on four
-                              cores; some toolchains continue a stopped one
-./zk --proved script ..       runs the proved program, or nothing; others too
-./zk --unproved script ..     runs the one without proof; others too
+./zk prove [script|race|serve|node|library]
+                              proves that program, or the library, by the
+                              toolchain's rt ci, in an hour on four cores
+./zk --proved script ..       runs the proved program or none; --unproved, the other
 ./zk --version                the version, and which program would run
 ./zk clean [--all]            removes programs that aren't of this checkout, or all
 
