@@ -5,3 +5,6 @@ pub mod Accounts
 pub mod Sending
 pub mod Putting
 pub mod Results
+pub mod Refusals
+pub mod Hearing
+pub mod Turning

@@ -15,7 +15,7 @@ use Rattle.zmaster_log.specs.declared.entry.LogEntry.{LogEntry}
 use Rattle.zmaster_log.specs.Bytes.{entry}
 use Rattle.zmaster_log.specs.Log.{State, entry_played, log_played, order_for}
 use Rattle.zpeers.specs.Records.{LinkRecord, TreeTransfer, records_of}
-use Rattle.zpeers.specs.Incoming.{ArrivingView, Accepts, arriving_from}
+use Rattle.zpeers.specs.Incoming.{ArrivingView, arriving_from}
 use Rattle.zpeers.specs.Outgoing.{records_for, waiting_for}
 use Rattle.znode.specs.pipe.Inputs.{InputView, Entry, CaughtUp, Link, Lost, Turn, Ended}
 use Rattle.znode.specs.pipe.Outputs.{OutputView}
@@ -23,7 +23,7 @@ use Rattle.znode.specs.pipe.Serving.{Serves}
 use Rattle.znode.specs.Node.{NodeView, IsNew}
 use Rattle.znode.specs.Server.{MayDo, puts_to}
 use Rattle.znode.specs.Turns.{HasLink, sent_to}
-use Rattle.znode.specs.Steps.{Takes}
+use Rattle.znode.specs.Steps.{Comes, Takes}
 
 -- ---- the server
 
@@ -77,7 +77,7 @@ orders_in s state (e ∷ entries) =
 -- the message that is whole by a record of this link, if it is of this process
 abbrev pub BringsOf : ℕ → Process → Bool → LinkRecord → Option ArrivingView → List TreeMessage → Option ArrivingView → Type 0
 BringsOf own p true r old messages new =
-    (came : Option TreeMessage) × Accepts (Server own) p r old new came × (messages ≡ option_to_list came)
+    (came : Option TreeMessage) × Comes own p r old new came × (messages ≡ option_to_list came)
 BringsOf own p false r old messages new = (new ≡ old) × (messages ≡ [])
 
 -- what an input brings of a process, and what is being loaded of it before and after
@@ -87,7 +87,7 @@ Brings own p (Ended q) old messages new = (new ≡ (if is_same p q then None els
 Brings own p other old messages new = (new ≡ old) × (messages ≡ [])
 
 -- The messages of a process that come whole, in order, by the records of its link. What is being
--- loaded when its connection ends is dropped.
+-- loaded when its connection ends is dropped, and so is a record of a client that is refused.
 abbrev pub Came : ℕ → Process → List InputView → Option ArrivingView → List TreeMessage → Option ArrivingView → Type 0
 Came own p [] old messages new = (new ≡ old) × (messages ≡ [])
 Came own p (it ∷ inputs) old messages new =

@@ -4,7 +4,7 @@ use Rattle.std.specs.List.{list_any}
 use Rattle.zcodec.specs.declared.fault.Fault.{Fault}
 use Rattle.zcodec.specs.Readers.{whole}
 use Rattle.zprotocol.specs.declared.process.Process.{Process}
-use Rattle.zprotocol.specs.declared.process.Process.TheVariants.{Master, Server}
+use Rattle.zprotocol.specs.declared.process.Process.TheVariants.{Master, Server, Client}
 use Rattle.zserver.specs.Server.{TreeMessage}
 use Rattle.zmaster_log.specs.declared.limits.TheConstants.{MAX_ENTRIES}
 use Rattle.zmaster_log.specs.declared.entry.News.{News}
@@ -12,7 +12,9 @@ use Rattle.zmaster_log.specs.declared.entry.News.TheVariants as news
 use Rattle.zmaster_log.specs.Bytes.{entry}
 use Rattle.zmaster_log.specs.Log.{has_live}
 use Rattle.zpeers.specs.Records.{LinkRecord}
-use Rattle.zpeers.specs.Incoming.{Accepts, IsPeerFault, OthersArrive, arriving_from}
+use Rattle.zpeers.specs.declared.fault.PeerFault.{PeerFault}
+use Rattle.zpeers.specs.declared.fault.PeerFault.TheVariants as peer
+use Rattle.zpeers.specs.Incoming.{ArrivingView, Accepts, IsPeerFault, OthersArrive, arriving_from}
 use Rattle.zpeers.specs.Outgoing.{OthersWait, waiting_for}
 use Rattle.znode.specs.declared.fault.NodeFault.{NodeFault}
 use Rattle.znode.specs.declared.fault.NodeFault.TheVariants as fault
@@ -25,6 +27,18 @@ use Rattle.znode.specs.Turns.{Answers, HasLong}
 
 -- ---- links
 
+-- A record of a client that is refused, but not because memory ran out: it is dropped, and the node
+-- goes on.
+abbrev pub IsDropped : ℕ → Process → LinkRecord → Option ArrivingView → Type 0
+IsDropped own (Client c) r loaded = (it : PeerFault) × (it ≢ peer.Memory) × IsPeerFault (Server own) (Client c) r loaded it
+IsDropped own from r loaded = ⊥
+
+-- What is being loaded of a sender before and after a record of it, and the message that is whole by
+-- it, if one is. What is being loaded of a client is dropped with a record of it.
+abbrev pub Comes : ℕ → Process → LinkRecord → Option ArrivingView → Option ArrivingView → Option TreeMessage → Type 0
+Comes own from r old new came =
+    Accepts (Server own) from r old new came ⊎ (IsDropped own from r old × (new ≡ None) × (came ≡ None))
+
 -- A record of a link came. The server handles the message that is whole by it, if one is. The
 -- master has no link.
 pub record Receives (v : NodeView) (from : Process) (r : LinkRecord) (w : NodeView) : Type 0 where
@@ -32,7 +46,7 @@ pub record Receives (v : NodeView) (from : Process) (r : LinkRecord) (w : NodeVi
   pub is_own : v.replica.own ≡ Some own
   pub peer : from ≢ Master
   pub came : Option TreeMessage
-  pub accepted : Accepts (Server own) from r (arriving_from v.incoming from) (arriving_from w.incoming from) came
+  pub comes : Comes own from r (arriving_from v.incoming from) (arriving_from w.incoming from) came
   pub others : OthersArrive v.incoming w.incoming from
   pub heard : HearsAny own from came v.seat w.seat
   pub rest : w ≡ record v { incoming = w.incoming; seat = w.seat }
@@ -87,7 +101,7 @@ Takes v (Ended from) outputs w = (outputs ≡ []) × Forgets v from w
 abbrev pub OfServer : NodeView → (ℕ → Type 0) → Type 0
 OfServer v it = (own : ℕ) × (v.replica.own ≡ Some own) × it own
 
--- why a node takes no such input
+-- why a node takes no such input: a refused record ends it only if a server sent it
 abbrev pub IsNodeFault : NodeView → InputView → NodeFault → Type 0
 IsNodeFault v input fault.Memory = Unit {0}
 IsNodeFault v (Entry index bytes) fault.Order = (index ≢ v.replica.played) ⊎ (index ≡ MAX_ENTRIES)
@@ -95,7 +109,7 @@ IsNodeFault v (Entry index bytes) fault.Entry =
     (index ≡ v.replica.played) × (it : Fault) × (whole entry bytes ≡ Err it)
 IsNodeFault v (Link from r) fault.NoServer = v.replica.own ≡ None
 IsNodeFault v (Link from r) fault.Master = from ≡ Master
-IsNodeFault v (Link from r) (fault.Peer it) =
-    OfServer v (λ own. IsPeerFault (Server own) from r (arriving_from v.incoming from) it)
+IsNodeFault v (Link (Server s) r) (fault.Peer it) =
+    OfServer v (λ own. IsPeerFault (Server own) (Server s) r (arriving_from v.incoming (Server s)) it)
 IsNodeFault v Turn fault.TooLong = OfServer v (λ own. HasLong own v.seat.outgoing)
 IsNodeFault v input it = ⊥

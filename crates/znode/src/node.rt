@@ -1,14 +1,16 @@
 //! A node.
 
-ghost use Rattle.std.specs.Prelude.{◌≡◌, ◌≢◌, ◌++◌, IfOk, IfErr, IsTrue, IsFalse, OnOk, List};
+ghost use Rattle.std.specs.Prelude.{◌≡◌, ◌≢◌, ◌⊎◌, ◌++◌, ℕ, IfOk, IfErr, IsTrue, IsFalse, OnOk, List};
 ghost use Rattle.zprotocol.specs.declared.process.Process.{Process};
 ghost use Rattle.zprotocol.specs.server.View.{spare};
 ghost use Rattle.zprotocol.specs.world.Does.{AtServer};
-ghost use Rattle.zprotocol.specs.declared.process.Process.TheVariants.{Server as OfServer};
-ghost use Rattle.zpeers.specs.Incoming.{Accepts, IsPeerFault, OthersArrive, arriving_from};
+ghost use Rattle.zprotocol.specs.declared.process.Process.TheVariants.{Server as OfServer, Client as OfClient};
+ghost use Rattle.zpeers.specs.declared.fault.PeerFault.TheVariants.{Memory as OfMemory};
+ghost use Rattle.zpeers.specs.Incoming.{OthersArrive, arriving_from};
 ghost use Rattle.zpeers.specs.Outgoing.{waiting_for};
 ghost use Rattle.znode.specs.Node.{has_ended, status_of, IsNew};
-ghost use Rattle.znode.specs.Steps.{Takes, IsNodeFault, Receives, Loses, Forgets, accusing, may_accuse};
+ghost use Rattle.znode.specs.support.Faults.{IsLinkFault};
+ghost use Rattle.znode.specs.Steps.{Takes, Comes, IsNodeFault, Receives, Loses, Forgets, accusing, may_accuse};
 ghost use Rattle.znode.specs.pipe.Inputs.{InputView, input_of};
 ghost use Rattle.znode.specs.pipe.Inputs.InputView.{Link, Lost, Ended};
 ghost use Rattle.znode.specs.pipe.Outputs.{OutputView};
@@ -176,7 +178,8 @@ impl Node {
     }
 }
 
-// Takes a record of a link, and returns the message that is whole by it, if one is.
+// Takes a record of a link, and returns the message that is whole by it, if one is. A record of a
+// client that is refused is dropped, and what was loaded of the client.
 fn record_came(
     incoming: &mut Incoming,
     own: ServerId,
@@ -184,14 +187,39 @@ fn record_came(
     tag: u8,
     bytes: &[u8],
 ) -> Result<Option<Message<Snapshot>>, PeerFault>
-    ensures accepted { IfOk result (Accepts (OfServer own) from
-        (record { tag = tag; bytes = bytes.now })
+    requires { from ≢ Process.Master }
+    ensures comes { IfOk result (Comes own from (record { tag = tag; bytes = bytes.now })
         (arriving_from incoming.old from) (arriving_from incoming.new from)) }
     ensures others { OthersArrive incoming.old incoming.new from }
-    ensures fault { IfErr result (IsPeerFault (OfServer own) from
+    ensures fault { IfErr result (IsLinkFault own from
         (record { tag = tag; bytes = bytes.now }) (arriving_from incoming.old from)) }
 {
-    incoming.take(Process::Server(own), from, tag, bytes)
+    match incoming.take(Process::Server(own), from, tag, bytes) {
+        Ok(came) => Ok(came),
+        Err(fault) => {
+            if ends_node(from, fault) {
+                return Err(fault);
+            }
+            incoming.forget(from);
+            Ok(None)
+        }
+    }
+}
+
+// Returns whether a fault of a record of this process ends the node. That of a client doesn't, but
+// for memory.
+fn ends_node(from: Process, fault: PeerFault) -> bool
+    ensures yes { IsTrue result → from ≢ Process.Master
+        → (fault ≡ OfMemory) ⊎ ((s : ℕ) × (from ≡ OfServer s)) }
+    ensures no { IsFalse result → (fault ≢ OfMemory) × ((c : ℕ) × (from ≡ OfClient c)) }
+{
+    match fault {
+        PeerFault::Memory => true,
+        _ => match from {
+            Process::Client(_) => false,
+            Process::Master | Process::Server(_) => true,
+        },
+    }
 }
 
 // Returns whether the process is the master.

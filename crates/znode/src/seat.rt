@@ -155,7 +155,7 @@ impl Seat {
         };
         self.put_all(own, &mut out)?;
         if done.is_end() {
-            self.report(own, Message::Gone)?;
+            return self.report(own, Message::Gone);
         }
         Ok(())
     }

@@ -16,7 +16,7 @@ use Rattle.zmaster_log.specs.declared.entry.LogEntry.{LogEntry}
 use Rattle.zmaster_log.specs.declared.entry.LogEntry.TheVariants as log
 use Rattle.zmaster_log.specs.Log.{State, entry_played, log_played, order_for}
 use Rattle.zpeers.specs.Records.{LinkRecord, TreeTransfer, records_of}
-use Rattle.zpeers.specs.Incoming.{ArrivingView, Accepts, arriving_from, OthersArrive}
+use Rattle.zpeers.specs.Incoming.{ArrivingView, arriving_from, OthersArrive}
 use Rattle.zpeers.specs.Outgoing.{records_for, waiting_for, left_of}
 use Rattle.znode.specs.pipe.Inputs.{InputView, Entry, CaughtUp, Link, Lost, Turn, Ended}
 use Rattle.znode.specs.pipe.Outputs.{OutputView, Send, Append, Status, End}
@@ -292,7 +292,7 @@ step_link inputs outputs v w from r is receives =
         → Brings receives.own p (Link from r) (arriving_from v.incoming p) (said_by p (all_from from (option_to_list receives.came))) (arriving_from w.incoming p)
     brought p true same =
         let is_it = same_is p from same in
-        rw (same, is_it) (receives.came, receives.accepted, said_same from from receives.came (ap (λ (q : Process). is_same q from) (sym is_it) ∙ same))
+        rw (same, is_it) (receives.came, receives.comes, said_same from from receives.came (ap (λ (q : Process). is_same q from) (sym is_it) ∙ same))
     brought p false other = rw other (receives.others p (other_is p from other), said_other p from receives.came other)
 
     received : Adds receives.own (Link from r) [] [] v w

@@ -1,0 +1,60 @@
+-- How a node answers a turn.
+use Rattle.std.proofs.Common.{◌≡◌, ℕ, Bool, true, false, List, [], ◌∷◌, ◌++◌, Option, None, Some, refl, sym, ap, ◌∙◌, append_assoc, arith, tt}
+use Rattle.std.specs.Prelude.{is_some, IfSome, IfNone}
+use Rattle.std.specs.List.{flat_map}
+use Rattle.std.proofs.lemmas.List.{append-nil}
+use Rattle.std.proofs.lemmas.List.Concat.{flat_map-append}
+use Rattle.zprotocol.specs.declared.limits.TheConstants.{PROCESSES}
+use Rattle.zprotocol.specs.declared.process.Process.{Process}
+use Rattle.zwire.specs.declared.fault.WriteError.{WriteError}
+use Rattle.zwire.specs.declared.fault.WriteError.TheVariants as writing
+use Rattle.zpeers.specs.Outgoing.{OutgoingView, IsNextReceiver, NoneWaits, place_after}
+use Rattle.znode.specs.declared.fault.NodeFault.{NodeFault}
+use Rattle.znode.specs.declared.fault.NodeFault.TheVariants as fault
+use Rattle.znode.specs.declared.status.NodeStatus.{NodeStatus}
+use Rattle.znode.specs.pipe.Inputs.{InputView, Turn}
+use Rattle.znode.specs.pipe.Outputs.{OutputView, End, output}
+use Rattle.znode.specs.pipe.Serving.{outputs_text}
+use Rattle.znode.specs.Node.{NodeView}
+use Rattle.znode.specs.Steps.{IsNodeFault}
+use Rattle.znode.specs.Turns.{Waits}
+use Rattle.znode.specs.support.Faults.{of_writing}
+use Rattle.znode.specs.support.Turns.{IsAnySendFault}
+
+pub waits_of : (r : Option Process) (o : OutgoingView) → IfSome r (IsNextReceiver o None)
+    → IfNone r (NoneWaits o (place_after None) PROCESSES) → Waits (is_some r) o
+waits_of None o some none = λ p link. none p (omega arith) link.1
+waits_of (Some p) o some none = (p, some.waits)
+
+-- what ends the node at a turn
+pub turn_fault : (v : NodeView) (own : ℕ) (error : WriteError) → v.replica.own ≡ Some own
+    → IsAnySendFault own v.seat.outgoing error → IsNodeFault v Turn (of_writing error)
+turn_fault v own writing.Memory is long = tt
+turn_fault v own writing.TooLong is long = (own, is, long)
+
+-- the status and what was asked say nothing of it
+pub same_turn_fault : (v : NodeView) (status : Option NodeStatus) (asked : Option (List ℕ)) (error : NodeFault)
+    → IsNodeFault (record v { told = status; asked = asked }) Turn error → IsNodeFault v Turn error
+same_turn_fault v status asked fault.Memory failed = tt
+same_turn_fault v status asked fault.TooLong failed = failed
+same_turn_fault v status asked fault.Entry failed = failed
+same_turn_fault v status asked fault.Order failed = failed
+same_turn_fault v status asked fault.NoServer failed = failed
+same_turn_fault v status asked fault.Master failed = failed
+same_turn_fault v status asked (fault.Peer it) failed = failed
+
+-- the outputs of an answer, one after the other
+pub texts_join : (start mid1 mid2 mid3 end : List ℕ) (a b d : List OutputView) (it : OutputView)
+    → mid1 ≡ start ++ outputs_text a → mid2 ≡ mid1 ++ outputs_text b → mid3 ≡ mid2 ++ outputs_text d → end ≡ mid3 ++ output.spell it
+    → end ≡ start ++ outputs_text (a ++ b ++ d ++ it ∷ [])
+texts_join start mid1 mid2 mid3 end a b d it ea eb ed ee =
+    ee
+    ∙ ap (λ (t : List ℕ). t ++ output.spell it) (ed ∙ ap (λ (t : List ℕ). t ++ outputs_text d) (eb ∙ ap (λ (t : List ℕ). t ++ outputs_text b) ea))
+    ∙ simp append_assoc
+    ∙ ap (λ (t : List ℕ). start ++ t) (sym whole)
+  where
+    whole : outputs_text (a ++ b ++ d ++ it ∷ []) ≡ outputs_text a ++ (outputs_text b ++ (outputs_text d ++ output.spell it))
+    whole = flat_map-append output.spell a (b ++ d ++ it ∷ [])
+        ∙ ap (λ (t : List ℕ). outputs_text a ++ t) (flat_map-append output.spell b (d ++ it ∷ [])
+        ∙ ap (λ (t : List ℕ). outputs_text b ++ t) (flat_map-append output.spell d (it ∷ [])
+        ∙ ap (λ (t : List ℕ). outputs_text d ++ t) (append-nil (output.spell it))))
