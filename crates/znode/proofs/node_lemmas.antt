@@ -8,3 +8,5 @@ pub mod Results
 pub mod Refusals
 pub mod Hearing
 pub mod Turning
+pub mod Reporting
+pub mod Playing

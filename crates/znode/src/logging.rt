@@ -1,6 +1,6 @@
 //! Entries of the log.
 
-ghost use Rattle.std.specs.Prelude.{◌≡◌, OnOk, IfErr};
+ghost use Rattle.std.specs.Prelude.{◌≡◌, None, OnOk, IfErr};
 ghost use Rattle.zpeers.specs.Records.{TreeTransfer};
 ghost use Rattle.zmaster_log.specs.Log.{after_entry, entry_played, order_for, IsPlayFault};
 ghost use Rattle.znode.specs.Entries.{has_asked, own_by, seat_by, own_at, seat_at, HearsOrder, Plays};
@@ -24,9 +24,7 @@ impl Node {
             return Err(NodeFault::Order);
         }
         let entry = read_entry(self.alloc, bytes)?;
-        if self.has_asked(bytes) {
-            self.come_in(&entry)?;
-        }
+        self.enter(bytes, &entry)?;
         self.asked = None;
         self.is_at_end = false;
         self.obey(index, entry)?;
@@ -44,6 +42,19 @@ impl Node {
         }
     }
 
+    // The next entry is in the log. The node may have asked for it.
+    fn enter(&mut self, bytes: &[u8], entry: &LogEntry) -> Result<(), Memory>
+        ensures { OnOk result (self.new ≡ record self.old {
+          replica = record self.old.replica { own = own_at self.old bytes.now entry.now };
+          seat = seat_at self.old bytes.now entry.now;
+        }) }
+    {
+        if self.has_asked(bytes) {
+            return self.come_in(entry);
+        }
+        Ok(())
+    }
+
     // The entry that the node has asked for is in the log. By the first one it gets its number. Any
     // later one is its first report.
     fn come_in(&mut self, entry: &LogEntry) -> Result<(), Memory>
@@ -52,19 +63,35 @@ impl Node {
           seat = seat_by self.old.replica.own entry.now self.old.seat;
         }) }
     {
-        if self.replica.own().is_some() {
-            self.seat.remove_report();
-            return Ok(());
+        match self.replica.own() {
+            Some(_) => {
+                self.seat.remove_report();
+                Ok(())
+            }
+            None => self.begin(entry),
         }
+    }
+
+    // The node gets its number, and its server begins.
+    fn begin(&mut self, entry: &LogEntry) -> Result<(), Memory>
+        requires { self.old.replica.own ≡ None }
+        ensures { OnOk result (self.new ≡ record self.old {
+          replica = record self.old.replica { own = own_by None entry.now };
+          seat = seat_by None entry.now self.old.seat;
+        }) }
+    {
         match entry {
             LogEntry::Opening(_) => {
                 self.seat.open(self.alloc)?;
                 self.replica.act_as(ServerId::first());
+                Ok(())
             }
-            LogEntry::Join(server, _) => self.replica.act_as(*server),
-            LogEntry::Retire(_) | LogEntry::Reported(_) => {}
+            LogEntry::Join(server, _) => {
+                self.replica.act_as(*server);
+                Ok(())
+            }
+            LogEntry::Retire(_) | LogEntry::Reported(_) => Ok(()),
         }
-        Ok(())
     }
 
     // Plays an entry, and hands its order to the server.
@@ -74,9 +101,13 @@ impl Node {
         ensures fault { IfErr result (IsPlayFault self.old.replica index) }
     {
         let order = self.replica.play(self.alloc, index, entry)?;
-        if let (Some(own), Some(order)) = (self.replica.own(), order) {
-            self.seat.hear(self.alloc, own, Process::Master, order)?;
-        }
+        let Some(own) = self.replica.own() else {
+            return Ok(());
+        };
+        let Some(order) = order else {
+            return Ok(());
+        };
+        self.seat.hear(self.alloc, own, Process::Master, order)?;
         Ok(())
     }
 }

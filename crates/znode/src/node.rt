@@ -145,9 +145,10 @@ impl Node {
             return Err(NodeFault::Master);
         }
         let came = record_came(&mut self.incoming, own, from, tag, bytes)?;
-        if let Some(message) = came {
-            self.seat.hear(self.alloc, own, from, message)?;
-        }
+        let Some(message) = came else {
+            return Ok(());
+        };
+        self.seat.hear(self.alloc, own, from, message)?;
         Ok(())
     }
 
@@ -159,9 +160,10 @@ impl Node {
     {
         let accuses = self.may_accuse(server);
         self.seat.forget(server);
-        if accuses {
-            self.seat.accuse(server)?;
+        if !accuses {
+            return Ok(());
         }
+        self.seat.accuse(server)?;
         Ok(())
     }
 

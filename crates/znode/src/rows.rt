@@ -1,12 +1,14 @@
 //! Worked examples of the definitions. Each function's contract has some; its body is empty.
 
-ghost use Rattle.std.specs.Prelude.{◌≡◌, [], ◌∷◌, None, Some, true, false, codes};
+ghost use Rattle.std.specs.Prelude.{◌≡◌, ⊥, [], ◌∷◌, Option, None, Some, true, false, codes};
 ghost use Rattle.zprotocol.specs.declared.message.Message.TheVariants as message;
-ghost use Rattle.zprotocol.specs.declared.process.Process.TheVariants.{Master, Server};
+ghost use Rattle.zprotocol.specs.declared.process.Process.TheVariants.{Master, Server, Client};
 ghost use Rattle.zmaster_log.specs.declared.entry.LogEntry.TheVariants as log;
 ghost use Rattle.zmaster_log.specs.declared.entry.News.TheVariants as news;
 ghost use Rattle.znode.specs.Server.{news_of, puts_to};
 ghost use Rattle.znode.specs.Entries.{own_by, without_idle};
+ghost use Rattle.zpeers.specs.Incoming.{ArrivingView};
+ghost use Rattle.znode.specs.Steps.{Comes, IsDropped};
 ghost use Rattle.znode.specs.Turns.{flags_of};
 ghost use Rattle.znode.specs.Running.{asked_by};
 
@@ -30,6 +32,14 @@ pub fn nodes_get_numbers()
 pub fn idle_reports_are_dropped()
     ensures first { without_idle None (news.Gone 2 ∷ news.Joined 1 ∷ news.Gone 3 ∷ [])
         ≡ news.Joined 1 ∷ news.Gone 3 ∷ [] }
+{}
+
+/// A record of a client that is refused is dropped, and what was being loaded of the client. One of
+/// a server isn't.
+pub fn bad_records_of_clients_are_dropped()
+    ensures client { (loaded : Option ArrivingView)
+        → Comes 1 (Client 5) (record { tag = 9; bytes = [] }) loaded None None }
+    ensures server { IsDropped 1 (Server 2) (record { tag = 9; bytes = [] }) None → ⊥ }
 {}
 
 /// The flags of a status.

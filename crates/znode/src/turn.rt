@@ -47,9 +47,7 @@ impl Node {
             ++ outputs_text (told_output self.old.told (status_of self.old))) }
     {
         let status = self.status();
-        if !is_told(&self.told, &status) {
-            put_status(out, &status)?;
-        }
+        put_new_status(out, &self.told, &status)?;
         self.told = Some(status);
         Ok(())
     }
@@ -93,6 +91,21 @@ impl Node {
     }
 }
 
+// Writes a status, if the host doesn't know it.
+fn put_new_status(
+    out: &mut Vec<u8>,
+    told: &Option<NodeStatus>,
+    status: &NodeStatus,
+) -> Result<(), AllocError>
+    ensures { OnOk result (out.new.items
+        ≡ out.old.items ++ outputs_text (told_output told.now status.now)) }
+{
+    if is_told(told, status) {
+        return Ok(());
+    }
+    put_status(out, status)
+}
+
 // Returns whether the host knows this status.
 fn is_told(told: &Option<NodeStatus>, status: &NodeStatus) -> bool
     ensures { result ≡ is_told told.now status.now }
@@ -116,9 +129,10 @@ fn send_all(
     ensures fault { IfErr result (IsAnySendFault own seat.old.outgoing) }
 {
     for place in 1..PROCESSES {
-        if let Some(to) = Process::at(place) {
-            send_to(alloc, seat, own, to, out)?;
-        }
+        let Some(to) = Process::at(place) else {
+            unreachable!();
+        };
+        send_to(alloc, seat, own, to, out)?;
     }
     Ok(())
 }

@@ -98,7 +98,7 @@ pub hears_last : (own : ℕ) (from : Process) (m : TreeMessage) (old middle new 
     → ArePut own ((Master, message.Gone) ∷ []) middle new → Hears own from m old new
 hears_last own from m old middle new st posts done h ends put last =
     let none : ArePut own [] (record old { standing = st }) middle =
-        subst (λ (l : List TreePost). ArePut own l (record old { standing = st }) middle) (h.puts ∙ put_last done h.effect.posts ends) put in
+    subst (λ (l : List TreePost). ArePut own l (record old { standing = st }) middle) (h.puts ∙ put_last done h.effect.posts ends) put in
     put_all_of own from m old new st posts ((Master, message.Gone) ∷ []) done h (sym (h.owed ends))
     (put_after own ((Master, message.Gone) ∷ []) (record old { standing = st }) middle new none last)
 

@@ -32,6 +32,6 @@ link_fault v own from r it is bad = elim bad [
   | inl memory ↦ subst (λ (e : PeerFault). IsNodeFault v (Link from r) (of_peer e)) (sym memory) tt
   | inr server ↦
       let same : IsPeerFault (Server own) (Server server.0) r (arriving_from v.incoming (Server server.0)) it =
-          subst (λ (p : Process). IsPeerFault (Server own) (Server server.0) r (arriving_from v.incoming p) it) server.1 server.2 in
+      subst (λ (p : Process). IsPeerFault (Server own) (Server server.0) r (arriving_from v.incoming p) it) server.1 server.2 in
       subst (λ (p : Process). IsNodeFault v (Link p r) (of_peer it)) (sym server.1) (server_fault v own server.0 r it is same)
 ]
