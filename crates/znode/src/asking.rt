@@ -1,7 +1,8 @@
 //! What a node wants to be appended to the log.
 
 ghost use Rattle.std.specs.Prelude.{◌≡◌, IfOk};
-ghost use Rattle.znode.specs.Entries.{first_of, wanted, wanted_number, wanted_opening, wanted_report};
+ghost use Rattle.znode.specs.Entries.{first_of, wanted, wanted_number, wanted_opening};
+ghost use Rattle.znode.specs.Entries.{wanted_report};
 
 use crate::node::Node;
 use std::alloc::{AllocError, Global};

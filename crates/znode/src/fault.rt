@@ -25,7 +25,7 @@ pub enum NodeFault {
     NoServer,
     /// A record of a link from the master, which has none.
     Master,
-    /// A record of a link that no peer sends.
+    /// A record of a link that no server sends. One of a client is dropped.
     Peer(PeerFault),
     /// A message that its server put is too long for a frame.
     TooLong,

@@ -3,7 +3,8 @@
 ghost use Rattle.std.specs.Prelude.{◌≡◌, None, OnOk, IfErr};
 ghost use Rattle.zpeers.specs.Records.{TreeTransfer};
 ghost use Rattle.zmaster_log.specs.Log.{after_entry, entry_played, order_for, IsPlayFault};
-ghost use Rattle.znode.specs.Entries.{has_asked, own_by, seat_by, own_at, seat_at, HearsOrder, Plays};
+ghost use Rattle.znode.specs.Entries.{has_asked, own_by, seat_by, own_at, seat_at, HearsOrder};
+ghost use Rattle.znode.specs.Entries.{Plays};
 ghost use Rattle.znode.specs.Steps.{IsNodeFault};
 ghost use Rattle.znode.specs.pipe.Inputs.InputView.{Entry};
 ghost use Rattle.znode.specs.support.Entries.{Obeys};

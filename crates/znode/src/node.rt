@@ -1,16 +1,19 @@
 //! A node.
 
-ghost use Rattle.std.specs.Prelude.{◌≡◌, ◌≢◌, ◌⊎◌, ◌++◌, ℕ, IfOk, IfErr, IsTrue, IsFalse, OnOk, List};
+ghost use Rattle.std.specs.Prelude.{◌≡◌, ◌≢◌, ◌⊎◌, ◌++◌, ℕ, IfOk, IfErr, IsTrue, IsFalse, OnOk};
+ghost use Rattle.std.specs.Prelude.{List};
 ghost use Rattle.zprotocol.specs.declared.process.Process.{Process};
 ghost use Rattle.zprotocol.specs.server.View.{spare};
 ghost use Rattle.zprotocol.specs.world.Does.{AtServer};
-ghost use Rattle.zprotocol.specs.declared.process.Process.TheVariants.{Server as OfServer, Client as OfClient};
+ghost use Rattle.zprotocol.specs.declared.process.Process.TheVariants.{Server as OfServer};
+ghost use Rattle.zprotocol.specs.declared.process.Process.TheVariants.{Client as OfClient};
 ghost use Rattle.zpeers.specs.declared.fault.PeerFault.TheVariants.{Memory as OfMemory};
 ghost use Rattle.zpeers.specs.Incoming.{OthersArrive, arriving_from};
 ghost use Rattle.zpeers.specs.Outgoing.{waiting_for};
 ghost use Rattle.znode.specs.Node.{has_ended, status_of, IsNew};
 ghost use Rattle.znode.specs.support.Faults.{IsLinkFault};
-ghost use Rattle.znode.specs.Steps.{Takes, Comes, IsNodeFault, Receives, Loses, Forgets, accusing, may_accuse};
+ghost use Rattle.znode.specs.Steps.{Takes, Comes, IsNodeFault, Receives, Loses, Forgets, accusing};
+ghost use Rattle.znode.specs.Steps.{may_accuse};
 ghost use Rattle.znode.specs.pipe.Inputs.{InputView, input_of};
 ghost use Rattle.znode.specs.pipe.Inputs.InputView.{Link, Lost, Ended};
 ghost use Rattle.znode.specs.pipe.Outputs.{OutputView};
@@ -85,8 +88,8 @@ impl Node {
         })
     }
 
-    /// Takes an input. What the host is to do goes to `out`, and only at a `Turn`. A node that fails
-    /// takes no further input.
+    /// Takes an input. What the host is to do goes to `out`, and only at a `Turn`. A node that
+    /// fails takes no further input.
     pub fn take(&mut self, input: &NodeInput<'_>, out: &mut Vec<u8>) -> Result<(), NodeFault>
         ensures taken { OnOk result ((outputs : List OutputView)
             × Takes self.old (input_of input.now) outputs self.new

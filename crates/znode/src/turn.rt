@@ -1,6 +1,7 @@
 //! What a node answers to a turn.
 
-ghost use Rattle.std.specs.Prelude.{◌≡◌, ◌++◌, ◌∷◌, [], OnOk, IfOk, IfErr, OnErr, Some, true, false, List};
+ghost use Rattle.std.specs.Prelude.{◌≡◌, ◌++◌, ◌∷◌, [], OnOk, IfOk, IfErr, OnErr, Some, true};
+ghost use Rattle.std.specs.Prelude.{false, List};
 ghost use Rattle.zprotocol.specs.declared.process.Process.{Process};
 ghost use Rattle.zprotocol.specs.declared.process.Process.TheVariants.{Server as OfServer};
 ghost use Rattle.zpeers.specs.Outgoing.{waiting_for};
@@ -8,9 +9,11 @@ ghost use Rattle.znode.specs.pipe.Inputs.InputView.{Turn};
 ghost use Rattle.znode.specs.pipe.Outputs.{OutputView};
 ghost use Rattle.znode.specs.pipe.Serving.{outputs_text};
 ghost use Rattle.znode.specs.Node.{status_of};
-ghost use Rattle.znode.specs.Turns.{Answers, Sends, Waits, asked_after, asked_output, asking, is_told, told_output};
+ghost use Rattle.znode.specs.Turns.{Answers, Sends, Waits, asked_after, asked_output, asking};
+ghost use Rattle.znode.specs.Turns.{is_told, told_output};
 ghost use Rattle.znode.specs.Steps.{IsNodeFault};
-ghost use Rattle.znode.specs.support.Turns.{SendsAll, SendsSome, SendsOne, IsSendFault, IsAnySendFault};
+ghost use Rattle.znode.specs.support.Turns.{SendsAll, SendsSome, SendsOne, IsSendFault};
+ghost use Rattle.znode.specs.support.Turns.{IsAnySendFault};
 
 use crate::fault::NodeFault;
 use crate::flags::{flags_of, number_of};
@@ -42,7 +45,8 @@ impl Node {
 
     // Writes its status, if the host doesn't know it.
     fn tell(&mut self, out: &mut Vec<u8>) -> Result<(), AllocError>
-        ensures next { OnOk result (self.new ≡ record self.old { told = Some (status_of self.old) }) }
+        ensures next { OnOk result
+            (self.new ≡ record self.old { told = Some (status_of self.old) }) }
         ensures text { OnOk result (out.new.items ≡ out.old.items
             ++ outputs_text (told_output self.old.told (status_of self.old))) }
     {

@@ -1,5 +1,5 @@
 -- What a server has put once it has handled a message.
-use Rattle.std.proofs.Common.{◌≡◌, ℕ, Bool, true, false, ◌||◌, List, [], ◌∷◌, ◌++◌, refl, sym, ap, subst, ◌∙◌}
+use Rattle.std.proofs.Common.{◌≡◌, ℕ, Bool, true, false, ◌||◌, List, [], ◌∷◌, ◌++◌, map, refl, sym, ap, subst, ◌∙◌}
 use Rattle.std.proofs.lemmas.List.{append-nil}
 use Rattle.zprotocol.specs.declared.message.Message.TheVariants as message
 use Rattle.zprotocol.specs.declared.process.Process.{Process}
@@ -12,9 +12,10 @@ use Rattle.zactor.specs.declared.done.Done.{Done}
 use Rattle.zactor.specs.declared.done.Done.TheVariants.{Acted, Unheard, Stopped, Left, Began, Answered}
 use Rattle.zactor.specs.declared.input.Input.TheVariants.{Hear}
 use Rattle.zactor.specs.Acting.{TreeStanding, TreeEffect, TreePost, Acts, IsActFault, effect_of, is_end, put_by}
+use Rattle.zmaster_log.specs.declared.entry.News.{News}
 use Rattle.zpeers.specs.Outgoing.{WaitingView, waiting_for}
 use Rattle.znode.specs.Node.{SeatView}
-use Rattle.znode.specs.Server.{ArePut, Hears, MayDo, fresh, news_of, puts_to}
+use Rattle.znode.specs.Server.{ArePut, Hears, MayDo, fresh, has_joined, news_of, puts_to}
 use Rattle.znode.specs.support.Standings.{IsServer}
 
 -- a server has handled a message, and this is what its runner puts
@@ -70,10 +71,10 @@ put_after own posts old middle new none put =
     let reports : middle.reports ≡ old.reports = none.reports ∙ append-nil old.reports in
     record {
       standing = put.standing ∙ none.standing;
-      state = put.state ∙ ap (λ (b : Bool). b || _) state;
-      reports = put.reports ∙ ap (λ l. l ++ news_of own posts) reports;
+      state = put.state ∙ ap (λ (b : Bool). b || has_joined posts) state;
+      reports = put.reports ∙ ap (λ (l : List News). l ++ news_of own posts) reports;
       queued = λ p. put.queued p
-          ∙ ap (λ (l : List WaitingView). l ++ _) (none.queued p ∙ append-nil (waiting_for old.outgoing p));
+          ∙ ap (λ (l : List WaitingView). l ++ map fresh (puts_to p posts)) (none.queued p ∙ append-nil (waiting_for old.outgoing p));
     }
 
 -- all of it is put
