@@ -1,6 +1,6 @@
 //! Worked examples of the definitions. Each function's contract has some; its body is empty.
 
-ghost use Rattle.std.specs.Prelude.{◌≡◌, ⊥, [], ◌∷◌, Option, None, Some, true, false, codes};
+ghost use Rattle.std.specs.Prelude.{◌≡◌, [], ◌∷◌, Option, None, Some, true, false, codes};
 ghost use Rattle.zprotocol.specs.declared.message.Message.TheVariants as message;
 ghost use Rattle.zprotocol.specs.declared.process.Process.TheVariants.{Master, Server, Client};
 ghost use Rattle.zmaster_log.specs.declared.entry.LogEntry.TheVariants as log;

@@ -1,5 +1,5 @@
 -- How a node plays an entry.
-use Rattle.std.proofs.Common.{◌≡◌, ◌≢◌, inl, inr, ℕ, List, Ok, false, None, refl, ap, sym, ◌∙◌, tt}
+use Rattle.std.proofs.Common.{◌≡◌, ◌≢◌, inl, inr, ℕ, List, Ok, false, None, refl, ap, sym, ◌∙◌}
 use Rattle.zcodec.specs.Readers.{whole}
 use Rattle.zmaster_log.specs.declared.entry.LogEntry.{LogEntry}
 use Rattle.zmaster_log.specs.declared.play_fault.PlayFault.{PlayFault}
