@@ -151,8 +151,9 @@ impl Seat {
         let heard = self
             .actor
             .act(Input::Hear(from, message), &mut out, &mut handed);
-        let Ok(done) = heard else {
-            return Ok(());
+        let done = match heard {
+            Ok(done) => done,
+            Err(_) => return Ok(()),
         };
         self.put_all(own, &mut out)?;
         if done.is_end() {
