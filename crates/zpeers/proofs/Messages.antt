@@ -52,7 +52,7 @@ kinds (message.Query number query) = inr (record { none = tt; alone = refl; back
 kinds (message.Answer number reply) = inr (record { none = tt; alone = refl; back = refl; whole = refl })
 kinds (message.Update epoch number entry) = inr (record { none = tt; alone = refl; back = refl; whole = refl })
 kinds (message.Ack epoch number) = inr (record { none = tt; alone = refl; back = refl; whole = refl })
-kinds (message.Snapshot epoch t) = inl (epoch, (t, refl))
+kinds (message.Snapshot epoch t) = inl (epoch, t, refl)
 kinds (message.NewPred epoch server) = inr (record { none = tt; alone = refl; back = refl; whole = refl })
 kinds (message.Have epoch last) = inr (record { none = tt; alone = refl; back = refl; whole = refl })
 kinds (message.NewSucc epoch server last) = inr (record { none = tt; alone = refl; back = refl; whole = refl })

@@ -26,7 +26,7 @@ ok_err : {A E : Type 0} (x : A) (e : E) (r : Result A E) → r ≡ Ok x → r �
 ok_err x e r ok err = let bad : ◌≡◌ {A = Result _ _} (Ok x) (Err e) = sym ok ∙ err in cc
 
 ok_same : {A E : Type 0} (x y : A) (r : Result A E) → r ≡ Ok x → r ≡ Ok y → x ≡ y
-ok_same x y r ok also = let same : ◌≡◌ {A = Result _ E} (Ok x) (Ok y) = sym ok ∙ also in cc
+ok_same {E = E} x y r ok also = let same : ◌≡◌ {A = Result _ E} (Ok x) (Ok y) = sym ok ∙ also in cc
 
 some_none : {A : Type 0} (x : A) → ◌≡◌ {A = Option A} (Some x) None → ⊥
 some_none x same = cc
