@@ -3,6 +3,7 @@ use Rattle.std.proofs.Common.{◌≡◌, ◌≢◌, ℕ, zero, suc, ◌+◌, ◌
 use Rattle.std.proofs.lemmas.List.{length-map}
 use Rattle.std.specs.List.{flat_map}
 use Rattle.std.specs.Prelude.{option_to_list}
+use Rattle.std.proofs.Math.Seq.{take-append_seam}
 use Rattle.std.proofs.Common.{length-append, length-drop, add-one}
 use Rattle.zops.specs.Machine.{MachineState}
 use Rattle.zprotocol.specs.declared.message.Message.TheVariants as message
@@ -169,4 +170,4 @@ queue_last own to w others new before after last same = record {
 
 -- what was appended is cut off
 pub cut_back : (before more : List ℕ) (n : ℕ) → n ≡ length before → take n (before ++ more) ≡ before
-cut_back before more n is = ap (λ (k : ℕ). take k (before ++ more)) is ∙ take_at before more
+cut_back before more n is = ap (λ (k : ℕ). take k (before ++ more)) is ∙ take-append_seam before more

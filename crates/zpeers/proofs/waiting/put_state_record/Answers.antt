@@ -1,4 +1,4 @@
-use Rattle.std.proofs.Common.{◌≡◌, ◌≤◌, Bool, ℕ, List, [], ◌∷◌, ◌++◌, length, take, ap, subst, sym, ◌∙◌}
+use Rattle.std.proofs.Common.{◌≡◌, ◌≤◌, arith, Bool, ℕ, List, [], ◌∷◌, ◌++◌, length, take, ap, subst, sym, ◌∙◌}
 use Rattle.zsnapshots.specs.States.{IsRow, rows_of, written_of}
 use Rattle.zsnapshots.proofs.Written.{row_room}
 use Rattle.zpeers.proofs.Waits.{row_written, row_before_end, end_written, cut_back}
@@ -40,6 +40,6 @@ returns-in_ok-extend_from_slice-in-Ok-false-clause-end c = λ no_row.
     let kept : c.truncate.new.self.items ≡ before =
     c.truncate.ensures.items
     ∙ ap (λ (bs : List ℕ). take c.len-before.result bs) (c.in-Ok-false.ensures.nothing c.in-Ok-false.field-0-test ∙ c.in_ok-extend_from_slice.ensures.items)
-    ∙ cut_back before _ c.len-before.result c.len-before.ensures in
+    ∙ cut_back before _ c.len-before.result (omega (arith, c.len-before.ensures)) in
     end_written s c.args.number before c.extend_from_slice-in-Ok-false.new.self.items all c.requires.within
     (c.in_ok-extend_from_slice-in-Ok-false.ensures.items ∙ ap (λ (bs : List ℕ). bs ++ 2 ∷ 0 ∷ 0 ∷ 0 ∷ 0 ∷ []) kept)
