@@ -1,6 +1,6 @@
 -- The places of processes, and what stands there.
-use Rattle.std.proofs.Common.{◌≡◌, ◌≢◌, ℕ, zero, suc, ◌+◌, ◌-◌, ◌<◌, ◌≤◌, Bool, true, false, List, [], ◌∷◌, length, replicate, get_or, set, Option, None, Some, refl, sym, ap, subst, ◌∙◌, inl, inr, if◌then◌else◌, arith}
-use Rattle.std.specs.Prelude.{◌⊎◌, nat_lt, nat_le, IfSome, IfNone}
+use Rattle.std.proofs.Common.{◌≡◌, ◌≢◌, ℕ, zero, suc, ◌+◌, ◌<◌, ◌≤◌, List, [], length, replicate, get_or, set, Option, None, Some, refl, sym, ap, subst, ◌∙◌, inl, inr, if◌then◌else◌, arith}
+use Rattle.std.specs.Prelude.{nat_lt, IfSome}
 use Rattle.std.proofs.lemmas.List.{get_or_read, get_or-set_same, get_or-set_other, set-get_or}
 use Rattle.std.proofs.lemmas.Bool.Decides.{nat_tests}
 use Rattle.ztree.specs.declared.limits.TheConstants.{MAX_CLIENTS}
@@ -10,7 +10,7 @@ use Rattle.zprotocol.specs.declared.process.Process.{Process}
 use Rattle.zprotocol.specs.declared.process.Process.TheVariants.{Master, Server, Client}
 use Rattle.zprotocol.specs.Places.{is_server, place_of, process_at}
 use Rattle.zprotocol.proofs.Places.{place_of-server, place_of-client, process_at-server, process_at-client, place_of-process_at}
-use Rattle.zpeers.specs.Outgoing.{OutgoingView, WaitingView, waiting_for, place_after, NoneWaits, IsNextReceiver}
+use Rattle.zpeers.specs.Outgoing.{OutgoingView, place_after, NoneWaits, IsNextReceiver}
 
 -- each process with a place is the one that stands there
 pub stands_there : (p : Process) → place_of p < PROCESSES → process_at (place_of p) ≡ p

@@ -1,5 +1,5 @@
 -- The records of messages are refused only where memory runs out.
-use Rattle.std.proofs.Common.{◌≡◌, ℕ, ◌<◌, ◌≤◌, List, [], ◌∷◌, ◌++◌, length, map, Option, None, Some, Result, Ok, Err, refl, sym, ap, subst, ◌∙◌, append-nil, arith}
+use Rattle.std.proofs.Common.{◌≡◌, ℕ, ◌≤◌, List, [], ◌∷◌, ◌++◌, length, map, Option, None, Some, Result, Ok, Err, refl, sym, ap, subst, ◌∙◌, append-nil, arith}
 use Rattle.std.specs.List.{AllByRecursion, flat_map}
 use Rattle.std.proofs.lemmas.List.{map-append}
 use Rattle.zcodec.specs.declared.fault.Fault.{Fault}
@@ -11,14 +11,13 @@ use Rattle.zwire.specs.declared.limits.TheConstants.{MAX_FRAME}
 use Rattle.zwire.specs.declared.frame.Frame.{Frame}
 use Rattle.zwire.specs.Frames.{contents, frame, frame_of}
 use Rattle.zwire.proofs.Frames.{is_contents}
-use Rattle.zsnapshots.specs.States.{StateRow, Fits, IsReadable, spelled, rows_of}
+use Rattle.zsnapshots.specs.States.{StateRow, Fits, spelled, rows_of}
 use Rattle.zsnapshots.specs.States.StateRow.{OfHeader, OfSession, OfNode, OfReply}
 use Rattle.zsnapshots.specs.Loading.{bytes_loaded}
 use Rattle.zpeers.specs.declared.fault.PeerFault.{PeerFault}
 use Rattle.zpeers.specs.declared.fault.PeerFault.TheVariants as fault
-use Rattle.zpeers.specs.declared.tags.TheConstants.{FRAME, ROW, END}
 use Rattle.zpeers.specs.Records.{LinkRecord, frame_record, row_record, row_text, end_record, state_of, after_frame, records_of}
-use Rattle.zpeers.specs.Incoming.{ArrivingView, row_bytes, IsPeerFault}
+use Rattle.zpeers.specs.Incoming.{ArrivingView, IsPeerFault}
 use Rattle.zpeers.specs.Laws.{CanBeSent, given_by, NoneIsRefused}
 use Rattle.zpeers.proofs.Coming.{IsPartExpected, Expected, row_is_spelled, still_expected}
 

@@ -1,5 +1,5 @@
 -- The records of a message that waits.
-use Rattle.std.proofs.Common.{◌≡◌, ◌≢◌, ℕ, zero, suc, ◌+◌, ◌-◌, ◌<◌, ◌≤◌, List, [], ◌∷◌, ◌++◌, length, map, take, drop, drop_at, Option, None, Some, refl, sym, ap, subst, ◌∙◌, append_assoc, inl, inr, arith}
+use Rattle.std.proofs.Common.{◌≡◌, ℕ, ◌+◌, ◌<◌, ◌≤◌, List, [], ◌∷◌, ◌++◌, length, map, take, drop, drop_at, Option, None, Some, refl, sym, ap, subst, ◌∙◌, append_assoc, inl, inr, arith}
 use Rattle.std.proofs.lemmas.List.{length-map}
 use Rattle.std.specs.List.{flat_map}
 use Rattle.std.specs.Prelude.{option_to_list}
@@ -13,10 +13,10 @@ use Rattle.zwire.specs.declared.limits.TheConstants.{MAX_FRAME}
 use Rattle.zwire.specs.declared.fault.WriteError.{WriteError}
 use Rattle.zwire.specs.declared.fault.WriteError.TheVariants.{TooLong, Memory}
 use Rattle.zwire.specs.Frames.{contents, frame, frame_of}
-use Rattle.zsnapshots.specs.States.{StateRow, KeysView, AreKeysOf, Fits, IsRow, spelled, rows_of, written_of}
+use Rattle.zsnapshots.specs.States.{StateRow, KeysView, IsRow, rows_of}
 use Rattle.zsnapshots.proofs.Places.{At, at_left, at_map}
 use Rattle.zpeers.specs.declared.tags.TheConstants.{FRAME, ROW, END}
-use Rattle.zpeers.specs.Records.{LinkRecord, TreeTransfer, link_record, frame_record, row_record, row_text, end_record, state_of, state_records, after_frame, records_of}
+use Rattle.zpeers.specs.Records.{LinkRecord, link_record, frame_record, row_record, end_record, state_of, state_records, after_frame, records_of}
 use Rattle.zpeers.specs.Incoming.{HasNoState, row_bytes}
 use Rattle.zpeers.specs.Outgoing.{WaitingView, left_of, IsLongFrame}
 use Rattle.zpeers.specs.support.Waiting.{HasKeys, IsRecordWritten, IsFirstWritten, IsLastWritten, IsQueueWritten, queue_of}

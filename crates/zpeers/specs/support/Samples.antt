@@ -1,12 +1,11 @@
 -- Processes, messages and records for the worked examples.
 use Rattle.std.specs.Prelude.{List, [], ◌∷◌, ℕ, map}
 use Rattle.zprotocol.specs.declared.message.Message.TheVariants as message
-use Rattle.zprotocol.specs.declared.process.Process.{Process}
 use Rattle.zprotocol.specs.declared.process.Process.TheVariants.{Master, Server}
 use Rattle.zserver.specs.Server.{TreeMessage}
 use Rattle.zsnapshots.specs.Loading.{nothing_loaded}
 use Rattle.zpeers.specs.Records.{LinkRecord, frame_record}
-use Rattle.zpeers.specs.Outgoing.{WaitingView, OutgoingView}
+use Rattle.zpeers.specs.Outgoing.{OutgoingView}
 use Rattle.zpeers.specs.Incoming.{ArrivingView}
 
 -- a message without a state

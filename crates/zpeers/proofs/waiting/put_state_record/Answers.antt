@@ -1,4 +1,4 @@
-use Rattle.std.proofs.Common.{◌≡◌, ◌≤◌, arith, Bool, ℕ, List, [], ◌∷◌, ◌++◌, length, take, ap, subst, sym, ◌∙◌}
+use Rattle.std.proofs.Common.{◌≡◌, ◌≤◌, arith, Bool, ℕ, List, [], ◌∷◌, ◌++◌, length, take, ap, subst, ◌∙◌}
 use Rattle.zsnapshots.specs.States.{IsRow, rows_of, written_of}
 use Rattle.zsnapshots.proofs.Written.{row_room}
 use Rattle.zpeers.proofs.Waits.{row_written, row_before_end, end_written, cut_back}

@@ -2,7 +2,7 @@ use Rattle.std.proofs.Common.{◌≡◌, ap, subst, sym, ◌∙◌}
 use Rattle.zprotocol.specs.declared.message.Message.TheVariants.{Snapshot}
 use Rattle.zsnapshots.specs.States.{IsReadable, rows_of}
 use Rattle.zsnapshots.specs.Loading.{rows_loaded}
-use Rattle.zpeers.specs.Records.{TreeTransfer, state_of}
+use Rattle.zpeers.specs.Records.{state_of}
 use Rattle.zpeers.specs.Incoming.{ArrivingView}
 use Rattle.zpeers.proofs.arriving.Arriving.finish.Goals as goal
 
