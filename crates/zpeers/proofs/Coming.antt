@@ -1,9 +1,7 @@
 -- What comes, while the records of messages are taken one by one.
-use Rattle.std.proofs.Common.{◌≡◌, ℕ, Bool, true, false, List, [], ◌∷◌, ◌++◌, map, Option, None, Some, Result, Ok, refl, sym, ap, subst, ◌∙◌, append_assoc, append-nil, inl, inr, arith}
-use Rattle.std.specs.Prelude.{◌⊎◌}
+use Rattle.std.proofs.Common.{◌≡◌, ℕ, true, false, List, [], ◌∷◌, ◌++◌, map, Option, None, Some, Result, Ok, refl, sym, ap, subst, ◌∙◌, append_assoc, append-nil, inl, inr, arith}
 use Rattle.std.specs.List.{AllByRecursion, flat_map}
 use Rattle.std.proofs.lemmas.List.{map-append}
-use Rattle.zcodec.specs.Readers.{whole}
 use Rattle.zcodec.proofs.Whole.{whole_again}
 use Rattle.zcodec.specs.declared.fault.Fault.{Fault}
 use Rattle.zops.specs.Machine.{MachineState}
@@ -16,12 +14,12 @@ use Rattle.zwire.specs.Messages.{Bare, bare}
 use Rattle.zwire.proofs.Frames.{is_contents}
 use Rattle.zsnapshots.specs.States.{StateRow, IsReadable, spelled, rows_of}
 use Rattle.zsnapshots.specs.States.StateRow.{OfHeader, OfSession, OfNode, OfReply}
-use Rattle.zsnapshots.specs.Loading.{LoadingView, nothing_loaded, rows_loaded, bytes_loaded, IsLoaded}
+use Rattle.zsnapshots.specs.Loading.{nothing_loaded, rows_loaded, bytes_loaded}
 use Rattle.zsnapshots.proofs.Apart.{rows_apart}
-use Rattle.zpeers.specs.declared.tags.TheConstants.{FRAME, ROW, END}
+use Rattle.zpeers.specs.declared.tags.TheConstants.{ROW, END}
 use Rattle.zpeers.specs.Records.{LinkRecord, TreeTransfer, frame_record, row_record, end_record, state_of, after_frame, records_of}
-use Rattle.zpeers.specs.Incoming.{ArrivingView, IsFrame, HasNoState, row_bytes, Accepts}
-use Rattle.zpeers.specs.Laws.{CanBeSent, HasReadableState, AcceptsAll, given_by, MessagesComeWhole}
+use Rattle.zpeers.specs.Incoming.{ArrivingView, IsFrame, row_bytes, Accepts}
+use Rattle.zpeers.specs.Laws.{CanBeSent, AcceptsAll, given_by, MessagesComeWhole}
 use Rattle.zpeers.proofs.Messages.{IsAlone, begins, epoch_of, kinds, is_alone, one_message}
 
 ok_is : {A E : Type 0} (x y : A) → ◌≡◌ {A = Result A E} (Ok x) (Ok y) → x ≡ y

@@ -6,3 +6,4 @@ pub mod Receivers
 pub mod Waits
 pub mod Outs
 pub mod Ins
+pub mod Arrives

@@ -1,10 +1,10 @@
 -- Messages with a state and without.
-use Rattle.std.proofs.Common.{◌≡◌, ℕ, Bool, true, false, List, [], refl, sym, ap, subst, ◌∙◌, inl, inr}
+use Rattle.std.proofs.Common.{◌≡◌, ℕ, Bool, true, false, [], refl, sym, ap, subst, ◌∙◌, inl, inr}
 use Rattle.std.specs.Prelude.{◌⊎◌}
 use Rattle.zprotocol.specs.declared.message.Message.TheVariants as message
 use Rattle.zserver.specs.Server.{TreeMessage}
 use Rattle.zwire.specs.Messages.{Bare, bare}
-use Rattle.zpeers.specs.Records.{LinkRecord, TreeTransfer, after_frame}
+use Rattle.zpeers.specs.Records.{TreeTransfer, after_frame}
 use Rattle.zpeers.specs.Incoming.{HasNoState}
 
 -- the message whose frame has this, if it has no state
@@ -52,7 +52,7 @@ kinds (message.Query number query) = inr (record { none = tt; alone = refl; back
 kinds (message.Answer number reply) = inr (record { none = tt; alone = refl; back = refl; whole = refl })
 kinds (message.Update epoch number entry) = inr (record { none = tt; alone = refl; back = refl; whole = refl })
 kinds (message.Ack epoch number) = inr (record { none = tt; alone = refl; back = refl; whole = refl })
-kinds (message.Snapshot epoch t) = inl (epoch, (t, refl))
+kinds (message.Snapshot epoch t) = inl (epoch, t, refl)
 kinds (message.NewPred epoch server) = inr (record { none = tt; alone = refl; back = refl; whole = refl })
 kinds (message.Have epoch last) = inr (record { none = tt; alone = refl; back = refl; whole = refl })
 kinds (message.NewSucc epoch server last) = inr (record { none = tt; alone = refl; back = refl; whole = refl })

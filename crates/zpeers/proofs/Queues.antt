@@ -1,15 +1,14 @@
 -- The queues of receivers.
-use Rattle.std.proofs.Common.{◌≡◌, ◌≢◌, ℕ, ◌<◌, ◌≤◌, Bool, true, false, List, [], ◌∷◌, ◌++◌, length, drop, refl, sym, ap, subst, ◌∙◌, append_assoc, append-nil, inl, inr, arith}
-use Rattle.std.specs.Prelude.{◌⊎◌, if◌then◌else◌}
+use Rattle.std.proofs.Common.{◌≡◌, ◌≢◌, Bool, true, false, List, [], ◌∷◌, ◌++◌, refl, sym, ap, subst, ◌∙◌, append_assoc, append-nil}
+use Rattle.std.specs.Prelude.{if◌then◌else◌}
 use Rattle.std.specs.List.{flat_map}
 use Rattle.std.proofs.lemmas.Grind.{flat_map-append}
 use Rattle.zprotocol.specs.declared.process.Process.{Process}
 use Rattle.zprotocol.specs.world.Links.{is_same}
 use Rattle.zprotocol.proofs.world_lemmas.Processes.{same_process, same_itself}
-use Rattle.zserver.specs.Server.{TreeMessage}
 use Rattle.zpeers.specs.Records.{LinkRecord, records_of}
-use Rattle.zpeers.specs.Outgoing.{OutgoingView, WaitingView, waiting_for, left_of, records_for, OthersWait}
-use Rattle.zpeers.specs.Laws.{Step, Happens, HappenAll, put_by, messages_put, written_by, records_written, QueuesKeepOrder}
+use Rattle.zpeers.specs.Outgoing.{OutgoingView, left_of, records_for}
+use Rattle.zpeers.specs.Laws.{Step, Happens, put_by, messages_put, written_by, records_written, QueuesKeepOrder}
 use Rattle.zpeers.specs.Laws.Step.{Put, Write}
 
 module _ (own to : Process) where

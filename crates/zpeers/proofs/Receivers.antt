@@ -1,6 +1,6 @@
 -- The places of processes, and what stands there.
-use Rattle.std.proofs.Common.{◌≡◌, ◌≢◌, ℕ, zero, suc, ◌+◌, ◌-◌, ◌<◌, ◌≤◌, Bool, true, false, List, [], ◌∷◌, length, replicate, get_or, set, Option, None, Some, refl, sym, ap, subst, ◌∙◌, inl, inr, if◌then◌else◌, arith}
-use Rattle.std.specs.Prelude.{◌⊎◌, nat_lt, nat_le, IfSome, IfNone}
+use Rattle.std.proofs.Common.{◌≡◌, ◌≢◌, ℕ, zero, suc, ◌+◌, ◌<◌, ◌≤◌, List, [], length, replicate, get_or, set, Option, None, Some, refl, sym, ap, subst, ◌∙◌, inl, inr, if◌then◌else◌, arith}
+use Rattle.std.specs.Prelude.{nat_lt, IfSome}
 use Rattle.std.proofs.lemmas.List.{get_or_read, get_or-set_same, get_or-set_other, set-get_or}
 use Rattle.std.proofs.lemmas.Bool.Decides.{nat_tests}
 use Rattle.ztree.specs.declared.limits.TheConstants.{MAX_CLIENTS}
@@ -10,7 +10,7 @@ use Rattle.zprotocol.specs.declared.process.Process.{Process}
 use Rattle.zprotocol.specs.declared.process.Process.TheVariants.{Master, Server, Client}
 use Rattle.zprotocol.specs.Places.{is_server, place_of, process_at}
 use Rattle.zprotocol.proofs.Places.{place_of-server, place_of-client, process_at-server, process_at-client, place_of-process_at}
-use Rattle.zpeers.specs.Outgoing.{OutgoingView, WaitingView, waiting_for, place_after, NoneWaits, IsNextReceiver}
+use Rattle.zpeers.specs.Outgoing.{OutgoingView, place_after, NoneWaits, IsNextReceiver}
 
 -- each process with a place is the one that stands there
 pub stands_there : (p : Process) → place_of p < PROCESSES → process_at (place_of p) ≡ p
@@ -20,17 +20,17 @@ stands_there (Server s) inside = elim (test (is_server s)) [
       let some : 0 < s = grind (arith, nat_tests, is) in
       let few : s ≤ MAX_SERVERS = grind (arith, nat_tests, is) in
       ap process_at (place_of-server s some few) ∙ process_at-server s some few
-  | inr no ↦
-      let none : place_of (Server s) ≡ PROCESSES = ap (λ b. if b then s else PROCESSES) no in
-      absurd (omega (arith, none, inside))
+  | inr none ↦
+      let far : place_of (Server s) ≡ PROCESSES = ap (λ b. if b then s else PROCESSES) none in
+      absurd (omega (arith, far, inside))
 ]
 stands_there (Client c) inside = elim (test (nat_lt c MAX_CLIENTS)) [
   | inl is ↦
       let few : c < MAX_CLIENTS = grind (arith, nat_tests, is) in
       process_at-client c (place_of (Client c)) (place_of-client c few)
-  | inr no ↦
-      let none : place_of (Client c) ≡ PROCESSES = ap (λ b. if b then MAX_SERVERS + 1 + c else PROCESSES) no in
-      absurd (omega (arith, none, inside))
+  | inr none ↦
+      let far : place_of (Client c) ≡ PROCESSES = ap (λ b. if b then MAX_SERVERS + 1 + c else PROCESSES) none in
+      absurd (omega (arith, far, inside))
 ]
 
 -- two processes with places have two
@@ -62,8 +62,8 @@ none_yet o low p from below = absurd (omega (arith, from, below))
 pub one_more : (o : OutgoingView) (low high : ℕ) → NoneWaits o low high → get_or o.queues high [] ≡ [] → NoneWaits o low (high + 1)
 one_more o low high none here p from below = elim (test (nat_lt (place_of p) high)) [
   | inl is ↦ none p from (let small : place_of p < high = grind (arith, nat_tests, is) in small)
-  | inr no ↦
-      let large : high ≤ place_of p = grind (arith, nat_tests, no) in
+  | inr large_is ↦
+      let large : high ≤ place_of p = grind (arith, nat_tests, large_is) in
       let same : place_of p ≡ high = omega (arith, large, below) in
       ap (λ (i : ℕ). get_or o.queues i []) same ∙ here
 ]

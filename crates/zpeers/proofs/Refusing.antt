@@ -1,5 +1,5 @@
 -- The records of messages are refused only where memory runs out.
-use Rattle.std.proofs.Common.{◌≡◌, ℕ, ◌<◌, ◌≤◌, List, [], ◌∷◌, ◌++◌, length, map, Option, None, Some, Result, Ok, Err, refl, sym, ap, subst, ◌∙◌, append-nil, arith}
+use Rattle.std.proofs.Common.{◌≡◌, ℕ, ◌≤◌, List, [], ◌∷◌, ◌++◌, length, map, Option, None, Some, Result, Ok, Err, refl, sym, ap, subst, ◌∙◌, append-nil, arith}
 use Rattle.std.specs.List.{AllByRecursion, flat_map}
 use Rattle.std.proofs.lemmas.List.{map-append}
 use Rattle.zcodec.specs.declared.fault.Fault.{Fault}
@@ -11,14 +11,13 @@ use Rattle.zwire.specs.declared.limits.TheConstants.{MAX_FRAME}
 use Rattle.zwire.specs.declared.frame.Frame.{Frame}
 use Rattle.zwire.specs.Frames.{contents, frame, frame_of}
 use Rattle.zwire.proofs.Frames.{is_contents}
-use Rattle.zsnapshots.specs.States.{StateRow, Fits, IsReadable, spelled, rows_of}
+use Rattle.zsnapshots.specs.States.{StateRow, Fits, spelled, rows_of}
 use Rattle.zsnapshots.specs.States.StateRow.{OfHeader, OfSession, OfNode, OfReply}
 use Rattle.zsnapshots.specs.Loading.{bytes_loaded}
 use Rattle.zpeers.specs.declared.fault.PeerFault.{PeerFault}
 use Rattle.zpeers.specs.declared.fault.PeerFault.TheVariants as fault
-use Rattle.zpeers.specs.declared.tags.TheConstants.{FRAME, ROW, END}
 use Rattle.zpeers.specs.Records.{LinkRecord, frame_record, row_record, row_text, end_record, state_of, after_frame, records_of}
-use Rattle.zpeers.specs.Incoming.{ArrivingView, row_bytes, IsPeerFault}
+use Rattle.zpeers.specs.Incoming.{ArrivingView, IsPeerFault}
 use Rattle.zpeers.specs.Laws.{CanBeSent, given_by, NoneIsRefused}
 use Rattle.zpeers.proofs.Coming.{IsPartExpected, Expected, row_is_spelled, still_expected}
 
@@ -26,7 +25,7 @@ ok_err : {A E : Type 0} (x : A) (e : E) (r : Result A E) → r ≡ Ok x → r �
 ok_err x e r ok err = let bad : ◌≡◌ {A = Result _ _} (Ok x) (Err e) = sym ok ∙ err in cc
 
 ok_same : {A E : Type 0} (x y : A) (r : Result A E) → r ≡ Ok x → r ≡ Ok y → x ≡ y
-ok_same x y r ok also = let same : ◌≡◌ {A = Result _ E} (Ok x) (Ok y) = sym ok ∙ also in cc
+ok_same {E = E} x y r ok also = let same : ◌≡◌ {A = Result _ E} (Ok x) (Ok y) = sym ok ∙ also in cc
 
 some_none : {A : Type 0} (x : A) → ◌≡◌ {A = Option A} (Some x) None → ⊥
 some_none x same = cc

@@ -1,8 +1,10 @@
 -- The records of a message that waits.
-use Rattle.std.proofs.Common.{◌≡◌, ◌≢◌, ℕ, zero, suc, ◌+◌, ◌-◌, ◌<◌, ◌≤◌, List, [], ◌∷◌, ◌++◌, length, map, take, drop, drop_at, Option, None, Some, refl, sym, ap, subst, ◌∙◌, append_assoc, inl, inr, arith}
+use Rattle.std.proofs.Common.{◌≡◌, ℕ, ◌+◌, ◌<◌, ◌≤◌, List, [], ◌∷◌, ◌++◌, length, map, take, drop, drop_at, Option, None, Some, refl, sym, ap, subst, ◌∙◌, append_assoc, inl, inr, arith}
 use Rattle.std.proofs.lemmas.List.{length-map}
 use Rattle.std.specs.List.{flat_map}
-use Rattle.std.proofs.Common.{length-append, length-drop}
+use Rattle.std.specs.Prelude.{option_to_list}
+use Rattle.std.proofs.Math.Seq.{take-append_seam}
+use Rattle.std.proofs.Common.{length-append, length-drop, add-one}
 use Rattle.zops.specs.Machine.{MachineState}
 use Rattle.zprotocol.specs.declared.message.Message.TheVariants as message
 use Rattle.zprotocol.specs.declared.process.Process.{Process}
@@ -11,13 +13,13 @@ use Rattle.zwire.specs.declared.limits.TheConstants.{MAX_FRAME}
 use Rattle.zwire.specs.declared.fault.WriteError.{WriteError}
 use Rattle.zwire.specs.declared.fault.WriteError.TheVariants.{TooLong, Memory}
 use Rattle.zwire.specs.Frames.{contents, frame, frame_of}
-use Rattle.zsnapshots.specs.States.{StateRow, KeysView, AreKeysOf, Fits, IsRow, spelled, rows_of, written_of}
+use Rattle.zsnapshots.specs.States.{StateRow, KeysView, IsRow, rows_of}
 use Rattle.zsnapshots.proofs.Places.{At, at_left, at_map}
 use Rattle.zpeers.specs.declared.tags.TheConstants.{FRAME, ROW, END}
-use Rattle.zpeers.specs.Records.{LinkRecord, TreeTransfer, link_record, frame_record, row_record, row_text, end_record, state_of, state_records, after_frame, records_of}
+use Rattle.zpeers.specs.Records.{LinkRecord, link_record, frame_record, row_record, end_record, state_of, state_records, after_frame, records_of}
 use Rattle.zpeers.specs.Incoming.{HasNoState, row_bytes}
 use Rattle.zpeers.specs.Outgoing.{WaitingView, left_of, IsLongFrame}
-use Rattle.zpeers.specs.support.Waiting.{HasKeys, IsRecordWritten, IsFirstWritten, IsLastWritten}
+use Rattle.zpeers.specs.support.Waiting.{HasKeys, IsRecordWritten, IsFirstWritten, IsLastWritten, IsQueueWritten, queue_of}
 use Rattle.zpeers.proofs.Messages.{kinds}
 use Rattle.zpeers.proofs.Coming.{row_is_spelled}
 use Rattle.zpeers.proofs.Refusing.{row_short}
@@ -89,26 +91,23 @@ long_frame own to w Memory none long = tt
 
 -- ---- what follows it
 
-drop_behind : (x : LinkRecord) (xs : List LinkRecord) (n : ℕ) → 0 < n → drop n (x ∷ xs) ≡ drop (n - 1) xs
-drop_behind x xs zero some = absurd (omega (arith, some))
-drop_behind x xs (suc n) some = let same : n ≡ suc n - 1 = omega arith in ap (λ (k : ℕ). drop k xs) same
+drop_behind : (x : LinkRecord) (xs : List LinkRecord) (n : ℕ) → drop (n + 1) (x ∷ xs) ≡ drop n xs
+drop_behind x xs n = rw add-one refl
 
-pub further_written : (own to : Process) (m : TreeMessage) (n : ℕ) (before after : List ℕ) → 0 < n
-    → IsRecordWritten (drop (n - 1) (after_frame m)) (drop (n - 1 + 1) (after_frame m)) before after
-    → IsFirstWritten own to (record { message = m; written = n }) (record { message = m; written = n + 1 }) before after
-further_written own to m n before after some w =
-    let next : n - 1 + 1 ≡ n + 1 - 1 = omega (arith, some) in
-    record {
-      same = refl;
-      written = as_written _ _ _ _ before after (sym (drop_behind (frame_record own to m) (after_frame m) n some))
-          (ap (λ (k : ℕ). drop k (after_frame m)) next ∙ sym (drop_behind (frame_record own to m) (after_frame m) (n + 1) (omega arith))) w;
-    }
+pub further_written : (own to : Process) (m : TreeMessage) (n : ℕ) (before after : List ℕ)
+    → IsRecordWritten (drop n (after_frame m)) (drop (n + 1) (after_frame m)) before after
+    → IsFirstWritten own to (record { message = m; written = n + 1 }) (record { message = m; written = n + 1 + 1 }) before after
+further_written own to m n before after w = record {
+  same = refl;
+  written = as_written _ _ _ _ before after (sym (drop_behind (frame_record own to m) (after_frame m) n))
+      (sym (drop_behind (frame_record own to m) (after_frame m) (n + 1))) w;
+}
 
-pub last_written : (own to : Process) (m : TreeMessage) (n : ℕ) (before after : List ℕ) → 0 < n
-    → IsRecordWritten (drop (n - 1) (after_frame m)) [] before after
-    → IsLastWritten own to (record { message = m; written = n }) before after
-last_written own to m n before after some w =
-    as_written _ _ [] [] before after (sym (drop_behind (frame_record own to m) (after_frame m) n some)) refl w
+pub last_written : (own to : Process) (m : TreeMessage) (n : ℕ) (before after : List ℕ)
+    → IsRecordWritten (drop n (after_frame m)) [] before after
+    → IsLastWritten own to (record { message = m; written = n + 1 }) before after
+last_written own to m n before after w =
+    as_written _ _ [] [] before after (sym (drop_behind (frame_record own to m) (after_frame m) n)) refl w
 
 -- ---- rows, and the end
 
@@ -152,3 +151,23 @@ module _ (s : MachineState) (n : ℕ) (before after : List ℕ) where
         bytes = bytes;
         fits = (omega arith, (omega arith, refl));
       }
+
+-- ---- queues
+
+pub queue_is : (first : Option WaitingView) (others : List WaitingView) → option_to_list first ++ others ≡ queue_of first others
+queue_is None others = refl
+queue_is (Some w) others = refl
+
+pub queue_last : (own to : Process) (w : WaitingView) (others new : List WaitingView) (before after : List ℕ)
+    → IsLastWritten own to w before after → new ≡ others → IsQueueWritten own to (w ∷ others) new before after
+queue_last own to w others new before after last same = record {
+  it = last.it;
+  next = ap (λ (l : List LinkRecord). l ++ flat_map (left_of own to) others) last.next
+      ∙ ap (λ (q : List WaitingView). last.it ∷ flat_map (left_of own to) q) (sym same);
+  bytes = last.bytes;
+  fits = last.fits;
+}
+
+-- what was appended is cut off
+pub cut_back : (before more : List ℕ) (n : ℕ) → n ≡ length before → take n (before ++ more) ≡ before
+cut_back before more n is = ap (λ (k : ℕ). take k (before ++ more)) is ∙ take-append_seam before more

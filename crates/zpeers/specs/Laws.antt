@@ -1,5 +1,5 @@
 -- Laws of the definitions: what one process sends to another comes whole, in order and once.
-use Rattle.std.specs.Prelude.{◌≡◌, ℕ, List, [], ◌∷◌, ◌++◌, map, Option, None, Some, if◌then◌else◌}
+use Rattle.std.specs.Prelude.{◌≡◌, List, [], ◌∷◌, ◌++◌, map, Option, None, Some, if◌then◌else◌}
 use Rattle.std.specs.List.{AllByRecursion, flat_map}
 use Rattle.zprotocol.specs.declared.message.Message.TheVariants.{Snapshot}
 use Rattle.zprotocol.specs.declared.process.Process.{Process}
@@ -10,7 +10,7 @@ use Rattle.zsnapshots.specs.States.{IsReadable}
 use Rattle.zpeers.specs.declared.fault.PeerFault.{PeerFault}
 use Rattle.zpeers.specs.declared.fault.PeerFault.TheVariants.{Memory}
 use Rattle.zpeers.specs.Records.{LinkRecord, state_of, after_frame, records_of}
-use Rattle.zpeers.specs.Outgoing.{OutgoingView, waiting_for, records_for, OthersWait}
+use Rattle.zpeers.specs.Outgoing.{OutgoingView, records_for, OthersWait}
 use Rattle.zpeers.specs.Incoming.{ArrivingView, Accepts, IsPeerFault}
 
 -- ---- the records of messages, taken one by one

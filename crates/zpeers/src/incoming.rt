@@ -190,16 +190,19 @@ fn take_more(
         → IsFaultAt own from (record { tag = tag; bytes = bytes.now }) slot.old fault) }
     ensures same { IfErr result (λ fault. fault ≢ OfMemory → slot.new ≡ slot.old) }
 {
-    match tag {
-        FRAME => Err(PeerFault::RowsAwaited),
-        ROW => {
-            let Some(arriving) = slot else {
-                unreachable!();
-            };
-            take_row(alloc, arriving, bytes)?;
-            Ok(None)
-        }
-        _ => Ok(Some(take_end(alloc, slot, bytes)?)),
+    if tag == FRAME {
+        return Err(PeerFault::RowsAwaited);
+    }
+    if tag == ROW {
+        let Some(arriving) = slot else {
+            unreachable!();
+        };
+        take_row(alloc, arriving, bytes)?;
+        return Ok(None);
+    }
+    match take_end(alloc, slot, bytes) {
+        Ok(message) => Ok(Some(message)),
+        Err(fault) => Err(fault),
     }
 }
 

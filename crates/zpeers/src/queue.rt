@@ -9,6 +9,7 @@ use crate::waiting::Waiting;
 use std::alloc::Global;
 use std::collections::VecDeque;
 use std::marker::Model;
+use std::mem::replace;
 use zalloc::Memory;
 use zprotocol::{Message, Process};
 use zserver::Snapshot;
@@ -104,7 +105,8 @@ impl Queue {
         };
         let more = first.write_next(alloc, own, to, out)?;
         if !more {
-            self.first = self.others.pop_front();
+            let next = self.others.pop_front();
+            drop(replace(&mut self.first, next));
         }
         Ok(true)
     }
@@ -113,7 +115,7 @@ impl Queue {
     pub(crate) fn clear(&mut self)
         ensures { self.new ≡ [] }
     {
-        self.first = None;
+        drop(self.first.take());
         self.others.clear();
     }
 }

@@ -2,29 +2,29 @@
 
 ghost use Rattle.std.specs.Prelude.{◌≡◌, [], ◌∷◌, None, Some};
 ghost use Rattle.zprotocol.specs.declared.process.Process.TheVariants.{Master, Server};
+ghost use Rattle.zsnapshots.specs.States.StateRow.{OfHeader};
+ghost use Rattle.zsnapshots.specs.support.Samples.{header};
 ghost use Rattle.zpeers.specs.declared.fault.PeerFault.TheVariants.{NoTag, RowsAwaited, NothingLoaded};
 ghost use Rattle.zpeers.specs.declared.fault.PeerFault.TheVariants.{NotEmpty, OtherSender, OtherReceiver};
-ghost use Rattle.zpeers.specs.Records.{link_record, end_record, records_of};
-ghost use Rattle.zpeers.specs.Outgoing.{records_for, place_after};
+ghost use Rattle.zpeers.specs.Records.{link_record, row_record, end_record};
+ghost use Rattle.zpeers.specs.Outgoing.{records_for, left_of, place_after};
 ghost use Rattle.zpeers.specs.Incoming.{Accepts, IsPeerFault};
-ghost use Rattle.zpeers.specs.support.Samples.{retire, snapshot, order, begun, tags, waiting};
+ghost use Rattle.zpeers.specs.support.Samples.{retire, order, begun, tags, waiting};
 
 /// The bytes of records.
 pub fn records_have_bytes()
     ensures frame { link_record.spell order ≡ 0 ∷ 0 ∷ 0 ∷ 0 ∷ 4 ∷ 0 ∷ 1 ∷ 2 ∷ 11 ∷ [] }
+    ensures row { link_record.spell (row_record (OfHeader header))
+        ≡ 1 ∷ 0 ∷ 0 ∷ 0 ∷ 36 ∷ 0 ∷ 0 ∷ 0 ∷ 0 ∷ 0 ∷ 0 ∷ 0 ∷ 5 ∷ 0 ∷ 0 ∷ 0 ∷ 0 ∷ 0 ∷ 0 ∷ 0 ∷ 9 ∷ 0
+        ∷ 0 ∷ 0 ∷ 0 ∷ 0 ∷ 0 ∷ 0 ∷ 12 ∷ 0 ∷ 0 ∷ 0 ∷ 1 ∷ 0 ∷ 0 ∷ 0 ∷ 2 ∷ 0 ∷ 0 ∷ 0 ∷ 1 ∷ [] }
     ensures end { link_record.spell end_record ≡ 2 ∷ 0 ∷ 0 ∷ 0 ∷ 0 ∷ [] }
 {}
 
-/// The records of messages: a new machine has two rows, its header and its root.
-pub fn messages_have_records()
-    ensures alone { tags (records_of Master (Server 2) retire) ≡ 0 ∷ [] }
-    ensures snapshot { tags (records_of (Server 1) (Server 2) snapshot) ≡ 0 ∷ 1 ∷ 1 ∷ 2 ∷ [] }
-{}
-
-/// What waits after some records were written.
+/// What waits, and what is left of a message after some of its records were written.
 pub fn records_wait()
-    ensures behind { tags (records_for waiting (Server 2) (Server 1)) ≡ 1 ∷ 2 ∷ 0 ∷ [] }
+    ensures both { tags (records_for waiting (Server 2) (Server 1)) ≡ 0 ∷ 0 ∷ [] }
     ensures other { records_for waiting (Server 2) (Server 3) ≡ [] }
+    ensures written { left_of Master (Server 2) (record { message = retire; written = 1 }) ≡ [] }
     ensures first { place_after None ≡ 0 }
     ensures next { place_after (Some (Server 1)) ≡ 2 }
 {}

@@ -1,6 +1,6 @@
 //! A message that waits to be sent.
 
-ghost use Rattle.std.specs.Prelude.{◌≡◌, ◌+◌, ◌<◌, ◌++◌, [], true, false, Some, length, drop};
+ghost use Rattle.std.specs.Prelude.{◌≡◌, ◌+◌, ◌^◌, ◌<◌, ◌++◌, [], true, false, Some, length, drop};
 ghost use Rattle.std.specs.Prelude.{IfOk, IfErr, OnOk, OnErr};
 ghost use Rattle.zwire.specs.declared.fault.WriteError.TheVariants.{TooLong};
 ghost use Rattle.zwire.specs.declared.limits.TheConstants.{MAX_FRAME};
@@ -21,27 +21,28 @@ use zserver::Snapshot;
 use zsnapshots::RowKeys;
 use zwire::{WriteError, write_frame};
 
-/// A message that waits, and how many of its records were written.
+/// A message that waits. Of a snapshot, some records may have been written.
 #[derive(Drop)]
 pub(crate) struct Waiting {
     message: Message<Snapshot>,
     // The keys of the rows of its state, once its frame was written.
     keys: Option<RowKeys>,
-    written: usize,
+    // How many rows were written.
+    rows: usize,
 }
 
 impl Model for Waiting {
     ghost use Rattle.zpeers.specs.Outgoing.{WaitingView};
     ghost use Rattle.zpeers.specs.support.Codes.{coded_waiting};
-    ghost use Rattle.zpeers.specs.support.Waiting.{IsWaiting};
+    ghost use Rattle.zpeers.specs.support.Waiting.{IsWaiting, written_by};
 
     ghost Value = { WaitingView };
 
     ghost coded = { coded_waiting };
 
-    ghost view = { λ w. record { message = w.message; written = w.written } };
+    ghost view = { λ w. record { message = w.message; written = written_by w.keys w.rows } };
 
-    ghost invariant = { λ w. IsWaiting w.message w.keys w.written };
+    ghost invariant = { λ w. IsWaiting w.message w.keys w.rows };
 }
 
 impl Waiting {
@@ -52,7 +53,7 @@ impl Waiting {
         Waiting {
             message,
             keys: None,
-            written: 0,
+            rows: 0,
         }
     }
 
@@ -76,11 +77,11 @@ impl Waiting {
         let Some(keys) = &self.keys else {
             return self.write_first(alloc, own, to, out);
         };
-        let Ok(more) = put_further(alloc, &self.message, keys, self.written - 1, out) else {
+        let Ok(more) = put_further(alloc, &self.message, keys, self.rows, out) else {
             return Err(WriteError::Memory);
         };
         if more {
-            self.written += 1;
+            self.rows += 1;
         }
         Ok(more)
     }
@@ -113,7 +114,6 @@ impl Waiting {
             return Ok(false);
         };
         self.keys = Some(keys);
-        self.written = 1;
         Ok(true)
     }
 }
@@ -170,7 +170,9 @@ fn put_further(
     ensures row { IfOk result (λ more. more ≡ true → IsRecordWritten
         (drop number (after_frame message.now)) (drop (number + 1) (after_frame message.now))
         out.old.items out.new.items) }
-    ensures rest { IfOk result (λ more. more ≡ true → number + 1 < length (after_frame message.now)) }
+    ensures rest { IfOk result (λ more. more ≡ true
+        → number + 1 < length (after_frame message.now)) }
+    ensures room { IfOk result (λ more. more ≡ true → number + 1 < 2 ^ 64) }
     ensures end { IfOk result (λ more. more ≡ false
         → IsRecordWritten (drop number (after_frame message.now)) [] out.old.items out.new.items) }
     ensures err { OnErr result (out.new.items ≡ out.old.items) }
@@ -199,6 +201,7 @@ fn put_state_record(
         (drop (number + 1) (state_records machine.now.state)) out.old.items out.new.items) }
     ensures rest { IfOk result (λ more. more ≡ true
         → number + 1 < length (state_records machine.now.state)) }
+    ensures room { IfOk result (λ more. more ≡ true → number + 1 < 2 ^ 64) }
     ensures end { IfOk result (λ more. more ≡ false → IsRecordWritten
         (drop number (state_records machine.now.state)) [] out.old.items out.new.items) }
     ensures err { OnErr result (out.new.items ≡ out.old.items) }

@@ -1,5 +1,5 @@
 -- A message that waits, and the queue of one receiver.
-use Rattle.std.specs.Prelude.{◌≡◌, ℕ, ◌<◌, ◌≤◌, false, List, [], ◌∷◌, ◌++◌, length, Option, None, Some}
+use Rattle.std.specs.Prelude.{◌≡◌, ℕ, ◌+◌, ◌<◌, false, List, [], ◌∷◌, ◌++◌, length, Option, None, Some}
 use Rattle.std.specs.List.{flat_map}
 use Rattle.zprotocol.specs.declared.message.Message.TheVariants.{Snapshot}
 use Rattle.zprotocol.specs.declared.process.Process.{Process}
@@ -15,11 +15,15 @@ HasKeys (Snapshot epoch t) (Some keys) = AreKeysOf keys (state_of t) × (keys.is
 HasKeys m None = Unit {0}
 HasKeys m (Some keys) = ⊥
 
--- nothing was written; or the frame was, and part of what comes after it
+-- how many records were written: none, or the frame and so many rows
+abbrev pub written_by : Option KeysView → ℕ → ℕ
+written_by None rows = 0
+written_by (Some keys) rows = rows + 1
+
+-- no row was written; or there are further records after them
 abbrev pub IsWaiting : TreeMessage → Option KeysView → ℕ → Type 0
-IsWaiting m None written = written ≡ 0
-IsWaiting m (Some keys) written =
-    HasKeys m (Some keys) × (0 < written) × (written ≤ length (after_frame m))
+IsWaiting m None rows = rows ≡ 0
+IsWaiting m (Some keys) rows = HasKeys m (Some keys) × (rows < length (after_frame m))
 
 -- a record was written at the end of the bytes: the first of those that wait
 pub record IsRecordWritten (old new : List LinkRecord) (before after : List ℕ) : Type 0 where

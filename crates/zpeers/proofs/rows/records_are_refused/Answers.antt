@@ -1,4 +1,4 @@
-use Rattle.std.proofs.Common.{refl, arith, Some}
+use Rattle.std.proofs.Common.{refl, arith}
 use Rattle.zcodec.specs.Forms.{number_at}
 use Rattle.zprotocol.specs.declared.message.Message.TheVariants as message
 use Rattle.zprotocol.specs.declared.process.Process.TheVariants.{Master, Server}

@@ -1,4 +1,4 @@
-use Rattle.std.proofs.Common.{◌≡◌, ap, ◌∙◌}
+use Rattle.std.proofs.Common.{ap, ◌∙◌}
 use Rattle.std.proofs.Math.ListN.{length-set}
 use Rattle.zpeers.proofs.Receivers.{put_back}
 use Rattle.zpeers.proofs.Outs.{if_ok, if_err}

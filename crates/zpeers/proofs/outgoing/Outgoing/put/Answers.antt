@@ -1,4 +1,4 @@
-use Rattle.std.proofs.Common.{◌≡◌, length, ap, ◌∙◌}
+use Rattle.std.proofs.Common.{ap, ◌∙◌}
 use Rattle.std.proofs.Math.ListN.{length-set}
 use Rattle.zpeers.proofs.Receivers.{put_back}
 use Rattle.zpeers.proofs.Outs.{on_ok, on_err, view_of, put_last, others_wait, records_after}

@@ -1,4 +1,4 @@
-use Rattle.std.proofs.Common.{◌≡◌, List, ap, subst, sym, ◌∙◌}
+use Rattle.std.proofs.Common.{List, ap, subst, sym, ◌∙◌}
 use Rattle.std.proofs.Math.ListN.{length-set}
 use Rattle.zpeers.specs.Outgoing.{WaitingView, IsFirstLong}
 use Rattle.zpeers.proofs.Receivers.{put_back}
