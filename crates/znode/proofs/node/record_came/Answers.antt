@@ -15,10 +15,10 @@ pub returns-in-Err-clause-comes : goal.returns-in-Err-clause-comes
 returns-in-Err-clause-comes c =
     let why = c.ends_node.ensures.no c.if-ends_node.false in
     inr (
-    dropped c.args.own why.1.0 c.args.from (record { tag = c.args.tag; bytes = c.args.bytes.now })
-    (arriving_from c.args.incoming.now c.args.from) c.in-Err.fault why.0 why.1.1 c.in-Err.ensures.fault,
-    c.forget.ensures.none,
-    refl,
+      dropped c.args.own why.1.0 c.args.from (record { tag = c.args.tag; bytes = c.args.bytes.now })
+          (arriving_from c.args.incoming.now c.args.from) c.in-Err.fault why.0 why.1.1 c.in-Err.ensures.fault,
+      c.forget.ensures.none,
+      refl,
     )
 
 pub returns-in-Err-clause-others : goal.returns-in-Err-clause-others
