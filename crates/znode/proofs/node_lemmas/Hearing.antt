@@ -17,6 +17,7 @@ use Rattle.zpeers.specs.Outgoing.{WaitingView, waiting_for}
 use Rattle.znode.specs.Node.{SeatView}
 use Rattle.znode.specs.Server.{ArePut, Hears, MayDo, fresh, has_joined, news_of, puts_to}
 use Rattle.znode.specs.support.Standings.{IsServer}
+use Rattle.znode.proofs.node_lemmas.Putting.{or-none}
 
 -- a server has handled a message, and this is what its runner puts
 pub record HasDone (own : ℕ) (from : Process) (m : TreeMessage) (old new : TreeStanding) (posts : List TreePost) (done : Done) : Type 0 where
@@ -59,10 +60,6 @@ put_last Stopped posts ends = refl
 put_last Left posts ends = refl
 put_last (Began n) posts ends = absurd (let e : false ≡ true = ends in cc)
 put_last (Answered n) posts ends = absurd (let e : false ≡ true = ends in cc)
-
-or-none : (a : Bool) → a || false ≡ a
-or-none true = refl
-or-none false = refl
 
 -- nothing was put before
 put_after : (own : ℕ) (posts : List TreePost) (old middle new : SeatView) → ArePut own [] old middle → ArePut own posts middle new → ArePut own posts old new

@@ -26,7 +26,7 @@ one_more true b c = refl
 one_more false true c = refl
 one_more false false c = refl
 
-or-none : (a : Bool) → a || false ≡ a
+pub or-none : (a : Bool) → a || false ≡ a
 or-none true = refl
 or-none false = refl
 

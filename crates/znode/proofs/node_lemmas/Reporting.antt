@@ -10,10 +10,7 @@ use Rattle.zmaster_log.specs.declared.entry.News.{News}
 use Rattle.zpeers.specs.Outgoing.{OutgoingView, OthersWait, WaitingView, waiting_for}
 use Rattle.znode.specs.Node.{SeatView}
 use Rattle.znode.specs.Server.{ArePut, fresh, is_joined, is_link, news_in}
-
-or-none : (a : Bool) → a || false ≡ a
-or-none true = refl
-or-none false = refl
+use Rattle.znode.proofs.node_lemmas.Putting.{or-none}
 
 -- the master has no link
 no_link : (p : Process) → is_link p Master ≡ false
