@@ -1,5 +1,5 @@
 -- How a node answers a turn.
-use Rattle.std.proofs.Common.{◌≡◌, ℕ, Bool, true, false, List, [], ◌∷◌, ◌++◌, Option, None, Some, refl, sym, ap, ◌∙◌, append_assoc, arith}
+use Rattle.std.proofs.Common.{◌≡◌, ℕ, Bool, true, false, List, [], ◌∷◌, ◌++◌, Option, None, Some, refl, sym, ap, subst, ◌∙◌, append_assoc, arith}
 use Rattle.std.specs.Prelude.{is_some, IfSome, IfNone}
 use Rattle.std.specs.List.{flat_map}
 use Rattle.std.proofs.lemmas.List.{append-nil}
@@ -15,9 +15,9 @@ use Rattle.znode.specs.declared.status.NodeStatus.{NodeStatus}
 use Rattle.znode.specs.pipe.Inputs.{InputView, Turn}
 use Rattle.znode.specs.pipe.Outputs.{OutputView, End, output}
 use Rattle.znode.specs.pipe.Serving.{outputs_text}
-use Rattle.znode.specs.Node.{NodeView}
+use Rattle.znode.specs.Node.{NodeView, status_of}
 use Rattle.znode.specs.Steps.{IsNodeFault}
-use Rattle.znode.specs.Turns.{Waits}
+use Rattle.znode.specs.Turns.{Answers, Sends, Waits, asked_after, asked_output, asking, told_output}
 use Rattle.znode.specs.support.Faults.{of_writing}
 use Rattle.znode.specs.support.Turns.{IsAnySendFault}
 
@@ -58,3 +58,47 @@ texts_join start mid1 mid2 mid3 end a b d it ea eb ed ee =
         ∙ ap (λ (t : List ℕ). outputs_text a ++ t) (flat_map-append output.spell b (d ++ it ∷ [])
         ∙ ap (λ (t : List ℕ). outputs_text b ++ t) (flat_map-append output.spell d (it ∷ [])
         ∙ ap (λ (t : List ℕ). outputs_text d ++ t) (append-nil (output.spell it))))
+
+-- a node whose status is known, and which has asked
+abbrev after_status : NodeView → NodeView
+after_status v = record v { told = Some (status_of v) }
+
+abbrev after_asking : NodeView → NodeView
+after_asking v = record v { asked = asked_after v.asked (asking v) }
+
+-- the records that are sent, and their text
+abbrev SendsText : NodeView → NodeView → List ℕ → List ℕ → Type 0
+SendsText v w before after =
+    (outputs : List OutputView) × Sends v.replica.own outputs v.seat.outgoing w.seat.outgoing × (after ≡ before ++ outputs_text outputs)
+
+-- the status, the entry that is asked for, the records and the end are an answer
+pub answers_of : (v told asked w : NodeView) (more : Bool) (start a b d end : List ℕ)
+    → told ≡ after_status v → asked ≡ after_asking told → w ≡ record asked { seat = record asked.seat { outgoing = w.seat.outgoing } }
+    → a ≡ start ++ outputs_text (told_output v.told (status_of v))
+    → b ≡ a ++ outputs_text (asked_output told.replica.played (asking told))
+    → SendsText asked w b d → end ≡ d ++ output.spell (End more) → Waits more w.seat.outgoing
+    → (outputs : List OutputView) × Answers v outputs w × (end ≡ start ++ outputs_text outputs)
+answers_of v told asked w more start a b d end is_told is_asked rest told_text asked_text sends end_text waits =
+    let is : asked ≡ after_asking (after_status v) = is_asked ∙ ap after_asking is_told in
+    let text : b ≡ a ++ outputs_text (asked_output v.replica.played (asking v)) =
+    asked_text ∙ ap (λ (x : NodeView). a ++ outputs_text (asked_output x.replica.played (asking x))) is_told in
+    let sent : SendsText (after_asking (after_status v)) w b d = subst (λ (x : NodeView). SendsText x w b d) is sends in (
+      told_output v.told (status_of v) ++ asked_output v.replica.played (asking v) ++ sent.0 ++ End more ∷ [],
+      record {
+        records = sent.0;
+        sends = sent.1;
+        more = more;
+        waits = waits;
+        all = refl;
+        rest = rest ∙ ap (λ (x : NodeView). record x { seat = record x.seat { outgoing = w.seat.outgoing } }) is;
+      },
+      texts_join start a b d end (told_output v.told (status_of v)) (asked_output v.replica.played (asking v)) sent.0 (End more)
+          told_text text sent.2 end_text,
+    )
+
+-- what ends the node after it has asked would have ended it before
+pub answer_fault : (v told asked : NodeView) (error : NodeFault) → told ≡ after_status v → asked ≡ after_asking told
+    → IsNodeFault asked Turn error → IsNodeFault v Turn error
+answer_fault v told asked error is_told is_asked failed =
+    same_turn_fault v (Some (status_of v)) (asked_after v.asked (asking v)) error
+    (subst (λ (x : NodeView). IsNodeFault x Turn error) (is_asked ∙ ap after_asking is_told) failed)
