@@ -47,7 +47,7 @@ built-free : (i : ℕ) (options : List (Text × Text)) → list_all (λ (a : Rul
 built-free i [] = refl
 built-free i (option ∷ options) = built-free i options
 
--- no option is reported by its position
+-- no option is identified by its position
 built-named : (n i : ℕ) (options : List (Text × Text)) → list_any (is_early_multiple n) (built_from i options) ≡ false
 built-named n i [] = refl
 built-named n i (option ∷ options) = built-named n i options

@@ -1,4 +1,4 @@
--- What a fault of words is reported by, by its exit status.
+-- Which line reports a fault of words, by its exit status.
 use Rattle.std.proofs.Common.{◌≡◌, codes, refl, arith}
 use Rattle.zarguments.specs.Words.{words_fault_text, words_fault_status}
 use Rattle.zarguments.specs.declared.fault.WordsFault.{WordsFault}

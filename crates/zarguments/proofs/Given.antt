@@ -1,4 +1,4 @@
--- What is given by what a parse reports.
+-- What is given by what a parse returns.
 use Rattle.std.proofs.Common.{◌≡◌, ◌∙◌, ◌≢◌, Bool, cond, true, false, refl, sym, ap, ap₂, subst, inl, inr, List, [], ◌∷◌, Option, Some, None, Box, option_map, option_and_then}
 use Rattle.std.specs.Str.{bytes_eq}
 use Rattle.std.specs.Box.{box_value}
@@ -60,7 +60,7 @@ asked-matches app name options words m is none has =
     ap₂ unless_faulty (ap (λ (a : App). fault_of a words) (sym is) ∙ none)
     (ap (λ (o : Option (Text × List Row)). option_and_then (numbers_of options) (matches_under name o)) (sym (right (simple name options)).1))
 
--- words with a fault give nothing: only want of memory comes without one
+-- words with a fault give nothing: only running out of memory comes without one
 pub asked-faulty : (app : App) (name : Text) (options : List (Text × Text)) (words : List Text) (e : Error) → app ≡ command_of name options
     → HasKind (fault_of app words) e → kind_of e ≢ OutOfMemory → None ≡ asked_of name options words
 unfolding asked_of

@@ -1,4 +1,4 @@
--- What a history reports of a client, against that client's record, up to a place.
+-- What a history has of a client, against that client's record, up to a position.
 use Rattle.std.proofs.Common.{◌≡◌, ◌<◌, ◌≤◌, ℕ, suc, ◌+◌, ◌==◌, true, refl, sym, ap, ◌∙◌, length, ◌∷◌, ◌++◌, take, drop, get_or, arith}
 use Rattle.std.proofs.Math.Seq.{split_at, take-length}
 use Rattle.std.proofs.lemmas.Bool.Decides.{nat_tests}
@@ -11,11 +11,11 @@ use Rattle.zprotocol.specs.traces.Traces.{client_of, reported_of}
 same_number : (a b : ℕ) → a ≡ b → (a == b) ≡ true
 same_number a b same = grind (arith, nat_tests)
 
--- a place that isn't the end is before it
+-- a position that isn't the end is before it
 pub before_end : (at end : ℕ) → at ≤ end → (at ≡ end → ⊥) → at < end
 before_end at end most other = grind (arith, nat_tests)
 
--- the history reports of the client what it reported so far, then this event of the client's, then more
+-- the history has of the client what it had so far, then this event of the client's, then more
 reported_here : (c : ℕ) (history : History) (i : ℕ) (x : CallEvent) → i < length history → client_of (get_or history i x) ≡ c
     → reported_of c history ≡ reported_of c (take i history) ++ get_or history i x ∷ reported_of c (drop (suc i) history)
 reported_here c history i x there own =
@@ -25,7 +25,7 @@ reported_here c history i x there own =
     ∙ (filter-append (λ e. client_of e == c) (take i history) (get_or history i x ∷ drop (suc i) history)
     ∙ ap (λ more. reported_of c (take i history) ++ more) kept)
 
--- where the record ends before an event of the client's, the history reports more
+-- where the record ends before an event of the client's, the history has more of the client
 pub ends_early : (c : ℕ) (history seen : History) (i at : ℕ) (x : CallEvent) → i < length history → client_of (get_or history i x) ≡ c
     → reported_of c (take i history) ≡ take at seen → at ≡ length seen → reported_of c history ≡ seen → ⊥
 ends_early c history seen i at x there own so_far end same =

@@ -1,4 +1,4 @@
--- Of lawful traces that aren't cut nothing but want of memory is found.
+-- Of lawful traces that aren't cut nothing but out of memory is found.
 use Rattle.std.proofs.Common.{◌≡◌, ℕ, true, false, refl, sym, ap, ◌∙◌}
 use Rattle.std.specs.Prelude.{Result, Ok, Err, IfOk}
 use mathlib.Core.Logic.{∥∥₁_elim}

@@ -64,7 +64,7 @@ not_before s j a b later = elim (test (nat_lt s a)) [
     ]
 
 module _ (t : Traces) (read : List ℕ) where
-  -- where something is counted, it is at a place
+  -- where something is counted, it is at a position
   counted : (f : ℕ × ℕ → ℕ) (n : ℕ) → 0 < count_below t read f n → (j : ℕ) × (s : ℕ) × (j < n) × (head_at t read j ≡ Some s) × (0 < f (s, j))
   counted f zero lt = absurd (omega (arith, lt))
   counted f (suc n) lt = by (head_at t read n) refl lt (counted f n)
@@ -81,7 +81,7 @@ module _ (t : Traces) (read : List ℕ) where
             (found.0, found.1, omega (arith, found.2), found.3, found.4)
       ]
 
-  -- what stands at a place is counted
+  -- what is at a position is counted
   at_most : (f : ℕ × ℕ → ℕ) (n j s : ℕ) → j < n → head_at t read j ≡ Some s → f (s, j) ≤ count_below t read f n
   at_most f zero j s lt is = absurd (omega (arith, lt))
   at_most f (suc n) j s lt is = elim (eq-or-lt_of_le {n = j} {m = n} (omega (arith, lt))) [
@@ -123,7 +123,7 @@ module _ (t : Traces) (read : List ℕ) where
             not_before s j first.0 first.1 (none_if _ (omega (arith, few, none))),
       )
 
-  -- where the heap is empty, no place has a next event
+  -- where the heap is empty, no position has a next event
   pub none_is_left : (n : ℕ) (old : List Head) → HoldsHeads t read n old → old ≡ [] → IsLeast t read n None
   none_is_left n old holds empty j lt =
       let none : count_below t read (λ x. 1) n ≡ 0 = sym (holds (λ x. 1)) ∙ ap (count_of (λ x. 1)) empty in
@@ -135,7 +135,7 @@ module _ (t : Traces) (read : List ℕ) where
           let few = at_most (λ x. 1) n j s lt is in
           absurd (omega (arith, few, none))
 
-  -- one event of a place is read
+  -- one event of a position is read
   module _ (b : ℕ) where
     abbrev after : List ℕ
     after = set read b (get_or read b 0 + 1)
@@ -178,7 +178,7 @@ module _ (t : Traces) (read : List ℕ) where
       let new = put f in
       omega (arith, here, moved, own, gone, new)
 
--- where the top stands an event is left
+-- at the top of the heap an event is left
 pub is_left : (t : Traces) (read : List ℕ) (first : ℕ × ℕ) (old new : List Head) → length read ≡ place_count t
     → HoldsHeads t read (place_count t) old → IsFirstTaken first old new → get_or read first.1 0 < length (trace_of t (process_at t first.1))
 is_left t read first old new long holds taken =
@@ -187,7 +187,7 @@ is_left t read first old new long holds taken =
     let (e, more, front, stamp) = next_front t read (first.1, first.0) least in
     is_unread t read first.1 e more there front
 
--- the event that stands there is the next of all
+-- the event at the top is the next of all
 pub is_next : (t : Traces) (read : List ℕ) (first : ℕ × ℕ) (old new : List Head) (x : TraceEvent) → length read ≡ place_count t
     → HoldsHeads t read (place_count t) old → IsFirstTaken first old new → x ≡ get_or (trace_of t (process_at t first.1)) (get_or read first.1 0) x
     → IsNext t read first.1 x old new

@@ -1,4 +1,5 @@
--- What C is reported, call by call: each call plays at most one line, and reports what was to be reported or nothing.
+-- What is returned to C, call by call: each call plays at most one line, and returns what was to be
+-- returned or nothing.
 use Rattle.std.proofs.Common.{◌≡◌, ℕ, ◌⊎◌, inl, inr, Bool, true, false, List, [], ◌∷◌, ◌++◌, length, take, drop, refl}
 use Rattle.std.proofs.Common.{sym, ap, ◌∙◌, subst, append_assoc, if◌then◌else◌}
 use Rattle.std.proofs.Math.Dec.{ltb}
@@ -25,7 +26,7 @@ IsIn (Open script answer) world = world_between script.held ≡ world
 IsIn OutOfMemory world = Unit {0}
 IsIn Refused world = Unit {0}
 
--- lines were played between two services, and this reported
+-- lines were played between two services, and this was returned
 abbrev Writes : Service → List ℕ → Service → List ℕ → Type 0
 Writes old reported new text = to_report old ++ text ≡ reported ++ to_report new
 
@@ -92,7 +93,7 @@ hears OutOfMemory new world line status at h = idle OutOfMemory new world (playe
 hears Refused new world line status at h = idle Refused new world (played_by (Hear line status)) [] at
     (unplayed line status NoServers refl h.0) refl h.1
 
--- what a service is that has reported its answer
+-- the state of a service that has returned its answer
 has_reported : (old new : Service) (world : ServiceWorld) → IsIn old world → HasReported old new → IsIn new world × (to_report new ≡ [])
 has_reported (Open script answer) (Open left nothing) world at h = (ap (λ (w : WorldView). world_between w.held) h.0 ∙ at, h.1)
 has_reported (Open script answer) OutOfMemory world at h = absurd h
@@ -100,7 +101,7 @@ has_reported (Open script answer) Refused world at h = absurd h
 has_reported OutOfMemory new world at h = (subst (λ s. IsIn s world) (sym h) tt, ap to_report h)
 has_reported Refused new world at h = (subst (λ s. IsIn s world) (sym h) tt, ap to_report h)
 
--- an answer was reported, or there was no room for it
+-- an answer was returned, or there was no room for it
 module _ (old new : Service) (world : ServiceWorld) (before after : List ℕ) (count : ℕ) (at : IsIn old world)
     (h : Reports old new before after count) where
   abbrev by_room : (b : Bool) → ltb (length before) count ≡ b → Went old world [] (if b then [] else take count after) new
@@ -124,7 +125,7 @@ called : (old new : Service) (world : ServiceWorld) (call : Call) → IsIn old w
 called old new world (Hear line status) at h = hears old new world line status at h
 called old new world (Report before after count) at h = reports old new world before after count at h
 
--- what two texts tell, one behind the other
+-- what two texts report, one after the other
 both_reported : (old mid new reported more a b : List ℕ) → old ++ a ≡ reported ++ mid → mid ++ b ≡ more ++ new → old ++ (a ++ b) ≡ (reported ++ more) ++ new
 both_reported old mid new reported more a b first next =
     sym (append_assoc old a b) ∙ ap (λ t. t ++ b) first ∙ append_assoc reported mid b ∙ ap (λ t. reported ++ t) next ∙ sym (append_assoc reported more new)

@@ -29,7 +29,7 @@ module _ {P : Type 0} (step : PlainStep P) where
       let s' = (entry_step step s e).0 in
       ap (λ l. act_of step s e ++ l) (acted_more s' xs ys) ∙ sym (append_assoc (act_of step s e) (acts_from step s' xs) (acts_from step (after s' xs) ys))
 
-  -- a client's kept number never falls
+  -- a client's cached number never falls
   pub numbers_rise : KeptNumbersRise step
   numbers_rise s [] client = omega arith
   numbers_rise s (e ∷ es) client =
@@ -37,7 +37,7 @@ module _ {P : Type 0} (step : PlainStep P) where
       let rest = numbers_rise (entry_step step s e).0 es client in
       omega (arith, first, rest)
 
-  -- the kept reply of a client is that of a call that acted, or was there before
+  -- the cached reply of a client is that of a call that acted, or was there before
   abbrev pub IsKeptOf : CachedState P → List (Operation × Reply) → ℕ → Cached → Type 0
   IsKeptOf s acts c k = (get s.kept c ≡ Some k) ⊎ ((o : Operation) × (o.client ≡ c) × (o.number ≡ k.number) × Among (o, k.reply) acts)
 
@@ -60,7 +60,7 @@ module _ {P : Type 0} (step : PlainStep P) where
       let s' = (entry_step step s e).0 in
       now_kept s e _ _ (outcome step s e) (acts_from step s' es) c k (kept_is_acted s' es c k has)
 
-  -- what is kept of a client stays while nothing above it acts
+  -- what is cached of a client stays while nothing above it acts
   now_stays : (s : CachedState P) (e : Entry) (now : List (Operation × Reply)) (r : CachedState P × Option Reply) → Outcome step s e now r
       → (client : ℕ) (k : Cached) → get s.kept client ≡ Some k → last_number r.0 client ≤ k.number → get r.0.kept client ≡ Some k
   now_stays s e now r (Acts low) client k has few = elim (test (client == e.client)) [

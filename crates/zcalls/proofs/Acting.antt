@@ -1,4 +1,4 @@
--- Which entries act, and what is kept of them.
+-- Which entries act, and what is cached of them.
 use Rattle.std.proofs.Common.{◌≡◌, ℕ, ◌<◌, ◌≤◌, true, false, cond, if◌then◌else◌, nat_lt, ◌==◌, List, [], ◌∷◌, ◌++◌, Option, Some, None, refl, sym, ap, ◌∙◌, subst, inl, inr, arith, ltb-true, eqb-true, eq-eqb}
 use Rattle.std.proofs.lemmas.Bool.Decides.{nat_tests}
 use Rattle.std.specs.Cmp.{unsigned_tied}
@@ -14,7 +14,7 @@ use Rattle.zcalls.specs.Acts.{act_of, acts_from}
 use Rattle.zcalls.specs.CachedLaws.{last_number, FirstEntriesAct, LowNumbersChangeNothing}
 use Rattle.zcalls.proofs.Among.{test, among_cases}
 
--- what is kept of an entry that acts
+-- what is cached of an entry that acts
 abbrev pub kept_of : {P : Type 0} → PlainStep P → CachedState P → Entry → Cached
 kept_of step s e = record { number = e.number; reply = (step s.plain e.client e.update).1 }
 
@@ -31,7 +31,7 @@ outcome step s e = elim (test (nat_lt (last_number s e.client) e.number)) [
 ]
 
 module _ {P : Type 0} (step : PlainStep P) where
-  -- what is kept after an entry acted
+  -- what is cached after an entry acted
   kept_after : (s : CachedState P) (e : Entry) (c : ℕ) → get (act_result step s e).0.kept c ≡ (if c == e.client then Some (kept_of step s e) else get s.kept c)
   kept_after s e c = kept_insert s.kept e.client (kept_of step s e) c ∙ ap (λ b. cond b (Some (kept_of step s e)) (get s.kept c)) (unsigned_tied c e.client)
 
@@ -41,7 +41,7 @@ module _ {P : Type 0} (step : PlainStep P) where
   pub kept_other : (s : CachedState P) (e : Entry) (c : ℕ) → (c == e.client) ≡ false → get (act_result step s e).0.kept c ≡ get s.kept c
   kept_other s e c f = kept_after s e c ∙ ap (λ b. cond b (Some (kept_of step s e)) (get s.kept c)) f
 
-  -- a client's kept number never falls
+  -- a client's cached number never falls
   pub rises : (s : CachedState P) (e : Entry) (now : List (Operation × Reply)) (r : CachedState P × Option Reply) → Outcome step s e now r → (c : ℕ) → last_number s c ≤ last_number r.0 c
   rises s e now r (Acts low) c = elim (test (c == e.client)) [
     | inl t ↦ let same : c ≡ e.client = eqb-true _ _ t in
@@ -51,7 +51,7 @@ module _ {P : Type 0} (step : PlainStep P) where
   ]
   rises s e now r (Stays high) c = omega arith
 
-  -- what acts now is above what was kept, and isn't below what is kept then
+  -- what acts now is above what was cached, and isn't below what is cached then
   now_above : (s : CachedState P) (e : Entry) (now : List (Operation × Reply)) (r : CachedState P × Option Reply) → Outcome step s e now r
       → (x : Operation × Reply) → Among x now → last_number s x.0.client < x.0.number
   now_above s e now r (Acts low) x (inl is) = subst (λ (y : Operation × Reply). last_number s y.0.client < y.0.number) is low
@@ -102,7 +102,7 @@ module _ {P : Type 0} (step : PlainStep P) where
     | inr later ↦ let m = acted_entry (entry_step step s e).0 es x later in (m.0, inr m.1, m.2)
   ]
 
-  -- a reply that an entry has is kept under its number
+  -- a reply that an entry has is cached under its number
   pub replied : (s : CachedState P) (e : Entry) (now : List (Operation × Reply)) (r : CachedState P × Option Reply) → Outcome step s e now r
       → (reply : Reply) → r.1 ≡ Some reply → get r.0.kept e.client ≡ Some (record { number = e.number; reply = reply })
   replied s e now r (Acts low) reply is =
@@ -132,7 +132,7 @@ module _ {P : Type 0} (step : PlainStep P) where
   pub low_numbers_change_nothing : LowNumbersChangeNothing step
   low_numbers_change_nothing s e few = low_changes_nothing s e _ _ (outcome step s e) few
 
-  -- where its reply is kept under its number, an entry is given it
+  -- where its reply is cached under its number, an entry is given it
   is_given : (s : CachedState P) (e : Entry) (now : List (Operation × Reply)) (r : CachedState P × Option Reply) → Outcome step s e now r
       → (reply : Reply) → get s.kept e.client ≡ Some (record { number = e.number; reply = reply }) → r.1 ≡ Some reply
   is_given s e now r (Acts low) reply has = let number : last_number s e.client ≡ e.number = ap last_of has in absurd (omega (arith, low, number))
@@ -141,7 +141,7 @@ module _ {P : Type 0} (step : PlainStep P) where
   pub still_replied : (s : CachedState P) (e : Entry) (reply : Reply) → get s.kept e.client ≡ Some (record { number = e.number; reply = reply }) → (entry_step step s e).1 ≡ Some reply
   still_replied s e reply has = is_given s e _ _ (outcome step s e) reply has
 
-  -- what acts where nothing is kept
+  -- what acts where nothing is cached
   first_acts : (p : P) (e : Entry) (now : List (Operation × Reply)) (r : CachedState P × Option Reply) → Outcome step (nothing_cached p) e now r
       → 0 < e.number → (r.0.plain ≡ (step p e.client e.update).0) × (r.1 ≡ Some (step p e.client e.update).1)
   first_acts p e now r (Acts low) some = (refl, refl)

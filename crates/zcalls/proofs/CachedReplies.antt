@@ -1,4 +1,4 @@
--- What is found among kept replies, and what an entry does by it.
+-- What is found among cached replies, and what an entry does by it.
 use Rattle.std.proofs.Common.{◌≡◌, ℕ, Option, Some, None, cond, nat_cmp, true, false, ap, ◌∙◌}
 use Rattle.std.specs.Ordering.{eq_by_cmp}
 use Rattle.std.specs.Cmp.{nat_cmp_total}
@@ -8,12 +8,12 @@ use Rattle.zcalls.specs.declared.reply.Reply.{Reply}
 use Rattle.zcalls.specs.Cached.{Cached, CachedState, PlainStep, nothing_cached, entry_by, entry_step}
 use Rattle.zcalls.specs.support.Counting.{counting, keeping}
 
--- a reply that is kept for a client is that client's, and no other's
+-- a reply that is cached for a client is that client's, and no other's
 pub kept_insert : (kept : FinMap nat_cmp Cached) (client : ℕ) (reply : Cached) (other : ℕ)
     → get (insert kept client reply) other ≡ cond (eq_by_cmp nat_cmp other client) (Some reply) (get kept other)
 kept_insert kept client reply other = get-insert nat_cmp_total kept client reply other
 
--- what an entry does, by what is kept for its client
+-- what an entry does, by what is cached for its client
 pub entered : {P : Type 0} (step : PlainStep P) (s : CachedState P) (e : Entry) (kept : Option Cached)
     → get s.kept e.client ≡ kept → entry_step step s e ≡ entry_by step s e kept
 unfolding entry_step
@@ -23,7 +23,7 @@ entered step s e kept found = ap (entry_by step s e) found
 pub entered_first : (n : ℕ) (e : Entry) → entry_step counting (nothing_cached n) e ≡ entry_by counting (nothing_cached n) e None
 entered_first n e = entered counting (nothing_cached n) e None (get-empty nat_cmp e.client)
 
--- what an entry does where this reply of its client was kept last
+-- what an entry does where this reply of its client was cached last
 pub entered_again : (s : CachedState ℕ) (n client number : ℕ) (reply : Reply) (e : Entry)
     → eq_by_cmp nat_cmp e.client client ≡ true
     → entry_step counting (keeping s n client number reply) e ≡ entry_by counting (keeping s n client number reply) e (Some (record { number = number; reply = reply }))

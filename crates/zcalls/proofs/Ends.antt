@@ -24,7 +24,8 @@ use Rattle.ztree.proofs.Ending.{all_entries}
 use Rattle.zcalls.specs.Bounds.{IsWithin}
 use Rattle.zcalls.proofs.Bounds.{all_remove, all_changed}
 
--- a node can lose so many children, each by a raise of its cversion, and none of its numbers was raised more often than so
+-- a node can lose that many children, each by a raise of its cversion, and none of its numbers was
+-- raised more often than that
 pub record CanLose (raises nodes : ℕ) (n : Node) : Type 0 where
   pub version : n.version ≤ raises
   pub cversion : n.cversion + nodes ≤ raises

@@ -1,4 +1,4 @@
--- What is reported on going through the parts of calls, and kept with the tree.
+-- What is reported on going through the parts of calls, as an invariant together with the tree.
 use Rattle.std.proofs.Common.{◌≡◌, ℕ, ◌+◌, Bool, true, false, if◌then◌else◌, List, [], ◌∷◌, ◌++◌, Option, Some, None, Result, Ok, Err, refl, sym, subst}
 use Rattle.std.specs.Prelude.{nat_le}
 use Rattle.std.specs.FinMap as finite
@@ -31,8 +31,8 @@ use Rattle.zcalls.specs.Step.{step, update_result, change_result, multi_result, 
 use Rattle.zcalls.proofs.Ticks.{counted-nodes}
 use Rattle.zcalls.specs.CallRuns.{after_calls, Done, and_done, parts_done, where_done, update_done, call_done, calls_done, through}
 
--- what is kept by the parts that calls do and by each node that goes, is kept by all calls: a call of a session does no
--- part, and what it takes away goes node by node
+-- what is preserved by the parts that calls do and by each node that goes, is preserved by all
+-- calls. A call of a session does no part, and what it takes away goes node by node
 module _ {S : Type 0} (next : S → Part → PartReply → S) (Inv : S → Nodes → Type 0) where
   -- what a part leaves, where it was done
   abbrev pub LeavesDone : S → Part → Result (Tree × PartReply) Refusal → Type 0
@@ -133,7 +133,7 @@ module _ {S : Type 0} (next : S → Part → PartReply → S) (Inv : S → Nodes
     all_ended-keeps [] s t inv = inv
     all_ended-keeps (id ∷ ids) s t inv = all_ended-keeps ids s (without_session t id) (all_dropped-keeps (ephemerals t.nodes id) s t inv)
 
-    -- a choice between the tree and what keeps its nodes so
+    -- a choice between the tree and what preserves this of its nodes
     either : (s : S) (t : Tree) (why : Reply) (did : Tree × Reply) (b : Bool) → Inv s t.nodes → Inv s did.0.nodes → Inv s (if b then (t, why) else did).0.nodes
     either s t why did true inv left = inv
     either s t why did false inv left = left

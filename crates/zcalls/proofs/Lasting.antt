@@ -1,4 +1,4 @@
--- A node that nobody owns lasts, whatever is called, until it is deleted or a tick finds it stale.
+-- A node that no one owns lasts, whatever is called, until it is deleted or a tick finds it stale.
 use Rattle.std.proofs.Common.{◌≡◌, ℕ, ◌+◌, ◌<◌, Bool, true, false, cond, not, ◌||◌, List, [], ◌∷◌, Some, Result, Ok, Err, refl, ap, ◌∙◌, arith}
 use Rattle.std.specs.Prelude.{is_some, nat_le, ◌==◌}
 use Rattle.std.specs.Ordering.{eq_by_cmp}

@@ -84,7 +84,7 @@ module _ (P : Tree → Type 0) where
   and_then-leaves (Err refusal) rest left each = tt
   and_then-leaves (Ok (t, reply)) rest left each = behind-leaves reply (rest t) (each t left)
 
-  -- what each part keeps, a multi's parts keep
+  -- what each part preserves, a multi's parts preserve
   pub run-leaves : ((t : Tree) (client : ℕ) (part : Part) → P t → Leaves P (part_step t client part)) → (parts : List Part) (t : Tree) (client : ℕ) → P t → Leaves P (run t client parts)
   unfolding run
   run-leaves keeps [] t client here = here

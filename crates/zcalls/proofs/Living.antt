@@ -1,4 +1,4 @@
--- A session lives its timeout.
+-- A session is alive for its timeout.
 use Rattle.std.proofs.Common.{◌≡◌, ◌≢◌, ◌⊎◌, inl, inr, ℕ, ◌<◌, ◌≤◌, ◌+◌, Bool, true, false, cond, List, [], ◌∷◌, Option, Some, None, Result, Ok, Err, IsSome, refl, sym, ap, subst, ◌∙◌, arith}
 use Rattle.std.specs.Prelude.{is_some, nat_le}
 use Rattle.std.specs.Option.{option_map_or, option_and_then}
@@ -33,7 +33,7 @@ use Rattle.zcalls.proofs.Sessions.{or_refused}
 use Rattle.zcalls.proofs.Ticks.{ticked-sessions, ticked-time}
 use Rattle.zcalls.proofs.LawfulCalls.{after-good}
 
--- a client's session of that timeout lives for more than so many ticks yet
+-- a client's session of that timeout is alive for more than that many ticks yet
 record Lives (its span id ticks : ℕ) (sessions : Sessions) (time : ℕ) : Type 0 where
   pub session : Session
   pub there : finite.get sessions id ≡ Some session
@@ -79,7 +79,7 @@ module _ (client timeout id : ℕ) where
         later = is.later;
       }
 
-  -- a session kept alive, this or another
+  -- a session that is renewed, this or another
   touched-in : (k : ℕ) (t : Tree) (key : ℕ) (o : Option Session) → finite.get t.sessions key ≡ o → k < timeout → In k t
       → Lives client timeout id k (option_map_or (λ s. finite.insert t.sessions key (renewed_session t.time s)) o t.sessions) t.time
   touched-in k t key None e short is = is
@@ -154,7 +154,7 @@ module _ (client timeout id : ℕ) where
   unfolding step
   tick_counts t caller left = rw left refl
 
-  -- one call, where the session has more ticks left than this call and so many more
+  -- one call, where the session has more ticks left than this call and that many more
   module _ (t : Tree) (caller k : ℕ) (short : k < timeout) (another : id ≢ t.zxid + 1) where
     changed-in : (update : Update) → is_exhausted t update ≡ false → (caller ≡ client → update ≡ Close id → ⊥) → In (one_if_tick t caller update + k) t → In k (update_result t caller update).0
     changed-in (Create create) left never is = alone-in k t (create_step t caller create) (change-alone t caller (change.Create create)) (fewer _ k t (omega arith) is)

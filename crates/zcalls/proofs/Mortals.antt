@@ -31,7 +31,7 @@ use Rattle.zcalls.proofs.Ticks.{counted-nodes}
 use Rattle.zcalls.proofs.Taking.{changes_take_one_zxid}
 use Rattle.zcalls.proofs.LawfulCalls.{trees_are_lawful}
 
--- nobody owns a node with a time to live
+-- no one owns a node with a time to live
 nobodys : (n : Node) → (n.ttl ≡ 0) ⊎ (n.owner ≡ 0) → 0 < n.ttl → n.owner ≡ 0
 nobodys n (inl none) some = absurd (omega (arith, none, some))
 nobodys n (inr nobody) some = nobody

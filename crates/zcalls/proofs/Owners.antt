@@ -12,7 +12,7 @@ use Rattle.zcalls.specs.declared.call.Lifetime.{Lifetime}
 use Rattle.zcalls.specs.declared.call.Lifetime.TheVariants.{Persistent, WithTtl, Ephemeral}
 use Rattle.zcalls.specs.Part.{node_has, is_owned, is_gone, has_no_owner, owner_of, ttl_of}
 
--- who isn't owned by a session is owned by nobody
+-- who isn't owned by a session is owned by no one
 nobody : (owner : ℕ) → not (owner == 0) ≡ false → owner ≡ 0
 nobody owner e = grind (arith, nat_tests)
 
@@ -44,7 +44,7 @@ is_own sessions client id = by (finite.get sessions id) refl
 session_there : (sessions : Sessions) (client id : ℕ) → is_gone sessions client id ≡ false → IsSome (finite.get sessions id)
 session_there sessions client id here = ap is_some (is_own sessions client id here).there
 
--- the owner of a node that is made is nobody, or a session that is there
+-- the owner of a node that is made is no one, or a session that is there
 pub owner_lives : (sessions : Sessions) (client : ℕ) (lifetime : Lifetime) → has_no_owner sessions client lifetime ≡ false → IsOwner sessions (owner_of lifetime)
 owner_lives sessions client Persistent here = inl refl
 owner_lives sessions client (WithTtl ttl) here = inl refl

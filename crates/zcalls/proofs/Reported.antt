@@ -1,4 +1,4 @@
--- What is reported of a node: its stat after its data was written, and how many children it has.
+-- What is returned of a node: its stat after its data was written, and how many children it has.
 use Rattle.std.proofs.Common.{◌≡◌, ◌+◌, length, cond, false, Option, Some, None, Ok, sym, ap, ◌∙◌}
 use Rattle.std.specs.FinMap as finite
 use Rattle.std.specs.FinMap.{get-insert}

@@ -1,4 +1,4 @@
--- A multi's parts as they are done: behind the replies of those before them.
+-- A multi's parts as they are done: after the replies of those before them.
 use Rattle.std.proofs.Common.{◌≡◌, ℕ, ◌+◌, List, [], ◌∷◌, ◌++◌, length, Ok, Err, refl, ap, sym, ◌∙◌, append_assoc, append-nil, arith}
 use Rattle.std.proofs.lemmas.List.{length-append}
 use Rattle.ztree.specs.Tree.{Tree}
@@ -8,7 +8,7 @@ use Rattle.zcalls.specs.declared.reply.PartReply.{PartReply}
 use Rattle.zcalls.specs.Part.{part_step}
 use Rattle.zcalls.specs.Multi.{Run, behind, and_then, run}
 
--- what parts did behind some that were done
+-- what parts did after some that were done
 abbrev pub behind_all : List PartReply → Run → Run
 behind_all replies (Err (number, refusal)) = Err (length replies + number, refusal)
 behind_all replies (Ok (t, more)) = Ok (t, replies ++ more)

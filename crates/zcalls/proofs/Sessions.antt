@@ -127,7 +127,7 @@ opened-fresh t client timeout id reported false e =
     let is : t.zxid + 1 ≡ id = cc e in
     (new, ap (finite.get (finite.insert t.sessions (t.zxid + 1) new)) (sym is) ∙ get-insert-here nat_cmp_total nat_cmp-IsAntisymmetric t.sessions (t.zxid + 1) new, refl)
 
--- and so is one that is kept alive
+-- and so is one that is renewed
 touched-fresh : (t : Tree) (id : ℕ) (s : Session) → finite.get t.sessions id ≡ Some s → IsFresh (with_renewed_session t id) id
 touched-fresh t id s there =
     let new = renewed_session t.time s in

@@ -59,7 +59,7 @@ opened_bounded t client timeout bounded room least most =
           (record { before = omega arith; least = least; most = most });
     }
 
--- a session kept alive
+-- a session that is renewed
 pub touched_bounded : (t : Tree) (id : ℕ) → IsBounded t → IsBounded (with_renewed_session t id)
 touched_bounded t id bounded = by (finite.get t.sessions id) refl
   where

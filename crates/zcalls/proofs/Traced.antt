@@ -17,7 +17,7 @@ tied_paths p q Less e tie = cc
 tied_paths p q Equal e tie = same_path p q e
 tied_paths p q Greater e tie = cc
 
--- paths that the order does not tell apart are one
+-- paths that the order does not distinguish are one
 pub one_path : (p q : Path) → is_same p q ≡ true → p ≡ q
 one_path p q same = tied_paths p q (path_cmp p q) refl same
 
@@ -52,7 +52,7 @@ remained nodes path at n e = by (is_same at path) (sym (get-remove paths_total n
     by true e = cc
     by false e = e
 
--- what a change keeps of a node
+-- what a change preserves of a node
 pub same_of : {A : Type 0} (look : Node → A) (f : Node → Node) → ((m : Node) → look (f m) ≡ look m) → (b : Bool) (n m : Node) → cond b (n ≡ f m) (n ≡ m) → look n ≡ look m
 same_of look f keeps true n m is = ap look is ∙ keeps m
 same_of look f keeps false n m is = ap look is

@@ -125,7 +125,7 @@ settled t u dated path n e =
       mtime = omega (arith, tick, old.mtime);
     }
 
--- the same where the clock goes on
+-- the same where the clock advances
 settled_next : (t u : Tree) → IsDated t.zxid t.time u → IsSettled (with_next_zxid (with_next_tick u))
 settled_next t u dated path n e =
     let same = dated.0 in

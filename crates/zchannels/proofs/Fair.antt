@@ -1,4 +1,4 @@
--- Each step keeps the rule of the ticket word.
+-- Each step preserves the rule of the ticket word.
 use Rattle.std.proofs.Common.{◌≡◌, ℕ, zero, suc, ◌+◌, ◌*◌, ◌-◌, ◌%◌, ◌^◌, ◌<◌, ◌≤◌, List, [], ◌∷◌, ◌++◌, length, set, eq-eqb, ne_eqb, sym, refl, ap, ◌∙◌, subst, ⊎_elim, length-append, append-nil, append_assoc, All, slice_index, mod-eq_of_lt, arith}
 use mathlib.Core.Option.{some, some-injective, some-ne-none}
 use mathlib.Core.Logic.{dite}

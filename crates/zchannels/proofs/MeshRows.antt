@@ -48,7 +48,7 @@ column_more {M} ins cs row to old new tx rx is at lt wide value grown ends =
     ∙ with_more cs rr (ring_of_tx tx) (omega (arith, here, lt, wide))
     ∙ ap (λ l. with_row cs l) (sym (map-append ring_of_tx row (tx ∷ [])))
 
--- a column of them is one that was there, with a ring of the row behind
+-- a column of them is one that was there, with a ring of the row at the end
 at_with : (columns : List (List Ring)) (row : List Ring) (j : ℕ) (column : List Ring) → length row ≡ length columns
     → get_elem? (with_row columns row) j ≡ some column
     → (before : List Ring) × (x : Ring) × (get_elem? columns j ≡ some before) × (get_elem? row j ≡ some x) × (column ≡ before ++ x ∷ [])

@@ -1,4 +1,4 @@
--- Each move keeps the rule of the channel.
+-- Each move preserves the rule of the channel.
 use Rattle.std.proofs.Common.{◌≡◌, ◌≢◌, ℕ, zero, suc, true, false, true≢false, List, [], ◌∷◌, ◌++◌, length, set, sym, refl, ap, ◌∙◌, subst, ⊎_elim, append_assoc}
 use mathlib.Core.Option.{some, some-ne-none}
 use lib.ListN.{get_elem?}

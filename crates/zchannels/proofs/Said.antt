@@ -9,7 +9,7 @@ use mathlib.Core.Option.{some, some-injective, some-ne-none}
 use lib.ListN.{get_elem?}
 use Rattle.atomic_table.proofs.Lists.{at_index}
 
--- what an element says stands at its place
+-- what an element says is at its position
 at_place : {A B : Type 0} (f : A → B) (xs : List A) (i : ℕ) (x : A) → i < length xs → x ≡ get_or xs i x → get_elem? (map f xs) i ≡ some (f x)
 at_place f xs i x lt is =
     at_index (map f xs) i (f x) (subst (λ m. i < m) (sym (length-map xs f)) lt) (ap f is ∙ sym (get_or-map f xs i x (f x) lt))
@@ -38,7 +38,7 @@ module _ {A B : Type 0} (f : A → B) where
   pub long : (row : Vec A Global) (n : ℕ) → length (map f row.items) ≡ n → length row.items ≡ n
   long row n e = sym (length-map row.items f) ∙ e
 
--- what is at one place is one
+-- what is at one position is one
 pub one_there : {X : Type 0} (xs : List X) (i : ℕ) (a b : X) → get_elem? xs i ≡ some a → get_elem? xs i ≡ some b → a ≡ b
 one_there xs i a b p q = some-injective a b (sym p ∙ q)
 
@@ -47,7 +47,7 @@ pub if_some : {X : Type 0} {P : X → Type 0} (o : Option X) → IfSome o P → 
 if_some None p is = absurd (true≢false (sym is))
 if_some (Some x) p is = (x, p)
 
--- a place where something is, is within
+-- a position where something is, is within
 pub within : {X : Type 0} (xs : List X) (i : ℕ) (x : X) → get_elem? xs i ≡ some x → i < length xs
 within [] i x at = absurd (some-ne-none x (sym at))
 within (y ∷ ys) zero x at = omega arith

@@ -1,5 +1,5 @@
--- A loop that reads so many values of one form. Its invariant: the values so far, before those that
--- are still to be read, are what reading all of them gives.
+-- A loop that reads a given number of values of one form. Its invariant: the values so far, before
+-- those that are still to be read, are what reading all of them gives.
 use Rattle.std.proofs.Common.{◌≡◌, ℕ, suc, ◌+◌, ◌-◌, ◌<◌, ◌≤◌, List, [], ◌∷◌, ◌++◌, Result, Ok, Err, refl, sym, ap, ◌∙◌, append_assoc, arith}
 use Rattle.std.proofs.lemmas.List.{append-nil}
 use Rattle.zcodec.specs.declared.fault.Fault.{Fault}

@@ -11,7 +11,7 @@ use Rattle.zcodec.specs.Forms.{◌>>=◌, exactly, bytes_at, number, number_at, 
 use Rattle.zcodec.specs.Laws.{IsBytes, IsForm}
 use Rattle.zcodec.proofs.Bytes.{bytes_before, bind_ok, guard_ok, ok_is}
 
--- ---- so many bytes
+-- ---- a given number of bytes
 
 pub is_exactly : (n : ℕ) → IsForm (exactly n)
 is_exactly n = record {
@@ -27,7 +27,7 @@ is_exactly n = record {
 
 -- ---- numbers
 
--- the bytes of a width and its numbers stand for each other
+-- the bytes of a width and its numbers are inverse encodings
 pub record IsWide (w : Width) : Type 0 where
   pub len : (n : ℕ) → length (to_be_bytes w n) ≡ byte_len w
   pub back : (bytes : List ℕ) → length bytes ≡ byte_len w → IsBytes bytes → to_be_bytes w (from_be_bytes w bytes) ≡ bytes

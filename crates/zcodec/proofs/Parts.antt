@@ -43,7 +43,7 @@ is_made {A} {B} c to from Fits is back forth = record {
       ∙ ap (λ (r : Result B Fault). r >>= λ y. done (y, rest)) f.0;
 }
 
--- a record by its parts: each stands for the other
+-- a record by its parts: each determines the other
 pub is_record : {A B : Type 0} (c : Form A) (to : B → A) (of : A → B) → IsForm c → ((x : A) → to (of x) ≡ x) → ((y : B) → of (to y) ≡ y)
     → IsForm (made c to (λ x. Ok (of x)) (λ y. c.Fits (to y)))
 is_record c to of is there back = is_made c to (λ x. Ok (of x)) (λ y. c.Fits (to y)) is

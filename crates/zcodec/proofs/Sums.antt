@@ -1,4 +1,4 @@
--- Sums of kinds: each tag's form is a form, and reports its tag.
+-- Sums of kinds: each tag's form is a form, and determines its tag.
 use Rattle.std.proofs.Common.{◌≡◌, ℕ, Bool, true, false, eqb, Option, Some, None, refl, sym, ap, ◌∙◌}
 use Rattle.std.specs.Option.{IsSomeAnd}
 use Rattle.std.specs.Int.{Width}

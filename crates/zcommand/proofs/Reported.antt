@@ -1,4 +1,4 @@
--- What a fault of words is reported by, as one of a play, by its exit status.
+-- Which line reports a fault of words, as one of a play, by its exit status.
 use Rattle.std.proofs.Common.{◌≡◌, refl, arith}
 use Rattle.zscript.specs.Outcome.{play_fault_text}
 use Rattle.zscript.specs.declared.fault.PlayFault.TheVariants as play

@@ -1,4 +1,4 @@
--- Behind the last chunk of a connection nothing goes on it.
+-- After the last chunk of a connection nothing is sent on it.
 use Rattle.std.proofs.Common.{◌≡◌, ℕ, true, false, cond, None, Some, option_map, refl, sym, ap}
 use mathlib.Core.Bool.{true≢false}
 use Rattle.std.specs.Option.{option_map_or}

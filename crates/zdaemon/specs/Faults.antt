@@ -86,6 +86,6 @@ abbrev pub IsTold : HostedFault → SinkRun → Type 0
 IsTold fault faults =
     ((line : List ℕ) × IfSome (line_of fault) (λ text. line ≡ text) × IsReported faults line) ⊎ IsReported faults memory_line
 
--- the status is that of a fault, and the last line tells it
+-- the status is that of a fault, and the last line reports it
 abbrev pub HasFailed : {F : Type 0} → (F → F → SinkRun) → ℕ → F → Type 0
 HasFailed {F} run status last = (fault : HostedFault) × (status ≡ hosted_fault_status fault) × (before : F) × IsTold fault (run before last)

@@ -55,7 +55,7 @@ pub fn hosted_command<R: Files<File = File> + Copy, S: Source, K: Sink, F: Sink>
         (source_run S.gave S.failed S.has_ended source.old source.new)
         (sink_run K.took K.failed sink.old sink.new) }
 
-    // A fault ended the run. The last line on `faults` tells it.
+    // A fault ended the run. The last line on `faults` reports it.
     ensures cut { 0 < result → HasFailed (sink_run F.took F.failed) result faults.new }
 {
     match run(alloc, files, words, source, sink, faults) {

@@ -2,7 +2,7 @@
 use Rattle.std.proofs.Common.{◌≡◌, ◌+◌, ℕ, List, ◌++◌, sym, ap, ◌∙◌, append_assoc, arith}
 use Rattle.zdevices.specs.Device.{TookBeginning, Failed}
 
--- a fault behind other calls is one of all of them
+-- a fault after other calls is one of all of them
 pub failed_after : (failed all_failed : ℕ → Type 0) → ((n : ℕ) → failed n → all_failed (0 + n)) → Failed failed → Failed all_failed
 failed_after failed all_failed grow h = (0 + h.0, omega (arith, h.1), grow h.0 h.2)
 

@@ -15,7 +15,7 @@ use Rattle.zdurable.specs.Incarnations.{Incarnation, FileKeeps, IsIncarnation, A
 use Rattle.zdurable.specs.Laws.{IncarnationsAreOneTree}
 use Rattle.zdurable.proofs.Logs.{log_from, tree-log, updates-append, updates-log_from}
 
--- a file keeps one tree
+-- a file stores one tree
 file_keeps_one : (servers : ℕ) (file : List ℕ) (t u : Tree) → FileKeeps servers t file → FileKeeps servers u file → t ≡ u
 file_keeps_one servers file t u first second =
     let same = files_have_one_reading servers file first.batches second.batches first.stands second.stands in
@@ -33,7 +33,7 @@ record Stands (t last : Tree) (incarnations : List Incarnation) : Type 0 where
 -- one incarnation more in front
 module _ (t last : Tree) (incarnation : Incarnation) (incarnations : List Incarnation) (one : IsOneTreesFrom t incarnation.reported)
     (were : updates_in incarnation.reported ≡ incarnation.kept) where
-  -- behind what it reported these acted
+  -- after what it reported these acted
   module _ (acted : List Entry) (choice : (acted ≡ []) ⊎ (acted ≡ incarnation.under_way)) where
     abbrev middle : Tree
     middle = after t incarnation.kept
@@ -78,7 +78,7 @@ module _ (t last : Tree) (incarnation : Incarnation) (incarnations : List Incarn
           ∙ (λ i. incarnation.kept ++ (updates-log_from acted middle i ++ rest.updates i));
     }
 
--- whatever was under way at its end
+-- whatever was in flight at its end
 module _ (servers : ℕ) (t last : Tree) (incarnation : Incarnation) (incarnations : List Incarnation) (left : List ℕ)
     (one : IsOneTreesFrom t incarnation.reported) (were : updates_in incarnation.reported ≡ incarnation.kept)
     (rest : (from : Tree) → FileKeeps servers from left → Stands from last incarnations) where

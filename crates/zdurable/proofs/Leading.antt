@@ -1,4 +1,4 @@
--- The log of a front that has kept changes.
+-- The log of a front whose changes became durable.
 use Rattle.std.proofs.Common.{◌≡◌, true, sym, ap, ◌∙◌}
 use Rattle.ztree.specs.Tree.{Tree}
 use Rattle.zfront.specs.Front.{FrontView}
@@ -9,7 +9,7 @@ use Rattle.zdurable.specs.Making.{HasKept, kept_since, log_since}
 use Rattle.zdurable.specs.Laws.{WhatIsKeptStandsInALog}
 use Rattle.zdurable.proofs.Logs.{tree-log}
 
--- what is left to be kept leads from the tree that is kept to the front's own
+-- what is still to be stored leads from the tree that is durable to the front's own
 pub leads_to : (t : Tree) (v : FrontView) → HasKept t v → v.tree ≡ after t v.made
 leads_to t v has =
     let leads = every_front_is_its_trees has.start has.secret has.times true has.steps v has.runs in

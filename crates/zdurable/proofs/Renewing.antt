@@ -28,7 +28,7 @@ chunk_shorter tree old new chunk same is =
     let all : length (row_records old.tree) ≡ length (row_records tree) = ap (λ (u : Tree). length (row_records u)) same in
     omega (arith, count, all, is.some, is.within)
 
--- a file with the old batches keeps the state, too
+-- a file with the old batches stores the state, too
 pub keeps_tree : (servers : ℕ) (batches : List (List ℕ)) (tree : Tree) → IsTextOf tree (joined batches) → (file : List ℕ)
     → IsOldOrTree servers batches tree file → KeepsTree servers tree file
 keeps_tree servers batches tree text file (inl keeps) = (batches, keeps, text)
@@ -88,7 +88,7 @@ module _ {D : Type 0} (seen : D → List ℕ) (may_leave : D → List ℕ → Ty
     leaves_old = weaker moment left_since (device_of old) (device_of now) (Keeps servers batches) (IsOldOrTree servers batches tree)
         (going.leaves servers batches rest) (λ file keeps. inl keeps)
 
-    -- one that goes on over the old file
+    -- one that continues over the old file
     pub keeps_more : (new : Journal D) → LeavesOnly moment left_since (device_of now) (device_of new) (Keeps servers batches)
         → LeavesOnly moment left_since (device_of old) (device_of new) (Keeps servers batches)
     keeps_more new run =

@@ -1,5 +1,5 @@
--- A service before and after an input, before and after a block is kept, and before and after its
--- file is shortened.
+-- A service before and after an input, before and after a block is durable, and before and after
+-- its file is shortened.
 use Rattle.std.proofs.Common.{◌≡◌, ℕ, ◌==◌, true, false, List, [], ◌∷◌, ◌++◌, length, refl, sym, ap, subst, ◌∙◌, append_assoc, append-nil, arith}
 use Rattle.std.proofs.lemmas.Bool.Decides.{nat_tests}
 use Rattle.ztree.specs.Tree.{Tree}
@@ -75,7 +75,7 @@ keeps_more t step v w has does =
           ∙ ap (after has.start) (sym more.1);
     }
 
--- a step that takes nothing keeps nothing
+-- a step that takes nothing makes nothing durable
 keeps_same : (t : Tree) (step : Step) (v w : FrontView) → took_at step v ≡ [] → HasKept t v → Does step v w → HasKept t w
 keeps_same t step v w none has does = subst (λ (u : Tree). HasKept u w) (ap (after t) none) (keeps_more t step v w has does)
 
@@ -92,7 +92,7 @@ module _ {D : Type 0} (seen : D → List ℕ) (may_leave : D → List ℕ → Ty
     has = keeps_same t step (front_in old) (front_in new) none serving.has does;
   }
 
-  -- what was made is taken, and the file keeps these batches
+  -- what was made is taken, and the file holds these batches
   pub taken_serves : new.front ≡ record old.front { front = all_taken (front_in old) } → (next : List (List ℕ))
       → IsAtRest seen may_leave servers next new.journal → journal.IsOpen new.journal
       → IsTextOf (after t (made_in old)) (joined next) → IsServing seen may_leave servers next (after t (made_in old)) new

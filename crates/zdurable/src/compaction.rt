@@ -5,9 +5,9 @@
 //! changes that aren't committed yet: so a compaction is also a commit. Compacting at four times
 //! the last size means that writing snapshots costs at most a third of what the changes cost.
 //!
-//! A full disk may have room for changes, but none for a second file. So where the new file can't be
-//! begun or written, the old one goes on. What was tried at each length would cost too much: it is
-//! tried again at twice the length.
+//! A full disk may have room for changes, but none for a second file. So where the new file can't
+//! be begun or written, the service continues with the old one. A trial at each length would cost
+//! too much: it is tried again at twice the length.
 
 ghost use Rattle.std.specs.Prelude.{◌≡◌, ◌<◌, ◌≤◌, ◌^◌, ◌++◌, [], ◌∷◌, List, ℕ};
 ghost use Rattle.std.specs.Prelude.{IfErr, IfOk, OnOk, OnErr, IsErrOf, true, false};
@@ -55,7 +55,7 @@ impl<D: Device> DurableFront<D> {
     /// current one.
     ///
     /// If the disk fails before the new file is written, the compaction is postponed: the service
-    /// goes on with the old file, and its changes are still to be committed. After any fault the
+    /// continues with the old file, and its changes are still to be committed. After any fault the
     /// service has ended.
     pub fn compact(&mut self) -> Result<Compacted, DurableFault>
         requires { IsSound D.seen D.may_leave self.old }

@@ -1,7 +1,8 @@
 //! A server for ZooKeeper's clients whose changes are durable. Changes of a front end are written
 //! as one block of a file, and only then acknowledged. A service that is opened again begins with
 //! the tree that its file holds. `compact` compacts a file: it replaces one that has become long
-//! with a snapshot alone. If the disk has no room for that one, the old file goes on.
+//! with a snapshot alone. If the disk has no room for that one, the service continues with the old
+//! one.
 //!
 //! ```text
 //! let opened = DurableFront::open(alloc, device, ServerId::first(), secret, tick, now_ms)?;

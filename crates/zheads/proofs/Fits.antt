@@ -32,7 +32,7 @@ pub updates_length : (log : List Entry) → length (updates log) ≡ length log
 updates_length [] = refl
 updates_length (e ∷ log) = let more = updates_length log in omega (arith, more)
 
--- a list cut at two places
+-- a list cut at two positions
 cut_entry : {A : Type 0} (front rest before after : List A) (x : A) → front ++ rest ≡ before ++ x ∷ after → length before + 1 ≤ length front
     → (more : List A) × (front ≡ before ++ x ∷ more)
 cut_entry [] rest before after x is le = absurd (omega arith)

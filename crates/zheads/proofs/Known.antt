@@ -31,7 +31,7 @@ IsReleased v n = (e : Entry) → Among (n, e) v.sent → ⊥
 abbrev pub AllMade : (ℕ → Update → Type 0) → List Entry → Type 0
 AllMade IsMade log = (n : ℕ) (e : Entry) → IsEntry log n e → IsMade n e.update
 
--- what holds of a view, where so many entries are committed
+-- what holds of a view, where that many entries are committed
 pub record IsKnownView (IsMade : ℕ → Update → Type 0) (count : ℕ) (v : ServerView (List Entry)) : Type 0 where
   pub released : (log : List Entry) (n : ℕ) → v.machine ≡ Some log → n ≤ length log → IsReleased v n → n ≤ count
   pub blank : v.machine ≡ None → v.succ ≡ None

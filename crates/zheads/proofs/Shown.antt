@@ -1,5 +1,5 @@
 -- What the front end's chain shows of a log world. There each entry has a client of its own, and
--- here all are client 0's, numbered by their places. The server table commutes with that.
+-- here all are client 0's, numbered by their positions. The server table commutes with that.
 use Rattle.std.specs.Prelude.{if◌then◌else◌}
 use Rattle.std.proofs.Common.{◌≡◌, ℕ, ◌+◌, Bool, true, false, nat_lt, ◌==◌, List, [], ◌∷◌, ◌++◌, map, length, Option, Some, None, refl, sym, ap, ◌∙◌, subst, inl, inr, arith, eqb-true}
 use Rattle.std.proofs.lemmas.List.{map-append}
@@ -19,7 +19,7 @@ use Rattle.zprotocol.proofs.server_lemmas.Projection.{after_one_more}
 use Rattle.zprotocol.specs.world.Links.{is_same, messages_to}
 use Rattle.zlinearizability.specs.chain.Flow.{log_machine, LogMessage, Log, length_of}
 
--- an entry as client 0's, numbered by its place
+-- an entry as client 0's, numbered by its position
 abbrev pub front_entry : ℕ → Entry → Entry
 front_entry n e = record { client = 0; number = n; update = e.update }
 

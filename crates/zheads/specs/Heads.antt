@@ -122,7 +122,7 @@ acts does h (InChain event) = record h { world = happens does h.world event }
 abbrev pub has_left_sent : {M : Type 0} → ServerView M → ℕ → Bool
 has_left_sent v n = nat_le n v.last && not (is_among n (map (λ e. e.0) v.sent))
 
--- a call is acknowledged: its head lives, and the entry that it waits for has left Sent
+-- a call is acknowledged: its head is alive, and the entry that it waits for has left Sent
 abbrev pub is_acknowledged : {M : Type 0} → World M → Note → Bool
 is_acknowledged w note = not (w.failed note.server) && has_left_sent (w.servers note.server) note.need
 

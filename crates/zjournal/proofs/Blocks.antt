@@ -1,4 +1,4 @@
--- Blocks one behind the other, and what they can't be mistaken for.
+-- Blocks one after the other, and what they can't be mistaken for.
 use Rattle.std.proofs.Common.{◌≡◌, ◌≢◌, ℕ, ◌+◌, List, [], ◌∷◌, ◌++◌, length}
 use Rattle.std.proofs.Common.{drop, get_or, take, zero, suc, refl, sym, ◌∙◌, ap, subst, arith, append_assoc}
 use Rattle.std.proofs.Common.{length-append}
@@ -21,7 +21,7 @@ pub texts-push : (texts : List (List ℕ)) (text : List ℕ) → AreTexts texts 
 texts-push [] text h is = (is, tt)
 texts-push (t ∷ texts) text h is = (h.0, texts-push texts text h.1 is)
 
--- the first block, and what stands behind it
+-- the first block, and what follows it
 pub first_block : (held : List ℕ) (holds : List (List ℕ)) (rest : List ℕ) → blocks (held ∷ holds) ++ rest ≡ 1 ∷ (held ++ 0 ∷ (blocks holds ++ rest))
 first_block held holds rest = ap (λ (l : List ℕ). 1 ∷ l) (append_assoc held (0 ∷ blocks holds) rest)
 
@@ -54,7 +54,7 @@ same_blocks (s ∷ a) (t ∷ b) e f ha hb he hf is =
     ∙ is ∙ first_block t b f)) in
     ap (λ (x : List ℕ). x ∷ a) r.0 ∙ ap (λ (l : List (List ℕ)). t ∷ l) (same_blocks a b e f ha.1 hb.1 he hf r.1)
 
--- what stands behind some of the blocks, where something does
+-- what follows some of the blocks, where something does
 pub next_block : (a b : List (List ℕ)) (e rest : List ℕ) → AreTexts a → AreTexts b → IsEnd e → (rest ≢ []) → blocks a ++ e ≡ blocks b ++ 1 ∷ rest
     → (held more : List ℕ) × (after : List (List ℕ)) × (a ≡ b ++ held ∷ after) × IsText held × (rest ≡ held ++ 0 ∷ more)
 next_block [] [] e [] ha hb he some is = absurd (some refl)

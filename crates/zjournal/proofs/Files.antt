@@ -1,4 +1,4 @@
--- What files stand for while they are made, grow and are opened.
+-- What files represent while they are made, grow and are opened.
 use Rattle.std.proofs.Common.{◌≡◌, ◌≢◌, inl, inr, ℕ, zero, suc, ◌+◌, ◌-◌, ◌<◌, ◌≤◌, List, [], ◌∷◌, ◌++◌, length}
 use Rattle.std.proofs.Common.{take, drop, refl, sym, ◌∙◌, ap, subst, arith, length-append, length-take}
 use Rattle.std.proofs.lemmas.Bool.{cases_eq}
@@ -35,7 +35,7 @@ pub head_end : (format : Format) (servers : ℕ) → length (blocks (holdings fo
 head_end Separate servers = refl
 head_end Running servers = refl
 
--- the place behind the head
+-- the position after the head
 pub first_place : (servers : ℕ) (place : Place) → place.end ≡ 34 → place.sum ≡ 1 → IsPlace servers [] place
 first_place servers place end sum = record { end = end ∙ sym (head_end place.format servers); sum = sum }
 
@@ -51,7 +51,7 @@ same_end f g servers batches =
       length-append (head g servers) (0 ∷ blocks (stamped_all g 1 batches)),
     )
 
--- a closed commit_byte and anything behind it is an end
+-- a closed commit_byte and anything after it is an end
 pub closed_end : (commit_byte : ℕ) (rest : List ℕ) → commit_byte ≢ 1 → IsEnd (commit_byte ∷ rest)
 closed_end commit_byte [] shut = tt
 closed_end commit_byte (b ∷ rest) shut = shut
@@ -61,7 +61,7 @@ take_past [] ys m n is = let same : m ≡ n = omega arith in ap (λ (k : ℕ). t
 take_past (x ∷ xs) ys zero n is = absurd (omega arith)
 take_past (x ∷ xs) ys (suc m) n is = ap (λ (l : List ℕ). x ∷ l) (take_past xs ys m n (omega arith))
 
--- the end of a file that keeps batches is closed
+-- the end of a file that holds batches is closed
 module _ (servers : ℕ) (batches : List (List ℕ)) (file : List ℕ) (place : Place) (k : KeepsTo servers batches place file) where
   pub keeps : Keeps servers batches file
   keeps = record { format = place.format; texts = k.texts; end = drop place.end file; split = k.split; counts_for_nothing = k.counts_for_nothing }
@@ -116,7 +116,7 @@ module _ (format : Format) (servers : ℕ) (batches : List (List ℕ)) where
       ∙ length-blocks-push (holdings format servers batches) (stamped_after format batches batch) in
       omega (arith, ends, size, longer, length-append (stamped_after format batches batch) (0 ∷ 0 ∷ []))
 
--- and the place behind it
+-- and the position after it
 pub more_place : (servers : ℕ) (batches : List (List ℕ)) (place later : Place) (batch block : List ℕ) → IsPlace servers batches place
     → block ≡ stamped place.sum batch ++ 0 ∷ 0 ∷ [] → later.format ≡ place.format → later.end ≡ place.end + length block
     → later.sum ≡ next place.format (adler_after place.sum batch) → IsPlace servers (batches ++ batch ∷ []) later

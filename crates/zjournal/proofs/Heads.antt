@@ -91,7 +91,7 @@ head_whole format servers file last front behind begins front_is is =
     let rest : drop 34 file ≡ behind = ap (λ (l : List ℕ). drop 34 l) whole ∙ behind_head format servers behind in
     whole ∙ ap (λ (l : List ℕ). 1 ∷ (head format servers ++ 0 ∷ l)) (sym rest)
 
--- behind the head the batches stand
+-- the batches follow the head
 module _ (servers : ℕ) (file : List ℕ) (start : Place) (some : 0 < servers) (at : start.end ≡ 34) (sum : start.sum ≡ 1)
     (headed : file ≡ 1 ∷ (head start.format servers ++ 0 ∷ drop 34 file)) where
   sums_are : (batches : List (List ℕ)) → stamped_all start.format start.sum batches ≡ stamped_all start.format 1 batches

@@ -1,4 +1,4 @@
--- How a run of calls of a device goes on.
+-- How a run of calls of a device continues.
 use Rattle.std.proofs.Common.{◌⊎◌, inl, inr, ⊎_elim, ℕ, List, sym, subst, arith}
 use Rattle.zjournal.specs.Device.{Only, Follows, Elapses, LeavesOnly}
 
@@ -17,7 +17,7 @@ module _ {D : Type 0} (moment : D → ℕ) (left_since : D → ℕ → List ℕ 
     before = λ t c le left. ⊎_elim (so_far.before t c le) (λ now. inr (here c now)) (time.nothing_else t c (omega (arith, le, so_far.later)) left);
   }
 
-  -- two runs, one behind the other
+  -- two runs, one after the other
   pub joined_runs : (old mid new : D) (P : List ℕ → Type 0) → LeavesOnly moment left_since old mid P
       → LeavesOnly moment left_since mid new P → LeavesOnly moment left_since old new P
   joined_runs old mid new P first second = record {
@@ -54,7 +54,7 @@ module _ {D : Type 0} (moment : D → ℕ) (left_since : D → ℕ → List ℕ 
     synced_leaves mid new follows first synced time =
         goes_on old mid new (step file) (may_leave new) (call_leaves mid follows first) time (λ c left. follows_only mid follows c (synced c left))
 
--- two calls, where what a crash leaves between them is left before or behind them
+-- two calls, where what a crash leaves between them is left before or after them
 pub elapses_both : (before mid now : ℕ) (past between since : ℕ → List ℕ → Type 0) (may_between may_leave : List ℕ → Type 0)
     → Elapses before mid past between may_between → Elapses mid now between since may_leave
     → ((t : ℕ) (c : List ℕ) → may_between c → past t c ⊎ may_leave c) → Elapses before now past since may_leave

@@ -66,7 +66,7 @@ module _ {D : Type 0} (seen : D → List ℕ) (may_leave : D → List ℕ → Ty
   pub only_left : seen mid ≡ seen old → Only (seen mid) (may_leave mid)
   only_left same c left = only c (crash c left) ∙ sym same
 
--- a file that stands for batches is read, and then changed
+-- a file that represents batches is read, and then changed
 module _ {D : Type 0} (seen : D → List ℕ) (may_leave : D → List ℕ → Type 0) (moment : D → ℕ) (left_since : D → ℕ → List ℕ
     → Type 0) (old mid : D) (only : Only (seen old) (may_leave old)) (now : (c : List ℕ) → left_since old (moment old) c
     → may_leave old c) (crash : (c : List ℕ) → may_leave mid c → may_leave old c)
@@ -79,7 +79,7 @@ module _ {D : Type 0} (seen : D → List ℕ) (may_leave : D → List ℕ → Ty
       (started moment left_since old P (λ c left. subst P (sym (only c (now c left))) stands)) time
       (λ c left. subst P (sym (only c (crash c left))) stands)
 
-  -- what goes on leaves what stands for the batches that were found, and these are the same
+  -- what comes next leaves a file that represents the batches found, and these are the same
   then_leaves : (found : List (List ℕ)) → Represents servers found (seen old) → (new : D) (Q : List ℕ → Type 0)
       → LeavesOnly moment left_since mid new Q → ((c : List ℕ) → Q c → Represents servers found c)
       → LeavesOnly moment left_since old new (Represents servers batches)

@@ -1,4 +1,4 @@
--- A file stands for one list of batches, and then it has no fault.
+-- A file represents one list of batches, and then it has no fault.
 use Rattle.std.proofs.Common.{◌≡◌, inl, inr, ℕ, List, ◌∷◌, ◌++◌, map, get_or, take, drop, refl, sym, ◌∙◌, ap, subst, arith}
 use Rattle.zjournal.specs.declared.format.Format.{Format}
 use Rattle.zjournal.specs.declared.format.Format.TheVariants.{Separate, Running}

@@ -16,7 +16,7 @@ use Rattle.zjournal.proofs.Moments.{started, goes_on, joined_runs, weaker}
 use Rattle.zjournal.proofs.Opens.{only_read, only_left}
 use Rattle.zjournal.proofs.Files.{head_text_now, stamped_after, first_place, rest_keeps, more_place, more_texts, one_more}
 
--- a block without the closed commit_byte behind it
+-- a block without the closed commit_byte after it
 pub without_commit_byte : (held block : List ℕ) → block ≡ held ++ 0 ∷ 0 ∷ [] → take (length block - 1) block ≡ held ++ 0 ∷ []
 without_commit_byte held block is =
     let whole : block ≡ (held ++ 0 ∷ []) ++ 0 ∷ [] = is ∙ sym (append_assoc held (0 ∷ []) (0 ∷ [])) in

@@ -1,4 +1,4 @@
--- What a crash leaves in the steps that change a file, one call behind the other.
+-- What a crash leaves in the steps that change a file, one call after the other.
 use Rattle.std.proofs.Common.{◌≡◌, inl, inr, ℕ, ◌+◌, ◌<◌, ◌≤◌, List, [], ◌∷◌, ◌++◌, length, take, drop, ◌∙◌, ap}
 use Rattle.zjournal.specs.Device.{Holds, Torn, Cut, LeavesOnly}
 use Rattle.zjournal.specs.CommitBytes.{IsClosing, IsOpening, IsAdding}
@@ -28,7 +28,7 @@ module _ {D : Type 0} (moment : D → ℕ) (left_since : D → ℕ → List ℕ 
   open_leaves commit_byte within run = weaker moment left_since old mid (Torn commit_byte 1 file) (IsOpening (take commit_byte file) (drop (commit_byte + 1) file))
       run (opening_commit_byte file commit_byte within)
 
-  -- a block is written behind the closed commit_byte
+  -- a block is written after the closed commit_byte
   module _ (commit_byte : ℕ) (closed : drop commit_byte file ≡ 0 ∷ []) (block : List ℕ) where
     pub stage_leaves : LeavesOnly moment left_since old mid (Torn (commit_byte + 1) (length block) file)
         → LeavesOnly moment left_since old mid (IsAdding (take commit_byte file) block)

@@ -1,4 +1,4 @@
--- How the blocks of a file are found, one behind the other.
+-- How the blocks of a file are found, one after the other.
 use Rattle.std.proofs.Common.{◌≡◌, ◌≢◌, ℕ, ◌+◌, ◌-◌, ◌<◌, ◌≤◌, List, [], ◌∷◌, ◌++◌, length, get_or, take, drop}
 use Rattle.std.proofs.Common.{zero, suc, refl, sym, ◌∙◌, ap, subst, arith, append_assoc, length-append}
 use Rattle.std.proofs.lemmas.List.{append-nil, take_at, drop_all, drop_more}
@@ -44,13 +44,13 @@ text_slice bytes start at ends =
 pub endless_is_none : (bytes : List ℕ) (place : Place) → IsText (drop (place.end + 1) bytes) → IsNoBatch bytes place
 endless_is_none bytes place text batch more h is = no_zero (stamped place.sum batch) more (subst IsText is text)
 
--- a text behind no checksum of its own is no batch
+-- a text after no checksum of its own is no batch
 pub other_is_none : (bytes : List ℕ) (place : Place) (at : ℕ) → (ends : EndsAt bytes (place.end + 1) at)
     → ((text : List ℕ) → ends.1.0 ≡ stamped place.sum text → ⊥) → IsNoBatch bytes place
 other_is_none bytes place at ends none batch more h is =
     none batch (first_zero ends.1.0 (stamped place.sum batch) (drop (at + 1) bytes) more ends.1.3 h (sym ends.1.1 ∙ is)).0
 
--- a text behind its checksum is one
+-- a text after its checksum is one
 pub checked_is_batch : (bytes : List ℕ) (place there : Place) (at sum : ℕ) (ends : EndsAt bytes (place.end + 1) at) (text : List ℕ)
     → ends.1.0 ≡ stamped place.sum text → sum ≡ adler_after place.sum text → there.format ≡ place.format → there.end ≡ at + 1
     → there.sum ≡ next place.format sum → IsBatch bytes place text there

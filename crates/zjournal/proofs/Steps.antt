@@ -27,7 +27,7 @@ module _ (file : List ℕ) (end : ℕ) (within : end ≤ length file) where
   front_long : length (take end file) ≡ end
   front_long = omega (arith, length-take end file, within)
 
-  -- the closed commit_byte behind it
+  -- the closed commit_byte after it
   pub closing_commit_byte : (front c : List ℕ) → front ≡ take end file → Torn end 1 front c → IsClosing file end c
   closing_commit_byte front c is torn =
       let long : length front ≡ end = ap length is ∙ front_long in
@@ -66,7 +66,7 @@ module _ (file : List ℕ) (commit_byte : ℕ) (closed : drop commit_byte file �
   pub front_size : length (take commit_byte file) ≡ commit_byte
   front_size = omega (arith, length-take commit_byte file, long_is)
 
-  -- the block behind the closed commit_byte
+  -- the block after the closed commit_byte
   pub staging : (n : ℕ) (c : List ℕ) → Torn (commit_byte + 1) n file c → IsStaging (take commit_byte file) n c
   staging n c torn = (
     drop (commit_byte + 1) c,

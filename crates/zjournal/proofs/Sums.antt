@@ -1,4 +1,4 @@
--- Texts after their checksums, each of which goes on from the one before it.
+-- Texts after their checksums, each of which continues from the one before it.
 use Rattle.std.proofs.Common.{◌≡◌, ◌≢◌, ℕ, ◌+◌, Bool, true, false, if◌then◌else◌, List, [], ◌∷◌, ◌++◌, length, map}
 use Rattle.std.proofs.Common.{drop, get_or, refl, sym, ◌∙◌, ap, arith, length-append}
 use Rattle.zjournal.specs.declared.format.Format.{Format}
@@ -19,7 +19,7 @@ stamped_text sum text h = (
   (digit_counts _, (digit_counts _, (digit_counts _, (digit_counts _, (digit_counts _, (digit_counts _, (digit_counts _, h))))))),
 )
 
--- what stands behind the checksum
+-- what follows the checksum
 pub unstamped : (format : Format) (sum : ℕ) (texts : List (List ℕ)) → map (λ (t : List ℕ). drop 8 t) (stamped_all format sum texts) ≡ texts
 unstamped format sum [] = refl
 unstamped format sum (t ∷ texts) = ap (λ (l : List (List ℕ)). t ∷ l) (unstamped format (next format (adler_after sum t)) texts)
@@ -48,7 +48,7 @@ same_size f g a b (t ∷ texts) =
       length-append t (0 ∷ blocks (stamped_all g (next g (adler_after b t)) texts)),
     )
 
--- what is behind some of the texts is a text after its checksum
+-- what follows some of the texts is a text after its checksum
 pub stamped_among : (format : Format) (sum : ℕ) (a b after : List (List ℕ)) (held : List ℕ)
     → stamped_all format sum a ≡ stamped_all format sum b ++ held ∷ after → (text : List ℕ) × (held ≡ stamped (next_after format sum b) text)
 stamped_among format sum [] [] after held is = absurd (none is)

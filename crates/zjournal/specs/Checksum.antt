@@ -11,7 +11,7 @@ abbrev pub adler_from : ℕ → ℕ → List ℕ → ℕ
 adler_from a b [] = b * 65536 + a
 adler_from a b (byte ∷ text) = adler_from ((a + byte) % 65521) ((b + (a + byte) % 65521) % 65521) text
 
--- the sum goes on from this one over a text. The sum of nothing is 1
+-- the sum continues from this one over a text. The sum of nothing is 1
 abbrev pub adler_after : ℕ → List ℕ → ℕ
 adler_after sum text = adler_from (sum % 65536) (sum / 65536) text
 
@@ -31,11 +31,11 @@ digits n =
     ∷ digit (n % 16)
     ∷ []
 
--- a text after its checksum, which goes on from this sum
+-- a text after its checksum, which continues from this sum
 abbrev pub stamped : ℕ → List ℕ → List ℕ
 stamped sum text = digits (adler_after sum text) ++ text
 
--- what the next checksum goes on from, after one of this sum
+-- what the next checksum continues from, after one of this sum
 abbrev pub next : Format → ℕ → ℕ
 next Separate sum = 1
 next Running sum = sum
@@ -45,7 +45,7 @@ abbrev pub next_after : Format → ℕ → List (List ℕ) → ℕ
 next_after format sum [] = sum
 next_after format sum (text ∷ texts) = next_after format (next format (adler_after sum text)) texts
 
--- texts after their checksums, of which the first goes on from this sum
+-- texts after their checksums, of which the first continues from this sum
 abbrev pub stamped_all : Format → ℕ → List (List ℕ) → List (List ℕ)
 stamped_all format sum [] = []
 stamped_all format sum (text ∷ texts) = stamped sum text ∷ stamped_all format (next format (adler_after sum text)) texts

@@ -7,7 +7,7 @@ use Rattle.zjournal.specs.Blocks.{AreTexts, blocks, IsEnd}
 use Rattle.zjournal.specs.Journal.{holdings, IsPlace, IsUnmade, IsUnopenedIn}
 use Rattle.zjournal.specs.Scan.{joined}
 
--- it holds these batches, up to this place
+-- it holds these batches, up to this position
 pub record KeepsTo (servers : ℕ) (batches : List (List ℕ)) (place : Place) (file : List ℕ) : Type 0 where
   pub texts : AreTexts (holdings place.format servers batches)
   pub split : file ≡ blocks (holdings place.format servers batches) ++ drop place.end file

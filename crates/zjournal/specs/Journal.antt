@@ -68,7 +68,7 @@ IsBeingMade servers file = IsUnmade servers file ⊎ IsUnopened servers file
 abbrev pub Represents : ℕ → List (List ℕ) → List ℕ → Type 0
 Represents servers batches file = Keeps servers batches file ⊎ (IsBeingMade servers file × (batches ≡ []))
 
--- the next block goes there: after the blocks of these batches, and its sum goes on from theirs
+-- the next block goes there: after the blocks of these batches, and its sum continues from theirs
 pub record IsPlace (servers : ℕ) (batches : List (List ℕ)) (place : Place) : Type 0 where
   pub end : place.end ≡ length (blocks (holdings place.format servers batches))
   pub sum : place.sum ≡ next_after place.format 1 batches

@@ -11,7 +11,7 @@ abbrev pub EndsAt : List ℕ → ℕ → ℕ → Type 0
 EndsAt bytes start at = (at < length bytes)
     × ((text : List ℕ) × (drop start bytes ≡ text ++ 0 ∷ drop (at + 1) bytes) × (at ≡ start + length text) × IsText text)
 
--- the batch is in the block at this place, and the next block goes there
+-- the batch is in the block at this position, and the next block goes there
 pub record IsBatch (bytes : List ℕ) (place : Place) (batch : List ℕ) (there : Place) : Type 0 where
   pub text : IsText (stamped place.sum batch)
   pub within : there.end ≤ length bytes
@@ -20,7 +20,7 @@ pub record IsBatch (bytes : List ℕ) (place : Place) (batch : List ℕ) (there 
   pub same : there.format ≡ place.format
   pub goes_on : there.sum ≡ next place.format (adler_after place.sum batch)
 
--- no batch is in a block at this place
+-- no batch is in a block at this position
 abbrev pub IsNoBatch : List ℕ → Place → Type 0
 IsNoBatch bytes place = (batch more : List ℕ) → IsText (stamped place.sum batch) → drop (place.end + 1) bytes ≡ stamped place.sum batch ++ 0 ∷ more → ⊥
 
@@ -29,7 +29,7 @@ abbrev pub joined : List (List ℕ) → List ℕ
 joined [] = []
 joined (text ∷ texts) = text ++ joined texts
 
--- the blocks of these batches reach from one place to another
+-- the blocks of these batches reach from one position to another
 pub record AreBatches (bytes : List ℕ) (start : Place) (batches : List (List ℕ)) (last : Place) : Type 0 where
   pub texts : AreTexts (stamped_all start.format start.sum batches)
   pub within : last.end ≤ length bytes

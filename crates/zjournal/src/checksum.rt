@@ -9,7 +9,7 @@ ghost use Rattle.zjournal.specs.Checksum.{adler_after, digit, digits, stamped};
 
 use std::alloc::{AllocError, Global};
 
-/// Returns the Adler-32 that goes on from this sum over a text.
+/// Returns the Adler-32 that continues from this sum over a text.
 pub fn sum_after(sum: u32, text: &[u8]) -> u32
     ensures { result ≡ adler_after sum text.now }
 {
@@ -47,7 +47,7 @@ fn digits_of(sum: u32) -> [u8; 8]
 }
 
 /// Returns the text after the checksum in front of it, and that checksum, if it matches one that
-/// goes on from this sum.
+/// continues from this sum.
 pub fn checked(held: &[u8], sum: u32) -> Option<(&[u8], u32)>
     ensures some { IfSome result (λ found. (held.now ≡ stamped sum found.0.now)
         × (found.1 ≡ adler_after sum found.0.now)) }

@@ -49,7 +49,8 @@ impl<D: Device> Journal<D> {
 
     /// Appends a batch. At `Ok` it is durable: from then on every crash leaves a file that holds
     /// it. After `Failed`, and sometimes after `Memory`, the journal takes nothing more. The file
-    /// then has the batch or hasn't; opening it again shows which. The file keeps its format.
+    /// then has the batch or hasn't; opening it again shows which. The format of the file is
+    /// unchanged.
     pub fn put(&mut self, batch: &[u8]) -> Result<(), PutError>
         requires { IsSound D.seen D.may_leave self.old }
         ensures kept { (servers : ℕ) (batches : List (List ℕ))

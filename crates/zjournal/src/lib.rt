@@ -8,7 +8,7 @@
 //! ```
 //!
 //! A journal can be renewed: a new file with other batches replaces the old one. A crash leaves one
-//! of the two, whole. If the new file can't be written, the journal goes on with the old one.
+//! of the two, whole. If the new file can't be written, the journal continues with the old one.
 //!
 //! ```text
 //! journal.begin_renewal()?;
@@ -16,9 +16,9 @@
 //! journal.end_renewal()?;                                     // now the new file is durable
 //! ```
 //!
-//! A file has one of two formats. A new file and a renewed one have version 2: its checksums run on,
-//! so a block that is missing shows at the next one. A file of version 1 is opened, and goes on as
-//! one. The head says what a file is of, and another program's isn't opened.
+//! A file has one of two formats. A new file and a renewed one have version 2: its checksums run
+//! on, so a block that is missing shows at the next one. A file of version 1 is opened, and its
+//! format is unchanged. The head says what a file is of, and another program's isn't opened.
 //!
 //! `specs/Device.antt` defines what a disk promises, and what a crash is. `specs/Journal.antt`
 //! defines which batches a file represents. A journal works over any `Device`. `MemoryFile` is one

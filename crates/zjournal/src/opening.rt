@@ -4,7 +4,7 @@
 //! A file is read whole, and its text is returned as one string. Batches are whole lines, so no
 //! caller needs to know where they began.
 //!
-//! A file goes on in the version that it has. A new file, and one that is being made and has no whole
+//! The version of a file doesn't change. A new file, and one that is being made and has no whole
 //! head, gets version 2.
 //!
 //! What follows the last block that counts is one clear commit byte, or what a crash or a disk
@@ -133,8 +133,8 @@ pub fn read_text<D: Device>(
 
 /// Opens the journal of a file that a crash may have left, or makes one of a new file. Returns it
 /// with the text of all batches. A crash meanwhile leaves a file that represents the same batches.
-/// The file's head holds the number of servers, at least 1. A file keeps its format, and a new one
-/// has version 2. An `Err` returns the device.
+/// The file's head holds the number of servers, at least 1. The format of a file is unchanged, and
+/// a new one has version 2. An `Err` returns the device.
 pub fn open<D: Device>(
     alloc: Global,
     device: D,

@@ -15,7 +15,7 @@ pub struct Place {
     pub format: Format,
     /// Where the blocks so far end.
     pub end: usize,
-    /// The sum from which the checksum of the next block goes on.
+    /// The sum from which the checksum of the next block continues.
     pub sum: u32,
 }
 

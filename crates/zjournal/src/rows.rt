@@ -8,7 +8,7 @@ ghost use Rattle.zjournal.specs.Device.{Cut, IsEither, Torn};
 ghost use Rattle.zjournal.specs.Journal.{head, holdings, IsUnmade, Keeps};
 ghost use Rattle.zjournal.specs.Renewal.{IsOldOrNew};
 
-/// A checksum, one that goes on from another, and a text after its own.
+/// A checksum, one that continues from another, and a text after its own.
 pub fn texts_have_checksums()
     ensures empty { adler_after 1 [] ≡ 1 }
     ensures known { adler_after 1 (codes "Wikipedia") ≡ 300286872 }
@@ -24,8 +24,8 @@ pub fn checksums_run_on()
         ≡ codes "00620062a" ∷ codes "012600c4b" ∷ [] }
 {}
 
-/// In version 2 a file without its first block holds no batches, nor does one whose blocks changed
-/// places.
+/// In version 2 a file without its first block holds no batches, nor does one whose blocks were
+/// swapped.
 pub fn missing_blocks_are_seen()
     ensures head { head Running 3 ≡ codes "jellqupas journal " ++ 2 ∷ 3 ∷ codes "tree of zk  " }
     ensures both { Keeps 3 (codes "a" ∷ codes "b" ∷ [])

@@ -1,4 +1,5 @@
--- What clients were reported: an answered update is committed, and an answered query saw a log that is.
+-- What was returned to clients: an answered update is committed, and an answered query saw a log
+-- that is.
 use Rattle.std.proofs.Common.{◌≡◌, true, List, [], ◌∷◌, ◌++◌, Option, refl, sym, ap, ◌∙◌, subst, inl, inr}
 use Rattle.ztree.specs.Tree.{Tree}
 use Rattle.zcalls.specs.declared.call.Call.{Call}

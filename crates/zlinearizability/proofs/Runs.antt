@@ -25,12 +25,12 @@ use Rattle.zlinearizability.proofs.master_lemmas.orders.Orders.{servers_hear_mas
 use Rattle.zlinearizability.proofs.master_lemmas.Events.{master_hears, master_obeys}
 use Rattle.zlinearizability.specs.Facts.{account_of, EveryRunIsSound, CommittedStays}
 
--- what is reported beside the world leaves the world
+-- what is recorded beside the world leaves the world
 account_world_if : (b : Bool) (t u : Account) → (if b then t else u).world ≡ (if b then t.world else u.world)
 account_world_if true t u = refl
 account_world_if false t u = refl
 
--- the world of an account keeps what failed servers held
+-- the world of an account preserves what failed servers held
 pub next_world : {P : Type 0} (plain : Plain P) (t : Account) (event : Event) → (next_account plain t event).world
     ≡ keeps (log_machine plain) t.world event
 next_world plain t event = account_world_if (is_enabled t.world event) (account_by plain t event (acts (log_machine plain) t.world event)) t

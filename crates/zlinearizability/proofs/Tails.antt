@@ -28,7 +28,7 @@ use Rattle.zlinearizability.proofs.chain_lemmas.steps.Sends.{final_log_of_log}
 use Rattle.zlinearizability.specs.Facts.{account_of, OneTailAnswers, LogsBeginEachOther, TailsHoldWhatTailsHeld, UpdatesActOnce}
 use Rattle.zlinearizability.proofs.Runs.{run_world, every_run_is_sound, committed_stays}
 
--- who stands before a member with a log has a log that goes on with it, and a successor
+-- who is before a member with a log has a successor, and a log that extends the member's
 record IsLonger (w : LogWorld) (x : ℕ) (log : List Entry) : Type 0 where
   pub own : List Entry
   pub holds : log_at w x ≡ Some own
@@ -81,7 +81,8 @@ tail_with h v = ap (λ b. b && is_none v.succ) (by v.machine)
     by None = refl
     by (Some m) = refl
 
--- a tail of a world that lets go of what failed servers held lives, and is one where that is kept
+-- a tail of a world that lets go of what failed servers held is alive, and is a tail where that is
+-- preserved
 lives_as_tail : (w : LogWorld) (x : ℕ) → is_tail (view_with (replay cached_tree) ((let_go w).servers x)) ≡ true
     → (w.failed x ≡ false) × (is_tail (w.servers x) ≡ true)
 lives_as_tail w x is = by (w.failed x) refl

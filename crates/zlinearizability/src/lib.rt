@@ -6,7 +6,7 @@
 //!
 //! This is the lowest crate of the wing "the world and its theorem": the proof that a chain is
 //! linearizable, and a world that runs one. The definitions are in `zprotocol::world`, the argument
-//! is in docs/PROOF.md. Go on with `zworld::links`, the channels, and `zworld`, the program with
+//! is in docs/PROOF.md. Continue with `zworld::links`, the channels, and `zworld`, the program with
 //! the theorem.
 #![tactic(auto)]
 

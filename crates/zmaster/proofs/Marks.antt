@@ -1,4 +1,4 @@
--- Marks and the numbers that they stand for.
+-- Marks and the numbers that they represent.
 use Rattle.std.proofs.Common.{◌≡◌, ℕ, ◌+◌, ◌<◌, ◌≤◌, Bool, true, false, ◌==◌, nat_lt, List, [], ◌∷◌, length, zero, suc, refl, sym, ap, ◌∙◌, arith, get_or}
 use Rattle.std.specs.Prelude.{slice_set}
 use Rattle.std.specs.List.{range_with_len}
@@ -56,7 +56,7 @@ few_numbers first [] = omega arith
 few_numbers first (true ∷ marks) = omega (arith, few_numbers (first + 1) marks)
 few_numbers first (false ∷ marks) = omega (arith, few_numbers (first + 1) marks)
 
--- the number behind a range makes it longer
+-- the number after a range makes it longer
 pub number_behind : (first count s : ℕ) → first + count ≡ s → with_number s (range_with_len first count) ≡ range_with_len first (suc count)
 number_behind first zero s is = let here : s ≡ first = omega arith in ap (λ n. n ∷ []) here
 number_behind first (suc count) s is =

@@ -1,4 +1,4 @@
--- A chain that is mended at a place is the table's.
+-- A chain that is mended at a position is the table's.
 use Rattle.std.proofs.Common.{◌≡◌, ℕ, ◌+◌, ◌<◌, Bool, true, false, ◌==◌, nat_lt, List, [], ◌∷◌, Option, Some, None, length, zero, suc, refl, sym, ap, ◌∙◌, arith, get_or, inl, inr, map}
 use Rattle.std.specs.Prelude.{slice_set, cond, is_some}
 use Rattle.std.specs.List.{position, position_or_len, remove, refill}
@@ -16,7 +16,7 @@ use Rattle.zmaster.specs.support.Mending.{IsPlace, mended_at, mended_behind_at}
 abbrev numbers_of : List Neighbour → List ℕ
 numbers_of chain = map (λ member. member.0) chain
 
--- the place that is found
+-- the position that is found
 to_place : (s at : ℕ) (chain : List Neighbour) (d : Neighbour) → at < length chain → ((get_or chain at d).0 == s) ≡ true
     → ((k : ℕ) → k < at → ((get_or chain k d).0 == s) ≡ false) → IsPlace s at chain
 to_place s at [] d within here none = absurd (omega arith)
@@ -28,7 +28,7 @@ place_found s chain at found =
     let is = position-Some (λ (member : Neighbour). member.0 == s) chain at (0, 0) found in
     to_place s at chain (0, 0) is.0 is.1 is.2
 
--- a place is within the chain
+-- a position is within the chain
 pub place_within : (s at : ℕ) (chain : List Neighbour) → IsPlace s at chain → at < length chain
 place_within s at [] place = absurd place
 place_within s zero (t ∷ rest) place = omega arith
@@ -41,7 +41,7 @@ place_among s zero (t ∷ rest) place = rw place refl
 place_among s (suc at) (t ∷ rest) place = rw place.0 (place_among s at rest place.1)
 
 module _ {T : Type 0} (epoch s : ℕ) where
-  -- the chain behind p
+  -- the chain after p
   behind_place : (p at : ℕ) (chain : List Neighbour) → IsPlace s at chain
       → mended_chain_behind {T = T} epoch s p chain ≡ mended_behind_at epoch p at (remove chain at)
   behind_place p at [] place = absurd place
@@ -98,7 +98,7 @@ refilled [] (w ∷ written) same = absurd (omega arith)
 refilled (m ∷ members) [] same = absurd (omega arith)
 refilled (m ∷ members) (w ∷ written) same = ap (λ (ws : List Neighbour). w ∷ ws) (refilled members written (omega arith))
 
--- a place that isn't found: the server is no member
+-- a position that isn't found: the server is no member
 missing : (s : ℕ) (chain : List Neighbour) → nat_lt (position_or_len (λ (member : Neighbour). member.0 == s) chain) (length chain) ≡ false
     → is_among s (numbers_of chain) ≡ false
 missing s [] none = refl
@@ -115,7 +115,7 @@ pub place_missing : (s : ℕ) (chain : List Neighbour) → ◌≡◌ {A = Option
     → is_among s (numbers_of chain) ≡ false
 place_missing s chain none = missing s chain (cond_none _ _ none)
 
--- a place is found where the server is a member
+-- a position is found where the server is a member
 pub found_is_member : (s : ℕ) (chain : List Neighbour) (found : Option ℕ) → found ≡ position (λ (member : Neighbour). member.0 == s) chain
     → is_among s (numbers_of chain) ≡ is_some found
 found_is_member s chain None is = place_missing s chain (sym is)

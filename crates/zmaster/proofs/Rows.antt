@@ -68,7 +68,7 @@ module _ {T : Type 0} (v : MasterView) (s : ℕ) where
   unfolding order_step
   join_nowhere is = rw (is, order_step) refl
 
--- at most one message reports of a mended chain
+-- at most one message is sent about a mended chain
 next_few : (T : Type 0) (epoch p : ℕ) (rest : List Neighbour) → length (without_next {T = T} epoch p rest).1 ≤ 1
 next_few T epoch p [] = omega arith
 next_few T epoch p (t ∷ rest) = omega arith
@@ -124,7 +124,7 @@ fault_of_chain v s new = faults s v.chain v.joining v.retiring v.used v.epoch v.
 pub fault_used : (v : MasterView) (s : ℕ) → is_among s v.used ≡ true → first_that_holds (own_tests v (Join s)) ≡ Some Used
 fault_used v s old = rw old refl
 
--- what the first clients are reported
+-- what the first clients are sent
 pub config_count : (T : Type 0) (v : MasterView) (count : ℕ) → length (config_posts_to {T = T} v count) ≡ count
 config_count T v count = length-map-range_with_len {X = PostOf T} (λ c. (Client c, message.Config v.epoch (head_of v) (tail_of v))) 0 count
 

@@ -1,5 +1,5 @@
 -- The bytes of an entry: a tag for its kind, and then its fields in order. Numbers have the highest
--- byte first. A tag keeps its meaning in every later version.
+-- byte first. The meaning of a tag is unchanged in every later version.
 use Rattle.std.specs.Prelude.{ℕ, ◌<◌, List, length, Result, Ok, Err, ◌==◌, if◌then◌else◌}
 use Rattle.std.specs.Int.{w8, w64}
 use Rattle.zcodec.specs.declared.fault.Fault.{Fault}

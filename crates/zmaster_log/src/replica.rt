@@ -81,7 +81,7 @@ impl MasterReplica {
         }
     }
 
-    /// Returns how many reports of the server were played: its next one has so many before it.
+    /// Returns how many reports of the server were played: that many precede its next one.
     pub fn reports_of(&self, server: ServerId) -> u64
         ensures { result ≡ reports_of self.now.state server }
     {

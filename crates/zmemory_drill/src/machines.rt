@@ -12,7 +12,7 @@ pub(crate) fn machine(alloc: Global) -> Result<Machine, Memory> {
     machine_after(alloc, create(alloc, "/a"))
 }
 
-/// Returns a machine at which client 1's first call made `/a`, which lives for one tick.
+/// Returns a machine at which client 1's first call made `/a`, whose TTL is one tick.
 pub(crate) fn timed_machine(alloc: Global) -> Result<Machine, Memory> {
     machine_after(alloc, create_timed(alloc, "/a"))
 }

@@ -23,7 +23,7 @@ pub(crate) fn create_sequential(alloc: Global, text: &str) -> Result<Update, Mem
     create_of(alloc, text, Kind::sequential(Lifetime::Persistent))
 }
 
-/// Returns an update that makes a node with two bytes, which lives for one tick.
+/// Returns an update that makes a node with two bytes, whose TTL is one tick.
 pub(crate) fn create_timed(alloc: Global, text: &str) -> Result<Update, Memory> {
     match Ttl::new(1) {
         Some(ttl) => create_of(alloc, text, Kind::named(Lifetime::WithTtl(ttl))),

@@ -54,7 +54,7 @@ module _ (m n : Items Row) (ids : IdsByPath) (owners : OwnerLists) (id : Id) (ke
   has_key_other part q k e same =
       none_some k (sym (ap (λ i. option_and_then (λ (r : Row). cond (is_live r) (part r) None) (get m i)) same ∙ out-of part (get m id) out) ∙ e)
 
-  -- where the row, if there is one now, keeps its key
+  -- where the key of the row, if there is one now, is unchanged
   module _ (keeps : (x : Row) → get n id ≡ Some x → KeepsKey x) where
     before : (i : Id) (x : Row) → get n i ≡ Some x → (i ≡ id) ⊎ (i ≢ id) → x.key ≡ None → get m i ≡ Some x
     before i x e (inl is) none = absurd (still x (ap (get n) (sym is) ∙ e) none)

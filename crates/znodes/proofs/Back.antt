@@ -24,7 +24,7 @@ use Rattle.znodes.proofs.Faces.{Face, face, parent_face, owner_face, by-face, fa
 use Rattle.znodes.proofs.Heads.{owned-changed}
 use Rattle.znodes.proofs.Linked.{above-path, owned-are}
 
--- the list of an owner that is nobody, or is known
+-- the list of an owner that is no one, or is known
 pub known-list : (owners : OwnerLists) (owner : ℕ) → (owner ≡ 0) ⊎ IsSome (get owners owner) → ((list_of owners owner ≡ None) × (somebody owner ≡ None)) ⊎ ((list : IdList 1) × (list_of owners owner ≡ Some list) × (get owners owner ≡ Some list) × (somebody owner ≡ Some owner))
 known-list owners owner known = by (somebody owner) refl known
   where
@@ -102,7 +102,7 @@ module _ (m : Items Row) (ids : IdsByPath) (owners : OwnerLists) (id : Id) (r : 
     fellows-put : (q : Id) → option_map fellow_links (get put q) ≡ option_map fellow_links (get m q)
     fellows-put q = child-kept fellow_links (λ _ _. refl) (λ _ _. refl) m (get ids (parent_of r.path)) id q
 
-    -- the key that it kept, when it is in its lists
+    -- the key that it stored, when it is in its lists
     pub key-kept : option_and_then (λ (x : Row). x.key) (get (with_owned put list id) id) ≡ r.key
     key-kept =
         let same = owned-kept face (λ _ _. refl) put list id id ∙ child-kept face (λ _ _. refl) (λ _ _. refl) m (get ids (parent_of r.path)) id id in

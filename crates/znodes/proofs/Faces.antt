@@ -24,21 +24,21 @@ Face = Path × (Node × Option Key)
 abbrev pub face : Row → Face
 face r = (r.path, (r.node, r.key))
 
--- in whose lists a row of this face stands
+-- in whose lists a row of this face is
 abbrev pub parent_face : Face → Option Path
 parent_face f = cond (option_map_or (λ (_ : Key). false) f.1.1 true) (above f.0) None
 
 abbrev pub owner_face : Face → Option ℕ
 owner_face f = cond (option_map_or (λ (_ : Key). false) f.1.1 true) (somebody f.1.0.owner) None
 
--- what a part alone reports
+-- what a part alone determines
 pub by-part : {F X : Type 0} (part : Row → F) (h : F → Option X) (o t : Option Row) → option_map part o ≡ option_map part t → option_and_then (λ r. h (part r)) o ≡ option_and_then (λ r. h (part r)) t
 by-part part h None None e = refl
 by-part part h (Some x) (Some y) e = ap h (same_some (part x) (part y) e)
 by-part part h None (Some y) e = cc
 by-part part h (Some x) None e = cc
 
--- what a face alone reports
+-- what a face alone determines
 pub by-face : {X : Type 0} (h : Face → Option X) (o t : Option Row) → option_map face o ≡ option_map face t → option_and_then (λ r. h (face r)) o ≡ option_and_then (λ r. h (face r)) t
 by-face h o t e = by-part face h o t e
 

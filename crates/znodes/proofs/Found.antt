@@ -54,6 +54,6 @@ module _ (m : Items Row) (index : IdsByPath) where
             let row = linked.named q id at in
             (id, row.0, row.1, row.2, row.3, same_some _ _ (sym (get-nodes-found q id row.0 at row.1) ∙ e))
 
-    -- a live row's node stands at its path
+    -- a live row's node is at its path
     pub live_node : (id : Id) (r : Row) → get m id ≡ Some r → r.key ≡ None → get (nodes_of m index) r.path ≡ Some r.node
     live_node id r is live = get-nodes-found r.path id r (linked.found id r is live) is

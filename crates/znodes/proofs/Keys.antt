@@ -1,4 +1,4 @@
--- In whose lists a row stands: what the keys of a row say, and what gives a row its keys.
+-- In whose lists a row is: what the keys of a row say, and what gives a row its keys.
 use Rattle.std.proofs.Common.{◌≡◌, ◌≢◌, ℕ, ◌<◌, Bool, true, false, cond, [], ◌∷◌, ◌++◌, Option, Some, None, refl, sym, ap, ◌∙◌, arith}
 use Rattle.std.specs.Prelude.{◌==◌, IfNone, IfSome}
 use Rattle.std.specs.Borrow.{Bor}
@@ -43,7 +43,7 @@ one_more [] below = absurd (below refl)
 one_more (n ∷ []) below = (n, refl)
 one_more (n ∷ (m ∷ q)) below = let rest = one_more (m ∷ q) (λ f. cc) in (rest.0, ap (λ p. n ∷ p) rest.1)
 
--- what stands in the list of a path has that path and one more name
+-- what is in the list of a path has that path and one more name
 pub parent_key-parts : (r : Row) (p : Path) → parent_key r ≡ Some p → (n : Name) × (r.key ≡ None) × (r.path ≡ p ++ n ∷ [])
 parent_key-parts r p = by (is_live r) refl r.path refl
   where

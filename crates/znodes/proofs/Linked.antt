@@ -136,7 +136,7 @@ module _ (m : Items Row) (ids : IdsByPath) (owners : OwnerLists) (kept : IsLinke
   children-are k p xp e is =
       ap (λ o. option_map_or (children_at m) o empty_list) e ∙ ap (λ o. option_map_or (λ (r : Row). r.children) o empty_list) is
 
-  -- the list of a live row's owner: there is none where nobody owns it
+  -- the list of a live row's owner: there is none where no one owns it
   pub owner-list : (id : Id) (r : Row) → get m id ≡ Some r → r.key ≡ None → ((list_of owners r.node.owner ≡ None) × (key_at owner_key m id ≡ None)) ⊎ ((list : IdList 1) × (list_of owners r.node.owner ≡ Some list) × (get owners r.node.owner ≡ Some list) × (key_at owner_key m id ≡ Some r.node.owner))
   owner-list id r e live = by (somebody r.node.owner) refl
     where

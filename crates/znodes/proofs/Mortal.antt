@@ -106,7 +106,7 @@ module _ {X : Type 0} (part : Row → X) (leaves : (r : Row) (to : Links) → pa
       by true = refl
       by false = (parts-kept timed_links with_timed_links (λ _ _. refl) part leaves m None id q).1
 
--- the list's key, as faces tell it
+-- the list's key, as faces report it
 abbrev pub timed_face : Face → Option (Unit {0})
 timed_face f = cond (option_map_or (λ (_ : Key). false) f.1.1 true) (timed_by f.1.0.ttl) None
 
@@ -167,7 +167,7 @@ module _ (m : Items Row) (ids : IdsByPath) (owners : OwnerLists) (timed : IdList
   pub mortal-away : HasTimed (without_timed gone r.node.ttl id) (timed_without gone timed r.node.ttl id)
   mortal-away = away-by (r.node.ttl == 0) refl
 
-  -- it stands in the list
+  -- it is in the list
   pub timed-counted : r.node.ttl ≢ 0 → 0 < timed.len
   timed-counted some = family-filled {L = 2} timed_links m (key_at timed_key m) timed tt (kept tt) id (its ∙ an_end r.node.ttl (not_zero r.node.ttl some))
 

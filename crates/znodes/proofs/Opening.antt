@@ -77,7 +77,7 @@ module _ (alloc : Global) (root : Node) (id : Id) where
       by (inl own) = own
       by (inr other) = absurd (maps.none_some i (sym (get-empty path_cmp q) ∙ other.1))
 
-  -- what the root's row doesn't tell, no row reports
+  -- what the root's row doesn't report, no row reports
   unreported : {X : Type 0} (f : Row → Option X) → f row ≡ None → (q : Id) → option_and_then f (get rows q) ≡ None
   unreported f is q = by (maps.same_or_other id_cmp_total id_cmp_same q id)
     where

@@ -6,7 +6,7 @@ use Rattle.std.proofs.lemmas.Bool.{eqb-true, false_from_ne_true}
 use Rattle.zslots.specs.declared.list.List.{List as IdList}
 use Rattle.znodes.specs.support.OwnerLists.{OwnerLists, somebody, list_of}
 
--- owner 0 is nobody
+-- owner 0 is no one
 pub nobody_is_none : (owner : ℕ) → owner ≡ 0 → somebody owner ≡ None
 nobody_is_none owner e = ap somebody e
 
@@ -22,7 +22,7 @@ somebody-same owner o e = by (owner == 0) e
     by true is = cc
     by false is = cc
 
--- an owner's list stands under the owner
+-- an owner's list is under the owner
 pub listed : (owners : OwnerLists) (owner : ℕ) (list : IdList 1) → list_of owners owner ≡ Some list → get owners owner ≡ Some list
 listed owners owner list e = by (somebody owner) refl e
   where

@@ -30,14 +30,14 @@ use Rattle.znodes.proofs.Shown.{live_parts, path-same, path_of-found}
 use Rattle.znodes.proofs.Away as out
 use Rattle.znodes.proofs.Back as back
 
--- what is reported of a row here: where it is, whether it is in the tree, and the node above it
+-- what is known of a row here: where it is, whether it is in the tree, and the node above it
 abbrev Kin : Type 0
 Kin = Path × (Option Key × Option Id)
 
 abbrev kin : Row → Kin
 kin r = (r.path, (r.key, r.parent))
 
--- a row that is reported alike names the node above, where that is found as it was
+-- a row of which the same is known names the node above, where that is found as it was
 kin-named : (ids later : IdsByPath) (y x : Row) → kin y ≡ kin x → y.parent ≡ option_and_then (get ids) (above y.path) → ((k : Path) → above y.path ≡ Some k → get later k ≡ get ids k) → x.parent ≡ option_and_then (get later) (above x.path)
 kin-named ids later y x same named found =
     ap (λ (k : Kin). k.1.1) (sym same) ∙ named ∙ sym (by (above y.path) found) ∙ ap (λ (k : Kin). option_and_then (get later) (above k.0)) same

@@ -26,7 +26,7 @@ use Rattle.ztree.proofs.Listed.{child_is_appended}
 abbrev pub AreRising : List Name → Type 0
 AreRising = IsStrictlySortedBy name_cmp
 
--- no name stands twice
+-- no name occurs twice
 abbrev pub AreDistinct : List Name → Type 0
 AreDistinct = IsDistinct bytes_eq
 

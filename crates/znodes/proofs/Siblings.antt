@@ -79,7 +79,7 @@ module _ (m : Items Row) where
         subst (λ o. AllByRecursion (λ k. bytes_eq n k ≡ false) (cons_option o (names_at m ids))) (sym fact.1)
         (differ n fact.0 apart, other_names n id at ids free.1 (λ j w. facts j (inr w)))
 
-    -- no name stands twice
+    -- no name occurs twice
     pub names_apart : (ids : Ids) → NoTwo ids → ((i : Id) → IsIn i ids → IsNamed i) → AreDistinct (names_at m ids)
     unfolding IsDistinct
     names_apart [] apart facts = tt

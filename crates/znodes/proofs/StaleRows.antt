@@ -67,7 +67,7 @@ module _ (m : Items Row) (tick : ℕ) where
   one_more i ids true free apart = (free, apart)
   one_more i ids false free apart = apart
 
-  -- none stands twice
+  -- none occurs twice
   pub no_two : (ids : Ids) → NoTwo ids → NoTwo (stale_of m tick ids)
   no_two [] apart = tt
   no_two (i ∷ ids) apart = one_more i ids (is_stale_row m tick i) (not_in i ids apart.0) (no_two ids apart.1)
@@ -87,7 +87,7 @@ has-ttl tick n due none =
     true≢false (sym some ∙ not)
 
 module _ (s : Inside) (linked : IsLinked s.slots.items s.index.ids s.owners) (v : NodesView) (shown : view_of s ≡ v) (tick : ℕ) where
-  -- of a live row it is reported by the tree
+  -- of a live row the tree decides it
   row-stale : (id : Id) (r : Row) → live_at s.slots.items id ≡ Some r → is_stale_at v.nodes tick r.path ≡ is_stale_row s.slots.items tick id
   row-stale id r is =
       let row = live_parts s.slots.items id r is in

@@ -31,7 +31,7 @@ get-held m q = get-map_values id_cmp_total taken_row m q
 pub get-known : (owners : OwnerLists) (q : ℕ) → get (known_of owners) q ≡ option_and_then (λ _. Some tt) (get owners q)
 get-known owners q = get-map_values nat_cmp_total (λ _. Some tt) owners q
 
--- as faces tell it
+-- as faces report it
 abbrev live_face : Face → Option Path
 live_face f = cond (option_map_or (λ (_ : Key). false) f.1.1 true) (Some f.0) None
 

@@ -28,7 +28,7 @@ created-done t client create e =
     let made = made_path t.nodes create.kind create.path in
     ap (λ o. unless_refused o (with_node t made create.bytes (owner_of create.kind.lifetime) (ttl_of create.kind.lifetime) create.kind.is_sequential, Created made)) e
 
--- the tests of the place that a made path has
+-- the tests of the position of a made path
 abbrev place_refusals : Nodes → Create → List (Bool × Refusal)
 place_refusals nodes create =
     (has_node nodes (made_path nodes create.kind create.path), NodeExists) ∷ (nat_le 4096 (finite.len nodes), Full) ∷ []

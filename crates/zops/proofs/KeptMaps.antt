@@ -1,4 +1,4 @@
--- On the map that the places of kept replies make.
+-- On the map that the positions of cached replies make.
 use Rattle.std.proofs.Common.{◌≡◌, ◌≢◌, ◌⊎◌, inl, inr, ℕ, zero, suc, ◌+◌, ◌<◌, ◌≤◌, Bool, true, false, cond, ◌&&◌, ◌==◌, List, [], ◌∷◌, ◌++◌, length, map, take, length-take-le, Option, Some, None, Result, Ok, Err, refl, sym, ap, subst, ◌∙◌, arith, zero-add, get_or, set, replicate, get_or-set_same, get_or-set_other}
 use Rattle.std.specs.Prelude.{IfOk}
 use lib.Dec.{T}
@@ -18,7 +18,7 @@ use Rattle.zops.specs.support.Places.{entries_from, clients_from, replies_in}
 other_number : (n q : ℕ) → q ≢ n → is_eq (nat_cmp q n) ≡ false
 other_number n q other = not_tied nat_cmp_total nat_cmp-IsAntisymmetric q n other
 
--- places from a number on have nothing under a smaller one
+-- positions from a number on have nothing under a smaller one
 find-below : (n : ℕ) (places : List (Option Cached)) (q : ℕ) → q < n → find nat_cmp q (entries_from n places) ≡ None
 find-below n [] q below = refl
 find-below n (None ∷ places) q below = find-below (n + 1) places q (omega arith)
@@ -41,14 +41,14 @@ find-place n (Some kept ∷ places) (suc at) =
     ap (λ b. cond b (Some kept) (find nat_cmp (n + suc at) (entries_from (n + 1) places))) (other_number n (n + suc at) (λ e. absurd (omega (arith, e))))
     ∙ ap (λ q. find nat_cmp q (entries_from (n + 1) places)) shift ∙ find-place (n + 1) places at
 
--- what is kept for a client is what its place has
+-- what is cached for a client is what its position has
 pub get-replies : (places : List (Option Cached)) (client : ℕ) → get (replies_in places) client ≡ get_or places client None
 get-replies places client =
     get-from_entries nat_cmp_total (entries_from 0 places) client
     ∙ ap (λ q. find nat_cmp q (entries_from 0 places)) (sym (zero-add client))
     ∙ find-place 0 places client
 
--- a place that is written keeps a reply, in the place of one that was there
+-- a position that is written stores a reply, in place of the one that was there
 pub replies-set : (places : List (Option Cached)) (client : ℕ) (kept : Cached) → client < length places → replies_in (set places client (Some kept)) ≡ insert (replies_in places) client kept
 replies-set places client kept within =
     same_map nat_cmp_total nat_cmp-IsAntisymmetric _ _ (λ q. get-replies (set places client (Some kept)) q ∙ by q (same_or_other nat_cmp_total nat_cmp-IsAntisymmetric q client))
@@ -66,13 +66,13 @@ entries-none : (n count : ℕ) → entries_from n (replicate count None) ≡ []
 entries-none n zero = refl
 entries-none n (suc count) = entries-none (n + 1) count
 
--- where no place has a reply, none is kept
+-- where no position has a reply, none is cached
 pub replies-none : (count : ℕ) → replies_in (replicate count None) ≡ finite.empty
 replies-none count = ap (λ es. finite.from_entries {R = nat_cmp} es) (entries-none 0 count)
 
 -- ---- the clients in order
 
--- places from a number on have clients above a smaller one
+-- positions from a number on have clients above a smaller one
 below-places : (k n : ℕ) (places : List (Option Cached)) → k < n → T (below_all nat_cmp k (entries_from n places))
 below-places k n [] less = tt
 below-places k n (None ∷ places) less = below-places k (n + 1) places (omega (arith, less))
@@ -105,7 +105,7 @@ entries-places n (Some kept ∷ places) =
 pub keys-replies : (places : List (Option Cached)) → finite.keys (replies_in places) ≡ clients_from 0 places
 keys-replies places = ap (map (λ (e : ℕ × Cached). e.0)) (entries-places 0 places)
 
--- one more place
+-- one more position
 entries-append : (n : ℕ) (places more : List (Option Cached)) → entries_from n (places ++ more) ≡ entries_from n places ++ entries_from (n + length places) more
 entries-append n [] more = ap (λ (k : ℕ). entries_from k more) (let same : n ≡ n + 0 = omega arith in same)
 entries-append n (None ∷ places) more = entries-append (n + 1) places more ∙ ap (λ (k : ℕ). entries_from (n + 1) places ++ entries_from k more) (further n places)

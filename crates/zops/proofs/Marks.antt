@@ -27,7 +27,7 @@ mark_steps steps old new few is parts m has = (record n { steps = n.steps - step
     by true e = refl
     by false e = absurd (grind (arith, nat_tests, room, few))
 
--- the mark that was set here still stands after all parts
+-- the mark that was set here is still set after all parts
 pub mark_after : {steps : ℕ} (parts : ℕ) (old new late : StoreView) (here : MarksHere steps old new) → 2 * parts ≤ steps → ((m : Mark) → HasMark parts m new → HasMark 0 m late) → HasMark 0 here.mark late
 mark_after parts old new late here l keeps = let room = here.room in keeps here.mark (here.mark, here.marked, refl, refl, omega (arith, l, room))
 

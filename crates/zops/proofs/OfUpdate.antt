@@ -21,7 +21,7 @@ use Rattle.zcalls.specs.Step.{step, update_result, change_result, multi_result, 
 use Rattle.zops.specs.Restored.{IsOfUpdate}
 use Rattle.zops.specs.support.Steps.{HasFewParts}
 
--- so many replies at most
+-- that many replies at most
 abbrev HasFew : ℕ → Run → Type 0
 HasFew most (Err stopped) = Unit {0}
 HasFew most (Ok did) = length did.1 ≤ most

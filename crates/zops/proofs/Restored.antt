@@ -1,4 +1,4 @@
--- What a machine keeps while it is built of another one's rows.
+-- The invariant of a machine while it is built of another one's rows.
 use Rattle.std.proofs.Common.{◌≡◌, ℕ, ◌+◌, ◌*◌, ◌≤◌, [], Ok, Err, Result, sym, ap, subst, cond, ◌∙◌, arith}
 use Rattle.std.specs.Prelude.{is_some, OnOk, OnErr}
 use Rattle.std.specs.Ordering.{nat_cmp}

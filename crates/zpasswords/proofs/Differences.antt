@@ -1,4 +1,4 @@
--- Bytes that are compared without a stop at the first that differs: what reports of a difference is 0
+-- Bytes that are compared without a stop at the first that differs. The accumulated difference is 0
 -- as long as there is none.
 use Rattle.std.proofs.Common.{◌≡◌, ℕ, zero, suc, ◌+◌, ◌<◌, ◌≤◌, Bool, true, false, ◌&&◌, nat_eq, List, length, drop, get_or, bit_or, bit_xor, arith, refl, sym, ap, ◌∙◌, ◌⊎◌, inl, inr}
 use Rattle.std.proofs.lemmas.Bool.{and_left, cases_eq, eq-eqb, false_from_ne_true, ne_eqb}
@@ -29,7 +29,7 @@ and_assoc : (p q r : Bool) → ((p && q) && r) ≡ (p && (q && r))
 and_assoc true q r = refl
 and_assoc false q r = refl
 
--- what is reported so far, and whether the rests are the same
+-- the result so far, and whether the rests are the same
 abbrev pub reported : ℕ → List ℕ → List ℕ → Bool
 reported difference xs ys = nat_eq difference 0 && pointwise nat_eq xs ys
 

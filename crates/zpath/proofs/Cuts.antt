@@ -39,7 +39,7 @@ onto-more : (name : List ℕ) (byte : ℕ) (parts : List (List ℕ)) → onto (n
 onto-more [] byte parts = refl
 onto-more (first ∷ name) byte parts = ap (onto_first first) (onto-more name byte parts)
 
--- the parts that the lengths cut, where a name goes on
+-- the parts that the lengths cut, where a name continues
 cut_more : (name : List ℕ) (byte : ℕ) (bytes : List ℕ) → cut_by (lens_of (length (name ++ byte ∷ [])) bytes) ((name ++ byte ∷ []) ++ bytes) ≡ onto (name ++ byte ∷ []) (parts_of bytes)
     → cut_by (lens_of (length name + 1) bytes) (name ++ byte ∷ bytes) ≡ onto name (onto_first byte (parts_of bytes))
 cut_more name byte bytes cuts =

@@ -21,7 +21,7 @@ length-digits (suc width) number =
 pub length-numbered_name : (name : List ℕ) (counter : ℕ) → length (name ++ digits COUNTER_DIGITS counter) ≡ length name + COUNTER_DIGITS
 length-numbered_name name counter = length-append name (digits COUNTER_DIGITS counter) ∙ ap (λ more. length name + more) (length-digits COUNTER_DIGITS counter)
 
--- digits may stand in a name
+-- digits may be in a name
 has_bad_byte-digits : (width number : ℕ) → has_bad_byte (digits width number) ≡ false
 has_bad_byte-digits zero number = refl
 has_bad_byte-digits (suc width) number =

@@ -9,12 +9,12 @@ use Rattle.zpath.specs.Grammar.{IsName, segment_of}
 use Rattle.zpath.specs.Faults.{parts_of, names_of}
 use Rattle.zpath.proofs.NameTests.{no_slash}
 
--- what stands between separators
+-- what is between separators
 abbrev pub split_by : ℕ → List ℕ → List (List ℕ)
 split_by separator bytes = slice_split (λ byte. byte == separator) bytes
 
 module _ (separator : ℕ) (ascii : separator < 128) (bytes : List ℕ) (found : Option (Bor (List ℕ) × Bor (List ℕ))) (says : IsSplitOnceResult separator bytes found) where
-  -- where `split_once` cut, the first part stands before the parts of what is left
+  -- where `split_once` cut, the first part comes before the parts of what is left
   pub split-cut : (pair : Bor (List ℕ) × Bor (List ℕ)) → found ≡ Some pair → split_by separator bytes ≡ pair.0.now ∷ split_by separator pair.1.now
   split-cut pair is =
       let cut = split_once_first separator bytes found says ascii in
@@ -35,7 +35,7 @@ parts_of-cut bytes found pair says is = split-cut 47 (lit< tt) bytes found says 
 pub parts_of-uncut : (bytes : List ℕ) (found : Option (Bor (List ℕ) × Bor (List ℕ))) → IsSplitOnceResult 47 bytes found → found ≡ None → parts_of bytes ≡ bytes ∷ []
 parts_of-uncut bytes found says is = split-uncut 47 (lit< tt) bytes found says is
 
--- where there are bytes behind the slash, there are parts
+-- where there are bytes after the slash, there are parts
 pub names_of-some : (bytes : List ℕ) → (length bytes == 0) ≡ false → names_of (47 ∷ bytes) ≡ parts_of bytes
 names_of-some [] some = cc
 names_of-some (byte ∷ bytes) some = refl

@@ -1,4 +1,4 @@
--- The order of processes: a place and its process.
+-- The order of processes: a position and its process.
 use Rattle.std.proofs.Common.{◌≡◌, ℕ, ◌+◌, ◌-◌, ◌<◌, ◌≤◌, zero, suc, true, false, if◌then◌else◌, refl, ap, ◌∙◌, inl, inr, arith}
 use Rattle.std.specs.Prelude.{◌==◌, nat_lt, nat_le}
 use Rattle.std.proofs.lemmas.Bool.Decides.{nat_tests}
@@ -8,7 +8,7 @@ use Rattle.zprotocol.specs.declared.limits.TheConstants.{MAX_SERVERS, PROCESSES}
 use Rattle.zprotocol.specs.declared.process.Process.TheVariants.{Server, Client}
 use Rattle.zprotocol.specs.Places.{is_server, place_of, process_at}
 
--- a server's place, and a client's
+-- a server's position, and a client's
 pub place_of-server : (s : ℕ) → 0 < s → s ≤ MAX_SERVERS → place_of (Server s) ≡ s
 place_of-server s some few =
     let is : is_server s ≡ true = grind (arith, nat_tests, some, few) in
@@ -19,7 +19,7 @@ place_of-client c few =
     let is : nat_lt c MAX_CLIENTS ≡ true = grind (arith, nat_tests, few) in
     ap (λ b. if b then MAX_SERVERS + 1 + c else PROCESSES) is
 
--- the process in a server's place, and in a client's
+-- the process at a server's position, and in a client's
 pub process_at-server : (s : ℕ) → 0 < s → s ≤ MAX_SERVERS → process_at s ≡ Server s
 process_at-server s some few =
     let not_first : (s == 0) ≡ false = grind (arith, nat_tests, some) in
@@ -33,7 +33,7 @@ process_at-client c place is =
     let number : place - (MAX_SERVERS + 1) ≡ c = omega (arith, is) in
     rw (not_first, large) (ap Client number)
 
--- each process stands in its place
+-- each process is at its position
 pub place_of-process_at : (place : ℕ) → place < PROCESSES → place_of (process_at place) ≡ place
 place_of-process_at zero inside = refl
 place_of-process_at (suc n) inside = elim (test (nat_lt n MAX_SERVERS)) [

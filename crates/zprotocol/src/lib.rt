@@ -6,8 +6,8 @@
 //! `specs/master/Table.antt` and `specs/client/Table.antt`.
 //!
 //! This is the lowest crate of the wing "chain": the protocol, the code of each process, and the
-//! actor that runs any of them. Go on with `zclient`, `zmaster` and `zserver`, which implement the
-//! tables, and then with `zactor`. `zprotocol::world` joins the processes into one world.
+//! actor that runs any of them. Continue with `zclient`, `zmaster` and `zserver`, which implement
+//! the tables, and then with `zactor`. `zprotocol::world` joins the processes into one world.
 //!
 //! # Why
 //!

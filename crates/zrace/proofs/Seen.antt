@@ -1,4 +1,4 @@
--- What a client was reported stays reported.
+-- What was returned to a client remains so.
 use Rattle.std.proofs.Common.{◌≡◌, ◌≢◌, ◌<◌, ⊎_elim, refl, ℕ, zero, suc, Option, None, Some, List, [], ◌∷◌, length}
 use Rattle.std.proofs.Common.{get_or, set, sym, subst, ap, ◌∙◌, true≢false}
 use Rattle.std.specs.Prelude.{All, IsNone, is_some}
@@ -25,7 +25,7 @@ same_back a b same = record { number = sym same.number; wiring = sym same.wiring
 pub same_self : (a : Client) → SameClient a a
 same_self a = record { number = refl; wiring = refl }
 
--- what a client was reported, it was reported after more calls too
+-- what was returned to a client remains so after more calls
 pub still_seen : (c d : Client) (node version : ℕ) → SameClient c d → HasSeen c node version → HasSeen d node version
 still_seen c d node version same seen =
     let back = same_back c d same in
@@ -36,20 +36,20 @@ pub all_still_seen : (c d : Client) (seen : List (ℕ × ℕ)) → SameClient c 
 all_still_seen c d seen same all =
     All-weaker (λ (it : ℕ × ℕ). HasSeen c it.0 it.1) (λ (it : ℕ × ℕ). HasSeen d it.0 it.1) (λ it has. still_seen c d it.0 it.1 same has) seen all
 
--- what it was reported just now
+-- what was returned to it just now
 pub seen_now : (c d : Client) (node version : ℕ) → SameClient c d → WasReportedSince node c d version → HasSeen d node version
 seen_now c d node version same reported =
     let back = same_back c d same in
     ∣ (reported.0, d, same_through d c reported.0 back reported.1, same_self d, reported.2) ∣₁
 
--- the two together, where the one is kept behind the others
+-- the two together, where the one is stored after the others
 pub all_seen_now : (c d : Client) (old new : List (ℕ × ℕ)) (node version : ℕ) → SameClient c d → WasReportedSince node c d version
     → IsKeptBehind old new (node, version) → All (λ it. HasSeen c it.0 it.1) old → All (λ it. HasSeen d it.0 it.1) new
 all_seen_now c d old new node version same reported kept all =
     all_kept (λ (it : ℕ × ℕ). HasSeen d it.0 it.1) old new (node, version) kept (all_still_seen c d old same all)
     (seen_now c d node version same reported)
 
--- what a client of a run was reported
+-- what was returned to a client of a run
 pub seen_in_run : (run : Run) (c : Client) (node version : ℕ) → BelongsTo run c → HasSeen c node version → IsSeenIn run node version
 seen_in_run run c node version belongs seen =
     ∥∥₁_map seen (λ s. (s.0, s.1, still_belongs run c s.0 belongs s.2, still_belongs run c s.1 belongs s.3, s.4))
@@ -60,7 +60,7 @@ all_seen_in_run run c seen belongs all =
     All-weaker (λ (it : ℕ × ℕ). HasSeen c it.0 it.1) (λ (it : ℕ × ℕ). IsSeenIn run it.0 it.1)
     (λ it has. seen_in_run run c it.0 it.1 belongs has) seen all
 
--- where no version is reported, none is another than was reported
+-- where no version was returned, none is another than was returned
 none_there : (versions : List (Option ℕ)) (node version : ℕ) → All IsNone versions → get_or versions node None ≡ Some version → ⊥
 none_there [] node version none is = true≢false (sym (ap is_some is))
 none_there (x ∷ xs) zero version none is = true≢false (sym (ap is_some is) ∙ All-head IsNone x xs none)

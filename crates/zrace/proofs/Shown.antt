@@ -110,7 +110,7 @@ uncut : (a b : Bool) → (a ≡ true → b ≡ true) → b ≡ false → a ≡ f
 uncut true b cuts none = absurd (true≢false (sym (cuts refl) ∙ none))
 uncut false b cuts none = refl
 
--- who is at a place is within the list
+-- who is at a position is within the list
 below_all : (places : List (Option Client)) (i : ℕ) (c : Client) → get_or places i None ≡ Some c → i < length places
 below_all [] i c at = absurd (true≢false (ap is_some (sym at)))
 below_all (p ∷ places) zero c at = omega arith

@@ -22,7 +22,7 @@ use Rattle.zrun.specs.Gone.{Went}
 use Rattle.zrun.proofs.Elements.{Chosen, chosen_at, element}
 use Rattle.zrun.proofs.Stands.{find, Found, Inside, one_place, Outside, same_at}
 
--- the traces, none of which is cut, tell what was left
+-- the traces, none of which is cut, report what was left
 pub record Reports (last n : ℕ) (t : Traces) (es : List Ending) : Type 0 where
   pub end : t.last ≡ last
   pub count : client_count t ≡ n

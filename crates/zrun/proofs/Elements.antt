@@ -1,10 +1,10 @@
--- Elements of lists by place, and a choice of one for each.
+-- Elements of lists by position, and a choice of one for each.
 use Rattle.std.proofs.Common.{◌≡◌, ◌<◌, ◌+◌, ℕ, zero, suc, List, [], ◌∷◌, ◌++◌, length, map, get_or, refl, sym, ap, subst, arith}
 use mathlib.Core.Logic.{∥∥₁_elim, ∥∥₁_map, ∥∥₁_prop}
 use mathlib.Core.Option.{some, some-injective, some-ne-none}
 use lib.ListN.{get_elem?}
 
--- there is one at each place of the list
+-- there is one at each position of the list
 pub element : {X : Type 0} (xs : List X) (i : ℕ) → i < length xs → (x : X) × (get_elem? xs i ≡ some x)
 element [] i lt = absurd (omega (arith, lt))
 element (x ∷ xs) zero lt = (x, refl)

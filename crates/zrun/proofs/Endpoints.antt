@@ -1,4 +1,4 @@
--- The endpoints of a run, one behind the other, and the links that they were handed.
+-- The endpoints of a run, one after the other, and the links that they were handed.
 use Rattle.std.proofs.Common.{◌≡◌, ◌<◌, ◌≤◌, ◌+◌, ℕ, zero, suc, Bool, List, [], ◌∷◌, ◌++◌, length, map, reverse, refl}
 use Rattle.std.proofs.Common.{sym, ap, subst, ◌∙◌, append-nil, append_assoc, arith}
 use Rattle.std.proofs.lemmas.List.{length-map, length-reverse, map-append, nil_from_length, reverse-append}
@@ -28,14 +28,14 @@ use Rattle.zrun.specs.Supplies.{HandsEnds, HandsOut, in_rings_left, left, out_ri
 pub reverse_push : {X : Type 0} (xs : List X) (x : X) → reverse (xs ++ x ∷ []) ≡ x ∷ reverse xs
 reverse_push xs x = reverse-append xs (x ∷ [])
 
--- who is at the place of a client, and at that of a server
+-- who is at the position of a client, and at that of a server
 pub client_process : (i c : ℕ) → i ≡ MAX_SERVERS + 1 + c → Client c ≡ process_at i
 client_process i c at = same_process (Client c) (process_at i) (client_here i c at)
 
 pub server_process : (i s : ℕ) → i ≡ s → 0 < s → s ≤ MAX_SERVERS → Server s ≡ process_at i
 server_process i s at first few = same_process (Server s) (process_at s) (server_here s first few) ∙ ap process_at (sym at)
 
--- the endpoints of what was put behind others, and is seen from behind
+-- the endpoints of what was put after others, and is seen from the end
 pub clients_pushed : (new old : Run) (c : ClientPost) → new ≡ old ++ c ∷ []
     → client_endpoints (reverse new) ≡ caller_endpoint c.caller ∷ client_endpoints (reverse old)
 clients_pushed new old c grown = ap (λ l. client_endpoints (reverse l)) grown ∙ ap client_endpoints (reverse_push old c)
@@ -121,7 +121,7 @@ is_run last n count a b ds woven none all each =
       wired = subst (λ (w : ℕ × List (List Ring) × List (List Ring)). IsWoven w.0 w.1 w.2) (λ k. (long k, outs k, ins k)) woven;
     }
 
--- the endpoints behind others
+-- the endpoints after others
 pub later_endpoints : (last n k : ℕ) (ds es : List Endpoint) → AreEndpoints last n k (ds ++ es) → AreEndpoints last n (k + length ds) es
 later_endpoints last n k ds es all i e at =
     let there : k + (length ds + i) ≡ k + length ds + i = omega arith in

@@ -33,13 +33,13 @@ use Rattle.zrun.proofs.Endpoints.{first_endpoint, other_endpoints}
 use Rattle.zrun.proofs.Still.{wired_alike}
 use Rattle.zrun.proofs.Pairs.{pairs_at, pairs_count, pairs_from}
 
--- what is at a place, reported by its element
+-- what is at a position, by its element
 pub element_is : {X : Type 0} (xs : List X) (i : ℕ) (x none : X) → get_elem? xs i ≡ some x → get_or xs i none ≡ x
 element_is [] i x none at = absurd (some-ne-none x (sym at))
 element_is (y ∷ xs) zero x none at = some-injective y x at
 element_is (y ∷ xs) (suc i) x none at = element_is xs i x none at
 
--- what is left of a endpoint that was handed back is left by the endpoint that went
+-- what is left of an endpoint that was handed back is left by the endpoint that went
 pub left_by : (a b : Endpoint) (e : Ending) → SameEndpoint a b → HasEnded (self_of b) e → SameWires b e → (b.is_traced ≡ false → LeavesNothing e)
     → IsLeftBy a e
 left_by a b e same ended wires bare =
@@ -49,7 +49,7 @@ left_by a b e same ended wires bare =
       λ untraced. bare (same.traced ∙ untraced),
     )
 
--- who has the endpoint of a place
+-- who has the endpoint of a position
 pub self_is : (last n i : ℕ) (d : Endpoint) → IsEndpointOf (process_at i) last n d → self_of d ≡ self_at last n i
 self_is last n i d is = rw (is.0, is.1, is.2) refl
 
@@ -145,7 +145,7 @@ wired_unlost last n ds m ss cs is all kept = wired_kept last n ds (by_place m ss
 same_number : (i c : ℕ) → Client c ≡ process_at (MAX_SERVERS + 1 + i) → c ≡ i
 same_number i c at = let here = client_at (MAX_SERVERS + 1 + i) c (same_at (Client c) (MAX_SERVERS + 1 + i) at) in omega (arith, here)
 
--- a client's number is its place among those of its run
+-- a client's number is its position among those of its run
 pub number_at : (last n : ℕ) (run : Run) → AreEndpoints last n (MAX_SERVERS + 1) (client_endpoints run) → Each (λ i p. caller_id p.caller ≡ i) run
 number_at last n run each i p at =
     let endpoint_of : ClientPost → Endpoint = λ p. caller_endpoint p.caller in
@@ -159,7 +159,7 @@ module _ (run : Run) (places : List (Option client.Client)) (es : List Ending) (
   long : length es ≡ length run
   long = pairs_count IsLeftIn places es left ∙ many
 
-  -- a client is who was made at its place
+  -- a client is who was made at its position
   pub same_made : (i : ℕ) (p : ClientPost) (c : client.Client) → get_elem? run i ≡ some p → get_elem? places i ≡ some (Some c)
       → SameEndpoint (endpoint_of p) (client_endpoint c)
   same_made i p c at there =
@@ -168,7 +168,7 @@ module _ (run : Run) (places : List (Option client.Client)) (es : List Ending) (
       let one = subst (λ m. get_elem? (map endpoint_wiring (client_endpoints run)) m ≡ some (client_wiring c)) is.1 is.0 in
       wired_alike (endpoint_of p) (client_endpoint c) (some-injective (client_wiring c) (endpoint_wiring (endpoint_of p)) (sym one ∙ made))
 
-  -- what is left at a place is left by the client that was made there, or is lost
+  -- what is left at a position is left by the client that was made there, or is lost
   left_at : (i : ℕ) (p : ClientPost) (place : Option client.Client) (e : Ending) → get_elem? run i ≡ some p → get_elem? places i ≡ some place
       → IsLeftIn place e → IsLeftBy (endpoint_of p) e
   left_at i p None e at there gone = inl gone.1
@@ -200,7 +200,7 @@ module _ (run : Run) (places : List (Option client.Client)) (es : List Ending) (
             ∙ element_or (λ (x : ClientTrace). x.trace.is_cut) (map client_trace_of es) i (client_trace_of e) false there ∙ ended.5 cut,
       )
 
-  -- what each client left stands in the traces
+  -- what each client left is in the traces
   pub clients_reported : (t : Traces) (i : ℕ) → t.clients.items ≡ map client_trace_of es → i < length run → IsReported t i (get_or places i None)
   clients_reported t i is lt =
       let e = element es i (subst (λ n. i < n) (sym long) lt) in

@@ -43,7 +43,7 @@ abbrev IsAccounted : List (Option client.Client) → ℕ → List TreeDeed → T
 IsAccounted places i deeds =
     (k : ℕ) (c : client.Client) → i ≡ MAX_SERVERS + 1 + k → get_elem? places k ≡ some (Some c) → AccountsFor c deeds
 
--- who is at a place is at that place
+-- who is at a position is found there
 there_at : (places : List (Option client.Client)) (i : ℕ) (c : client.Client) → get_or places i None ≡ Some c
     → get_elem? places i ≡ some (Some c)
 there_at [] i c at = absurd (true≢false (ap is_some (sym at)))
@@ -80,14 +80,14 @@ module _ (s : Cluster) (m : Ending) (ss cs : List Ending) (servers : length ss �
       let count = s.count in
       omega (arith, both, left, went, many, run, servers, all_servers, count)
 
-  -- each left what the process of its place leaves
+  -- each left what the process of its position leaves
   pub are_left : AreLeft s.opening.last (length cs) (by_place m ss cs)
   are_left i e at =
       let here : 0 + i ≡ i = omega arith in
       subst (λ (w : ℕ × ℕ). HasEnded (self_at s.opening.last w.0 w.1) e) (λ k. (sym count_left k, here k))
       (left_is s.opening.last s.opening.clients 0 (cluster_endpoints s) (by_place m ss cs) s.wired.0.each all i e at)
 
-  -- the endpoint of a client's place
+  -- the endpoint of a client's position
   endpoint_there : (i : ℕ) (p : ClientPost) → get_elem? s.run.value.items i ≡ some p
       → IsEndpointOf (process_at (MAX_SERVERS + 1 + i)) s.opening.last s.opening.clients (caller_endpoint p.caller)
   endpoint_there i p at =

@@ -1,4 +1,4 @@
--- Where each process stands at the opening.
+-- The standing of each process at the opening.
 use Rattle.std.proofs.Common.{◌≡◌, ◌<◌, ◌≤◌, ℕ, zero, suc, true, List, [], ◌∷◌, refl, sym, subst, lt-ltb, arith}
 use Rattle.std.specs.Prelude.{All}
 use mathlib.Core.Option.{some-injective, some-ne-none}

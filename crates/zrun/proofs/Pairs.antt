@@ -1,4 +1,4 @@
--- Lists of which each element goes with that of the other at its place.
+-- Lists of which each element goes with that of the other at its position.
 use Rattle.std.proofs.Common.{◌≡◌, ℕ, zero, suc, List, [], ◌∷◌, ◌++◌, length, refl, sym, ap, subst, arith}
 use mathlib.Core.Option.{some, some-injective, some-ne-none}
 use lib.ListN.{get_elem?}
@@ -23,7 +23,7 @@ module _ {X Y : Type 0} (R : X → Y → Type 0) where
   pairs_count (a ∷ xs) [] all = absurd all
   pairs_count (a ∷ xs) (b ∷ ys) all = ap suc (pairs_count xs ys all.1)
 
-  -- those at one place
+  -- those at one position
   pub pairs_at : (xs : List X) (ys : List Y) (i : ℕ) (x : X) (y : Y) → Pairs R xs ys → get_elem? xs i ≡ some x → get_elem? ys i ≡ some y → R x y
   pairs_at [] ys i x y all at at' = absurd (some-ne-none x (sym at))
   pairs_at (a ∷ xs) [] i x y all at at' = absurd all

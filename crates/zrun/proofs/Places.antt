@@ -1,4 +1,4 @@
--- The clients of a run at the places of their numbers.
+-- The clients of a run at the positions of their numbers.
 use Rattle.std.proofs.Common.{◌≡◌, ◌≢◌, ◌<◌, ⊎_elim, ℕ, zero, suc, Option, None, Some, set, List, [], ◌∷◌, ◌++◌, length}
 use Rattle.std.proofs.Common.{map, refl, sym, ap, subst, ◌∙◌, arith}
 use Rattle.std.specs.Prelude.{IfSome}
@@ -16,14 +16,14 @@ use Rattle.zrun.specs.Origins.{client_endpoints, endpoint_wiring, IsOneOf, Run}
 use Rattle.zrun.specs.declared.client.Client as client
 use Rattle.zrun.specs.Clients.{AreIn, BelongsTo, client_wiring, number_of}
 
--- one more is at its place
+-- one more is at its position
 pub each_push : {X : Type 0} (P : ℕ → X → Type 0) (xs : List X) (x : X) → Each P xs → P (length xs) x → Each P (xs ++ x ∷ [])
 each_push P [] x all one zero y at = subst (λ z. P 0 z) (some-injective x y at) one
 each_push P [] x all one (suc i) y at = absurd (some-ne-none y (sym at))
 each_push P (z ∷ xs) x all one zero y at = all 0 y at
 each_push P (z ∷ xs) x all one (suc i) y at = each_push (λ j. P (suc j)) xs x (λ j w here. all (suc j) w here) one i y at
 
--- who is next, where each stands at the place of its number
+-- who is next, where each is at the position of its number
 module _ (run yielded rest : Run) (p : ClientPost) (numbers : Each (λ i q. caller_id q.caller ≡ i) run) (all : run ≡ yielded ++ (p ∷ rest)) where
   at_next : get_elem? run (length yielded) ≡ some p
   at_next = ap (λ l. get_elem? l (length yielded)) all ∙ element_right yielded (p ∷ rest) (length yielded) 0 (omega arith)
@@ -42,7 +42,7 @@ pub if_there : {X : Type 0} (o : Option X) (P : X → Type 0) → ((x : X) → o
 if_there None P each = tt
 if_there (Some x) P each = each x refl
 
--- what is put at a place
+-- what is put at a position
 module _ (run : Run) (places : List (Option client.Client)) (own : AreIn run places) where
   pub in_set : (i : ℕ) (x : Option client.Client) → ((c : client.Client) → x ≡ Some c → BelongsTo run c × (number_of c ≡ i))
       → AreIn run (set places i x)
@@ -52,7 +52,7 @@ module _ (run : Run) (places : List (Option client.Client)) (own : AreIn run pla
       (λ (there : (j ≢ i) × (get_elem? places j ≡ some y)). own j y there.1)
       (at_set places i j x y at)
 
--- a client of a run has a place in it
+-- a client of a run has a position in it
 pub has_place : (run : Run) (c : client.Client) → BelongsTo run c → number_of c < length run
 has_place run c belongs =
     let endpoint_of : ClientPost → Endpoint = λ q. caller_endpoint q.caller in

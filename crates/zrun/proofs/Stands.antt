@@ -1,4 +1,4 @@
--- Who stands at which place.
+-- Who is at which position.
 use Rattle.std.proofs.Common.{◌≡◌, ◌<◌, ◌≤◌, ◌-◌, ◌+◌, ◌==◌, ℕ, zero, suc, Bool, true, false, true≢false, nat_le}
 use Rattle.std.proofs.Common.{if◌then◌else◌, refl, sym, ap, subst, ◌∙◌, ⊎_elim, eqb-true, eq-eqb, arith}
 use Rattle.std.proofs.lemmas.Bool.Decides.{nat_tests}
@@ -12,7 +12,7 @@ use Rattle.zthreads.specs.Endpoints.{IsOutside}
 use Rattle.zthreads.proofs.Wires.{apart}
 use Rattle.zchannels.proofs.Said.{at_most}
 
--- a process is at one of so many places, or at none
+-- a process is at one of that many positions, or at none
 pub data Found (p : Process) (n : ℕ) : Type 0 where
   Inside : (i : ℕ) → i < n → p ≡ process_at i → Found p n
   Outside : IsOutside p n → Found p n
@@ -31,7 +31,7 @@ find p (suc n) = one_more p n (is_same p (process_at n)) refl (find p n)
 pub same_at : (p : Process) (i : ℕ) → p ≡ process_at i → is_same p (process_at i) ≡ true
 same_at p i at = ap (λ q. is_same p q) (sym at) ∙ same_itself p
 
--- a process of places, by what they are compared with
+-- a process of positions, by what they are compared with
 abbrev pick : Bool → Bool → ℕ → Process
 pick a b i = if a then Master else if b then Server i else Client (i - (MAX_SERVERS + 1))
 
@@ -63,7 +63,7 @@ client_by i c false false p q same =
 pub client_at : (i c : ℕ) → is_same (Client c) (process_at i) ≡ true → i ≡ MAX_SERVERS + 1 + c
 client_at i c same = client_by i c (i == 0) (nat_le i MAX_SERVERS) refl refl same
 
--- a server and a client are at their places
+-- a server and a client are at their positions
 here_server : (s : ℕ) (a b : Bool) → (s == 0) ≡ a → nat_le s MAX_SERVERS ≡ b → 0 < s → s ≤ MAX_SERVERS → is_same (Server s) (pick a b s) ≡ true
 here_server s true b p q some few = absurd (let none : s ≡ 0 = eqb-true s 0 p in omega (arith, none, some))
 here_server s false true p q some few = eq-eqb s s refl
@@ -80,7 +80,7 @@ here_client i c false false at p q = eq-eqb c (i - (MAX_SERVERS + 1)) (omega (ar
 pub client_here : (i c : ℕ) → i ≡ MAX_SERVERS + 1 + c → is_same (Client c) (process_at i) ≡ true
 client_here i c at = here_client i c (i == 0) (nat_le i MAX_SERVERS) at refl refl
 
--- no process is at two places
+-- no process is at two positions
 place_by : (i j : ℕ) (b : Bool) → (i == j) ≡ b → process_at i ≡ process_at j → i ≡ j
 place_by i j true p same = eqb-true i j p
 place_by i j false p same =

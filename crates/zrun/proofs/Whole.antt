@@ -1,5 +1,5 @@
--- What was left, where the links tell it: where none of it is lost, all went by their tables; where
--- none of it is cut, it makes lawful traces.
+-- What was left, where the links report it: where none of it is lost, all went by their tables;
+-- where none of it is cut, it makes lawful traces.
 use Rattle.std.proofs.Common.{◌≡◌, ◌<◌, ◌≤◌, ◌+◌, ◌||◌, ◌⊎◌, inl, inr, ⊎_elim, ℕ, zero, suc, Bool, false, true≢false}
 use Rattle.std.proofs.Common.{List, [], ◌∷◌, ◌++◌, length, map, get_or, refl, sym, ap, subst, ◌∙◌, arith}
 use mathlib.Core.Logic.{∥∥₁_map}
@@ -35,7 +35,7 @@ use Rattle.zrun.proofs.Accounts.{accounted, Reports, went}
 use Rattle.zrun.proofs.Elements.{choose, chosen_weaker, element_left, element_map, element_or, element_right}
 use Rattle.zrun.proofs.Stands.{client_at, client_here, master_at, same_at, server_at, server_here}
 
--- what was kept of all, one behind the other
+-- what was stored of all, one after the other
 pub kept_all : {X : Type 0} (f : Ending → X) (m : Ending) (ss cs : List Ending) (a b c d : List X)
     → a ≡ [] → b ≡ a ++ f m ∷ [] → c ≡ b ++ map f ss → d ≡ c ++ map f cs → d ≡ map f (by_place m ss cs)
 kept_all f m ss cs a b c d none one servers clients =
@@ -57,7 +57,7 @@ pub any_map : {X Y : Type 0} (test : Y → Bool) (f : X → Y) (xs : List X) →
 any_map test f [] = refl
 any_map test f (x ∷ xs) = ap (λ b. test (f x) || b) (any_map test f xs)
 
--- what the links of what was left tell
+-- what the links of what was left report
 module _ (es : List Ending) (wired : AreWired es) (outs : List (Vec (Tx TreeStamped) Global)) (ins : List (Vec (Rx TreeStamped) Global))
     (puts : outs ≡ map (λ (e : Ending). e.outs) es) (takes : ins ≡ map (λ (e : Ending). e.ins) es)
     (reports : AreReported (out_lists outs) (in_lists ins)) where
@@ -203,7 +203,7 @@ module _ (last : ℕ) (m : Ending) (ss cs : List Ending) (t : Traces) (all_serve
       ∥∥₁_map (choose (λ i e d. AccountsAtEnd (self_at last (length cs) i) e d) es (λ i e at. left i e at (e.kept (whole i e at))))
       (λ ds. accounted last (length cs) es ds.0 linked ds.1 t reports)
 
--- ends that were kept are wired as they were
+-- ends that were stored are wired as they were
 pub wired_lists : (es : List Ending) (outs : List (Vec (Tx TreeStamped) Global)) (ins : List (Vec (Rx TreeStamped) Global))
     → outs ≡ map (λ (e : Ending). e.outs) es → ins ≡ map (λ (e : Ending). e.ins) es → AreWired es
     → IsWoven (length outs) (out_rings outs) (in_rings ins)

@@ -17,7 +17,7 @@ use zrun::{
 };
 use ztesting::{client, server};
 
-// Opens a session that lives for two ticks, unless it is renewed.
+// Opens a session whose timeout is two ticks, unless it is renewed.
 fn open(client: &mut Client) -> Option<SessionId>
     ensures { SameClient client.old client.new }
 {

@@ -1,4 +1,4 @@
--- A line that has begun may be replaced by what is kept of it.
+-- A line that has begun may be replaced by the prefix of it that is stored.
 use Rattle.std.proofs.Common.{◌≡◌, ◌<◌, ℕ, true, false, cond, List, [], ◌∷◌, ◌++◌, length, map, refl, sym, ap, ◌∙◌, arith, ◌==◌}
 use Rattle.std.proofs.lemmas.List.{map-append, length-map}
 use Rattle.zscript.specs.support.Lines.{whole_lines_after, line_left, last_line, lines_after}
@@ -40,7 +40,7 @@ lines_after-alike bytes a b e =
     ∙ (λ i. whole_lines_after-alike bytes a b e i ++ last_line-alike (line_left a bytes) (line_left b bytes) (line_left-alike bytes a b e) i)
     ∙ sym (map-append kept_front (whole_lines_after b bytes) (last_line (line_left b bytes)))
 
--- lists of lines of which the same is kept are split alike
+-- lists of lines with the same stored prefixes are split alike
 pub record Splits (played rest lines : List (List ℕ)) : Type 0 where
   pub front : List (List ℕ)
   pub back : List (List ℕ)

@@ -1,4 +1,4 @@
--- What is kept of a line stands for the line.
+-- The stored prefix of a line represents the line.
 use Rattle.std.proofs.Common.{◌+◌, ◌-◌, Bool, true, false, nat_le, ◌≡◌, ◌<◌, ◌≤◌, ◌⊎◌, inl, inr, ℕ, zero, suc, List, []}
 use Rattle.std.proofs.Common.{◌∷◌, ◌++◌, length, take, map, refl, sym, ap, ◌∙◌, arith, min}
 use Rattle.std.proofs.lemmas.List.{take_all, take_min, length-take, append-nil}
@@ -40,7 +40,7 @@ short_or_long n = cases (nat_le n KEPT) refl
     cases true e = inl (grind (arith, nat_tests))
     cases false e = inr (grind (arith, nat_tests))
 
--- a line that has begun shows in what is kept of it
+-- a line that has begun shows in its stored prefix
 pub some-kept : (line : List ℕ) → 0 < length line → 0 < length (kept_front line)
 unfolding kept_front
 some-kept line h = omega (arith, length-take KEPT line)
@@ -50,7 +50,7 @@ take-room m part =
     let e : min (length part) m ≡ min m (length part) = omega arith in
     ap (λ k. take k part) e ∙ take_min m part
 
--- what is kept is filled up to its room
+-- the stored prefix is filled up to its room
 pub kept-room : (line part : List ℕ) → length line ≤ KEPT → kept_front (line ++ part) ≡ line ++ take (min (length part) (KEPT - length line)) part
 unfolding kept_front
 kept-room line part h =
@@ -72,7 +72,7 @@ after-kept state line =
       | inr h ↦ after-long state (kept_front line) (length-kept line h) ∙ sym (after-long state line h)
     ]
 
--- a line is done where what is kept of it is
+-- a line is done where its stored prefix is
 pub line_done-kept : (writes : List ℕ → Type 0) (old new : ServiceWorld) (line : List ℕ) → IsLineDone old (kept_front line) new writes
     → IsLineDone old line new writes
 line_done-kept writes old new line h = record {
@@ -83,7 +83,7 @@ line_done-kept writes old new line h = record {
   answered = λ later. sym (answer-kept (script_state old (h.reported ++ later)) line) ∙ h.answered later;
 }
 
--- by a player that keeps what has begun of it
+-- by a player that stores a prefix of what has begun
 pub line_done-player : (p q : PlayerView) (new : ServiceWorld) (end bytes : List ℕ) → q.line ≡ kept_front (p.line ++ end)
     → world_now q ≡ world_now p → q.held ≡ p.held → IsLineDone (world_now q) q.line new (λ text. bytes ≡ q.held ++ text)
     → IsLineDone (world_now p) (p.line ++ end) new (λ text. bytes ≡ p.held ++ text)
@@ -106,7 +106,7 @@ after_all-kept : (lines : List (List ℕ)) (state : ScriptState) → after_all s
 after_all-kept [] state = refl
 after_all-kept (line ∷ lines) state = ap (λ s. after_all s (map kept_front lines)) (after-kept state line) ∙ after_all-kept lines (after state line)
 
--- lines of which the same is kept do the same
+-- lines with the same stored prefixes do the same
 pub answers-alike : (state : ScriptState) (xs ys : List (List ℕ)) → map kept_front xs ≡ map kept_front ys → answers state xs ≡ answers state ys
 answers-alike state xs ys e = sym (answers-kept xs state) ∙ ap (answers state) e ∙ answers-kept ys state
 

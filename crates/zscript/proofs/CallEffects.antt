@@ -62,7 +62,7 @@ active_by became.Done other = refl
 active_by became.Unheard other = refl
 active_by became.Stopped other = refl
 
--- what a run reports stands behind what was reported before
+-- what a run reports comes after what was reported before
 reported_behind : (w : ServiceWorld) (events : List Event) → (more : History) × ((run cached_tree w events).history ≡ w.history ++ more)
 reported_behind w events =
     let bare : ServiceWorld = record w { history = [] } in

@@ -24,7 +24,7 @@ done-line old new line writes h = record {
   answered = λ later. append-nil _ ∙ h.answered later;
 }
 
--- what is written for a line that is done can be reported otherwise
+-- what is written for a line that is done can be stated otherwise
 pub line_done-written : (writes more : List ℕ → Type 0) (old new : ServiceWorld) (line : List ℕ)
     → ((text : List ℕ) → writes text → more text) → IsLineDone old line new writes → IsLineDone old line new more
 line_done-written writes more old new line grow h = record {
@@ -46,7 +46,7 @@ done-written writes more old new lines grow h = record {
   answered = h.answered;
 }
 
--- lines of which the same is kept
+-- lines with the same stored prefixes
 pub done-alike : (writes : List ℕ → Type 0) (old new : ServiceWorld) (xs ys : List (List ℕ)) → map kept_front xs ≡ map kept_front ys
     → AreLinesDone old xs new writes → AreLinesDone old ys new writes
 done-alike writes old new xs ys e h = record {
@@ -57,7 +57,7 @@ done-alike writes old new xs ys e h = record {
   answered = λ later. sym (answers-alike (script_state old (h.reported ++ later)) xs ys e) ∙ h.answered later;
 }
 
--- the answers to done lines, and to others behind them
+-- the answers to done lines, and to others after them
 pub done-answers : (writes : List ℕ → Type 0) (old mid : ServiceWorld) (xs ys : List (List ℕ)) (outcomes : List Outcome)
     (h : AreLinesDone old xs mid writes) → answers (script_state old (h.reported ++ outcomes)) (xs ++ ys)
     ≡ h.text ++ answers (script_state mid outcomes) ys

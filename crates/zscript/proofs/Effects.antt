@@ -124,7 +124,7 @@ module _ (v w : ServiceWorld) (event : Event) where
     λ strictly. reported_acted did (acted strictly),
   )
 
--- where it is strict, an event goes on only where no server ran out of memory
+-- where it is strict, an event continues only where no server ran out of memory
 pub whole_where : (strict : Bool) (did : Did) → strict ≡ true → (strict && is_short did) ≡ false → is_short did ≡ false
 whole_where true did strictly whole = whole
 whole_where false did strictly whole = absurd (true≢false (sym strictly))

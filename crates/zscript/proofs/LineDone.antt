@@ -17,7 +17,7 @@ use Rattle.zscript.specs.Line.{read_effect, effect_of, taken_text, answer, after
 use Rattle.zscript.specs.Done.{IsLineDone, world_between}
 use Rattle.zscript.specs.support.Effects.{MayReport, IsEffectDone, IsEffectDoneBy}
 
--- one text behind another
+-- one text after another
 pub writes_more : {A : Type 0} (old mid new : String A) (first more : List ℕ) → Writes old mid first → Writes mid new more
     → Writes old new (first ++ more)
 writes_more old mid new first more before after = after ∙ ap (λ text. text ++ more) before ∙ append_assoc (string_bytes old) first more

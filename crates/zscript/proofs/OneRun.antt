@@ -1,4 +1,4 @@
--- What lines tell is the history of one run.
+-- What lines report is the history of one run.
 use Rattle.std.proofs.Common.{◌≡◌, ℕ, ◌+◌, Bool, true, false, if◌then◌else◌, List, [], ◌∷◌, ◌++◌, Some, refl, sym, ap, ◌∙◌, append_assoc}
 use Rattle.std.proofs.lemmas.List.{append-nil}
 use Rattle.std.specs.Prelude.{Ok, Err, ◌&&◌, nat_lt}
@@ -47,7 +47,7 @@ tried_leads s event =
     of_choice (LeadsFrom s.world) (nat_lt 0 1 && is_enabled s.world event)
     (with_event cached_tree opening (read cached_tree s.world event (next_outcome s.outcomes))) opening refl refl
 
--- settling behind events
+-- settling after events
 settled_leads : (w : ServiceWorld) (before : Settling (CachedState Tree)) → LeadsFrom w before → LeadsFrom w (after_settling before)
 settled_leads w before leads =
     let did = settle cached_tree before.world MAX_EVENTS before.outcomes in
@@ -83,7 +83,7 @@ effect_leads : (s : ScriptState) (line : List ℕ) → LeadsFrom s.world (effect
 unfolding effect_of
 effect_leads s line = read_leads s (line_of line)
 
--- a world is what is kept of it between two lines, with its history
+-- a world is what is stored of it between two lines, with its history
 forgets : (past : History) (w : ServiceWorld) → with_past past w ≡ with_past (past ++ w.history) (forgotten w)
 forgets past w = ap (λ (h : History). record w { history = h }) (sym (append-nil (past ++ w.history)))
 

@@ -23,7 +23,7 @@ use Rattle.zscript.specs.Line.{ScriptState, LineEffect, reply_in, call_answered,
 use Rattle.zscript.specs.Line.{after_settling, after_try, line_effect, read_effect, effect_of}
 use Rattle.zscript.specs.Histories.{IsAnsweredBy, CallsAreAnsweredByTheirReplies}
 
--- what a choice of an answer, or of those behind it, comes to
+-- what a choice of an answer, or of those after it, comes to
 chosen : (c n d m : ℕ) (reply : Reply) (more : History) → (own : Bool) → ((c == d) && (n == m)) ≡ own
     → ((r : Reply) → reply_in (Some (c, n)) more ≡ Some r → Among (Answer c n r) more)
     → (r : Reply) → (if own then Some reply else reply_in (Some (c, n)) more) ≡ Some r → Among (Answer c n r) (Answer d m reply ∷ more)

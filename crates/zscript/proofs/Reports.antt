@@ -1,4 +1,4 @@
--- A text that is reported in two steps.
+-- A text that is written in two steps.
 use Rattle.std.proofs.Common.{ℕ, List, ◌++◌, sym, ap, ◌∙◌, subst, append_assoc}
 use Rattle.zdevices.specs.Device.{TookBeginning}
 use Rattle.zscript.specs.support.PlayerView.{Reports}

@@ -13,7 +13,8 @@ use Rattle.zscript.proofs.Done.{done-none, done-append, done-alike, done-answers
 kept-kept : (line : List ℕ) → kept_front (kept_front line) ≡ kept_front line
 kept-kept line = ap kept_front (sym (append-nil (kept_front line))) ∙ kept-append line [] ∙ ap kept_front (append-nil line)
 
--- A player that began in the opening world has heard these bytes: their whole lines are done, and the line that they leave is kept.
+-- A player that began in the opening world has read these bytes. Their whole lines are done, and a
+-- prefix of the line that they leave is stored.
 pub record Heard (opening : ServiceWorld) (took : List ℕ → Type 0) (bytes : List ℕ) (p : PlayerView) : Type 0 where
   pub done : AreLinesDone opening (whole_lines_after [] bytes) (world_now p) took
   pub line : p.line ≡ kept_front (line_left [] bytes)
@@ -22,7 +23,7 @@ pub record Heard (opening : ServiceWorld) (took : List ℕ → Type 0) (bytes : 
 pub heard-nil : (took : List ℕ → Type 0) (p : PlayerView) → took [] → IsFresh p → Heard (world_now p) took [] p
 heard-nil took p none fresh = record { done = done-none (world_now p) took none; line = fresh.0 ∙ sym kept-nil; held = fresh.1 }
 
--- the line that was left, as it is kept
+-- the line that was left, as it is stored
 left-alike : (opening : ServiceWorld) (took : List ℕ → Type 0) (bytes : List ℕ) (p : PlayerView) → Heard opening took bytes p
     → kept_front p.line ≡ kept_front (line_left [] bytes)
 left-alike opening took bytes p h = ap kept_front h.line ∙ kept-kept (line_left [] bytes)
@@ -53,7 +54,7 @@ heard-last opening took more_took all_took p new a both h done =
     done-append took more_took all_took opening (world_now p) new (whole_lines_after [] a) (last_line left) both h.done
     (done-alike more_took (world_now p) new (last_line p.line) (last_line left) (last_line-alike p.line left (left-alike opening took a p h)) done)
 
--- what stopped behind some lines that were played, stopped among all of them
+-- what stopped after some lines that were played, stopped among all of them
 pub record StoppedLater (took : List ℕ → Type 0) (world : ServiceWorld) (lines : List (List ℕ)) (left : ℕ) : Type 0 where
   pub stopped : IsStopped world lines took
   pub some : 0 < left → 0 < length stopped.rest

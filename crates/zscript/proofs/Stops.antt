@@ -28,7 +28,7 @@ progress-stopped took more_took all_took failed all_failed p q bytes rest end mo
     let s = progress-want took all_took p q bytes rest end more (λ a t. subst all_took (append-nil a) (both a [] t stop.0)) h part is in
     (s.stopped, s.some, grow 0 stop.1)
 
--- lines behind those that were stopped are not played either
+-- lines after those that were stopped are not played either
 abbrev longer : (took : List ℕ → Type 0) (world : ServiceWorld) (xs ys : List (List ℕ)) → IsStopped world xs took → IsStopped world (xs ++ ys) took
 longer took world xs ys h = record {
   played = h.played;
@@ -110,7 +110,7 @@ module _ (took more_took all_took : List ℕ → Type 0) (both : (a b : List ℕ
       (λ text. subst (λ t. Reports took (t ++ text) left) none)
       (done-line old new line (λ text. Reports took (held ++ text) left) h)
 
-  -- the one line that is played is reported in two steps, or the second fails
+  -- the one line that is played is written in two steps, or the second fails
   pub line-reported : (old new : ServiceWorld) (held line left : List ℕ) → held ≡ []
       → IsLineDone old line new (λ text. Reports took (held ++ text) left) → more_took left → AreLinesDone old (line ∷ []) new all_took
   line-reported old new held line left none h rest = replies-written old new (line ∷ []) left (one-reported old new held line left none h) rest

@@ -1,4 +1,4 @@
--- Lanes in which a byte is odd behind its neighbour.
+-- Lanes in which a byte is odd after its neighbour.
 use Rattle.std.proofs.Common.{◌≡◌, ℕ, zero, suc, ◌+◌, ◌-◌, ◌*◌, ◌%◌, ◌^◌, ◌<◌, ◌≤◌, eqb, leb, ltb, ◌==◌, Bool, true, false, not, cond, ◌&&◌, List, [], ◌∷◌, length, map, get_or, replicate, bit_or, bit_and, refl, sym, ap, ap₂, ◌∙◌, subst, arith}
 use Rattle.std.specs.Bool.{MatchBool}
 use Rattle.std.proofs.lemmas.Bool.Decides.{nat_tests}
@@ -31,7 +31,7 @@ tops true true true true = refl
 not_below : (a b : ℕ) → not (ltb a b) ≡ leb b a
 not_below a b = grind (arith, nat_tests)
 
--- the lane of a byte behind another
+-- the lane of a byte after another
 abbrev odd_lane : ℕ → ℕ → ℕ
 odd_lane before byte = bit_or (bit_or (lane (ltb byte 32)) (lane (ltb 126 byte))) (bit_and (lane (eqb byte 32)) (lane (eqb before 32)))
 
@@ -40,7 +40,7 @@ top_lane before byte =
     tops (ltb byte 32) (ltb 126 byte) (eqb byte 32) (eqb before 32)
     ∙ (λ i. not ((not_below byte 32 i && not_below 126 byte i) && not (eqb byte 32 && eqb before 32)))
 
--- the lanes of the bytes behind others, as the code computes them
+-- the lanes of the bytes after others, as the code computes them
 abbrev pub odd_lanes : ℕ → List ℕ → List ℕ → List ℕ
 odd_lanes n befores bytes =
     zip2 bit_or (zip2 bit_or (zip2 below bytes (replicate n 32)) (zip2 below (replicate n 126) bytes))

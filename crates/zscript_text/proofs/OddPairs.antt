@@ -5,7 +5,7 @@ use Rattle.std.proofs.lemmas.Bool.Decides.{nat_tests}
 use Rattle.zscript_text.specs.LineWords.{is_plain}
 use Rattle.zscript_text.specs.support.Spaced.{is_spaced, is_odd, is_odd_behind, IsOddAmong}
 
--- no byte is odd behind a place before this one
+-- no byte is odd after a position before this one
 abbrev pub NoneOddBefore : List ℕ → ℕ → Type 0
 NoneOddBefore line to = (place : ℕ) → place < to → is_odd_behind line place ≡ false
 
@@ -24,7 +24,7 @@ both_runs line n pairs found few many none last =
 pub longer_run : (line : List ℕ) (to pairs : ℕ) → to ≤ pairs → IsOddAmong line 0 to true → IsOddAmong line 0 pairs true
 longer_run line to pairs fits odd = (odd.0, odd.1, omega arith, odd.3)
 
--- a byte that leads a line stays in front of the places behind it
+-- a byte that leads a line stays in front of the positions after it
 next_behind : (before byte : ℕ) (line : List ℕ) (place : ℕ) → is_odd_behind (before ∷ byte ∷ line) (suc place) ≡ is_odd_behind (byte ∷ line) place
 next_behind before byte line place =
     let next : suc place + 1 ≡ suc (place + 1) = omega arith in
@@ -54,7 +54,8 @@ never true true = refl
 never true false = refl
 never false apart = refl
 
--- what follows a byte is well spaced where no byte is odd behind its neighbour and the last is no space
+-- what follows a byte is well spaced where no byte is odd after its neighbour and the last is no
+-- space
 spaced_behind : (first : ℕ) (line : List ℕ) (found : Bool) → IsOddAmong (first ∷ line) 0 (length line) found → is_spaced (eqb first 32) line ≡ (not found && not (eqb (get_or (first ∷ line) (length line) 0) 32))
 spaced_behind first [] true odd = absurd (omega (arith, odd.2))
 spaced_behind first [] false none = refl
@@ -86,7 +87,8 @@ ends : (found space : Bool) → space ≡ false → not found ≡ (not found && 
 ends true space is = refl
 ends false space is = rw is refl
 
--- a line whose first and last byte are no space is well spaced where no byte is odd behind its neighbour
+-- a line whose first and last byte are no space is well spaced where no byte is odd after its
+-- neighbour
 pub spaced_line : (line : List ℕ) (found : Bool) → 0 < length line → IsOddAmong line 0 (length line - 1) found → is_plain (get_or line 0 0) ≡ true → (get_or line 0 0 ≢ 32) → (get_or line (length line - 1) 0 ≢ 32) → not found ≡ is_spaced true line
 spaced_line [] found some h plain visible end = absurd (omega (arith, some))
 spaced_line (first ∷ line) found some h plain visible end =

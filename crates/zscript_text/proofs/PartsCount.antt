@@ -14,7 +14,7 @@ abbrev pub HasLength : {A : Type 0} → (ℕ → Type 0) → Read (List A) → T
 HasLength P (Err fault) = Unit {0}
 HasLength P (Ok xs) = P (length xs)
 
--- at least one, and at most so many
+-- at least one, and at most that many
 abbrev pub IsUpTo : ℕ → ℕ → Type 0
 IsUpTo most n = (0 < n) × (n ≤ most)
 
@@ -28,7 +28,7 @@ where_true : (most : ℕ) (b : Bool) (more : Option (List PartWords)) → HasLen
 where_true most true more h = h
 where_true most false more h = tt
 
--- a part, and those behind it
+-- a part, and those after it
 and_more : (room : ℕ) (shape : Shape PartWords) (next : List Word → Option (List PartWords)) → ((words : List Word) → HasLength (IsUpTo room) (read_of (next words))) → HasLength (IsUpTo (suc room)) (read_of (and_parts shape next))
 and_more room None next h = tt
 and_more room (Some (part, [])) next h = (omega arith, omega arith)
@@ -42,7 +42,7 @@ parts_shape-length zero words = tt
 parts_shape-length (suc room) [] = tt
 parts_shape-length (suc room) (verb ∷ words) = and_more room (part_shape verb words) (parts_shape room) (parts_shape-length room)
 
--- one part that is read, and those behind it
+-- one part that is read, and those after it
 one_read : (n : ℕ) (part : Read Part) (more : Read (List Part)) → HasLength (λ m. m ≡ n) more → HasLength (λ m. m ≡ suc n) (then_read part (λ part. then_read more (λ parts. Ok (part ∷ parts))))
 one_read n (Err fault) more h = tt
 one_read n (Ok part) (Err fault) h = tt

@@ -1,4 +1,5 @@
--- Parts are read from the left: one more is read of the words, and stands behind those that were read.
+-- Parts are read from the left: one more is read of the words, and is appended to those that were
+-- read.
 use Rattle.std.proofs.Common.{◌≡◌, ◌<◌, ◌+◌, ℕ, List, [], ◌∷◌, ◌++◌, length, drop, Ok, Err, refl, append_assoc}
 use Rattle.std.proofs.Math.ListN.{get_or}
 use Rattle.std.proofs.lemmas.List.{drop_more}
@@ -6,7 +7,7 @@ use Rattle.zcalls.specs.declared.call.Part.{Part}
 use Rattle.zscript_text.specs.declared.part_words.PartWords.{PartWords}
 use Rattle.zscript_text.specs.Request.{Read, then_read, part_in, parts_in}
 
--- what stands before the rest of the parts may stand behind those that were read
+-- what precedes the rest of the parts may be appended to those that were read
 behind_those_read : (rest : Read (List Part)) (part : Part) (parts : List Part)
     → then_read (then_read rest (λ more. Ok (part ∷ more))) (λ more. Ok (parts ++ more))
     ≡ then_read rest (λ more. Ok ((parts ++ part ∷ []) ++ more))

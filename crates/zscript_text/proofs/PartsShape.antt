@@ -15,12 +15,12 @@ before-one : (done : List PartWords) (part : PartWords) (more : Option (List Par
 before-one done part None = refl
 before-one done part (Some parts) = ap Some (sym (append_assoc done (part ∷ []) parts))
 
--- a test, reported by its denial
+-- a test, by its negation
 pub flipped : (a b : Bool) → a ≡ not b → b ≡ not a
 flipped a true e = ap not (sym e)
 flipped a false e = ap not (sym e)
 
--- where there is room, a part and what is behind it
+-- where there is room, a part and what is after it
 parts_shape-more : (room : ℕ) (verb : Word) (words : List Word) → 0 < room → parts_shape room (verb ∷ words) ≡ and_parts (part_shape verb words) (parts_shape (room - 1))
 unfolding parts_shape
 parts_shape-more zero verb words some = absurd (omega arith)
@@ -43,15 +43,15 @@ none_left done (suc room) words some e = rw e refl
 pub no_part : (done : List PartWords) (room : ℕ) (left : List Word) (verb : Word) (words : List Word) → 0 < room → left ≡ verb ∷ words → part_shape verb words ≡ None → before done (parts_shape room left) ≡ None
 no_part done room left verb words some e none = rw (e, parts_shape-more room verb words some, none) refl
 
--- the part behind which no word is left is the last one
+-- the part after which no word is left is the last one
 pub last_part : (done : List PartWords) (room : ℕ) (left : List Word) (verb : Word) (words more : List Word) (part : PartWords) → 0 < room → left ≡ verb ∷ words → part_shape verb words ≡ Some (part, more) → more ≡ [] → before done (parts_shape room left) ≡ Some (done ++ part ∷ [])
 last_part done room left verb words more part some e is end = rw (e, parts_shape-more room verb words some, is, end) refl
 
--- behind a part there is nothing but `;`
+-- after a part there is nothing but `;`
 pub not_separated : (done : List PartWords) (room : ℕ) (left : List Word) (verb : Word) (words more : List Word) (part : PartWords) (word : Word) (rest : List Word) → 0 < room → left ≡ verb ∷ words → part_shape verb words ≡ Some (part, more) → more ≡ word ∷ rest → bytes_eq word (codes ";") ≡ false → before done (parts_shape room left) ≡ None
 not_separated done room left verb words more part word rest some e is next other = rw (e, parts_shape-more room verb words some, is, next, other) refl
 
--- behind `;` there are more parts
+-- after `;` there are more parts
 pub further_parts : (done : List PartWords) (room : ℕ) (left : List Word) (verb : Word) (words more : List Word) (part : PartWords) (word : Word) (rest : List Word) → 0 < room → left ≡ verb ∷ words → part_shape verb words ≡ Some (part, more) → more ≡ word ∷ rest → bytes_eq word (codes ";") ≡ true → before done (parts_shape room left) ≡ before (done ++ part ∷ []) (parts_shape (room - 1) rest)
 further_parts done room left verb words more part word rest some e is next same =
     rw (e, parts_shape-more room verb words some, is, next, same) (before-one done part (parts_shape (room - 1) rest))

@@ -6,7 +6,7 @@ use Rattle.zpath.specs.Grammar.{is_empty}
 use Rattle.zscript_text.specs.LineWords.{Word, words_of, is_plain, is_long, is_malformed}
 use Rattle.zscript_text.specs.support.Spaced.{is_spaced}
 
--- whether a word behind the first is empty
+-- whether a word after the first is empty
 abbrev later_empty : List Word → Bool
 later_empty [] = false
 later_empty (word ∷ words) = list_any is_empty words

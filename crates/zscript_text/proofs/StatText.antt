@@ -28,7 +28,7 @@ put_before front place start room within =
     drop_at (take (start - length front) place) _ (start - length front) taken
     ∙ ap (λ rest. front ++ rest) (drop-drop (start - (start - length front)) (start - length front) place ∙ ap (λ k. drop k place) back)
 
--- is a text, where bytes below 128 stand behind it
+-- is a text, where bytes below 128 follow it
 pub text_behind : (front copied place : List ℕ) (start end : ℕ) → copied ≡ front → length place ≡ end → length front ≤ start → start ≤ length place → IsUtf8 front → IsAscii (drop start place)
     → IsUtf8 (take (end - (start - length front)) (drop (start - length front) (put_mid (start - length front) (start - (start - length front)) place copied)))
 text_behind front copied place start end same long room within utf8 ascii =

@@ -31,7 +31,7 @@ module _ (text : List ℕ) (end : ℕ) (is : end ≡ position_or_len (λ byte. e
       let at = prefix_len_stops (λ byte. not (is_space byte)) text 0 (omega (arith, is, within)) in
       eqb-true _ _ (subst (λ k. eqb (get_or text k 0) 0x20 ≡ true) (sym is) (not-false _ at))
 
-  -- a space stands behind a word that isn't the last
+  -- a space follows a word that isn't the last
   pub cut_word : end < length text → words_of text ≡ take end text ∷ words_of (drop (end + 1) text)
   cut_word within = subst (λ k. words_of text ≡ take k text ∷ words_of (drop (k + 1) text)) (sym is) (slice_split_first is_space text 0 (omega (arith, is, within)))
 
@@ -41,7 +41,7 @@ module _ (text : List ℕ) (end : ℕ) (is : end ≡ position_or_len (λ byte. e
       slice_split_none is_space text
       (All-from_get_or (λ byte. is_space byte ≡ false) text 0 (λ k l. not-true _ (prefix_len_passes (λ byte. not (is_space byte)) text k 0 (omega (arith, is, whole, l)))))
 
-  -- the text can be cut behind the space
+  -- the text can be cut after the space
   pub behind_space : IsUtf8 text → end < length text → IsCharBoundary text (end + 1)
   behind_space utf8 within = IsCharBoundary-after_ascii text end utf8 within (omega (arith, space within))
 

@@ -75,14 +75,14 @@ module _ (last n : ℕ) (sent : List (ℕ × Entry)) (pred : Option Neighbour) (
       ap (λ (r : TreeView × Option Reply). (r.0, answer_posts entry r.1 ++ ack_posts pred n)) did
       ∙ ap (λ k. (record { machine = Some (cached_tree.apply m entry).0; last = k; sent = sent; pred = pred; succ = None }, answer_posts entry (cached_tree.apply m entry).1 ++ ack_posts pred n)) (sym number)
 
--- a server with a successor keeps the entry
+-- a server with a successor stores the entry
 pub forward_view : (v v1 w : TreeView) (n : ℕ) (entry applied : Entry) (reply : Option Reply) → next_number v ≡ Some n → is_some v.succ ≡ true
     → v1 ≡ record v { sent = v.sent ++ (n, entry) ∷ [] } → applied ≡ entry → (w, reply) ≡ applied_result v1 applied
     → w ≡ (accept_row v n entry).0
 forward_view v v1 w n entry applied reply next has kept same did =
     forwards v.last n v.sent v.pred entry w reply v.machine v.succ next has (did ∙ ap (λ e. applied_result v1 e) same ∙ ap (λ k. applied_result k entry) kept)
 
--- and keeps its neighbours
+-- and its neighbours are unchanged
 accepted_stays : (last n : ℕ) (sent : List (ℕ × Entry)) (pred : Option Neighbour) (entry : Entry) (machine : Option (CachedState Tree)) (succ : Option Neighbour)
     → (accept_row (record { machine = machine; last = last; sent = sent; pred = pred; succ = succ }) n entry).0.succ ≡ succ
 unfolding accept_row accept_result

@@ -49,7 +49,7 @@ due_rises tick (e ∷ es) sorted =
     by true all more = (all, more)
     by false all more = more
 
--- an entry's id stands once, if it is due, and what isn't found doesn't
+-- an entry's id occurs once, if it is due, and what isn't found doesn't
 one_more : (tick n : ℕ) (e : ℕ × Session) (xs : List ℕ) → e.0 ≢ n → (b : Bool) → count n (cons_option (cond b (Some e.0) None) xs) ≡ count n xs
 one_more tick n e xs other true = count-other n e.0 xs other
 one_more tick n e xs other false = refl
@@ -95,7 +95,7 @@ count-present tick n s (e ∷ es) sorted found =
         here (nat_le e.1.deadline tick) same (count-absent tick n es (ap (λ k. find nat_cmp k es) same ∙ above-none e.0 es low))
         ∙ ap (λ (x : Session). cond (nat_le x.deadline tick) 1 0) (some_same e.1 s found)
 
--- how often a number stands among what a function gives of different Ids
+-- how often a number occurs among what a function gives of different Ids
 module _ (g : Id → Option ℕ) (n : ℕ) where
   step : (o : Option ℕ) (xs : List ℕ) → o ≢ Some n → count n (cons_option o xs) ≡ count n xs
   step None xs other = refl

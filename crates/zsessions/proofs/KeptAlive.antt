@@ -1,4 +1,4 @@
--- A session kept alive.
+-- A session that is renewed.
 use Rattle.std.proofs.Common.{◌≡◌, ◌≢◌, ◌⊎◌, inl, inr, ℕ, ◌+◌, Some, None, false, sym, ap, ◌∙◌}
 use Rattle.std.specs.Prelude.{◌==◌}
 use Rattle.std.specs.Option.{option_map_or}
@@ -36,7 +36,7 @@ module _ (m : Sessions) (id : ℕ) (s : Session) (there : get m id ≡ Some s) w
           ∙ sym (ap (get m) same ∙ there)
       by q (inr other) = get-insert-elsewhere nat_cmp_total nat_cmp-IsAntisymmetric m id s q other
 
-  -- kept alive twice at one tick, it has the deadline that it had
+  -- renewed twice at one tick, it has the deadline that it had
   pub renewed-again : (now : ℕ) → now + s.timeout ≡ s.deadline → m ≡ with_renewed m id now
   renewed-again now same =
       sym put_again ∙ ap (λ deadline. insert m id (record s { deadline = deadline })) (sym same)

@@ -1,4 +1,4 @@
--- A rising list of numbers is fixed by how often each number stands in it.
+-- A rising list of numbers is fixed by how often each number occurs in it.
 use Rattle.std.proofs.Common.{◌≡◌, ◌≢◌, ℕ, suc, ◌+◌, ◌<◌, ◌≤◌, false, cond, List, [], ◌∷◌, refl, sym, ap, ◌∙◌, arith, sum_by}
 use Rattle.std.specs.declared.cmp.Ordering.{Ordering}
 use Rattle.std.specs.declared.cmp.Ordering.TheVariants.{Less, Equal, Greater}
@@ -20,7 +20,7 @@ abbrev pub Rises : List ℕ → Type 0
 Rises [] = Unit {0}
 Rises (x ∷ xs) = AtLeast x xs × Rises xs
 
--- how often n stands in the list
+-- how often n occurs in the list
 abbrev pub count : ℕ → List ℕ → ℕ
 count n [] = 0
 count n (x ∷ xs) = cond (is_eq (nat_cmp n x)) 1 0 + count n xs

@@ -1,4 +1,5 @@
--- Lists by keys: what keeps them, what a push and an unlink make of them, and how long they are.
+-- Lists by keys: what preserves them, what a push and an unlink make of them, and how long they
+-- are.
 use Rattle.std.proofs.Common.{length, ◌≡◌, ◌≢◌, ◌⊎◌, ◌↔◌, inl, inr, ℕ, ◌<◌, ◌≤◌, [], ◌∷◌, ◌++◌, Option, Some, None, IsSome, refl, sym, ap, ◌∙◌, arith}
 use mathlib.Core.Path.{subst}
 use Rattle.std.specs.Option.{option_map}
@@ -99,7 +100,7 @@ module _ {L : ℕ} {T K : Type 0} (links : T → Links) where
       let short = length-within m is.0 is.1.no_two (chain-IsSome links m None list.first is.0 is.1.chain) in
       omega (arith, is.1.count, short)
 
-  -- and shorter where an item doesn't stand in it
+  -- and shorter where an item isn't in it
   pub family-room : (m : Items T) (key : Id → Option K) (list : IdList L) (k : K) → IsFamily links m key list k → (j : Id) → IsSome (get m j) → key j ≢ Some k → list.len < finite.len m
   family-room m key list k is j live other =
       let free = NotIn-from j is.0 (λ has. other ((is.2 j).0 has)) in

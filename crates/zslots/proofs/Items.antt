@@ -200,7 +200,7 @@ module _ {T : Type 0} where
       by (inl is) = let test = same_generation s.generation g is in (s, refl, is, some_same s.item x (ap (λ t. cond t (Some s.item) None) (sym test) ∙ e))
       by (inr other) = let test = other_generation s.generation g other in none_some x (ap (λ t. cond t (Some s.item) None) (sym test) ∙ e)
 
-  -- an item that is found stands in the slot of its index
+  -- an item that is found is in the slot of its index
   pub slot_found : (slots : List (Option (Slot T))) (id : Id) (x : T) → finite.get (items_of slots) id ≡ Some x → (s : Slot T) × (get_or slots id.index None ≡ Some s) × (s.generation ≡ id.generation) × (s.item ≡ x)
   slot_found slots id x e = item_at-some _ id.generation x (sym (get-items slots id) ∙ e)
 

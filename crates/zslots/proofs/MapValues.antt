@@ -55,7 +55,7 @@ module _ {K X Y : Type 0} {R : K → K → Ordering} (o : IsTotalOrder R) (f : X
       get-from_entries o (filter_map kept (entries m)) q ∙ find-kept q (entries m) (entries_sorted m)
       ∙ ap (option_and_then f) (sym (get-entries m q))
 
-  -- what is found behind a first entry is found with it
+  -- what is found after a first entry is found with it
   found_behind : (e : K × X) (es : List (K × X)) → T (below_all R e.0 es) → (q : K) (x : X) → find R q es ≡ Some x → find R q (e ∷ es) ≡ Some x
   found_behind e es low q x found = by (R q e.0) refl
     where

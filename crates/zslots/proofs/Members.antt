@@ -40,7 +40,7 @@ IsIn-parts q (id ∷ front) back (inr has) = by (IsIn-parts q front back has)
     by (inl has) = inl (inr has)
     by (inr has) = inr has
 
--- where an Id of a list stands
+-- the position of an Id of a list
 pub IsIn-split : (q : Id) (ids : Ids) → IsIn q ids → (front : Ids) × (back : Ids) × (ids ≡ front ++ q ∷ back)
 IsIn-split q [] has = absurd has
 IsIn-split q (id ∷ ids) (inl is) = ([], ids, ap (λ i. i ∷ ids) (sym is))

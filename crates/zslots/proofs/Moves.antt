@@ -31,7 +31,7 @@ ends_differ xs (y ∷ ys) q c e f = by (last_or None xs) (last-none_shared None 
     by (Some p) n e = n.0 (cc)
 
 module _ {T : Type 0} (links : T → Links) (with_links : T → Links → T) (reads : (x : T) (to : Links) → links (with_links x to) ≡ to) where
-  -- a join over what stands between two fronts of a chain
+  -- a join over what is between two fronts of a chain
   with_ends-front : (m : Items T) (front back : List Id) (next prev : Option Id) → NoneShared front back → (q : Id) (x : T) → Some q ≡ last_or None front → get m q ≡ Some x → HasLinks links (with_ends links with_links m (last_or None front) next (first_of back) prev) q (record { next = next; prev = (links x).prev })
   with_ends-front m front back next prev c q x is e =
       (with_links x (record { next = next; prev = (links x).prev }), with_ends-left links with_links reads m _ next (first_of back) prev q x (ends_differ front back q c is) is e, reads _ _)
@@ -40,7 +40,7 @@ module _ {T : Type 0} (links : T → Links) (with_links : T → Links → T) (re
   with_ends-back m front back next prev c q x is e =
       (with_links x (record { next = (links x).next; prev = prev }), with_ends-right links with_links reads m _ next (first_of back) prev q x (λ l. ends_differ front back q c l is) is e, reads _ _)
 
-  -- the item at a place in a chain, and what follows it
+  -- the item at a position in a chain, and what follows it
   pub chain-at : (m : Items T) (first : Option Id) (front : List Id) (id : Id) (back : List Id) → Chain links m None first (front ++ id ∷ back) → IsBetween links m id front back × Chain links m (Some id) (first_of back) back
   chain-at m first front id back ch =
       let rest = chain-rest links m None first front (id ∷ back) ch in
@@ -201,12 +201,12 @@ module _ {T : Type 0} (links : T → Links) (with_links : T → Links → T) (re
   chain-last m before first (i ∷ front) id back ch was q is =
       chain-last m (Some i) (links ch.1).next front id back ch.4 (λ p e. let same_id : p ≡ i = cc in (ch.1, ap (get m) same_id ∙ ch.2, refl)) q is
 
-  -- the first of a chain is there, and stands behind what is before
+  -- the first of a chain is there, and is after what is before
   chain-start : (m : Items T) (before first : Option Id) (ids : List Id) → Chain links m before first ids → (q : Id) → Some q ≡ first_of ids → (x : T) × (get m q ≡ Some x) × ((links x).prev ≡ before)
   chain-start m before first [] ch q is = cc
   chain-start m before first (i ∷ ids) ch q is = let same_id : q ≡ i = cc in (ch.1, ap (get m) same_id ∙ ch.2, ch.3)
 
-  -- an item that is taken out keeps its own links
+  -- the own links of an item that is taken out are unchanged
   pub own-without : (m : Items T) (first : Option Id) (front : List Id) (id : Id) (back : List Id) → NoTwo (front ++ id ∷ back) → Chain links m None first (front ++ id ∷ back) → links_at links (without links with_links m id) id ≡ links_at links m id
   own-without m first front id back a ch =
       let at = chain-at links with_links reads m first front id back ch in

@@ -109,7 +109,7 @@ module _ {T : Type 0} (links : T → Links) where
       let y = alike q ch.1 ch.2 in
       (ch.0, y.0, y.1, ap (λ k. k.prev) y.2 ∙ ch.3, subst (λ o. Chain links n (Some q) o ids) (sym (ap (λ k. k.next) y.2)) (chain-alike m n (Some q) (links ch.1).next ids alike ch.4))
 
-  -- a chain whose first item was written, to stand behind another one
+  -- a chain whose first item was written, to be after another one
   pub chain-from : (m n : Items T) (left before after first : Option Id) (ids : List Id) → SameBut m n left first → NoneIn left ids → NoTwo ids → Chain links m before first ids → ((q : Id) (x : T) → Some q ≡ first → get m q ≡ Some x → HasLinks n q (record { next = (links x).next; prev = after })) → Chain links n after first ids
   chain-from m n left before after first [] same l a ch written = ch
   chain-from m n left before after first (q ∷ ids) same l a ch written =
@@ -180,7 +180,7 @@ module _ {T : Type 0} (links : T → Links) (with_links : T → Links → T) (re
   with_ends-left m left next right prev q x other is e =
       get-with_prev_at-elsewhere _ right prev q other ∙ ap (λ at. get (with_next_at links with_links m at next) q) (sym is) ∙ get-with_next_at-here m q next x e
 
-  -- the right one stands behind the previous
+  -- the right one is after the previous
   pub with_ends-right : (m : Items T) (left next right prev : Option Id) (q : Id) (x : T) → Some q ≢ left → Some q ≡ right → get m q ≡ Some x → get (with_ends links with_links m left next right prev) q ≡ Some (with_links x (record { next = (links x).next; prev = prev }))
   with_ends-right m left next right prev q x other is e =
       ap (λ at. get (with_prev_at links with_links (with_next_at links with_links m left next) at prev) q) (sym is)

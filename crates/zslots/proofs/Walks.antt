@@ -38,7 +38,7 @@ module _ {L : ℕ} {T : Type 0} (links : T → Links) where
         all,
       )
 
-  -- it goes on to the next
+  -- it continues to the next
   pub walk-step : (m : Items T) (list : IdList L) (passed : Ids) (id : Id) → IsWalk links m list passed (Some id) → IsWalk links m list (passed ++ id ∷ []) (links_at links m id).next × (walk links list.len m (Some id) ≡ id ∷ walk links list.len m (links_at links m id).next)
   walk-step m list passed id is = by (walk links list.len m (Some id)) refl is.place is.whole
     where
@@ -68,7 +68,7 @@ module _ {L : ℕ} {T : Type 0} (links : T → Links) where
   walk-ends m list passed is =
       subst (IsList links m list) (ap (λ left. passed ++ left) (walk-none links list.len m) ∙ append-nil passed) is.whole
 
-  -- where it stands is in the list
+  -- its position is in the list
   pub walk-IsIn : (m : Items T) (list : IdList L) (ids passed : Ids) (id : Id) → IsList links m list ids → IsWalk links m list passed (Some id) → IsIn id ids
   walk-IsIn m list ids passed id is at =
       subst (IsIn id) (list-one links m list _ ids at.whole is) (IsIn-back id passed _ (first-IsIn _ id at.place))

@@ -59,7 +59,7 @@ module _ {K X : Type 0} {R : K → K → Ordering} (o : IsTotalOrder R) (same : 
       further
       (ap (λ b. is_some (cond b (Some e.1) (find R q xs))) (sym (not_tied o same q e.0 other)) ∙ is)
 
-  -- in order, what is among the first is not behind them
+  -- in order, what is among the first is not after them
   apart_lists : (xs ys : List (K × X)) → T (is_sorted R (xs ++ ys)) → (q : K) →
       IsSome (find R q xs) → find R q ys ≡ None
   apart_lists [] ys sorted q is = let bad : false ≡ true = is in cc

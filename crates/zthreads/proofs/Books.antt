@@ -1,11 +1,11 @@
--- A timestamp behind all that a process knew.
+-- A timestamp after all that a process knew.
 use Rattle.std.proofs.Common.{◌≡◌, ◌<◌, ℕ, max, arith}
 use Rattle.std.proofs.Math.Nat.{le-max_left, le-max_right, max-le, max-zero}
 use Rattle.zprotocol.specs.declared.traces.stamp.TheConstants.{MAX_STAMP}
 use Rattle.zprotocol.specs.traces.Stamps.{next_stamp}
 use Rattle.zthreads.proofs.Pending.{is_next}
 
--- a stamp behind all that was known is later than each of that
+-- a stamp after all that was known is later than each of that
 pub behind : (next known : ℕ) → next ≡ next_stamp known → next < MAX_STAMP → known < next
 behind next known is early = let e = is_next next known is early in omega (arith, e)
 

@@ -1,4 +1,4 @@
--- What a client's caller is reported.
+-- What is returned to a client's caller.
 use Rattle.std.proofs.Common.{◌≡◌, ℕ, ◌+◌, Bool, true, false, Option, Some, None, is_some, if◌then◌else◌, nat_lt, refl, ap}
 use Rattle.std.specs.Prelude.{option_to_list}
 use Rattle.std.specs.Option.{option_map}
@@ -19,7 +19,7 @@ use Rattle.zprotocol.specs.declared.world.history.CallEvent.TheVariants as call_
 use Rattle.zprotocol.specs.world.Does.{answer_reported}
 use Rattle.zthreads.specs.Steps.{answer_event}
 
--- what the caller is reported of a message
+-- what is returned to the caller at a message
 no_some : {A : Type 0} (x : A) → Some x ≡ None → ⊥
 no_some x e = true≢false (ap is_some e)
 

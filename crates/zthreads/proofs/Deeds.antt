@@ -62,7 +62,7 @@ accounts_more who b s s' t posts deeds e reported a event =
       },
     )
 
--- an event more that took no message, while one is kept
+-- an event more that took no message, while one is stored
 pub accounts_beside : (who : Self) (b : Books) (s s' : TreeStanding) (t : TreeTaken) (posts : List TreePost)
     (deeds : List TreeDeed) (e : TraceEvent) (reported : History)
     → Accounts who b s t [] deeds → IsEvent who.me b.stamp s None e.act e.stamp s' posts reported

@@ -27,7 +27,7 @@ same_self_of a b same = rw (same.me, same.last, same.clients) refl
 pub kept_at_end : (d : Endpoint) (waits : Bool) → (d.is_cut || waits) ≡ false → (d.is_lost || waits) ≡ false
 kept_at_end d waits whole = let two = neither d.is_cut waits whole in rw (d.kept two.0) two.1
 
--- where the same steps account for it, it stands as it did
+-- where the same steps account for it, its standing is unchanged
 pub put_stands : (a b : Endpoint) (posts rest : List TreePost) → SameBooks a b → PutsOn a b posts rest → HasPut a b posts rest
 put_stands a b posts rest books steps s t h lost = ∥∥₁_map (h (sym books.lost ∙ lost)) (λ x. (x.0, steps s t x.0 x.1))
 
@@ -35,7 +35,7 @@ unlost : (a b : Bool) → (a ≡ true → b ≡ true) → b ≡ false → a ≡ 
 unlost true b kept none = absurd (true≢false (sym (kept refl) ∙ none))
 unlost false b kept none = refl
 
--- a process that stands at its endpoint ends by the steps that account for it there
+-- a process with a standing at its endpoint ends by the steps that account for it there
 pub ends_by : (d : Endpoint) (e : Ending) (s : TreeStanding) (t : TreeTaken) → (d.is_lost ≡ true → e.is_lost ≡ true) → KeepsAtEnd d e
     → Stands d s t (pending d) → HasEndedBy (self_of d) e (Accounts (self_of d) (books_of d) s t (pending d))
 ends_by d e s t kept keeps h lost = ∥∥₁_map (h (unlost d.is_lost e.is_lost kept lost)) (λ x. (x.0, keeps s t x.0 lost x.1, x.1))

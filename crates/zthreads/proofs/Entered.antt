@@ -7,7 +7,7 @@ use Rattle.zprotocol.specs.declared.traces.trace.TraceEvent.{TraceEvent}
 use Rattle.zthreads.specs.declared.endpoint.Endpoint.{Endpoint}
 use Rattle.zthreads.specs.Endpoints.{HasEntered, IsEntered, SameBooks}
 
--- an event was entered as this act, and the caller reported of this
+-- an event was entered as this act, and the caller saw this
 pub is_entered : (a b : Endpoint) (stamp : ℕ) (x y : Act) (reported seen : History)
     → HasEntered a b (record { stamp = stamp; act = x }) reported → x ≡ y → reported ≡ seen
     → HasEntered a b (record { stamp = b.stamp; act = y }) seen

@@ -31,7 +31,7 @@ use Rattle.zthreads.proofs.Books.{behind_message, behind_own}
 use Rattle.zthreads.proofs.Entered.{entered_too}
 use Rattle.zthreads.proofs.Pending.{is_next}
 
--- at first a process was reported of nothing
+-- at first a process has learnt nothing
 pub learns_nothing : (p : Process) (n : ℕ) → n ≡ 0 → LearnsNothing p n
 learns_nothing p n is other = is
 
@@ -44,11 +44,11 @@ module _ (a b : Endpoint) (same : SameEndpoint a b) where
   learns_still n reported = subst (λ (p : Process). LearnsNothing p n) (sym same.me) reported
 
 module _ (a b : Endpoint) (s s' : TreeStanding) (learnt : ℕ) (t u : TreeTaken) (same : SameEndpoint a b) (is : IsHosted a s learnt t) where
-  -- it stands there now
+  -- it has that standing now
   pub hosted_at : can_stand (process_of b) s' ≡ true → Stands b s' u (pending b) → IsHosted b s' learnt u
   hosted_at fits at = record { fits = fits; at = at; reported = learns_still a b same learnt is.reported }
 
--- it still stands where it stood
+-- its standing is unchanged
 pub hosted_still : (a b : Endpoint) (s : TreeStanding) (learnt : ℕ) (t u : TreeTaken) → SameEndpoint a b → IsHosted a s learnt t → Stands b s u (pending b)
     → IsHosted b s learnt u
 hosted_still a b s learnt t u same is at =
@@ -66,7 +66,7 @@ module _ (a z b : Endpoint) (same : SameEndpoint a z) (books : SameBooks a z) (s
     unlost = λ goes early. d.unlost goes early ∙ books.lost;
   }
 
--- an event comes behind all that the process knew
+-- an event comes after all that the process knew
 pub stamped_heard : (p : Process) (own learnt stamp next : ℕ) → LearnsNothing p learnt → next ≡ next_stamp (max own (max learnt stamp))
     → next < MAX_STAMP → IsStamped p own stamp next
 stamped_heard (Client c) own learnt stamp next reported is early = behind_message next own learnt stamp is early
@@ -118,7 +118,7 @@ end_puts (Answered number) posts is = absurd (true≢false (sym is))
 pub unsent_as : (b : Endpoint) (done : Done) (end : Bool) → is_end done ≡ end → unsent b done ≡ if end then last_post else pending b
 unsent_as b done end is = ap (λ (x : Bool). if x then last_post else pending b) is
 
--- where nothing was received, what is kept beside stays
+-- where nothing was received, the message that is stored stays
 pub stands_given : (a b : Endpoint) (s s' : TreeStanding) (input : Input) (stamp : ℕ) (t : TreeTaken) (r : Result Done ActFault) → message_of input ≡ None
     → OnOk r (GoesTo a s b s' input stamp (pending b)) → IfErr r (DidNot a s b s' input) → Stands a s t [] → Stands b s' t (pending b)
 stands_given a b s s' input stamp t (Ok done) is goes undone at =

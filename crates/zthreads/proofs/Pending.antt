@@ -1,4 +1,4 @@
--- What waits on a endpoint, and the stamp that is next.
+-- What waits on an endpoint, and the stamp that is next.
 use Rattle.std.proofs.Common.{◌≡◌, ◌<◌, ℕ, ◌+◌, [], ◌++◌, None, if◌then◌else◌, nat_lt, inl, inr, ap, ◌∙◌, max, arith}
 use Rattle.std.specs.Prelude.{option_to_list}
 use Rattle.zcalls.proofs.Among.{test}
@@ -13,7 +13,7 @@ pending_same a b h o = ap (λ x. option_to_list x ++ b.out.posts) h ∙ ap (λ x
 pub pending_none : (d : Endpoint) → d.held ≡ None → pending d ≡ d.out.posts
 pending_none d h = ap (λ x. option_to_list x ++ d.out.posts) h
 
--- nothing waits on a endpoint that is settled
+-- nothing waits on an endpoint that is settled
 pub nothing_waits : (d : Endpoint) → IsSettled d → pending d ≡ []
 nothing_waits d is = pending_none d is.0 ∙ is.1
 

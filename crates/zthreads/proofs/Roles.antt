@@ -1,4 +1,4 @@
--- Where the master stands, and what a client did, from what the definition did with its input.
+-- The standing of the master, and what a client did, from what the definition did with its input.
 use Rattle.std.proofs.Common.{◌≡◌, ℕ, true, false, [], ◌∷◌, Option, Some, None, is_some, refl, sym, ap, subst, ◌∙◌}
 use Rattle.std.specs.Prelude.{Ok, option_to_list}
 use Rattle.std.specs.Option.{option_map}
@@ -36,14 +36,14 @@ ActsAs p s b s' input done = HasActed p s s' input (only []) (only (pending b)) 
 abbrev EntersAs : Process → Endpoint → Endpoint → Input → Done → Type 0
 EntersAs p a b input done = IsEntered a b (stamp_of_endpoint b) (act_noted (note_of p input) done) (reported_by p input done)
 
--- where the master stands
+-- the standing of the master
 at_master : (s : TreeStanding) → can_stand Master s ≡ true → s ≡ AtMaster (master_known s)
 at_master (AtMaster v) fits = refl
 at_master (AtClient v) fits = never fits
 at_master (AtServer v) fits = never fits
 at_master Out fits = never fits
 
--- the master stands at its view, where it holds no message
+-- the master has the standing of its view, where it holds no message
 pub master_stood : (d : Endpoint) (s : TreeStanding) (learnt : ℕ) (front : TreeTaken) → process_of d ≡ Master → IsHosted d s learnt front
     → is_some front ≡ false
     → IsAt d (AtMaster (master_known s))
@@ -123,7 +123,7 @@ module _ (c : ℕ) (a b : Endpoint) where
   begins (AtServer v) s' call number fits acts entered = never fits
   begins Out s' call number fits acts entered = never fits
 
--- of a endpoint that is a client's
+-- of an endpoint that is a client's
 module _ (c : ℕ) (a b : Endpoint) (s s' : TreeStanding) (is : process_of a ≡ Client c) (fits : can_stand (process_of a) s ≡ true) where
   fits_client : can_stand (Client c) s ≡ true
   fits_client = subst (λ (p : Process). can_stand p s ≡ true) is fits

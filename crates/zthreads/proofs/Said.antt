@@ -1,4 +1,4 @@
--- What was said stays said while the trace goes on, and one thing more is said.
+-- What was said stays said while the trace continues, and one thing more is said.
 use Rattle.std.proofs.Common.{List, [], ◌∷◌, ◌++◌, map, sym, ap, ◌∙◌, subst, append_assoc}
 use Rattle.std.proofs.lemmas.List.{append-nil}
 use Rattle.zprotocol.specs.world.History.{History}

@@ -55,7 +55,7 @@ same_books a b c x y = record {
   room = λ r. y.room (x.room r);
 }
 
--- processes at two places are two
+-- processes at two positions are two
 abbrev pick : Bool → Bool → ℕ → Process
 pick a b i = if a then Master else if b then Server i else Client (i - (MAX_SERVERS + 1))
 
@@ -74,7 +74,7 @@ apart_by i j false false false false p q r s ne = ne_eqb (i - (MAX_SERVERS + 1))
 pub apart : (i j : ℕ) → i ≢ j → is_same (process_at i) (process_at j) ≡ false
 apart i j ne = apart_by i j (i == 0) (nat_le i MAX_SERVERS) (j == 0) (nat_le j MAX_SERVERS) refl refl refl refl ne
 
--- a place at which there is something
+-- a position at which there is something
 pub within : {X : Type 0} (xs : List X) (i : ℕ) (x : X) → get_elem? xs i ≡ some x → i < length xs
 within [] i x at = absurd (some-ne-none x (sym at))
 within (y ∷ ys) zero x at = omega arith

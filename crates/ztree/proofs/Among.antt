@@ -1,4 +1,5 @@
--- The keys of a map's entries that pass a test: which they are, what holds of them, and that none stands twice.
+-- The keys of a map's entries that pass a test: which they are, what holds of them, and that none
+-- occurs twice.
 use Rattle.std.proofs.Common.{◌≡◌, Bool, true, false, cond, List, [], ◌∷◌, Some, None, refl, sym, ap, ◌∙◌}
 use lib.Dec.{T}
 use Rattle.std.specs.declared.cmp.Ordering.{Ordering}
@@ -53,7 +54,7 @@ module _ {K X : Type 0} {R : K → K → Ordering} (o : IsTotalOrder R) (same : 
   pub all_where : (P : K → Type 0) (m : FinMap R X) → ((q : K) (x : X) → finite.get m q ≡ Some x → test q x ≡ true → P q) → AllByRecursion P (keys_where test (finite.entries m))
   all_where P m all = all_keys P (finite.entries m) (entries_sorted m) (λ q x found. all q x (get-entries m q ∙ found))
 
-  -- none of them stands twice
+  -- none of them occurs twice
   apart_in : (es : List (K × X)) → T (is_sorted R es) → NoneTwice R (keys_where test es)
   apart_in [] s = tt
   apart_in (e ∷ es) s =

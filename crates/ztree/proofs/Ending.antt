@@ -130,7 +130,7 @@ has_node-ended t id path =
     by None = refl
     by (Some n) = turned (n.owner == id)
 
--- a node that lost at most so many children is otherwise what it was
+-- a node that lost at most that many children is otherwise what it was
 pub record HasLost (most : ℕ) (n m : Node) : Type 0 where
   pub same : m ≡ record n { pzxid = m.pzxid; cversion = m.cversion }
   pub rises : n.cversion ≤ m.cversion
@@ -162,7 +162,7 @@ lost_both a b l n m first then =
       bound = omega (arith, first.bound, then.bound);
     }
 
--- what is found after nodes were taken away was there, and lost no more children than so many
+-- what is found after nodes were taken away was there, and lost no more children than that many
 pub found-all_dropped : (t : Tree) (paths : List Path) (q : Path) (m : Node) → finite.get (without_nodes t paths).nodes q ≡ Some m → (n : Node) × (finite.get t.nodes q ≡ Some n) × HasLost (length paths) n m
 found-all_dropped t [] q m found = (m, found, has_lost_none 0 m)
 found-all_dropped t (path ∷ paths) q m found =

@@ -1,4 +1,4 @@
--- What keeps a tree lawful: each change of a tree, where what it asks for is met.
+-- What preserves that a tree is lawful: each change of a tree, where its conditions are met.
 use Rattle.std.proofs.Common.{◌≡◌, ◌≢◌, ◌⊎◌, inl, inr, ℕ, ◌<◌, ◌≤◌, ◌+◌, Bool, true, false, cond, List, [], Option, Some, None, IsSome, refl, sym, ap, subst, ◌∙◌, arith}
 use Rattle.std.specs.Prelude.{is_some, nat_le}
 use Rattle.std.specs.Option.{option_map_or}
@@ -30,7 +30,8 @@ same_ends n m owner ttl (inl none) = inl (ttl ∙ none)
 same_ends n m owner ttl (inr nobody) = inr (owner ∙ nobody)
 
 module _ (t : Tree) (path : Path) (new : Node) (lawful : IsLawful t) where
-  -- one more node, where its parent is persistent, its owner nobody or a session, and its end one or none
+  -- one more node, where its parent is persistent, its owner no one or a session, and its end one
+  -- or none
   pub lawful_inserted : has_node t.nodes path ≡ false → IsPersistent (finite.get t.nodes (parent_of path)) → IsOwner t.sessions new.owner → HasOneEnd new → finite.len t.nodes < 4096 → IsLawful (record t { nodes = finite.insert t.nodes path new })
   lawful_inserted free parent owner one few =
       record {
@@ -168,7 +169,8 @@ lawful_opening =
           few_sessions = rw (len-empty nat_cmp Session) (omega arith);
         }
 
--- a new node beneath a persistent one, of nobody or of a session, where a session's has no time to live
+-- a new node beneath a persistent one, of no one or of a session, where a session's has no time to
+-- live
 pub lawful_added : (t : Tree) (path : Path) (bytes : List ℕ) (owner ttl : ℕ) (sequential : Bool) → IsLawful t → has_node t.nodes path ≡ false → IsPersistent (finite.get t.nodes (parent_of path)) → IsOwner t.sessions owner → (ttl ≡ 0) ⊎ (owner ≡ 0) → finite.len t.nodes < 4096 → IsLawful (with_node t path bytes owner ttl sequential)
 lawful_added t path bytes owner ttl sequential lawful free parent is_owner one few =
     let new = new_node bytes owner ttl (t.zxid + 1) t.time in
@@ -231,7 +233,7 @@ lawful_opened t client timeout lawful some few =
     let new = new_session client timeout t.time in
     lawful_session t (t.zxid + 1) new lawful (omega arith) (omega (arith, some)) (len-insert-most nat_cmp_total nat_cmp-IsAntisymmetric t.sessions (t.zxid + 1) new 1024 few)
 
--- a session kept alive for at least one tick
+-- a session renewed for at least one tick
 pub lawful_touched : (t : Tree) (id : ℕ) → IsLawful t → ((s : Session) → finite.get t.sessions id ≡ Some s → 0 < s.timeout) → IsLawful (with_renewed_session t id)
 lawful_touched t id lawful some = by (finite.get t.sessions id) refl
   where

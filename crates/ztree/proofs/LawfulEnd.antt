@@ -1,4 +1,4 @@
--- The session end keeps a tree lawful.
+-- The session end leaves a lawful tree lawful.
 use Rattle.std.proofs.Common.{◌≡◌, ◌≢◌, inl, inr, ℕ, ◌<◌, Bool, true, false, cond, List, [], ◌∷◌, Some, None, IsSome, refl, subst, arith}
 use Rattle.std.specs.Prelude.{nat_le, ◌==◌}
 use Rattle.std.specs.List.{AllByRecursion}
@@ -67,7 +67,7 @@ lawful_forgotten t id lawful none =
     still owner other (inl nobody) = inl nobody
     still owner other (inr lives) = inr (rw (get-remove-elsewhere nat_cmp_total nat_cmp-IsAntisymmetric t.sessions id owner other) lives)
 
--- the session end keeps a tree lawful
+-- the session end leaves a lawful tree lawful
 pub lawful_ended : (t : Tree) (id : ℕ) → IsLawful t → 0 < id → IsLawful (without_session t id)
 lawful_ended t id lawful above =
     let paths = ephemerals t.nodes id in
@@ -78,7 +78,7 @@ lawful_ended t id lawful above =
 pub live_above : (t : Tree) (id : ℕ) → IsLawful t → IsSome (finite.get t.sessions id) → 0 < id
 live_above t id lawful lives = let s = has_some (finite.get t.sessions id) lives in lawful.ids id s.0 s.1
 
--- the end of several sessions keeps a tree lawful
+-- the end of several sessions leaves a lawful tree lawful
 pub lawful_all_ended : (t : Tree) (ids : List ℕ) → IsLawful t → AllByRecursion (λ id. 0 < id) ids → IsLawful (without_sessions t ids)
 lawful_all_ended t [] lawful above = lawful
 lawful_all_ended t (id ∷ ids) lawful above = lawful_all_ended (without_session t id) ids (lawful_ended t id lawful above.0) above.1

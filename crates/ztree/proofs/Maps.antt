@@ -129,7 +129,7 @@ module _ {K X : Type 0} {R : K → K → Ordering} (o : IsTotalOrder R) (same : 
       let parts = both_parts _ (below_all R q es) h in
       rw (is_less _ parts.0) (not_among q es parts.1)
 
-  -- what is found behind a first entry is found with it
+  -- what is found after a first entry is found with it
   pub found_behind : (e : K × X) (es : List (K × X)) → T (below_all R e.0 es) → (q : K) (x : X) → find R q es ≡ Some x → find R q (e ∷ es) ≡ Some x
   found_behind e es low q x found = by (R q e.0) refl
     where

@@ -1,4 +1,4 @@
--- What keeps each key a path.
+-- What preserves that each key is a path.
 use Rattle.std.proofs.Common.{◌≡◌, ◌≢◌, ◌⊎◌, inl, inr, [], Option, Some, None, refl, sym, subst, ◌∙◌, ◌+◌, Bool, List, ℕ, arith}
 use Rattle.std.specs.Option.{option_map_or}
 use Rattle.std.specs.FinMap as finite
@@ -42,7 +42,7 @@ paths_changed nodes path f all = by (finite.get nodes path) refl
 pub paths_opening : HasPaths opening_tree.nodes
 paths_opening = paths_inserted finite.empty [] (new_node [] 0 0 0 0) paths_empty root_is_path
 
--- and each change of a tree keeps it
+-- and each change of a tree preserves it
 pub paths_with_node : (t : Tree) (path : Path) (bytes : List ℕ) (owner ttl : ℕ) (sequential : Bool) → HasPaths t.nodes → IsPath path → HasPaths (with_node t path bytes owner ttl sequential).nodes
 paths_with_node t path bytes owner ttl sequential all here =
     let new = new_node bytes owner ttl (t.zxid + 1) t.time in

@@ -1,4 +1,4 @@
--- Rows in the order of their keys: what stands at a place, and what an edit there makes of the map.
+-- Rows in the order of their keys: what is at a position, and what an edit there makes of the map.
 use Rattle.std.proofs.Common.{◌≡◌, ℕ, zero, suc, Bool, true, false, not, cond, ◌&&◌, List, [], ◌∷◌, ◌++◌, take, drop, get_or, set, Option, Some, None, refl, sym, ap, subst, ◌∙◌}
 use lib.Dec.{T}
 use Rattle.std.specs.declared.cmp.Ordering.{Ordering}
@@ -33,13 +33,13 @@ abbrev pub other_than : {K : Type 0} → (K → K → Ordering) → K → K → 
 other_than R q x = not (eq_by_cmp R q x)
 
 module _ {K X : Type 0} (R : K → K → Ordering) where
-  -- the key is that of the row at the place, and it is above those before it
+  -- the key is that of the row at the position, and it is above those before it
   abbrev pub At : K → List (K × X) → ℕ → Type 0
   At q [] i = ⊥
   At q (e ∷ es) zero = e.0 ≡ q
   At q (e ∷ es) (suc i) = (R q e.0 ≡ Greater) × At q es i
 
-  -- the key would go to the place
+  -- the key would go to the position
   abbrev pub Gap : K → List (K × X) → ℕ → Type 0
   Gap q [] zero = Unit {0}
   Gap q [] (suc i) = ⊥
@@ -98,7 +98,7 @@ module _ {K X : Type 0} (R : K → K → Ordering) where
         let low : R q x.0 ≡ Less = ap (λ y. R y x.0) (sym e) ∙ is_less _ parts.0 in
         rw low (ap (λ t. x ∷ t) (all_others q k es e parts.1))
 
-    -- the rows without the one at a key's place are those with other keys
+    -- the rows without the one at a key's position are those with other keys
     pub remove_at : (q : K) (es : List (K × X)) (i : ℕ) → T (is_sorted R es) → At q es i → remove es i ≡ where_key R (other_than R q) es
     remove_at q [] i s a = absurd a
     remove_at q (e ∷ es) zero s a = rw (a, tied_itself o q) (sym (all_others q e.0 es a (both_parts (below_all R e.0 es) (is_sorted R es) s).0))

@@ -1,5 +1,5 @@
--- The nodes that a tick removes: they are leaves below the root, while the sessions end and while they go one after the
--- other, so the tick keeps a tree lawful.
+-- The nodes that a tick removes. They are leaves below the root, while the sessions end and while
+-- they are removed one after the other. So the tick leaves a lawful tree lawful.
 use Rattle.std.proofs.Common.{◌≡◌, ◌≢◌, ℕ, ◌+◌, Bool, true, false, ◌&&◌, ◌||◌, not, cond, List, [], ◌∷◌, length, Some, ◌⊎◌, inl, inr, ◌<◌, refl, sym, ap, ◌∙◌, arith}
 use Rattle.std.specs.Prelude.{nat_lt, ◌==◌}
 use Rattle.std.specs.Ordering.{eq_by_cmp}
@@ -98,7 +98,7 @@ others-can_go t path paths can =
       apart = can.apart.1;
     }
 
--- leaves taken away one after the other keep a tree lawful
+-- a lawful tree stays lawful when leaves are taken away one after the other
 pub lawful_leaves_dropped : (paths : List Path) (t : Tree) → IsLawful t → AreLeaves t.nodes paths → IsLawful (without_nodes t paths)
 lawful_leaves_dropped [] t lawful leaves = lawful
 lawful_leaves_dropped (path ∷ paths) t lawful leaves =
@@ -123,7 +123,7 @@ pub stale-leaves_ended : (t : Tree) (tick : ℕ) (ids : List ℕ) → IsLawful t
 stale-leaves_ended t tick ids lawful =
     leaves-still t.nodes (without_sessions t ids).nodes (stale_nodes t.nodes tick) (within-all_ended t ids) (stale-leaves t tick lawful)
 
--- no session's end takes what nobody owns
+-- no session's end takes what no one owns
 persistent-ended : (t : Tree) (id : ℕ) (q : Path) → 0 < id → IsPersistent (finite.get t.nodes q) → IsPersistent (finite.get (without_session t id).nodes q)
 persistent-ended t id q above is =
     let stays : has_node (without_session t id).nodes q ≡ true =
@@ -140,7 +140,7 @@ pub persistent-all_ended : (t : Tree) (ids : List ℕ) (q : Path) → AllByRecur
 persistent-all_ended t [] q above is = is
 persistent-all_ended t (id ∷ ids) q above is = persistent-all_ended (without_session t id) ids q above.1 (persistent-ended t id q above.0 is)
 
--- nobody owns a node that is due
+-- no one owns a node that is due
 pub due-nobodys : (t : Tree) (tick : ℕ) → IsLawful t → (q : Path) (n : Node) → finite.get t.nodes q ≡ Some n → is_due tick n ≡ true → n.owner ≡ 0
 due-nobodys t tick lawful q n found due = by (lawful.ends q n found)
   where
@@ -160,7 +160,7 @@ stale-can_go t tick ids lawful above =
       apart = apart_where paths_total same_path (is_stale t.nodes tick) t.nodes;
     }
 
--- a tick that ends the due sessions, and then removes the stale nodes, keeps a tree lawful
+-- a tick that ends the due sessions, and then removes the stale nodes, leaves a lawful tree lawful
 pub lawful_ticked : (t : Tree) → IsLawful t → IsLawful (with_next_tick (without_nodes (without_sessions t (due_sessions t.sessions (t.time + 1))) (stale_nodes t.nodes (t.time + 1))))
 lawful_ticked t lawful =
     let ids = due_sessions t.sessions (t.time + 1) in

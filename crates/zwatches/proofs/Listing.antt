@@ -1,4 +1,4 @@
--- The places of nodes, as the rows list them.
+-- The positions of nodes, as the rows list them.
 use Rattle.std.proofs.Common.{◌≡◌, ◌-◌, Bool, true, false, cond, not, ◌&&◌, ◌||◌, List, [], ◌∷◌, ◌++◌, length, map, Option, None, Some, refl, sym, ap, subst, ◌∙◌, arith}
 use Rattle.std.specs.declared.cmp.Ordering.{Ordering}
 use Rattle.std.specs.declared.cmp.Ordering.TheVariants.{Less, Equal, Greater}
@@ -23,7 +23,7 @@ use Rattle.zwatches.proofs.Order.{places_total, same_place}
 use Rattle.zwatches.proofs.Sets.{same_list}
 use Rattle.zwatches.proofs.Reporting.{any_map, any_retained}
 
--- the places of nodes, of rows behind one at this place
+-- the positions of nodes, of rows after one at this position
 abbrev pub behind : Option Place → List Watch → List Place
 behind last [] = []
 behind last (w ∷ rows) = cond (is_next last w) (place_of w ∷ behind (Some (place_of w)) rows) (behind last rows)
@@ -49,7 +49,7 @@ listed_is places last (w ∷ rows) e =
 
 -- ---- they rise
 
--- places of rows in order stand in order
+-- positions of rows in order are in order
 not_above : (x y : Watch) → watch_cmp x y ≡ Less → is_le (place_cmp (place_of x) (place_of y)) ≡ true
 not_above x y less = by (place_cmp (place_of x) (place_of y)) less
   where
@@ -98,7 +98,7 @@ behind_rises last (w ∷ rows) sorted =
 
 -- ---- they are those of the rows
 
--- the place there passes the test, if there is one
+-- the position there passes the test, if there is one
 abbrev passes : (Place → Bool) → Option Place → Bool
 passes p None = false
 passes p (Some at) = p at
@@ -145,7 +145,7 @@ behind_lists rows sorted = record {
       ∙ any_retained rows (λ w. is_of_node w.kind) (λ w. eq_by_cmp place_cmp q (place_of w))));
 }
 
--- whether a node is at a place
+-- whether a node is at a position
 pub node_here : (rows : List Watch) (at : Place) (answer : Bool) → list_any (λ w. eq_by_cmp place_cmp at (place_of w) && is_of_node w.kind) rows ≡ answer
     → contains (node_places (set_of rows)) at ≡ answer
 node_here rows at answer is =

@@ -1,4 +1,4 @@
--- The orders of places and watches, and lists that rise by them.
+-- The orders of positions and watches, and lists that are sorted by them.
 use Rattle.std.proofs.Common.{◌≡◌, ℕ, zero, suc, ◌≤◌, true, List, [], ◌∷◌, get_or, refl, sym, ◌∙◌, arith}
 use Rattle.std.specs.declared.cmp.Ordering.{Ordering}
 use Rattle.std.specs.declared.cmp.Ordering.TheVariants.{Less, Equal, Greater}
@@ -58,7 +58,7 @@ same_watch a b e =
     let connection = nat_cmp-IsAntisymmetric _ _ parts.1 in
     λ i. record { path = (place i).path; kind = (place i).kind; connection = connection i }
 
--- ---- what comes later stands no lower to a key
+-- ---- what comes later is no lower than a key
 
 rank_most : (r : Ordering) → ordering_index r ≤ 2
 rank_most Less = omega arith

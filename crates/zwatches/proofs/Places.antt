@@ -1,4 +1,4 @@
--- The rows of a place: what the searches for its ends find, and the list without them.
+-- The rows of a position: what the searches for its ends find, and the list without them.
 use Rattle.std.proofs.Common.{◌≡◌, ℕ, ◌+◌, ◌-◌, ◌<◌, ◌≤◌, Bool, true, false, not, List, [], ◌∷◌, ◌++◌, length, take, drop, refl, sym, ap, subst, ◌∙◌, arith, inl, inr}
 use Rattle.std.specs.declared.cmp.Ordering.{Ordering}
 use Rattle.std.specs.declared.cmp.Ordering.TheVariants.{Less, Equal, Greater}
@@ -35,7 +35,7 @@ gt_not_at Less e = absurd cc
 gt_not_at Equal e = absurd cc
 gt_not_at Greater e = refl
 
--- where the rows stop to be below a place, and where they stop to be at it
+-- where the rows stop to be below a position, and where they stop to be at it
 pub is_group : (place : Place) (rows : List Watch) (first end : ℕ) → first ≤ length rows → end ≤ length rows
     → IsPartitionPoint (λ (w : Watch). is_lt (place_cmp (place_of w) place) ≡ true) (λ (w : Watch). is_lt (place_cmp (place_of w) place) ≡ false) rows first
     → IsPartitionPoint (λ (w : Watch). is_le (place_cmp (place_of w) place) ≡ true) (λ (w : Watch). is_le (place_cmp (place_of w) place) ≡ false) rows end

@@ -1,4 +1,4 @@
--- Whom the rows of several places tell, and the rows without them.
+-- Whom the rows of several positions notify, and the rows without them.
 use Rattle.std.proofs.Common.{◌≡◌, ℕ, Bool, true, false, cond, eqb, not, ◌&&◌, ◌||◌, List, [], ◌∷◌, map, refl, sym, ap, subst, ◌∙◌}
 use Rattle.std.specs.Ordering.{eq_by_cmp, nat_cmp}
 use Rattle.std.specs.Cmp.{Equal-is, both_ways, eq_by_cmp_equiv}
@@ -97,14 +97,14 @@ reported_members rows (at ∷ places) p =
     ∙ rw (any_map p (λ (w : Watch). w.connection) (filter (is_at at) rows), any_filter (λ (w : Watch). p w.connection) (is_at at) rows, reported_members rows places p)
     (any_either (λ (w : Watch). p w.connection) (is_at at) (λ w. list_any (λ at. is_at at w) places) rows)
 
--- the items of a table that a test keeps
+-- the items of a table that satisfy a test
 pub any_retained : (rows : List Watch) (test p : Watch → Bool) → list_any p (items (retain (from_list {R = watch_cmp} rows) test)) ≡ list_any (λ w. p w && test w) rows
 any_retained rows test p =
     ap (λ set. list_any p (items set)) (sym (from_list-filter watches_total same_watch test rows))
     ∙ any-items watches_total same_watch p (filter test rows)
     ∙ any_filter p test rows
 
--- the connections that the rows tell are those to tell
+-- the connections that the rows notify are those to be notified
 pub reported_is : (rows : List Watch) (event : EventKind) (path : Path)
     → from_list {R = nat_cmp} (reported_by rows (fired_at event path)) ≡ reported (from_list {R = watch_cmp} rows) event path
 reported_is rows event path =

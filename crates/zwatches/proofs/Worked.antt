@@ -27,12 +27,12 @@ both_true false b e = absurd cc
 tied : (x y : Watch) → eq_by_cmp watch_cmp x y ≡ true → x ≡ y
 tied x y e = same_watch x y ((Equal-is (watch_cmp x y)).0 e)
 
--- what a table keeps of a test
+-- what a table filtered by a test contains
 pub contains-kept : (table : Watches) (test : Watch → Bool) (w : Watch) → contains (retain table test) w ≡ (contains table w && test w)
 contains-kept table test w = contains-retain table test w (λ x e. ap test (sym (same_watch w x e)))
 
 module _ {K : Type 0} {R : K → K → Ordering} (o : IsTotalOrder R) (same : IsAntisymmetric R) (f : Watch → K) (table : Watches) (test : Watch → Bool) (x : K) where
-  -- what is of the kept watches is of one of them
+  -- what is of the filtered watches is of one of them
   contains-images : contains (from_list {R = R} (map f (items (retain table test)))) x ≡ list_any (λ (w : Watch). eq_by_cmp R x (f w)) (items (retain table test))
   contains-images = contains-from_list o (map f (items (retain table test))) x ∙ any_map (eq_by_cmp R x) f (items (retain table test))
 

@@ -1,4 +1,4 @@
--- What the master and the clients are asked, by where they stand.
+-- What the master and the clients are asked, by their standings.
 use Rattle.std.proofs.Common.{◌≡◌, ◌<◌, ℕ, true, Bor, Option, None, Some, List, length, get_or, sym, ap, refl, ◌∙◌}
 use Rattle.std.specs.Option.{option_copied}
 use mathlib.Core.Bool.{true≢false}
@@ -23,7 +23,7 @@ client_there c (AtMaster v) can = absurd (true≢false (sym can))
 client_there c (AtServer v) can = absurd (true≢false (sym can))
 client_there c Out can = absurd (true≢false (sym can))
 
--- so what is read at the master's place is the master
+-- so what is read at the master's position is the master
 pub master_asked : (actors : List TreeStanding) (was : TreeStanding) → 0 < length actors → was ≡ get_or actors 0 was
     → ((p : Process) → can_stand p (standing_at actors p) ≡ true) → master_in was ≡ Some (master_of (standing_at actors Master))
 master_asked actors was inside read stand =

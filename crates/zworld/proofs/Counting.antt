@@ -85,7 +85,7 @@ answered end = 0
 abbrev IsQuiet : Done → Type 0
 IsQuiet end = (began end ≡ 0) × (answered end ≡ 0)
 
--- what is reported of an answer says whether there is one
+-- what the history has of an answer says whether there is one
 unanswered : (c : ℕ) (handed : Option (ℕ × Reply)) → answer_reported c handed ≡ [] → share (is_some handed) ≡ 0
 unanswered c None is = refl
 unanswered c (Some given) is = cc
@@ -252,7 +252,7 @@ has_shares p standing new given end before after (HasLeft s) is did =
     shares_of_others Out new given end (λ v e. cc) (other_kind (Server s) new is (λ c e. cc)) did.comes
 has_shares p standing new given end before after (IsClient c v) is did = client_shares c v new given end before after did
 
--- so the count goes on with what is counted
+-- so the count continues with what is counted
 module _ (actors : List TreeStanding) (process : Process) (new : TreeStanding) (waiting : ℕ) (inside : place_of process < length actors)
     (counted : waiting ≡ passing waits actors) where
   abbrev was : TreeStanding

@@ -47,7 +47,7 @@ use Rattle.zworld.proofs.Steps.{can_fail, idle_stepped, done_stepped, happens_so
 abbrev pub without : World (CachedState Tree) → Process → Process → World (CachedState Tree)
 without w from to = record w { links = without_front w.links from to }
 
--- the taker acted on a message, and the history goes on with this
+-- the taker acted on a message, and the history continues with this
 abbrev Hears : Held → Process → Process → MessageOf (CachedState Tree) → History → Held → Type 0
 Hears old from to message reported new =
     (history : History) → IsAlike (does_in cached_tree (kept_world old history) to (Hear from message)) (kept_world new (history ++ reported))
@@ -200,7 +200,7 @@ request_lost old new from to request alive popped =
     (subst (λ w. IsAlike (without (kept_world old history) from to) w) (sym (popped history))
     (alike_itself (without (kept_world old history) from to))))
 
--- a server that didn't hear stands where it stood
+-- a server that didn't hear is unchanged
 unheard_alike : (w u : World (CachedState Tree)) (s : ℕ) → IsAlike (did_in w (Server s) (idle_effect (AtServer (w.servers s)))) u → IsAlike w u
 unheard_alike w u s = alike_through w (did_in w (Server s) (idle_effect (AtServer (w.servers s)))) u
     (alike_by w (did_in w (Server s) (idle_effect (AtServer (w.servers s)))) refl refl (λ c. refl) (λ t. refl) (λ t alive. stays t) links)

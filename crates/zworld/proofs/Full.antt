@@ -1,4 +1,4 @@
--- What holds of all processes holds once one stands somewhere else.
+-- What holds of all processes holds once one has another standing.
 use Rattle.std.proofs.Common.{◌≡◌, ◌<◌, true, false, if◌then◌else◌, List, length, set, sym, ap, ◌∙◌, inl, inr}
 use Rattle.std.specs.Prelude.{◌||◌}
 use mathlib.Core.Bool.{true≢false}
@@ -20,7 +20,7 @@ module _ (actors : List TreeStanding) (process : Process) (new : TreeStanding) (
   abbrev later : List TreeStanding
   later = set actors (place_of process) new
 
-  -- each is where it can stand
+  -- each has a standing that it can have
   pub stand_then : can_stand process new ≡ true → ((p : Process) → can_stand p (standing_at actors p) ≡ true)
       → (q : Process) → can_stand q (standing_at later q) ≡ true
   stand_then can stand q =
@@ -31,7 +31,7 @@ module _ (actors : List TreeStanding) (process : Process) (new : TreeStanding) (
         | inr other ↦ ap (λ b. can_stand q (if b then new else standing_at actors q)) other ∙ stand q
       ]
 
-  -- one that had stopped is another, and stands where it did
+  -- one that had stopped is another, and is unchanged
   stopped_then : (q : Process) → has_stopped (standing_at actors q) ≡ true → has_stopped (standing_at later q) ≡ true
   stopped_then q gone =
       ap has_stopped (standing_set actors process q new inside all) ∙ elim (test (is_same q process)) [

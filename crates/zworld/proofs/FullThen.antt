@@ -15,7 +15,7 @@ use Rattle.zworld.proofs.Full.{stand_then, noted_then, noted_end}
 use Rattle.zworld.proofs.Giving.{lives_by, puts_none, standing_read, stops_then}
 use Rattle.zworld.proofs.Standing.{Stands, stands}
 
--- an input was given to the process at a place
+-- an input was given to the process at a position
 module _ (actors : List TreeStanding) (links : HeldChannels) (waiting : ℕ) (process : Process) (place : ℕ) (was new : TreeStanding) (given : Input)
     (end : Done)
     (before after : TreeOut) (full : IsFull actors links before.posts waiting) (at : place ≡ place_of process) (inside : place < length actors)
@@ -63,7 +63,7 @@ module _ (actors : List TreeStanding) (links : HeldChannels) (waiting : ℕ) (pr
         counted = counted_then actors process new waiting within full.counted end shares;
       })
 
-  -- all are there: where it goes on
+  -- all are there: where it continues
   pub full_posted : (channels : HeldChannels) (posts : List TreePost) → Notes channels (has_notice links) → posts ≡ []
       → IsFull (set actors place new) channels posts (waiting_after waiting end)
   full_posted channels posts notes silent =

@@ -167,7 +167,7 @@ module _ (held : Held) (process : Process) (input : Input) (end : Done) (new : T
         ∙ alive)))));
   }
 
-  -- where it goes on, what it put is on its channels
+  -- where it continues, what it put is on its channels
   pub posted_by : before.posts ≡ [] → is_end end ≡ false → IsPosted now.actors held.links process after.posts channels → IsSent
   posted_by silent goes posted from to alive =
       let puts : after.posts ≡ effect.posts = acted.puts ∙ ap (λ posts. posts ++ put_by end effect.posts) silent ∙ puts_all end effect.posts goes in
@@ -191,14 +191,14 @@ ended_by held s input end new before after channels all inside can acted ends en
     ap (λ posts. put (links_of held.links) (Server s) posts from to) (acted.owed ends)
     ∙ ended_sent (set held.actors (place_of (Server s)) new) held.links channels s ended lost from to alive
 
--- where a process stands is read at its place
+-- the standing of a process is read at its position
 pub standing_read : (actors : List TreeStanding) (process : Process) (place : ℕ) (was : TreeStanding) → place ≡ place_of process
     → place < length actors
     → was ≡ get_or actors place was → standing_at actors process ≡ was
 standing_read actors process place was at inside read =
     ap (λ n. get_or actors n (bystander process)) (sym at) ∙ get_or_default actors place (bystander process) was inside ∙ sym read
 
--- an input was given to the process at a place
+-- an input was given to the process at a position
 module _ (old held : Held) (process : Process) (place : ℕ) (was new : TreeStanding) (input : Input) (end : Done) (before after : TreeOut)
     (channels : HeldChannels)
     (same : held ≡ old) (at : place ≡ place_of process) (inside : place < length held.actors) (all : length held.actors ≡ PROCESSES)
@@ -224,7 +224,7 @@ module _ (old held : Held) (process : Process) (place : ℕ) (was new : TreeStan
       subst (λ (o : Held). IsGiven o then_held process input end) same
       (subst (λ m. IsGiven held (record { actors = set held.actors m new; links = channels }) process input end) is given)
 
-  -- and it goes on
+  -- and it continues
   pub given_posted : before.posts ≡ [] → is_end end ≡ false → IsPosted (set held.actors place new) held.links process after.posts channels
       → IsGiven old then_held process input end
   given_posted silent goes posted =

@@ -1,4 +1,4 @@
--- From what the processes do to what the world says, and how a past goes on.
+-- From what the processes do to what the world says, and how a past continues.
 use Rattle.std.proofs.Common.{◌≡◌, ℕ, Bool, true, false, not, List, [], ◌∷◌, ◌++◌, refl, sym, ap, ◌∙◌, subst, true≢false, append_assoc}
 use Rattle.std.proofs.lemmas.List.{append-nil}
 use Rattle.std.specs.Prelude.{Result, Ok, Err, IfOk, OnErr, is_err}
@@ -64,7 +64,7 @@ enabled_of held history event =
     have_the_same_enabled cached_tree (world_of held history) (kept_world held history) event (alike_back (kept_world held history))
     ∙ enabled_anyway held history event
 
--- it goes on behind any past
+-- it continues after any past
 pub behind : (past : History) (old new : Held) (before after : History) (event : Event) (did : Did) → GoesBy old new event before after did
     → GoesBy old new event (past ++ before) (past ++ after) did
 behind past old new before after event did (reported, is, stepped) = (reported, ap (λ xs. past ++ xs) is ∙ sym (append_assoc past before reported), stepped)
@@ -90,7 +90,7 @@ pub stands_later : (restored forgotten : Bool) (held next : Held) (history later
 stands_later restored forgotten held next history later events had leads =
     after_both had.tree had.servers had.clients had.events events ∙ ap (λ w. run cached_tree w events) (had.stands refl) ∙ leads
 
--- the past goes on with it
+-- the past continues with it
 pub goes_on : (restored forgotten : Bool) (held next : Held) (history later : History) (events : List Event)
     (had : HasPast restored forgotten false held history)
     → run cached_tree (world_of held (had.past ++ history)) events ≡ world_of next (had.past ++ later) → HasPast restored forgotten false next later

@@ -1,4 +1,4 @@
--- Where processes stand in an opening, and the world that this is.
+-- The standings of processes in an opening, and the world that this is.
 use Rattle.std.proofs.Common.{◌≡◌, ℕ, ◌≤◌, ◌<◌, true, false, List, [], ◌∷◌, length, map}
 use Rattle.std.proofs.Common.{refl, sym, ap, ◌∙◌, inl, inr, arith, zero-add, lt-ltb, le-ltb, ltb-true}
 use Rattle.std.specs.Prelude.{nat_lt, ◌==◌}
@@ -31,7 +31,7 @@ use Rattle.zworld.specs.Held.{HeldChannels, bystander, standing_at, master_of, v
 use Rattle.zworld.specs.support.Opening.{opening_actor}
 use Rattle.zworld.specs.support.Standing.{waits, IsFull}
 
--- what is at most a limit is at most what is behind it
+-- what is at most a limit is at most any larger number
 few_behind : {limit : ℕ} (n m : ℕ) → n ≤ limit → limit ≤ m → n ≤ m
 few_behind n m few behind = omega (arith, few, behind)
 
@@ -67,7 +67,7 @@ module _ (machine : Does (CachedState Tree)) (last clients : ℕ) (few : last �
   no_process (Server s) far = ap AtServer (no_server s far)
   no_process (Client c) far = ap AtClient (no_client c far)
 
-  -- where each process stands in the opening
+  -- the standing of each process in the opening
   pub opening_at : (p : Process) → standing_at all_actors p ≡ at p
   opening_at p = elim (test (nat_lt (place_of p) PROCESSES)) [
     | inl inside ↦

@@ -25,7 +25,7 @@ use Rattle.zworld.proofs.Tries.{goes_nowhere, goes_on_with, under}
 module _ (strict : Bool) where
   -- passes
   module _ (events : List Event) (more : ℕ) (a b : Point) where
-    -- where a settling stands before a pass, and after it
+    -- the state of a settling before a pass, and after it
     abbrev Stood : TreeSettling → TreeSettling → Type 0
     Stood s t = (s.left ≡ a.left) × (t.left ≡ b.left) × (with_tries cached_tree s events ≡ t)
 
@@ -122,7 +122,7 @@ module _ (strict : Bool) where
 
   -- all of settling
   module _ (old new : Held) (limit left : ℕ) (seen all : History) where
-    -- the whole, where there are so many clients
+    -- the whole, where there are that many clients
     abbrev whole : ℕ → TreeSettling → TreeSettling
     whole clients s =
         passes cached_tree (deliveries clients) limit (with_tries cached_tree (passes cached_tree (deliveries clients) limit s) (retry_events clients))

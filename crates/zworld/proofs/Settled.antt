@@ -23,7 +23,7 @@ use Rattle.zworld.specs.support.Stepped.{Settles}
 use Rattle.zworld.specs.support.Past.{HasPast}
 use Rattle.zworld.proofs.Going.{goes_on, stands_later, leads_on, enabled_of}
 
--- settling goes on behind any past
+-- settling continues after any past
 settles_behind : (strict : Bool) (past : History) (old new : Held) (limit : ℕ) (before after : History) (settled : Settled)
     → Settles strict old new limit before after settled
     → Settles strict old new limit (past ++ before) (past ++ after) settled
@@ -56,7 +56,7 @@ settled_as_defined strict old new limit before after settled (learnt, reported, 
   ),
 )
 
--- and the past goes on
+-- and the past continues
 pub past_settles : (strict : Bool) (restored forgotten : Bool) (old new : Held) (limit : ℕ) (before after : History) (settled : Settled)
     → HasPast restored forgotten false old before
     → Settles strict old new limit before after settled → HasPast restored forgotten false new after

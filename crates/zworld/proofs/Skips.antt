@@ -1,4 +1,4 @@
--- Places that are passed by: nothing is under way from them, or to them.
+-- Positions that are passed by: nothing is in flight from them, or to them.
 use Rattle.std.proofs.Common.{Bool, ◌≡◌, ℕ, ◌+◌, ◌-◌, ◌<◌, ◌≤◌, zero, suc, false, List}
 use Rattle.std.proofs.Common.{[], length, take, get_or, ◌∷◌, inl, inr, refl, sym, ap, subst, ◌∙◌, arith}
 use Rattle.std.proofs.lemmas.List.{take_all}
@@ -31,16 +31,16 @@ use Rattle.zworld.specs.Held.{Held, SendsNothing, bystander, client_of, standing
 use Rattle.zworld.specs.support.Settling.{Point, StandsAt, TreeSettling, Tries, takes, takes_from}
 use Rattle.zworld.proofs.Tries.{silent_tries, empty_try, one_more_receiver, one_more_sender}
 
--- there are so many processes
+-- there are that many processes
 pub length-processes : (clients : ℕ) → length (processes clients) ≡ MAX_SERVERS + 1 + clients
 length-processes clients = length-map-range_with_len process_at 0 (MAX_SERVERS + 1 + clients)
 
--- each stands in its place
+-- each is at its position
 pub listed : (clients place : ℕ) → place < MAX_SERVERS + 1 + clients → process_at place ≡ get_or (processes clients) place (process_at place)
 listed clients place inside =
     sym (get_or-map-range_with_len process_at 0 (MAX_SERVERS + 1 + clients) place place (process_at place) inside (omega arith))
 
--- nothing is under way on a channel that is empty
+-- nothing is in flight on a channel that is empty
 pub empty_link : (inside held : Held) (from to : Process) → inside ≡ held → links_of inside.links from to ≡ []
     → (kept_world held []).links from to ≡ []
 empty_link inside held from to same none = ap (λ (h : Held). links_of h.links from to) (sym same) ∙ none
@@ -68,21 +68,21 @@ no_retries n held history left outcomes s none stands =
         (ap (list_any (is_enabled s.world)) (map-range_with_len_more Retry 0 m m (omega arith))
         ∙ list_any-append (is_enabled s.world) (retry_events m) (Retry m ∷ []) ∙ rw (none_waits m, idle) refl)
 
--- the process that was asked for by its place is that of the list
+-- the process that was asked for by its position is that of the list
 pub listed_as : (clients place : ℕ) (p : Process) → p ≡ process_at place → place < length (processes clients) → p ≡ get_or (processes clients) place p
 listed_as clients place p is inside =
     subst (λ q. q ≡ get_or (processes clients) place q) (sym is) (listed clients place (omega (arith, inside, length-processes clients)))
 
--- what is behind the end of a list isn't taken
+-- what is after the end of a list isn't taken
 pub past : {X : Type 0} (xs : List X) (n : ℕ) → length xs ≤ n → take (n + 1) xs ≡ take n xs
 past xs n all = take_all (n + 1) xs (omega (arith, all)) ∙ sym (take_all n xs all)
 
--- a fact of each process from one place on, and before another
+-- a fact of each process from one position on, and before another
 abbrev pub Within : ℕ → ℕ → (Process → Type 0) → Type 0
 Within start end Fact = (p : Process) → start ≤ place_of p → place_of p < end → Fact p
 
 module _ (strict : Bool) (clients : ℕ) (p : Point) where
-  -- receivers to which nothing is under way
+  -- receivers to which nothing is in flight
   pub skipped_receivers : (from : Process) (a : Point) (place k : ℕ) → place + k ≤ PROCESSES
       → Within place (place + k) (λ to. (kept_world p.held []).links from to ≡ [])
       → Tries strict (takes_from (take place (processes clients)) from) a p

@@ -1,4 +1,4 @@
--- Where processes stand once one stands somewhere else, and the world that this is.
+-- The standings of processes once one has another, and the world that this is.
 use Rattle.std.proofs.Common.{◌≡◌, ℕ, ◌<◌, Bool, true, false, if◌then◌else◌, List, [], ◌∷◌, ◌++◌, length}
 use Rattle.std.proofs.Common.{set, refl, sym, ap, ◌∙◌, inl, inr, append-nil, eqb-true, eq-eqb, get_or-set_same, get_or-set_other, arith}
 use Rattle.std.specs.Prelude.{◌==◌}
@@ -28,7 +28,7 @@ use Rattle.zworld.specs.Held.{Held, HeldChannels, bystander, standing_at, master
 use Rattle.zworld.specs.support.Posting.{is_lost, HasEnded}
 use Rattle.zworld.proofs.Alike.{alike_by}
 
--- the kinds of processes, and where each stands
+-- the kinds of processes, and the standing of each
 pub data Stands : Process → TreeStanding → Type 0 where
   IsMaster : (v : MasterView) → Stands Master (AtMaster v)
   IsServer : (s : ℕ) (v : TreeView) → Stands (Server s) (AtServer v)
@@ -49,7 +49,7 @@ stands (Client c) (AtServer v) can = absurd (true≢false (sym can))
 stands (Client c) (AtClient v) can = IsClient c v
 stands (Client c) Out can = absurd (true≢false (sym can))
 
--- one process stands somewhere else, and the others where they did
+-- one process has another standing, and the others are unchanged
 pub standing_set : (actors : List TreeStanding) (p q : Process) (standing : TreeStanding) → place_of p < length actors → length actors ≡ PROCESSES
     → standing_at (set actors (place_of p) standing) q ≡ (if is_same q p then standing else standing_at actors q)
 standing_set actors p q standing inside all = elim (test (is_same q p)) [
@@ -62,12 +62,12 @@ standing_set actors p q standing inside all = elim (test (is_same q p)) [
       (λ e. true≢false (sym (eq-eqb (place_of p) (place_of q) (sym e)) ∙ by_place q p (place_of p) refl small ∙ other)))
 ]
 
--- a history goes on with what callers saw
+-- a history continues with what callers saw
 goes_on_all : (history reported : History) → history ++ reported ≡ goes_on history reported
 goes_on_all history [] = append-nil history
 goes_on_all history (seen ∷ more) = refl
 
--- the views of those of whom one stands somewhere else
+-- the views of those of whom one has another standing
 view_if : (b : Bool) (v : TreeView) (other : TreeStanding) → view_of (if b then AtServer v else other) ≡ (if b then v else view_of other)
 view_if true v other = refl
 view_if false v other = refl
@@ -87,7 +87,7 @@ alive_then actors w failed Master alive = refl
 alive_then actors w failed (Server s) alive = failed s ∙ alive
 alive_then actors w failed (Client c) alive = refl
 
--- what a process did leads to the world in which it stands there, if the channels are these
+-- what a process did leads to the world in which it has that standing, if the channels are these
 module _ (held : Held) (channels : HeldChannels) (posts : List TreePost) (reported history : History) (all : length held.actors ≡ PROCESSES) where
   abbrev later : Process → TreeStanding → Held
   later p standing = record { actors = set held.actors (place_of p) standing; links = channels }
@@ -174,7 +174,7 @@ lost_is held history Master = refl
 lost_is held history (Server s) = refl
 lost_is held history (Client c) = refl
 
--- where a process stands in a world, by where it is held to stand
+-- the standing of a process in a world, by the standing that is held of it
 abbrev whole_of : Process → TreeStanding → TreeStanding
 whole_of Master standing = AtMaster (master_of standing)
 whole_of (Server s) standing = AtServer (view_of standing)
@@ -186,7 +186,7 @@ whole_is p standing (IsServer s v) lives = refl
 whole_is p standing (HasLeft s) lives = absurd (true≢false lives)
 whole_is p standing (IsClient c v) lives = refl
 
--- where a process stands that takes part is where it stands in the world
+-- the standing of a process that takes part is its standing in the world
 pub standing_is : (held : Held) (history : History) (p : Process) → Stands p (standing_at held.actors p)
     → has_stopped (standing_at held.actors p) ≡ false
     → standing_of (kept_world held history) p ≡ standing_at held.actors p

@@ -27,7 +27,7 @@ use Rattle.zworld.specs.Held.{Held, standing_at, kept_world}
 use Rattle.zworld.specs.Did.{IsCause}
 use Rattle.zworld.specs.support.Stepped.{HasStepped}
 
--- a server that has a place has a server's number
+-- a server that has a position has a server's number
 pub is_one : (s : ℕ) → place_of (Server s) < PROCESSES → is_server s ≡ true
 is_one s inside = elim (test (is_server s)) [
   | inl is ↦ is

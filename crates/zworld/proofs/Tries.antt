@@ -1,4 +1,5 @@
--- A settling goes on where the processes do: ways from one point to another, and events that are tried.
+-- A settling continues where the processes do: ways from one point to another, and events that are
+-- tried.
 use Rattle.std.proofs.Common.{◌≡◌, ℕ, ◌-◌, ◌<◌, ◌+◌, zero, suc, Bool, true, false, not, if◌then◌else◌, nat_lt, List, []}
 use Rattle.std.proofs.Common.{◌∷◌, ◌++◌, length, take, drop, get_or, refl, sym, ap, subst, ◌∙◌, append-nil}
 use Rattle.std.proofs.Common.{append_assoc, lt-ltb, arith}
@@ -31,7 +32,7 @@ use Rattle.zworld.specs.support.Stepped.{HasStepped}
 use Rattle.zworld.specs.support.Settling.{TreeSettling, StandsAt, Point, GoesOn, Does, Tries, GoOn, takes_from, takes}
 use Rattle.zworld.proofs.Steps.{enabled_anyway, read_anyway, read_acted, happens_not}
 
--- the same settling, where no history is reported
+-- the same settling, where the history is unchanged
 still : (p : Point) (history : History) (outcomes : List Outcome) (s : TreeSettling) → StandsAt p.held history p.left outcomes s
     → StandsAt p.held (history ++ []) p.left outcomes s
 still p history outcomes s stands = subst (λ h. StandsAt p.held h p.left outcomes s) (sym (append-nil history)) stands
@@ -141,7 +142,8 @@ module _ (strict : Bool) where
   pub spent_tries : (events : List Event) (p : Point) → p.left ≡ 0 → Tries strict events p p
   spent_tries events p none = tries_nothing events p (λ history outcomes s stands. none_may_be_done cached_tree s events (stands.remaining ∙ none))
 
-  -- so where no more may be done, the rest of a pass does nothing: neither the receivers behind so many, nor the senders
+  -- so where no more may be done, the rest of a pass does nothing: neither the receivers after that
+  -- many, nor the senders
   spent_rest : (events more all : List Event) (a b : Point) → events ++ more ≡ all → b.left ≡ 0 → Tries strict events a b → Tries strict all a b
   spent_rest events more all a b is none tries = subst (λ es. Tries strict es a b) is (tries_then events more a b b tries (spent_tries more b none))
 
@@ -159,7 +161,7 @@ module _ (strict : Bool) where
       (sym (flat_map-append (takes_from receivers) (take i senders) (drop i senders)) ∙ ap (takes receivers) (take-append-drop i senders))
       none tries
 
-  -- nor do the clients behind so many
+  -- nor do the clients after that many
   pub spent_retries : (n k : ℕ) (a b : Point) → b.left ≡ 0 → Tries strict (retry_events n) a b → Tries strict (retry_events (n + k)) a b
   spent_retries n zero a b none tries = subst (λ m. Tries strict (retry_events m) a b) (let same : n ≡ n + 0 = omega arith in same) tries
   spent_retries n (suc k) a b none tries =
@@ -281,7 +283,7 @@ module _ (strict : Bool) where
               λ strictly. (acted strictly, tt),
             )
 
--- where it is strict, an event goes on only where no server ran out of memory
+-- where it is strict, an event continues only where no server ran out of memory
 pub acted_where : (strict : Bool) (did : Did) → strict ≡ true → (strict && is_short did) ≡ false → outcome_of did ≡ Acted
 acted_where true did strictly whole = acted_at did whole
 acted_where false did strictly whole = absurd (true≢false (sym strictly))

@@ -18,7 +18,7 @@ use Rattle.zworld.specs.support.Settling.{Point, Tries, takes, takes_from}
 use Rattle.zworld.proofs.Skips.{length-processes, listed, past, receivers_to, senders_to}
 use Rattle.zworld.proofs.Tries.{goes_nowhere, one_more_receiver, one_more_sender, spent_receivers, spent_senders}
 
--- behind a turn less is to come
+-- after a turn less is to come
 pub shorter : (from to : ℕ) (turn : Turn) → from < PROCESSES → to < PROCESSES → turn.sender ≤ PROCESSES → turn.receiver < PROCESSES
     → Reaches from (to + 1) turn.sender turn.receiver
     → (PROCESSES - turn.sender) * PROCESSES + (PROCESSES - turn.receiver) < (PROCESSES - from) * PROCESSES + (PROCESSES - to)
@@ -32,11 +32,11 @@ shorter from to turn small short few bounded ahead = elim (test (turn.sender == 
 ]
 
 module _ (strict : Bool) (clients : ℕ) where
-  -- so many take part
+  -- that many take part
   abbrev pub taking_part : ℕ
   taking_part = MAX_SERVERS + 1 + clients
 
-  -- the channels before these places had their turn
+  -- the channels before these positions had their turn
   abbrev pub HadTurns : (from to : ℕ) → Point → Point → Type 0
   HadTurns from to a b =
       (p : Point) × Tries strict (takes (processes clients) (take from (processes clients))) a p

@@ -11,7 +11,7 @@ use Rattle.zcalls.specs.declared.reply.Reply.{Reply}
 use Rattle.zcalls.specs.declared.reply.Reply.TheVariants as reply
 use Rattle.zcalls.specs.Cached.{CachedState, PlainStep, nothing_cached, entry_step}
 
--- a reply that reports a number
+-- a reply with a number
 abbrev pub number_reply : ℕ → Reply
 number_reply n = reply.MultiRefused n NoNode
 
@@ -35,7 +35,7 @@ creates client number = record { client = client; number = number; update = Crea
 abbrev pub deletes : ℕ → ℕ → Entry
 deletes client number = record { client = client; number = number; update = Delete (record { path = []; version = Any }) }
 
--- the state of that many creates where this reply is kept for a client's call too
+-- the state of that many creates where this reply is cached for a client's call too
 abbrev pub keeping : CachedState ℕ → ℕ → ℕ → ℕ → Reply → CachedState ℕ
 keeping s creates client number reply = record { plain = creates; kept = insert s.kept client (record { number = number; reply = reply }) }
 
@@ -43,8 +43,8 @@ keeping s creates client number reply = record { plain = creates; kept = insert 
 abbrev pub after : CachedState ℕ → Entry → CachedState ℕ × Option Reply
 after s e = entry_step counting s e
 
--- seven creates, and no reply is kept; a client's call 3 acted last, as the seventh create; and this call of a client acted
--- then, as the eighth
+-- seven creates, and no reply is cached; a client's call 3 acted last, as the seventh create; and
+-- this call of a client acted then, as the eighth
 abbrev pub seven : CachedState ℕ
 seven = nothing_cached 7
 
@@ -54,7 +54,8 @@ third_kept = keeping seven 7 1 3 (number_reply 7)
 abbrev pub with_eighth : CachedState ℕ → ℕ → ℕ → CachedState ℕ
 with_eighth s client number = keeping s 8 client number (number_reply 8)
 
--- one create, and no reply is kept; a client's call 1 acted then, as the second create; and its call 2 was refused
+-- one create, and no reply is cached; a client's call 1 acted then, as the second create; and its
+-- call 2 was refused
 abbrev pub one : CachedState ℕ
 one = nothing_cached 1
 

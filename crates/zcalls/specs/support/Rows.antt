@@ -47,7 +47,8 @@ abbrev pub FirstIsRefused : Refusal → Run → Type 0
 FirstIsRefused why whole =
     (t : Tree) (client : ℕ) (part : Part) (parts : List Part) → part_step t client part ≡ Err why → run t client (part ∷ parts) ≡ whole
 
--- where it is done and answered Checked, and those behind it come to this on the tree that it left, the whole comes to that
+-- where it is done and answered Checked, and those after it come to this on the tree that it left,
+-- the whole comes to that
 abbrev pub FirstIsChecked : Run → Run → Type 0
 FirstIsChecked rest whole =
     (t u : Tree) (client : ℕ) (part : Part) (parts : List Part)
@@ -72,7 +73,7 @@ delete_a t version = delete_step t (record { path = at_a; version = Exactly vers
 abbrev pub set_a : Tree → ℕ → Result (Tree × ChangeReply) Refusal
 set_a t version = set_step t (record { path = at_a; bytes = a; version = Exactly version })
 
--- its bytes, and what is reported of it where it has no children
+-- its bytes, and its stat where it has no children
 abbrev pub sevens : List ℕ
 sevens = 7 ∷ 7 ∷ []
 
@@ -101,6 +102,7 @@ only_a = at_a ∷ []
 abbrev pub ticked : Tree → ℕ → ℕ → Reply
 ticked t ended gone = reply.Ticked (t.time + 1) ended gone
 
--- what a tick leaves and reports that ended so many sessions and took so many nodes, which left the second tree of the first
+-- what a tick leaves and reports that ended that many sessions and took that many nodes, which left
+-- the second tree of the first
 abbrev pub leaves : Tree → Tree → ℕ → ℕ → Tree × Reply
 leaves t u ended gone = (with_next_zxid (with_next_tick u), ticked t ended gone)

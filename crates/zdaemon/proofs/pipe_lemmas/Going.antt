@@ -116,7 +116,7 @@ module _ {V : Type 0} (took : V → InputView → V → Type 0) (kept : V → V 
     took_it = front.took_them;
   }
 
-  -- a beginning of an answer behind messages that were taken
+  -- a prefix of an answer after messages that were taken
   some_behind : (takes sends both : List ℕ → Type 0) (messages : List MessageView) (outputs : List OutputView) (old middle : V) → Joins takes sends both
       → Serves took kept reported has_reported messages outputs old middle → takes (outputs_text outputs) → SendsSome kept reported sends middle
       → ServesSome took kept reported has_reported both old
@@ -212,7 +212,7 @@ module _ {V : Type 0} (took : V → InputView → V → Type 0) (kept : V → V 
     took_it = so_far.took_them;
   }
 
-  -- it ended earlier, behind these messages
+  -- it ended earlier, after these messages
   pub some_later : (takes sends both : List ℕ → Type 0) (messages : List MessageView) (outputs : List OutputView) (old middle : V)
       → Joins takes sends both
       → Serves took kept reported has_reported messages outputs old middle → takes (outputs_text outputs)
@@ -241,7 +241,7 @@ module _ {V : Type 0} (took : V → InputView → V → Type 0) (kept : V → V 
   going_stops gave takes sends both begun old middle joins so_far some = some_later takes sends both so_far.messages
       so_far.outputs old middle joins so_far.serves so_far.took_them some
 
-  -- ---- behind the first answer
+  -- ---- after the first answer
 
   pub all_behind : (gave takes sends both : List ℕ → Type 0) (old middle new : V) → Joins takes sends both
       → Sends took kept reported has_reported Keep takes old middle

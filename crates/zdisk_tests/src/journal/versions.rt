@@ -1,4 +1,4 @@
-//! Files of version 1 are opened, and go on. A renewal makes version 2.
+//! Files of version 1 are opened, and continue. A renewal makes version 2.
 
 ghost use Rattle.zjournal.specs.Journal.{IsSound};
 

@@ -33,7 +33,7 @@ any_queries_are_refuted query = (_, inl refl, λ given. given.1)
 pub old_tails_are_refuted : OldTailsAreRefuted
 old_tails_are_refuted query = (_, inl refl, λ given. given.1)
 
--- with nothing at the second member, and nothing that counts under way to it, the two are in order
+-- with nothing at the second member, and nothing that counts in flight to it, the two are in order
 in_order : (first : List Entry) (links : Links (List Entry)) → final_log (two_members first (Some []) links) 2 ≡ Some []
     → links Master (Server 1) ≡ []
     → ChainIsOrdered (two_members first (Some []) links)
@@ -61,7 +61,7 @@ any_submits_are_refuted = (
       begins_nothing (call 1) [] (subst (IsPrefix (call 1 ∷ [])) (sym own) ahead.begins),
 )
 
--- or has in the first place what the first has in the second
+-- or has at the first position what the first has in the second
 pub any_updates_are_refuted : AnyUpdatesAreRefuted
 unfolding accept_result
 any_updates_are_refuted = (

@@ -1,2 +1,2 @@
--- What is under way to a server from its predecessor.
+-- What is in flight to a server from its predecessor.
 pub mod Flow

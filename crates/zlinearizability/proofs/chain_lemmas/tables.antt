@@ -1,4 +1,4 @@
--- What the rows of the tables keep of a view and of what they put.
+-- What the rows of the tables preserve of a view and of what they put.
 pub mod Everywhere
 pub mod Lasts
 pub mod OtherPosts

@@ -1,4 +1,5 @@
--- A client does something: it has a new view, puts requests of calls that began, and the history goes on.
+-- A client does something: it has a new view, puts requests of calls that began, and the history
+-- continues.
 use Rattle.std.proofs.Common.{◌≡◌, ◌⊎◌, ℕ, zero, suc, ◌+◌, ◌≤◌, true, ◌==◌, List, [], ◌∷◌, ◌++◌, length, length-append}
 use Rattle.std.proofs.Common.{take, Option, Some, None, refl, sym, ap, subst, inl, inr, eq-eqb, arith}
 use Rattle.zcalls.specs.declared.call.Call.{Call}

@@ -107,7 +107,7 @@ module _ {P : Type 0} (plain : Plain P) (t : Account) (s : IsSound plain t) (c y
       at_cases (λ u. u.machine ≡ Some l → is_none u.succ ≡ true → l ≡ t.committed) y old w.servers z
       (λ e a b. s.tail y l (subst (IsMember w) e member) a b) (λ f. s.tail z l member) is ends
 
-  -- the query is answered from the tree behind the list
+  -- the query is answered from the tree at the end of the list
   replays : Replays (service_of plain) plain.opening (t.items ++ item ∷ [])
   replays =
       let leads : after_items plain plain.opening t.items ≡ (after_log plain log).plain =

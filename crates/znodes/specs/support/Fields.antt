@@ -1,4 +1,4 @@
--- What the fields of a `Nodes` stand for.
+-- What the fields of a `Nodes` represent.
 use Rattle.znodes.specs.declared.nodes.Nodes.TheInside.{Inside}
 use Rattle.znodes.specs.NodesView.{NodesView}
 use Rattle.znodes.specs.support.Rows.{nodes_of, places_of, held_of, known_of}

@@ -43,7 +43,7 @@ with_key m id key = with_row_at m id (λ r. record r { key = key })
 abbrev pub with_parent : Items Row → Id → Id → Items Row
 with_parent m id parent = with_row_at m id (λ r. record r { parent = Some parent })
 
--- the key that a row keeps
+-- the key that a row stores
 abbrev pub kept_key : Items Row → Id → Option Key
 kept_key m id = option_and_then (λ (r : Row). r.key) (get m id)
 

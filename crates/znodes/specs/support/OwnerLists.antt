@@ -13,11 +13,11 @@ use Rattle.zslots.specs.Ids.{coded_id}
 abbrev pub OwnerLists : Type 0
 OwnerLists = FinMap nat_cmp (IdList 1)
 
--- who owns a node, but for nobody
+-- who owns a node, if anyone does
 abbrev pub somebody : ℕ → Option ℕ
 somebody owner = if owner == 0 then None else Some owner
 
--- an owner's list; nobody has none
+-- an owner's list; there is none for no owner
 abbrev pub list_of : OwnerLists → ℕ → Option (IdList 1)
 list_of owners owner = option_and_then (get owners) (somebody owner)
 

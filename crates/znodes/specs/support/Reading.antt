@@ -64,6 +64,6 @@ abbrev pub AreStaleOf : Items Row → ℕ → IdList 2 → Ids → Type 0
 AreStaleOf m tick list stale =
     (ids : Ids) → IsList timed_links m list ids → stale ≡ stale_of m tick ids
 
--- a row's Id was put behind these, where a tick removes its node
+-- a row's Id was put after these, where a tick removes its node
 abbrev pub AddsStale : Items Row → ℕ → Id → Ids → Ids → Type 0
 AddsStale m tick id old new = new ≡ old ++ stale_of m tick (id ∷ [])

@@ -1,4 +1,4 @@
--- The rows of the nodes, the lists in which they stand, and what they stand for.
+-- The rows of the nodes, the lists in which they are, and what they represent.
 use Rattle.std.specs.Prelude.{◌≡◌, ℕ, Bool, true, false, [], ◌∷◌, List, Option, None, Some, if◌then◌else◌, ◌==◌}
 use Rattle.std.specs.Global.{Global}
 use Rattle.std.specs.Option.{option_map, option_map_or, option_and_then}
@@ -48,11 +48,11 @@ abbrev pub above : Path → Option Path
 above [] = None
 above (n ∷ path) = Some (parent_of (n ∷ path))
 
--- the path above a live node: whose list of children it stands in
+-- the path above a live node: whose list of children it is in
 abbrev pub parent_key : Row → Option Path
 parent_key r = if is_live r then above r.path else None
 
--- the owner of a live node: whose list it stands in
+-- the owner of a live node: whose list it is in
 abbrev pub owner_key : Row → Option ℕ
 owner_key r = if is_live r then somebody r.node.owner else None
 
@@ -60,7 +60,7 @@ owner_key r = if is_live r then somebody r.node.owner else None
 abbrev pub timed_by : ℕ → Option (Unit {0})
 timed_by ttl = if ttl == 0 then None else Some tt
 
--- a live node with a time to live stands in the one list of these
+-- a live node with a time to live is in the one list of these
 abbrev pub timed_key : Row → Option (Unit {0})
 timed_key r = if is_live r then timed_by r.node.ttl else None
 
@@ -88,13 +88,13 @@ children_of m ids path = option_map_or (children_at m) (get ids path) empty_list
 abbrev pub owned_by : OwnerLists → ℕ → IdList 1
 owned_by owners owner = option_map_or (λ (list : IdList 1). list) (get owners owner) empty_list
 
--- a row that was taken away keeps the index's key, and has no children
+-- a row that was taken away still has the index's key, and has no children
 abbrev pub KeepsKey : Row → Type 0
 KeepsKey r = (key : Key) → r.key ≡ Some key → (key ≡ r.path) × (r.children ≡ empty_list)
 
--- what is kept: the index names each live row by its path and nothing else; a row that was taken
--- away keeps its key, and has no children; and the lists hold exactly the children of each path, and
--- the nodes of each owner
+-- the invariant: the index names each live row by its path and nothing else. A row that was taken
+-- away still has its key, and has no children. The lists hold exactly the children of each path,
+-- and the nodes of each owner
 pub record IsLinked (m : Items Row) (ids : IdsByPath) (owners : OwnerLists) : Type 0 where
   pub named : (path : Path) (id : Id) → get ids path ≡ Some id →
       (r : Row) × (get m id ≡ Some r) × (r.path ≡ path) × (r.key ≡ None)
@@ -113,7 +113,7 @@ NamesParents m ids =
     (id : Id) (r : Row) → get m id ≡ Some r → r.key ≡ None →
     r.parent ≡ option_and_then (get ids) (above r.path)
 
--- what is kept of all lists, and of the nodes above
+-- the invariant of all lists, and of the nodes above
 pub record IsThreaded (m : Items Row) (ids : IdsByPath) (owners : OwnerLists)
     (timed : IdList 2) : Type 0 where
   pub linked : IsLinked m ids owners

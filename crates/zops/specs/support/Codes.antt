@@ -1,4 +1,5 @@
--- How what a machine stands for is stored, by the codes of its parts: a proof reports machines apart by them.
+-- How what a machine represents is stored, by the codes of its parts: a proof distinguishes
+-- machines by them.
 use Rattle.std.specs.Prelude.{ℕ, Bool, refl}
 use Rattle.std.specs.Coded.{Coded, code_by, coded×, coded_ℕ, coded_bool}
 use Rattle.std.specs.Ordering.{nat_cmp}
@@ -10,15 +11,15 @@ use Rattle.zcalls.specs.contracts.reply.Reply as reply
 use Rattle.zcalls.specs.Cached.{Cached, CachedState}
 use Rattle.zops.specs.Machine.{MachineState, MachineView}
 
--- how a kept reply is stored
+-- how a cached reply is stored
 abbrev pub coded_kept : Coded Cached
 coded_kept = code_by (ℕ × Reply) (coded× coded_ℕ reply.the_row.coded) (λ k. (k.number, k.reply)) (λ p. record { number = p.0; reply = p.1 }) (λ _. refl)
 
--- how the kept replies are stored
+-- how the cached replies are stored
 abbrev pub coded_replies : Coded (finite.FinMap nat_cmp Cached)
 coded_replies = finite.code coded_ℕ coded_kept
 
--- how a tree with kept replies is stored
+-- how a tree with cached replies is stored
 abbrev pub coded_service : Coded (CachedState Tree)
 coded_service = code_by (Tree × finite.FinMap nat_cmp Cached) (coded× coded_tree coded_replies) (λ s. (s.plain, s.kept)) (λ p. record { plain = p.0; kept = p.1 }) (λ _. refl)
 

@@ -1,4 +1,4 @@
--- What the fields of a machine stand for.
+-- What the fields of a machine represent.
 use Rattle.zops.specs.declared.machine.Machine.TheInside.{Inside}
 use Rattle.zops.specs.Machine.{MachineView}
 

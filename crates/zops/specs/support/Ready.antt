@@ -59,7 +59,7 @@ abbrev pub RemovesNamed : Ids → StoreView → StoreView → Type 0
 RemovesNamed ids old new =
     (paths : List Path) → AreAt old.places ids paths → new.tree ≡ without_nodes old.tree paths
 
--- a mark stands that remembers what this one does, with room for undoing so many parts
+-- a mark is set that remembers what this one does, with room for undoing that many parts
 abbrev pub HasMark : ℕ → Mark → StoreView → Type 0
 HasMark parts m store = (n : Mark) × (store.marked ≡ Some n) × (n.tree ≡ m.tree) × (n.places ≡ m.places) × (2 * parts ≤ n.steps)
 
@@ -72,14 +72,16 @@ pub record IsRun (old new : StoreView) : Type 0 where
   pub alone : ChangesNodesAlone old.tree new.tree
   pub within : AllNodes (IsWithin (MAX_RAISES * old.tree.zxid + MAX_PARTS)) new.tree.nodes
 
--- what a machine keeps: bounded numbers, few entries, and few Ids for each entry beside those of its first nodes; and while it has memory, no node of a later change or tick
+-- the invariant of a machine: bounded numbers, few entries, and few Ids for each entry beside those
+-- of its first nodes. While it has memory, it has no node of a later change or tick
 pub record IsSound (store : StoreView) (applied : ℕ) (is_broken : Bool) : Type 0 where
   pub bounded : IsBounded store.tree
   pub applied_few : applied ≤ MAX_APPLIED
   pub given_few : store.given ≤ MAX_PARTS * applied + MAX_NODES
   pub dated : is_broken ≡ false → AllDated store.tree
 
--- what a machine keeps while it is restored: bounded numbers, few entries, one Id for each node, and no node of a later change or tick
+-- the invariant of a machine while it is restored: bounded numbers, few entries, one Id for each
+-- node, and no node of a later change or tick
 pub record IsRestoring (store : StoreView) (applied : ℕ) : Type 0 where
   pub bounded : IsBounded store.tree
   pub applied_few : applied ≤ MAX_APPLIED

@@ -26,17 +26,17 @@ Makes outcome store reply = (store.tree, reply) ≡ outcome
 abbrev pub next_tick_result : Tree → Tree × Reply
 next_tick_result t = tick_result t (due_next t) (stale_next t)
 
--- kept replies by the clients' numbers
+-- cached replies by the clients' numbers
 abbrev pub Replies : Type 0
 Replies = FinMap nat_cmp Cached
 
--- an entry leads from one store with kept replies to another, and has this reply
+-- an entry leads from one store with cached replies to another, and has this reply
 abbrev pub IsEntered : Entry → StoreView → Replies → StoreView → Replies → Option Reply → Type 0
 IsEntered entry old kept_old new kept_new reply =
     (record { plain = new.tree; kept = kept_new }, reply)
     ≡ entry_step step (record { plain = old.tree; kept = kept_old }) entry
 
--- it is reported whether the node that an Id names passes a test
+-- whether the node that an Id names passes a test is returned
 abbrev pub ReportsWhether : (Node → Bool) → StoreView → Id → Bool → Type 0
 ReportsWhether test store id reported = AtPath store id (λ path. reported ≡ node_has test store.tree.nodes path)
 

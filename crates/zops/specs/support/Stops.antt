@@ -15,7 +15,8 @@ use Rattle.zops.specs.declared.stop.Stop.TheVariants as stop
 use Rattle.zops.specs.declared.stop.Halt.{Halt}
 use Rattle.zops.specs.declared.stop.Halt.TheVariants as halt
 
--- a change or a part was done: the tree and the reply are those of its step, at most one Id was given, and a mark stands still
+-- a change or a part was done: the tree and the reply are those of its step, at most one Id was
+-- given, and a mark is still set
 pub record IsDone {A : Type 0} (step : Result (Tree × A) Refusal) (old new : StoreView) (reply : A) : Type 0 where
   pub step_is : step ≡ Ok (new.tree, reply)
   pub given : new.given ≤ old.given + 1

@@ -1,4 +1,4 @@
--- The names of a list, however it keeps them.
+-- The names of a list, however it stores them.
 use Rattle.std.specs.Prelude.{ℕ, List}
 use Rattle.zpath.specs.declared.list.NameList.{NameList}
 use Rattle.zpath.specs.declared.list.NameList.TheVariants.{One, Two, Many}

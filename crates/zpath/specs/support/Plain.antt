@@ -3,15 +3,15 @@ use Rattle.std.specs.Prelude.{◌≡◌, ℕ, ◌+◌, ◌-◌, Bool, true, fals
 use Rattle.std.specs.List.{sum_by}
 use Rattle.zpath.specs.Grammar.{is_name_byte}
 
--- no name is empty, has a bad byte or begins with a dot, and behind this one come so many at most; a name begins here,
--- or goes on
+-- no name is empty, has a bad byte or begins with a dot, and after this one come at most that many;
+-- a name begins here, or continues
 abbrev pub has_plain_names : ℕ → Bool → List ℕ → Bool
 has_plain_names room begins [] = not begins
 has_plain_names room begins (byte ∷ rest) =
     if byte == 47 then not begins && nat_lt 0 room && has_plain_names (room - 1) true rest
     else is_name_byte byte && not (begins && (byte == 46)) && has_plain_names room false rest
 
--- how long the names are; the first has so many bytes before these
+-- how long the names are; the first has that many bytes before these
 abbrev pub lens_of : ℕ → List ℕ → List ℕ
 lens_of len [] = len ∷ []
 lens_of len (byte ∷ rest) = if byte == 47 then len ∷ lens_of 0 rest else lens_of (len + 1) rest

@@ -11,6 +11,6 @@ abbrev pub listed : {C : Type 0} → Option (Arc NameList C) → List (List ℕ)
 listed None = []
 listed (Some list) = items_of (arc_value list)
 
--- the list begins with so many names, and they are a path
+-- the list begins with that many names, and they are a path
 abbrev pub ShowsPath : ℕ → List (List ℕ) → Type 0
 ShowsPath depth list = (depth ≤ length list) × IsPath (take depth list)

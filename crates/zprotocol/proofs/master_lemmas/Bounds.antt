@@ -1,4 +1,4 @@
--- The master keeps its bounds.
+-- The master's bounds are invariants.
 use Rattle.std.proofs.Common.{◌≡◌, ℕ, ◌+◌, ◌≤◌, Bool, true, false, ◌==◌, List, [], ◌∷◌, ◌++◌, Option, Some, None, zero, suc, length, refl, sym, ap, subst, ◌∙◌, inl, inr, arith, length-append}
 use mathlib.Core.Bool.{true≢false}
 use Rattle.std.specs.Prelude.{◌||◌, not, if◌then◌else◌}
@@ -70,7 +70,7 @@ stays s x (Some j) is = elim (test (j == s)) [
 ]
 
 module _ {T : Type 0} where
-  -- what the master does with a message keeps its bounds
+  -- what the master does with a message preserves its bounds
   row_keeps : (v : MasterView) → IsBounded v → (from : Process) (m : Message T) (r : MasterResult T) → IsMasterRow v from m r → IsBounded r.0
   row_keeps v b _ _ _ (Ignores from m) = b
   row_keeps v b _ _ _ (Reports s epoch last p is) = b
@@ -174,7 +174,7 @@ module _ (T : Type 0) (v : MasterView) where
         retires = λ x is. longer_among x (s, v.epoch + 1) v.chain (b.retires x is);
       }
 
-  -- an order keeps the bounds
+  -- an order preserves the bounds
   pub orders_keep : (order : Order) → order_fault v order ≡ None → IsBounded v → IsBounded (order_step {T = T} v order).0
   unfolding order_fault order_step join_found
   orders_keep (Join s) free b = found_keeps s (is_new (is_among s v.used) _ free) b (last_or None (members v))

@@ -14,24 +14,24 @@ use Rattle.zprotocol.proofs.master_lemmas.Numbers.{numbers_of, later}
 use Rattle.zprotocol.specs.master.support.Cases.{IsMended, Only, First, Last, Between, IsMasterRow, Ignores, Reports, Joins, LeavesOutside, Leaves}
 
 module _ {T : Type 0} (epoch s : ℕ) where
-  -- what is left behind p, and what is reported
+  -- what is left after p, and which orders are sent
   abbrev next : ℕ → List Neighbour → MendedChain T
   next p rest = without_next epoch p rest
 
   abbrev behind : ℕ → List Neighbour → MendedChain T
   behind p rest = mended_chain_behind epoch s p rest
 
-  -- a chain that is mended behind its front
+  -- a chain that is mended after its front
   abbrev IsMendedTo : List Neighbour → List Neighbour → MendedChain T → Type 0
   IsMendedTo chain front done = IsMended epoch s chain (front ++ done.0, done.1)
 
-  -- who stands behind p has failed
+  -- who is after p has failed
   next_case : (front : List Neighbour) (p : Neighbour) (k : ℕ) (rest : List Neighbour)
       → IsMended epoch s (front ++ p ∷ (s, k) ∷ rest) (front ++ p ∷ (next p.0 rest).0, (next p.0 rest).1)
   next_case front p k [] = Last front p k
   next_case front p k (t ∷ rest) = Between front p k t rest
 
-  -- the chain behind p, where s is in it
+  -- the chain after p, where s is in it
   behind_case : (p : Neighbour) (chain : List Neighbour) → is_among s (numbers_of chain) ≡ true → (front : List Neighbour)
       → IsMended epoch s (front ++ p ∷ chain) (front ++ p ∷ (behind p.0 chain).0, (behind p.0 chain).1)
   behind_case p [] among front = absurd (true≢false (sym among))

@@ -82,7 +82,7 @@ pub later : (b c : Bool) → b ≡ false → (b || c) ≡ true → c ≡ true
 later false c first any = any
 later true c first any = absurd (true≢false first)
 
--- who stays behind a front stays in the whole
+-- who stays after a front stays in the whole
 pub among_behind : (x : ℕ) (front chain other : List Neighbour)
     → (is_among x (numbers_of chain) ≡ true → is_among x (numbers_of other) ≡ true)
     → is_among x (numbers_of (front ++ chain)) ≡ true → is_among x (numbers_of (front ++ other)) ≡ true

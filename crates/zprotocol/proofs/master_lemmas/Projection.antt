@@ -19,7 +19,7 @@ module _ {M N : Type 0} (h : M → N) where
   posts_append [] more = refl
   posts_append (post ∷ posts) more = ap (λ rest. (post.0, message_with h post.1) ∷ rest) (posts_append posts more)
 
-  -- what clients are reported names no machine
+  -- what clients are sent names no machine
   configs_with : (v : MasterView) (clients : List ℕ)
       → posts_with h (map (λ c. (Client c, message.Config v.epoch (head_of v) (tail_of v))) clients)
       ≡ map (λ c. (Client c, message.Config v.epoch (head_of v) (tail_of v))) clients

@@ -19,7 +19,7 @@ abbrev answers_some : {M : Type 0} → List (Post M) → Bool
 answers_some posts = list_any (λ post. is_answer post.1) posts
 
 module _ {M : Type 0} (d : Does M) where
-  -- where nobody is answered there is nothing to show
+  -- where no one is answered there is nothing to show
   nobody : (v : ServerView M) (posts : List (Post M)) → answers_some posts ≡ false → answers_some posts ≡ true → is_tail v ≡ true
   nobody v posts none some = absurd (true≢false (sym some ∙ none))
 

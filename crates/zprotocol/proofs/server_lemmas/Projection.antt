@@ -1,4 +1,4 @@
--- The server table commutes with a map between machines that keeps what they do.
+-- The server table commutes with a map between machines that preserves what they do.
 use Rattle.std.proofs.Common.{◌≡◌, refl, sym, ap, ◌∙◌, ℕ, ◌+◌, Bool, true, false, ◌==◌, Option, None, Some, List, [], ◌∷◌, ◌++◌, map}
 use Rattle.std.specs.Prelude.{if◌then◌else◌}
 use Rattle.zcalls.specs.declared.call.Entry.{Entry}

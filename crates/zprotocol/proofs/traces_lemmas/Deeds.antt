@@ -1,4 +1,4 @@
--- Deeds, and more deeds behind them.
+-- Deeds, and more deeds after them.
 use Rattle.std.proofs.Common.{◌≡◌, ◌<◌, ℕ, Bool, true, false, List, [], ◌∷◌, ◌++◌, Option, Some, None, refl, sym, ap, ◌∙◌, subst, append_assoc, arith}
 use Rattle.std.specs.Prelude.{if◌then◌else◌}
 use Rattle.std.proofs.Math.Nat.{le-max_left, le-max_right}
@@ -69,7 +69,7 @@ module _ {M : Type 0} where
   pub trace_more : (deeds : List (Deed M)) (d : Deed M) → trace_by (deeds ++ d ∷ []) ≡ trace_by deeds ++ d.event ∷ []
   trace_more deeds d = trace_append deeds (d ∷ [])
 
-  -- a process goes on from where deeds left it
+  -- a process continues from where deeds left it
   pub goes_append : (machine : Does M) (p : Process) (standing : Standing M) (last : ℕ) (deeds more : List (Deed M))
       → GoesBy machine p standing last deeds
       → GoesBy machine p (left_by standing deeds) (last_by last deeds) more → GoesBy machine p standing last (deeds ++ more)

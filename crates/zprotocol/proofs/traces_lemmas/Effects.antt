@@ -60,7 +60,7 @@ pub record HappensIn {M : Type 0} (w : World M) (p : Process) (act : Act) (left 
   pub own : AreInto w p act left posts after
   pub history : after.history ≡ w.history ++ reported
 
--- and it is in its place
+-- and it is at its position
 pub record IsRowOf {M : Type 0} (machine : Does M) (w : World M) (p : Process) (act : Act) (left : Standing M)
     (posts : List (Post M)) (reported : History) : Type 0 where
   pub in_place : is_step_in_place w (event_of p act) ≡ true
@@ -96,7 +96,7 @@ module _ {M : Type 0} (w : World M) where
   put_nothing : (links : Links M) (p x y : Process) → links x y ≡ put links p [] x y
   put_nothing links p x y = elim (test (is_same x p)) [ inl t ↦ rw t (sym (append-nil (links x y))) | inr f ↦ rw f refl ]
 
-  -- a process stays where it stands, and its message, if any, is gone
+  -- a process has its standing unchanged, and its message, if any, is gone
   pub idles : (act : Act) (p : Process) → HappensIn w p act (standing_in w p) [] [] (record w { links = fronts w.links act p })
   idles act p = record {
     stands = stays;
@@ -119,7 +119,7 @@ module _ {M : Type 0} (w : World M) where
       stays q = elim (test (is_same q p)) [ inl y ↦ rw y (ap (standing_in w) (same_process q p y)) | inr f ↦ rw f refl ]
 
 module _ {M : Type 0} (machine : Does M) (w : World M) where
-  -- an act whose event is in its place, and does this
+  -- an act whose event is at its position, and does this
   pub row_by : (p : Process) (act : Act) (e : Event) (did : Effect M) (after : World M) → event_of p act ≡ Some e → is_in_place w e ≡ true
       → after ≡ happens machine w e → HappensIn w p act did.left did.posts did.reported after → IsRowOf machine w p act did.left did.posts did.reported
   row_by p act e did after is place same does = record {
@@ -191,7 +191,8 @@ master_counts v _ _ _ (LeavesOutside s out) = refl
 master_counts v _ _ _ (Leaves s chain among mended) = refl
 
 module _ {M : Type 0} (w : World M) where
-  -- a process may stand so, each in its own way; and the master knows of as many clients
+  -- a process may have such a standing, each of its own kind; and the master knows of as many
+  -- clients
   abbrev Fits : Process → Standing M → Type 0
   Fits Master (AtMaster v) = v.clients ≡ w.master.clients
   Fits (Server s) (AtServer v) = Unit {0}
@@ -203,7 +204,7 @@ module _ {M : Type 0} (w : World M) where
   fits_if s true did = tt
   fits_if s false did = tt
 
-  -- so it stands after an input
+  -- so is its standing after an input
   does_fit : (machine : Does M) (p : Process) (input : Input M) → accepts p input (standing_of w p) ≡ true
       → Fits p (does machine p input (standing_of w p)).left
   does_fit machine Master (Hear from m) accepted = master_counts w.master from m (master.master_step w.master from m) (master_case w.master from m)
@@ -226,7 +227,8 @@ module _ {M : Type 0} (w : World M) where
       by true true h = absurd (cc h)
       by false b h = absurd (cc h)
 
-  -- where each process stands, once one stands somewhere else; links and history don't matter to that
+  -- the standing of each process, once one has another standing; links and history don't matter to
+  -- that
   moved : (links after : Links M) (history : History) (p : Process) (left : Standing M) → takes_part w p ≡ true → Fits p left → (q : Process)
       → standing_in (record (with_standing (record w { links = links }) p left) { links = after; history = history }) q
       ≡ at_process p left (standing_in w) q
@@ -253,7 +255,7 @@ module _ {M : Type 0} (w : World M) where
   ]
   moved links after history p left part fits q = absurd fits
 
-  -- nobody else fails by that; it does where it takes no part any more
+  -- no one else fails by that; the process itself does where it no longer takes part
   moved_failed : (links : Links M) (p : Process) (left : Standing M) → Fits p left → (q : Process) → is_same q p ≡ false
       → has_failed (with_standing (record w { links = links }) p left) q ≡ has_failed w q
   moved_failed links (Server s) Out fits (Server t) other = ap (λ b. if b then true else w.failed t) other

@@ -11,7 +11,7 @@ use Rattle.zprotocol.proofs.traces_lemmas.Places.{least_more, all_read, next_fro
 abbrev HasMerge : Traces → Type 0
 HasMerge t = (steps : List Step) × IsMerge t steps
 
--- of the places below n, the one whose next event comes first
+-- of the positions below n, the one whose next event comes first
 least_below : (t : Traces) (read : List ℕ) (n : ℕ) → (best : Option (ℕ × ℕ)) × IsLeast t read n best
 least_below t read zero = (None, λ j lt. absurd (omega (arith, lt)))
 least_below t read (suc n) =

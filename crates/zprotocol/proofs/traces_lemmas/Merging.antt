@@ -77,7 +77,7 @@ module _ {M : Type 0} (machine : Does M) where
   run_first w None events = refl
   run_first w (Some e) events = refl
 
-  -- steps in their places, and one more
+  -- steps at their positions, and one more
   places_more : (w : World M) (steps : List Step) (s : Step) → are_in_place machine w steps ≡ true
       → are_in_place machine w (steps ++ s ∷ []) ≡ is_step_in_place (run machine w (events_of steps)) (event_of s.process s.event.act)
   places_more w [] s all = and_true (is_step_in_place w (event_of s.process s.event.act))

@@ -1,4 +1,4 @@
--- The traces by place: which one has the next event, and what is left when it is read.
+-- The traces by position: which one has the next event, and what is left when it is read.
 use Rattle.std.proofs.Common.{◌≡◌, ◌⊎◌, ◌<◌, ◌≤◌, ℕ, zero, suc, ◌+◌, ◌-◌, Bool, true, false, ◌==◌, nat_lt, nat_le, List}
 use Rattle.std.proofs.Common.{[], ◌∷◌, ◌++◌, Option, Some, None, length, get_or, drop, set, map, replicate, refl, sym}
 use Rattle.std.proofs.Common.{ap, ◌∙◌, subst, inl, inr, eqb-true, arith}
@@ -34,7 +34,7 @@ use Rattle.zprotocol.proofs.traces_lemmas.Merging.{merges_more, replayed_place, 
 split_last : (j n : ℕ) → j < n + 1 → (j ≡ n) ⊎ (j < n)
 split_last j n lt = eq-or-lt_of_le {n = j} {m = n} (omega (arith, lt))
 
--- one place more
+-- one position more
 module _ (t : Traces) (read : List ℕ) (n : ℕ) where
   same_stamp : (j s s' : ℕ) → head_at t read n ≡ Some s → j ≡ n → head_at t read j ≡ Some s' → s' ≡ s
   same_stamp j s s' is e has =
@@ -98,7 +98,7 @@ pub least_more : (t : Traces) (read : List ℕ) (n : ℕ) (best : Option (ℕ ×
     → IsLeast t read (n + 1) (chosen best n (head_at t read n))
 least_more t read n best least = least_by t read n best (head_at t read n) refl least
 
--- a place, and its process
+-- a position, and its process
 module _ (t : Traces) where
   abbrev servers : ℕ
   servers = length t.servers.items
@@ -112,7 +112,7 @@ module _ (t : Traces) where
     ])
   ]
 
-  -- in the order of places, too, the master is first, then the servers, then the clients
+  -- in the order of positions, too, the master is first, then the servers, then the clients
   pub where_at : (j : ℕ) → j < place_count t
       → ((j ≤ servers) × (place_of (process_at t j) ≡ j)) ⊎ ((servers < j) × (place_of (process_at t j) + servers ≡ MAX_SERVERS + j))
   where_at j inside = elim (test (j == 0)) [
@@ -149,7 +149,7 @@ module _ (t : Traces) where
       let large : nat_le (1 + servers + c) servers ≡ false = grind (arith, nat_tests) in
       rw (positive, large) (ap Client (omega arith))
 
-  -- who has a trace has a place
+  -- who has a trace has a position
   pub placed : (q : Process) → (trace_of t q ≡ []) ⊎ ((j : ℕ) × (j < place_count t) × (process_at t j ≡ q))
   placed Master = inr (0, omega arith, refl)
   placed (Server zero) = inl refl
@@ -172,7 +172,7 @@ module _ (t : Traces) where
         (omega (arith, past, length-map t.clients.items (λ (client : ClientTrace). client.trace.events.items))))
   ]
 
-  -- what the code reads at a place
+  -- what the code reads at a position
   pub trace_at_server : (j : ℕ) → (j == 0) ≡ false → nat_le j servers ≡ true → trace_of t (process_at t j)
       ≡ get_or (map (λ (trace : Trace). trace.events.items) t.servers.items) (j - 1) []
   trace_at_server zero p y = absurd (cc p)
@@ -198,7 +198,7 @@ module _ (t : Traces) where
     nothing_of : (q : Process) → trace_of t q ≡ [] → rest_of t read q ≡ []
     nothing_of q none = ap (λ l. drop (get_or read (index_of t q) 0) l) none ∙ drop-nil (get_or read (index_of t q) 0)
 
-    -- where no place has an event left, none is left
+    -- where no position has an event left, none is left
     pub all_read : IsLeast t read (place_count t) None → IsAllRead t read
     all_read least q = elim (placed q) [
       | inl none ↦ nothing_of q none
@@ -381,7 +381,7 @@ server_events t j x some small is =
     ∙ sym (map_at (λ (trace : Trace). trace.events.items) t.servers.items (j - 1) x [] under)
     ∙ sym (trace_at_server t j positive few)
 
--- a test of all places is one of all traces
+-- a test of all positions is one of all traces
 pub each_trace : (t : Traces) (f : List TraceEvent → Bool) → f [] ≡ true → ((j : ℕ) → j < place_count t → f (trace_of t (process_at t j)) ≡ true)
     → (p : Process) → f (trace_of t p) ≡ true
 each_trace t f none all p = elim (placed t p) [

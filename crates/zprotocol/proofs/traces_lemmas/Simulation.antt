@@ -1,6 +1,7 @@
--- Along the merge of lawful traces each event is in its place: the world that the events before it lead to has every process where
--- its own deeds left it, and on every link what was put there and not yet taken; and the message that the next event takes was
--- put by an event with a smaller stamp, so by one that stands before it.
+-- Along the merge of lawful traces each event is at its position. In the world that the events
+-- before it lead to, every process is where its own deeds left it. Every link holds what was put
+-- there and not yet taken. The message that the next event takes was put by an event with a smaller
+-- stamp, so by an earlier one.
 use Rattle.std.proofs.Common.{◌≡◌, ◌<◌, ◌≤◌, ℕ, Bool, true, false, cond, ◌==◌, nat_lt, List, [], ◌∷◌, ◌++◌, Option}
 use Rattle.std.proofs.Common.{Some, None, drop, refl, sym, ap, ◌∙◌, subst, inl, inr, eqb-true, eq-eqb, arith}
 use Rattle.std.proofs.Common.{append_assoc}
@@ -60,8 +61,8 @@ first_false true b h = absurd (cc h)
 first_false false b h = refl
 
 module _ {M : Type 0} (machine : Does M) where
-  -- a world, and what is left to do of all deeds: each process goes on from where it stands, and each link holds, with what is
-  -- still to be put on it, what is still to be taken
+  -- a world, and what is left to do of all deeds. Each process continues from its standing. Each
+  -- link holds, with what is still to be put on it, what is still to be taken
   pub record Follows (w : World M) (last : Process → ℕ) (rest : Process → List (Deed M)) : Type 0 where
     pub goes : (p : Process) → GoesBy machine p (standing_in w p) (last p) (rest p)
     pub links : (from to : Process) → Flows (w.links from to) (puts to (rest from)) (takes from (rest to))
@@ -183,7 +184,7 @@ module _ {M : Type 0} (machine : Does M) where
               (elsewhere x y n (has_failed w y) refl)
         ]
 
-  -- the next deed is in its place, and leads to a world that is followed by what is left
+  -- the next deed is at its position, and leads to a world that is followed by what is left
   pub record GoesOn (w : World M) (last : Process → ℕ) (rest : Process → List (Deed M)) (p : Process) (d : Deed M) (deeds : List (Deed M))
       : Type 0 where
     pub in_place : is_step_in_place w (event_of p d.event.act) ≡ true
@@ -207,7 +208,7 @@ module _ {M : Type 0} (machine : Does M) where
         history = row.happens.history;
       }
 
-  -- a caller sees what its own client reports alone
+  -- a caller sees only the events of its own client
   abbrev IsOwn : ℕ → Process → History → Type 0
   IsOwn c p reported = reported_of c reported ≡ (if is_same (Client c) p then reported else [])
 
@@ -339,12 +340,12 @@ module _ {M : Type 0} (machine : Does M) where
       } in
       merge_runs steps (opening_of t) (λ p. 0) deeds (trace_of t) end f (λ p. sym (account.traced p)) merge
 
-  -- each event of their merge is in its place, as far as one goes
+  -- each event of their merge is at its position, as far as one goes
   pub lawful_in_place : (t : Traces) (deeds : Process → List (Deed M)) (steps : List Step) → AccountFor machine t deeds → BeginsMerge t steps
       → are_in_place machine (opening_of t) steps ≡ true
   lawful_in_place t deeds steps account merge = (runs t deeds steps merge.0 account merge.1).in_place
 
-  -- and the run of all reports of each client what its record does
+  -- and the run of all has in its history, of each client, what its record does
   pub lawful_reported : (t : Traces) (deeds : Process → List (Deed M)) (steps : List Step) → AccountFor machine t deeds → IsMerge t steps
       → (c : ℕ) → reported_of c (run machine (opening_of t) (events_of steps)).history ≡ record_of t c
   lawful_reported t deeds steps account merge c = (runs t deeds steps (λ p. []) account merge).reported (λ p. refl) c ∙ account.recorded c

@@ -21,7 +21,7 @@ second_false : (a b : Bool) → (a || b) ≡ false → b ≡ false
 second_false true b h = absurd (cc h)
 second_false false b h = h
 
--- of two that don't come before each other both stand at one place
+-- of two that don't come before each other both are at one position
 same_place : (s r p q : ℕ) → (nat_lt s r || (s == r && nat_lt p q)) ≡ false → (nat_lt r s || (r == s && nat_lt q p)) ≡ false → p ≡ q
 same_place s r p q h k =
     let a : nat_lt s r ≡ false = first_false _ _ h in
@@ -31,7 +31,7 @@ same_place s r p q h k =
     let f : nat_lt q p ≡ false = ap (λ x. x && nat_lt q p) (sym (eq-eqb r s (sym tie))) ∙ second_false (nat_lt r s) _ k in
     grind (arith, nat_tests, e, f)
 
--- processes that have events differ in their places
+-- processes that have events have different positions
 abbrev AreApart : (Process → List TraceEvent) → Type 0
 AreApart traces =
     (p q : Process) (e f : TraceEvent) (es fs : List TraceEvent) → traces p ≡ e ∷ es → traces q ≡ f ∷ fs → place_of p ≡ place_of q → p ≡ q

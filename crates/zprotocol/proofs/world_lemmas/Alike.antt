@@ -23,7 +23,7 @@ use Rattle.zprotocol.specs.world.support.Alike.{IsAlike}
 abbrev Agree : {M : Type 0} → World M → Links M → Links M → Type 0
 Agree v links others = (from to : Process) → has_failed v to ≡ false → links from to ≡ others from to
 
--- what is put keeps that
+-- what is put preserves that
 put_agrees : {M : Type 0} (v : World M) (links others : Links M) (sender : Process) (posts : List (Post M))
     → Agree v links others → Agree v (put links sender posts) (put others sender posts)
 put_agrees v links others sender posts agree from to alive = ap (λ link. if is_same from sender then link ++ messages_to to posts else link)
@@ -75,7 +75,7 @@ not_failed front false enabled = refl
 not_failed true true enabled = absurd (true≢false (sym enabled))
 not_failed false true enabled = absurd (true≢false (sym enabled))
 
--- what agrees where the taker has not failed reports alike whether a delivery is enabled
+-- where the taker has not failed, worlds that agree enable the same deliveries
 same_where_alive : (failed front other : Bool) → (failed ≡ false → front ≡ other) → (front && not failed) ≡ (other && not failed)
 same_where_alive false front other same = ap (λ b. b && true) (same refl)
 same_where_alive true true true same = refl

@@ -9,7 +9,7 @@ each_among P [] all x among = absurd among
 each_among P (y ∷ ys) all x (inl is) = subst P is all.0
 each_among P (y ∷ ys) all x (inr among) = each_among P ys all.1 x among
 
--- what is among a list is among its image, and among what goes on with it
+-- what is among a list is among its image, and among each extension of it
 pub among_map : {A B : Type 0} (f : A → B) (x : A) (xs : List A) → Among x xs → Among (f x) (map f xs)
 among_map f x (y ∷ ys) (inl e) = inl (ap f e)
 among_map f x (y ∷ ys) (inr among) = inr (among_map f x ys among)

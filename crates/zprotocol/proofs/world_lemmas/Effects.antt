@@ -8,7 +8,7 @@ use Rattle.zprotocol.specs.world.World.{World}
 use Rattle.zprotocol.specs.world.Does.{Effect}
 use Rattle.zprotocol.specs.world.Events.{goes_on, did_in}
 
--- a history that goes on
+-- a history that continues
 pub goes_on_is : (history reported : History) → goes_on history reported ≡ history ++ reported
 goes_on_is history [] = sym (append-nil history)
 goes_on_is history (seen ∷ more) = refl

@@ -1,4 +1,4 @@
--- In every run from an opening the master keeps its bounds, so it gives few epochs.
+-- In every run from an opening the master stays within its bounds, so it gives few epochs.
 use Rattle.std.proofs.Common.{◌≡◌, ℕ, ◌+◌, ◌<◌, ◌≤◌, true, List, [], ◌∷◌, Option, Some, None, length, refl, sym, inl, inr, arith}
 use mathlib.Core.Bool.{true≢false}
 use Rattle.std.specs.Prelude.{is_none}

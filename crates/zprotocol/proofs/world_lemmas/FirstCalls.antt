@@ -1,4 +1,5 @@
--- The plain tree explains the first histories: nobody calls, or one query of the opening tree is asked and answered.
+-- The plain tree explains the first histories: no one calls, or one query of the opening tree is
+-- asked and answered.
 use Rattle.std.proofs.Common.{◌≡◌, ℕ, [], ◌∷◌, inl, inr, refl, sym}
 use Rattle.ztree.specs.Tree.{opening_tree}
 use Rattle.ztree.proofs.Lawful.{lawful_opening}

@@ -1,4 +1,5 @@
--- A chain that begins with any tree explains the first histories: nobody calls, or one query of the tree is answered.
+-- A chain that begins with any tree explains the first histories: no one calls, or one query of the
+-- tree is answered.
 use Rattle.std.proofs.Common.{◌≡◌, ◌∙◌, ℕ, List, [], ◌∷◌, inl, inr, refl, sym, ap, subst}
 use Rattle.std.specs.List.{AllByRecursion}
 use Rattle.std.specs.Prelude.{◌⊎◌}

@@ -35,7 +35,7 @@ later_answer last (Answer d n other) c m reply is =
 later_answer last (Begin d n call) c m reply is = absurd (cc is)
 
 module _ {P : Type 0} (service : Service P) where
-  -- calls behind others
+  -- calls after others
   pub state_both : (p : P) (a b : List Operation) → state_after service p (a ++ b) ≡ state_after service (state_after service p a) b
   state_both p [] b = refl
   state_both p (o ∷ a) b = state_both (operation_step service p o).0 a b
@@ -110,7 +110,7 @@ module _ {P : Type 0} (Lawful : P → Type 0) (service : Service P) (u : P) (fir
       let above : 0 < m.0.number = some m.0 (next.begun m.0 m.1) in
       subst (λ (p : Operation). last < p.number) m.2 (omega (arith, above))
 
-  -- so a call stands where its number says
+  -- so a call is at the position that its number says
   stands_first : (o : Operation) → o.number ≤ last → Among o order → Among o a
   stands_first o low among = elim (among_cases o a (later_order last b) among) [
     | inl inside ↦ inside
@@ -188,7 +188,7 @@ module _ {P : Type 0} (Lawful : P → Type 0) (service : Service P) (u : P) (fir
         )
   ]
 
-  -- and the order keeps what ended before another call began
+  -- and the order respects what ended before another call began
   later_in_time : (x y : Operation) (reply : Reply)
       → ComesBefore (Answer x.client x.number reply) (Begin y.client y.number y.call) (later_history last second)
       → Among x (later_order last b) → Among y (later_order last b) → ComesBefore x y (later_order last b)

@@ -1,4 +1,4 @@
--- A world that keeps what failed servers held does the same as one that lets go of it.
+-- A world that preserves what failed servers held does the same as one that lets go of it.
 use Rattle.std.proofs.Common.{◌≡◌, ℕ, Bool, true, false, if◌then◌else◌, List, [], ◌∷◌, refl, sym, ap, ◌∙◌}
 use Rattle.zprotocol.specs.server.Machine.{Does}
 use Rattle.zprotocol.specs.declared.world.event.Event.{Event}
@@ -48,7 +48,7 @@ opening_let_go machine servers clients =
     λ i. record (opening_world machine servers clients)
     { links = λ from to. none_either_way (has_failed (opening_world machine servers clients) to) i }
 
--- a run from an opening is what is left of the one that keeps
+-- a run from an opening is what is left of the one that preserves
 pub run_lets_go : {M : Type 0} (machine : Does M) (servers clients : ℕ) (events : List Event)
     → run machine (opening_world machine servers clients) events ≡ let_go (run_keeping machine (opening_world machine servers clients) events)
 run_lets_go machine servers clients events =

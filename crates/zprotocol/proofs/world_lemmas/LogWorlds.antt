@@ -1,4 +1,5 @@
--- A world whose machines are mapped goes on as the world does, by a map that keeps what machines do.
+-- A world whose machines are mapped continues as the world does, by a map that preserves what
+-- machines do.
 use Rattle.std.proofs.Common.{◌≡◌, ℕ, ◌+◌, ◌-◌, Bool, true, false, if◌then◌else◌, List, [], ◌∷◌, ◌++◌, map}
 use Rattle.std.proofs.Common.{Option, Some, None, refl, sym, ap, ◌∙◌}
 use Rattle.std.proofs.lemmas.List.{map-append, drop-map}

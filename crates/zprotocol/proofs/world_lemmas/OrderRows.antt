@@ -33,7 +33,7 @@ one_beginner c n c' n' call call' e = cc
 made_is_no_count : (m n : ℕ) → name_reply m ≡ count_reply n → ⊥
 made_is_no_count m n e = cc
 
--- what is reported of an answer, and nothing of a beginning
+-- what is stated of an answer, and nothing of a beginning
 unfoldable pub AtAnswer : (ℕ → ℕ → Reply → Type 0) → CallEvent → Type 0
 AtAnswer P (Begin c n call) = Unit {0}
 AtAnswer P (Answer c n reply) = P c n reply
@@ -58,7 +58,7 @@ ends_before a b (reply, inr (inr (inr (inr (inl p))))) = absurd (begin_is_no_ans
 ends_before a b (reply, inr (inr (inr (inr (inr (inl p)))))) = absurd p.1
 ends_before a b (reply, inr (inr (inr (inr (inr (inr p)))))) = absurd p
 
--- client 1's call stands before client 2's, and nothing else ends before another begins
+-- client 1's call is before client 2's, and nothing else ends before another begins
 in_time : (a : Operation) → Among a true_order → (b : Operation) → Among b true_order → EndsBefore (history_with 2) a b → ComesBefore a b true_order
 in_time = each_among (λ a. (b : Operation) → Among b true_order → EndsBefore (history_with 2) a b → ComesBefore a b true_order) true_order (
   each_among (λ b. EndsBefore (history_with 2) first_create b → ComesBefore first_create b true_order) true_order (
@@ -100,7 +100,7 @@ left_out legal = elim ((legal.answered 2 1 (count_reply 2) (inr (inr (inr (inr (
   | inr (inr e) ↦ e
 ]
 
--- what is reported of a beginning, and nothing of an answer
+-- what is stated of a beginning, and nothing of an answer
 AtBeginning : (ℕ → ℕ → Call → Type 0) → CallEvent → Type 0
 AtBeginning P (Begin c n call) = P c n call
 AtBeginning P (Answer c n reply) = Unit {0}
@@ -122,11 +122,11 @@ not_begun legal =
     ((λ is. omega (arith, is)), ((λ is. omega (arith, is)), ((λ is. omega (arith, is)), (tt, ((λ is. omega (arith, is)), (tt, tt))))))
     (Begin 5 1 create) (legal.begun strange_create (inr (inl refl))) refl
 
--- equal replies tell one stat
+-- equal replies have the same stat
 one_stat : (s t : Stat) → Exists s ≡ Exists t → s ≡ t
 one_stat s t e = cc
 
--- equal replies tell one count
+-- equal replies have the same count
 one_count : (m n : ℕ) → count_reply m ≡ count_reply n → m ≡ n
 one_count m n e = ap (λ s. s.children) (one_stat _ _ e)
 

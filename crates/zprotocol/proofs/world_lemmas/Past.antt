@@ -17,12 +17,12 @@ use Rattle.zprotocol.specs.world.Events.{is_enabled, with_standing, goes_on, did
 abbrev pub with_past : {M : Type 0} → History → World M → World M
 with_past past w = record w { history = past ++ w.history }
 
--- what is reported goes behind both
+-- what callers see goes after both
 reported : (past history more : History) → goes_on (past ++ history) more ≡ past ++ goes_on history more
 reported past history [] = refl
 reported past history (seen ∷ more) = append_assoc past history (seen ∷ more)
 
--- where a process stands has nothing to do with it
+-- the standing of a process doesn't depend on it
 stands : {M : Type 0} (past : History) (w : World M) (p : Process) (left : Standing M)
     → with_standing (with_past past w) p left ≡ with_past past (with_standing w p left)
 stands past w Master (AtMaster v) = refl

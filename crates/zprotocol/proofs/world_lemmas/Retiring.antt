@@ -41,7 +41,7 @@ module _ {M : Type 0} (machine : Does M) (w : World M) (s : ℕ) (more : List (M
   same_elsewhere : (from to : Process) → is_same to (Server s) ≡ false → w.links from to ≡ without_front w.links Master (Server s) from to
   same_elsewhere from to other = elim (test (is_same from Master)) [ inl is ↦ rw (is, other) refl | inr not ↦ rw not refl ]
 
-  -- who stops with the order under way, and who has taken it
+  -- who stops with the order in flight, and who has taken it
   stopped_alike : IsAlike (did_in w (Server s) stop_effect) (did_in taken (Server s) stop_effect)
   stopped_alike = record {
     rest = refl;

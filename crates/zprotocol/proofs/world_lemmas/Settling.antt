@@ -1,4 +1,4 @@
--- Settling is a run, keeps its limit, and where it ends quiet nothing can be taken.
+-- Settling is a run within its limit, and where it ends quiet nothing can be taken.
 use Rattle.std.proofs.Common.{◌≡◌, ℕ, ◌+◌, ◌<◌, ◌≤◌, zero, suc, Bool, true, false, if◌then◌else◌, List, [], ◌∷◌, ◌++◌, length}
 use Rattle.std.proofs.Common.{refl, sym, ap, ◌∙◌, inl, inr, arith, length-append, eqb-true}
 use mathlib.Core.Bool.{true≢false}
@@ -67,11 +67,11 @@ module _ {M : Type 0} (machine : Does M) where
       of_both P (nat_lt 0 s.left) (is_enabled s.world event) (with_event machine s (as_read s event)) s
       (λ some enabled. done (ltb-true 0 s.left some)) idle
 
-  -- a fact that a tried event keeps
+  -- a fact that a tried event preserves
   abbrev Keeps : (Settling M → Type 0) → Type 0
   Keeps P = (s : Settling M) (event : Event) → P s → P (with_try machine s event)
 
-  -- is kept by events in turn
+  -- is preserved by events in turn
   each_keeps : (P : Settling M → Type 0) → Keeps P → (s : Settling M) (events : List Event) → P s → P (with_tries machine s events)
   each_keeps P keeps s [] holds = holds
   each_keeps P keeps s (event ∷ events) holds = each_keeps P keeps (with_try machine s event) events (keeps s event holds)
@@ -124,7 +124,7 @@ module _ {M : Type 0} (machine : Does M) where
   adds_up : (limit : ℕ) → Keeps (AddsUp limit)
   adds_up limit s event here = either (AddsUp limit) s event (λ some. grind (arith, length-append, here, some)) here
 
-  -- settling keeps its limit
+  -- settling stays within its limit
   pub settling_keeps_its_limit : (w : World M) (limit : ℕ) (outcomes : List Outcome)
       → (settle machine w limit outcomes).left + length (settle machine w limit outcomes).events ≡ limit
   settling_keeps_its_limit w limit outcomes = settle_keeps (AddsUp limit) (adds_up limit) w limit outcomes (omega arith)

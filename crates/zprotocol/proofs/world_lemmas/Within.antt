@@ -45,7 +45,7 @@ each_at P i v family new old m = elim (test (m == i)) [
   | inr not ↦ rw not (old m)
 ]
 
--- what is behind the front was there
+-- what is after the front was there
 behind_front : {A : Type 0} (x : A) (xs : List A) → Among x (drop 1 xs) → Among x xs
 behind_front x [] among = among
 behind_front x (y ∷ ys) among = inr among

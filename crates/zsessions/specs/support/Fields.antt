@@ -1,4 +1,4 @@
--- What the fields of a table stand for.
+-- What the fields of a table represent.
 use Rattle.zsessions.specs.declared.table.Table.TheInside.{Inside}
 use Rattle.zsessions.specs.support.TableView.{TableView}
 use Rattle.zsessions.specs.support.Rows.{sessions_of}

@@ -62,11 +62,11 @@ bucket_number deadline = deadline % 32
 abbrev pub bucket : Buckets → ℕ → IdList 0
 bucket buckets k = slice_index_or buckets k empty_list
 
--- the number of the bucket that a row stands in
+-- the number of the bucket that a row is in
 abbrev pub number_of : SessionRow → Option ℕ
 number_of row = Some (bucket_number row.session.deadline)
 
--- each row is found by its session's id alone, and stands in the bucket of its deadline
+-- each row is found by its session's id alone, and is in the bucket of its deadline
 pub record IsTable (ids : IdEntries) (rows : Rows) (buckets : Buckets) : Type 0 where
   pub found : (id : Id) (number : ℕ) → number_at rows id ≡ Some number → id_at ids number ≡ Some id
   pub named : (number : ℕ) (id : Id) → id_at ids number ≡ Some id → number_at rows id ≡ Some number
@@ -127,6 +127,6 @@ abbrev pub AreReached : Rows → IdList 0 → ℕ → List ℕ → Type 0
 AreReached rows bucket tick found =
     (ids : Ids) → IsList row_links rows bucket ids → found ≡ filter_map (due_at rows tick) ids
 
--- the new list is the old one with the value behind it, if there is one
+-- the new list is the old one with the value at the end, if there is one
 abbrev pub AppendsOption : {A : Type 0} → List A → List A → Option A → Type 0
 AppendsOption old new value = new ≡ old ++ cons_option value []

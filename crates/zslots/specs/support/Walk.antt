@@ -8,13 +8,13 @@ use Rattle.zslots.specs.Links.{links_at}
 use Rattle.zslots.specs.declared.list.List.{List as IdList}
 use Rattle.zslots.specs.Lists.{IsList}
 
--- so many Ids, each the next of the one before
+-- that many Ids, each the next of the one before
 abbrev pub walk : {T : Type 0} → (T → Links) → ℕ → Items T → Option Id → Ids
 walk links zero m first = []
 walk links (suc n) m None = []
 walk links (suc n) m (Some id) = id ∷ walk links n m (links_at links m id).next
 
--- a walk along the list has passed these Ids, and stands at this one or at the end
+-- a walk along the list has passed these Ids, and is at this one or at the end
 pub record IsWalk {L : ℕ} {T : Type 0} (links : T → Links) (m : Items T) (list : IdList L)
     (passed : Ids) (at : Option Id) : Type 0 where
   pub whole : IsList links m list (passed ++ walk links list.len m at)

@@ -1,4 +1,5 @@
--- A session's end under way: what holds once some of its nodes are gone, and which Ids still name a node.
+-- A session's end in progress: what holds once some of its nodes are gone, and which Ids still name
+-- a node.
 use Rattle.std.proofs.Common.{◌≡◌, ℕ, ◌+◌, Bool, true, false, cond, length, Option, Some, None, refl, sym, ap, ◌∙◌, arith}
 use Rattle.std.specs.Ordering.{eq_by_cmp}
 use Rattle.std.specs.Option.{option_and_then}

@@ -1,4 +1,5 @@
--- What a store keeps while sessions are opened, kept alive and ended, and the nodes that a session owns.
+-- The invariant of a store while sessions are opened, renewed and ended, and the nodes that a
+-- session owns.
 use Rattle.std.proofs.Common.{◌≡◌, ◌≢◌, ◌⊎◌, inl, inr, ℕ, ◌<◌, Bool, true, false, cond, [], Option, Some, None, refl, sym, ap, ◌∙◌, arith}
 use Rattle.std.specs.Prelude.{is_some, IsSome, IfSome, ◌==◌}
 use Rattle.std.specs.Option.{option_and_then, option_map_or}

@@ -1,4 +1,5 @@
--- What a store keeps is kept by a node that comes, one that goes, and one that is written.
+-- The invariant of a store is preserved by a node that comes, one that goes, and one that is
+-- written.
 use Rattle.std.proofs.Common.{◌≡◌, ◌≢◌, ◌⊎◌, inl, inr, ℕ, ◌<◌, true, false, cond, List, [], Option, Some, None, refl, sym, ap, subst, ◌∙◌}
 use Rattle.std.specs.Prelude.{is_some, IsSome}
 use Rattle.std.specs.Option.{option_and_then}
@@ -33,7 +34,7 @@ node_or_none nodes q free = by (finite.get nodes q) free
 not_both : (nodes : Nodes) (q : Path) → has_node nodes q ≡ true → has_node nodes q ≡ false → ⊥
 not_both nodes q there free = cc
 
--- an Id names no path where its place is free
+-- an Id names no path where its position is free
 pub names_none : (nodes : Nodes) (places : Places) → NamesNodes nodes places →
     (id : Id) (path : Path) → has_node nodes path ≡ false → finite.get places id ≡ Some path → ⊥
 names_none nodes places named id path free is = not_both nodes path (named.there id path is) free
@@ -237,7 +238,7 @@ module _ (nodes : Nodes) (places : Places) (sessions : Sessions) (time zxid : �
       by (inl nobody) = inl nobody
       by (inr lives) = inr (same n.owner ∙ lives)
 
--- what lives is not held
+-- an Id that has a position is not held
 pub apart_with : (places : Places) (held : Held) (id : Id) (path : Path) →
     finite.get held id ≡ None →
     ((a : Id) (q : Path) → finite.get places a ≡ Some q → finite.get held a ≡ None) →

@@ -1,4 +1,4 @@
--- What a store keeps after a change that is noted, and after a mark that is given up.
+-- The invariant of a store after a change that is noted, and after a mark that is given up.
 use Rattle.std.proofs.Common.{◌≡◌, ℕ, ◌+◌, ◌-◌, ◌≤◌, Bool, true, false, cond, List, [], ◌∷◌, ◌++◌, Option, Some, None, refl, sym, ap, subst, ◌∙◌, arith}
 use Rattle.std.specs.Prelude.{nat_le}
 use Rattle.std.specs.Vec.{vec_len, vec_capacity}
@@ -157,7 +157,7 @@ module _ (u : Undo) (old new : NodesView) (sessions : Sessions) (time zxid : ℕ
       all_undone (us ++ u ∷ []) (parts_of new) ≡ all_undone us (parts_of old)
   all_back us = all_undone-push us u (parts_of new) ∙ ap (all_undone us) back
 
-  -- the mark that stands then
+  -- the mark that is set then
   pub noted_marked : (notes : Option Notes) →
       option_map (mark_of (with_held new (held_after u notes new.held)) sessions time zxid)
       (add_note u notes) ≡ mark_left 1 (option_map (mark_of old sessions time zxid) notes)

@@ -1,4 +1,4 @@
--- What a store keeps while it is built of another one's rows.
+-- The invariant of a store while it is built of another one's rows.
 use Rattle.std.proofs.Common.{◌≡◌, ◌≢◌, ◌⊎◌, inl, inr, ℕ, true, false, [], Option, Some, None, sym, ap, subst, ◌∙◌, arith}
 use Rattle.std.specs.Prelude.{is_some, IfNone}
 use Rattle.std.specs.Ordering.{nat_cmp}

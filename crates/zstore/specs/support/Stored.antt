@@ -1,4 +1,4 @@
--- What a store keeps, and what its fields stand for.
+-- The invariant of a store, and what its fields represent.
 use Rattle.std.specs.Prelude.{◌≡◌, ℕ, ◌+◌, ◌≤◌, true, Option, None, Some, is_some}
 use Rattle.std.specs.Option.{option_map}
 use Rattle.std.specs.FinMap as finite
@@ -16,7 +16,7 @@ abbrev pub tree_of : Nodes → Sessions → ℕ → ℕ → Tree
 tree_of nodes sessions time zxid =
     record { nodes = nodes; sessions = sessions; time = time; zxid = zxid }
 
--- what stood at a mark, by what was noted since
+-- the state at a mark, by what was noted since
 abbrev pub mark_of : NodesView → Sessions → ℕ → ℕ → Notes → Mark
 mark_of v sessions time zxid n =
     record {
@@ -25,7 +25,7 @@ mark_of v sessions time zxid n =
       steps = n.room;
     }
 
--- what the fields of a store stand for
+-- what the fields of a store represent
 abbrev pub held_by : Inside → StoreView
 held_by s =
     record {
@@ -51,8 +51,8 @@ pub record IsKept (nodes : Nodes) (places : Places) (sessions : Sessions) (time 
 abbrev pub AreOwners : Owners → Sessions → Type 0
 AreOwners owners sessions = (id : ℕ) → is_some (get owners id) ≡ is_some (get sessions id)
 
--- what every store keeps: where a mark stands, what was done since can be undone, and leads to a tree that was kept;
--- and nothing is held but what was taken away since
+-- the invariant of every store: where a mark is set, what was done since can be undone, and leads
+-- to a tree with the invariant. Nothing is held but what was taken away since
 pub record IsStored (notes : Option Notes) (v : NodesView) (sessions : Sessions)
     (time zxid : ℕ) : Type 0 where
   pub kept : IsKept v.nodes v.places sessions time zxid

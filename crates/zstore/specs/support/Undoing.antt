@@ -1,4 +1,4 @@
--- What undoes a change of the nodes, and what is noted while a mark stands.
+-- What undoes a change of the nodes, and what is noted while a mark is set.
 use Rattle.std.specs.Prelude.{◌≡◌, ◌≢◌, ◌⊎◌, ℕ, ◌+◌, ◌-◌, ◌≤◌, true, false, List, [], ◌∷◌, ◌++◌, Option, None, Some, IsSome, if◌then◌else◌, nat_le}
 use Rattle.std.specs.Option.{option_map_or}
 use Rattle.std.specs.Vec.{vec_len, vec_capacity}
@@ -136,13 +136,13 @@ pub record Notes : Type 0 where
   pub undos : List Undo
   pub room : ℕ
 
--- the notes of a log, while a mark stands
+-- the notes of a log, while a mark is set
 abbrev pub notes_of : Log → Option Notes
 notes_of l =
     if l.is_on then Some
     (record { undos = l.undos.items; room = vec_capacity l.undos - vec_len l.undos }) else None
 
--- what undoes all that was noted: nothing, where no mark stands
+-- what undoes all that was noted: nothing, where no mark is set
 abbrev pub undos_of : Option Notes → List Undo
 undos_of None = []
 undos_of (Some n) = n.undos
@@ -175,7 +175,7 @@ nodes_noted u notes v = record v { held = held_after u notes v.held }
 abbrev pub nodes_released : List Undo → NodesView → NodesView
 nodes_released us v = record v { held = release_all us v.held }
 
--- a mark was set, with room for so many notes, and for as many nodes
+-- a mark was set, with room for that many notes, and for as many nodes
 pub record StartsWith (steps : ℕ) (notes : Option Notes) (room : ℕ) : Type 0 where
   pub notes_room : ℕ
   pub on : notes ≡ Some (record { undos = []; room = notes_room })

@@ -1,4 +1,4 @@
--- How a tree is stored, by the codes of its parts: a proof reports trees apart by them.
+-- How a tree is stored, by the codes of its parts: a proof distinguishes trees by them.
 use Rattle.std.specs.Prelude.{ℕ, List, refl}
 use Rattle.std.specs.Coded.{Coded, code_by, coded×, coded_ℕ, coded_list}
 use Rattle.std.specs.FinMap as finite

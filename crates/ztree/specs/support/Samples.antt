@@ -37,7 +37,7 @@ some_node =
       ttl = 12;
     }
 
--- what is reported of it where it has eleven children
+-- its stat where it has eleven children
 abbrev pub some_stat : Stat
 some_stat =
     record { czxid = 1; mzxid = 2; pzxid = 3; ctime = 4; mtime = 5; version = 6; cversion = 8; owner = 9; length = 2; children = 11 }
@@ -70,7 +70,7 @@ made_node =
       ttl = 12;
     }
 
--- a session of client 3 that lives for five ticks, opened at tick 4
+-- a session of client 3 with a timeout of five ticks, opened at tick 4
 abbrev pub some_session : Session
 some_session = record { client = 3; timeout = 5; deadline = 9 }
 

@@ -12,7 +12,7 @@ use Rattle.zprotocol.specs.world.FromTree.{CanStart}
 use Rattle.ztree_service.specs.log.Logs.{Log, calls_of, replies_of, served, tree_after, IsOneTreesFrom, Leads}
 use Rattle.ztree_service.specs.log.Incarnations.{whole, IncarnationsAreOneTrees, IncarnationsAreOneTreesFrom, IncarnationsLeaveOneTree, TreesCanStartAgain}
 
--- calls behind others
+-- calls after others
 pub served_both : (t : Tree) (calls more : List Call) → served t (calls ++ more) ≡ served t calls ++ served (tree_after t calls) more
 served_both t [] more = refl
 served_both t (call ∷ calls) more = ap (λ replies. (serve t 0 call).1 ∷ replies) (served_both (serve t 0 call).0 calls more)
@@ -25,7 +25,7 @@ pub incarnations_leave_one_tree : IncarnationsLeaveOneTree
 incarnations_leave_one_tree t first second =
     ap (tree_after t) (map-append (λ (reported : Call × Reply). reported.0) first second) ∙ tree_both t (calls_of first) (calls_of second)
 
--- a incarnation behind another
+-- an incarnation after another
 pub both_incarnations : (t : Tree) (first second : Log) → IsOneTreesFrom t first → IsOneTreesFrom (tree_after t (calls_of first)) second
     → IsOneTreesFrom t (first ++ second)
 both_incarnations t first second one next =
@@ -50,7 +50,7 @@ pub trees_can_start_again : TreesCanStartAgain
 trees_can_start_again t [] can = can
 trees_can_start_again t (call ∷ calls) can = trees_can_start_again (serve t 0 call).0 calls (serve_again t call can)
 
--- behind a log that led to a tree, one that begins with it
+-- after a log that led to a tree, one that begins with it
 pub leads_more : (t middle after : Tree) (log more : Log) → Leads t log middle → Leads middle more after → Leads t (log ++ more) after
 leads_more t middle after log more is next = (
   both_incarnations t log more is.0 (subst (λ m. IsOneTreesFrom m more) (sym is.1) next.0),

@@ -6,7 +6,7 @@ use Rattle.zcalls.specs.declared.reply.Reply.{Reply}
 use Rattle.zprotocol.specs.world.PlainTree.{serve}
 use Rattle.ztree_service.specs.log.Logs.{Log, calls_of, replies_of, served, tree_after}
 
--- what is behind the first of two lists that are the same
+-- what follows the first of two lists that are the same
 rest_of : (r s : Reply) (rs ss : List Reply) → r ∷ rs ≡ s ∷ ss → rs ≡ ss
 rest_of r s rs ss e = cc e
 

@@ -1,4 +1,4 @@
--- The events of the parts of a multi, behind the last part.
+-- The events of the parts of a multi, after the last part.
 use Rattle.std.proofs.Common.{◌≡◌, ℕ, ◌≤◌, Bool, true, false, List, [], ◌∷◌, length, drop, refl, arith}
 use Rattle.std.specs.Prelude.{min, nat_le}
 use Rattle.std.proofs.lemmas.Bool.Decides.{nat_tests}
@@ -12,7 +12,7 @@ no_more_parts : (parts : List Part) → parts_events parts [] ≡ []
 no_more_parts [] = refl
 no_more_parts (part ∷ parts) = refl
 
--- behind the last part, or the last reply
+-- after the last part, or the last reply
 pub none_left : (parts : List Part) (replies : List PartReply) (i : ℕ) → min (length parts) (length replies) ≤ i → parts_events (drop i parts) (drop i replies) ≡ []
 none_left parts replies i end = at (nat_le (length parts) i) refl
   where

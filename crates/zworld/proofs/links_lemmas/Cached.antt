@@ -1,4 +1,4 @@
--- The messages on the channels that are kept, and what calls make of them.
+-- The messages on the channels that are stored, and what calls make of them.
 use Rattle.std.proofs.Common.{◌≡◌, ℕ, ◌<◌, false, if◌then◌else◌, [], ◌∷◌, ◌++◌, refl, sym, ap, ◌∙◌, inl, inr}
 use Rattle.std.specs.Prelude.{◌==◌, ◌&&◌}
 use Rattle.std.specs.List.{AllByRecursion}
@@ -34,7 +34,7 @@ module _ {T : Type 0} where
       ap (λ queue. if is_between d from to then messages d else queue) (others_with front back c from to other)
 
   module _ (front back : Sent T) (from to : ℕ) (around : IsAround front back from to) where
-    -- what stands between these places, and nothing
+    -- what is between these positions, and nothing
     here_with : (c : Channel T) → c.from ≡ from → c.to ≡ to → messages_at (front ++ c ∷ back) from to ≡ messages c
     here_with c is there =
         behind_others front (c ∷ back) from to (each (λ d behind. behind_elsewhere d from to behind) front around.behind)
@@ -45,7 +45,7 @@ module _ {T : Type 0} where
         behind_others front back from to (each (λ d behind. behind_elsewhere d from to behind) front around.behind)
         ∙ not_among back from to (each (λ d before. before_elsewhere d from to before) back around.before)
 
-  -- all channels, by those that are kept
+  -- all channels, by those that are stored
   module _ (from to : Process) (f t : ℕ) (is : f ≡ place_of from) (js : t ≡ place_of to) (few : f < PROCESSES) (short : t < PROCESSES)
       (front back : Sent T) (around : IsAround front back f t) where
     -- one channel has these messages, and the others are as without it

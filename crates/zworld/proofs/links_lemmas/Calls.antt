@@ -1,4 +1,4 @@
--- What calls make of the channels that are kept.
+-- What calls make of the channels that are stored.
 use Rattle.std.proofs.Common.{◌≡◌, ℕ, suc, ◌<◌, Bool, true, false, if◌then◌else◌, List, [], ◌∷◌, ◌++◌, refl, sym, ap, subst, ◌∙◌, inl, inr}
 use Rattle.std.proofs.Common.{get_or, take, drop, set, filter, insert, remove, eqb-true, take-append-drop, get_or-set_same}
 use Rattle.std.proofs.lemmas.List.{set_split, set-get_or}
@@ -33,7 +33,8 @@ module _ {T : Type 0} where
       → sent_of channels from to ≡ queue
   written links channels from to queue is = is from to ∙ rw (same_itself from, same_itself to) refl
 
-  -- the places of a channel's ends, and what a search among the channels found: they are those that are seen
+  -- the positions of a channel's ends, and what a search among the channels found: they are those
+  -- that are seen
   module _ {channels seen : Sent T} (same : seen ≡ channels) (from to : Process) {f t at : ℕ}
       (is : f ≡ place_of from) (js : t ≡ place_of to) (few : f < PROCESSES) (short : t < PROCESSES) where
     -- a queue

@@ -1,4 +1,4 @@
--- The flags of the servers whose failure notice is kept.
+-- The flags of the servers whose failure notice is stored.
 use Rattle.std.proofs.Common.{◌≡◌, Bool, false, List, [], refl}
 use Rattle.zprotocol.specs.declared.process.Process.{Process}
 use Rattle.zprotocol.specs.declared.process.Process.TheVariants.{Master, Server, Client}

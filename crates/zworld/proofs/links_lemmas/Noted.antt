@@ -1,4 +1,4 @@
--- Failure notices behind what was sent: what calls make of the channels as they are kept.
+-- Failure notices after what was sent: what calls make of the channels as they are stored.
 use Rattle.std.proofs.Common.{◌≡◌, Bool, true, false, if◌then◌else◌, List, [], ◌∷◌, ◌++◌, drop, refl, sym, ap, subst, ◌∙◌, inl, inr, append-nil}
 use Rattle.std.specs.Prelude.{◌&&◌, ◌||◌, not}
 use Rattle.zcalls.proofs.Among.{test}
@@ -33,7 +33,7 @@ module _ {X : Type 0} where
   holds_more [] ys some = cc
   holds_more (x ∷ xs) ys some = refl
 
-  -- the front of a list with more behind it
+  -- the front of a list with more after it
   drop_first : (xs ys : List X) → holds xs ≡ true → drop 1 (xs ++ ys) ≡ drop 1 xs ++ ys
   drop_first [] ys some = cc
   drop_first (x ∷ xs) ys some = refl
@@ -50,7 +50,7 @@ module _ {T : Type 0} where
   none_of : (noted : List Bool) (from to : Process) → is_noted noted from ≡ false → notices noted from to ≡ []
   none_of noted from to none = rw none refl
 
-  -- nobody but the master receives one
+  -- no one but the master receives one
   none_to : (noted : List Bool) (from to : Process) → is_same to Master ≡ false → notices noted from to ≡ []
   none_to noted from to other = ap (λ b. if b then Gone ∷ [] else []) (fails_second (is_noted noted from) other)
 
@@ -71,7 +71,7 @@ module _ {T : Type 0} where
   unfolding links_of
   notice_alone sent noted from to nothing some = rw (nothing, some) refl
 
-  -- a notice that is kept is on its channel
+  -- a notice that is stored is on its channel
   pub left_over : (channels : Channels T) → Notes channels (notices_left channels (links_of channels))
   unfolding links_of
   left_over channels p = elim (test (has_notice channels p)) [

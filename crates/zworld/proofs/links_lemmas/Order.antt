@@ -1,4 +1,4 @@
--- Channels before and behind places, and the test for it.
+-- Channels before and after positions, and the test for it.
 use Rattle.std.proofs.Common.{◌≡◌, ℕ, ◌<◌, true, false, if◌then◌else◌, refl, sym, ap, ◌∙◌, arith, inl, inr, eqb-true, eq-eqb}
 use mathlib.Core.Bool.{true≢false}
 use Rattle.std.proofs.lemmas.Bool.Decides.{nat_tests}
@@ -8,7 +8,7 @@ use Rattle.zprotocol.proofs.world_lemmas.Tests.{both}
 use Rattle.zworld.specs.links.Places.{Channel, is_between}
 use Rattle.zworld.specs.links.support.Order.{IsBefore, is_before, IsBehind, IsFrom}
 
--- a channel behind one that is at these places or behind them
+-- a channel after one that is at these positions or after them
 pub behind_next : {T : Type 0} (channel next : Channel T) (from to : ℕ) → IsBehind channel next.from next.to → IsFrom next from to
     → IsBehind channel from to
 behind_next channel next from to behind is = (
@@ -16,7 +16,7 @@ behind_next channel next from to behind is = (
   λ back. omega (arith, behind.0, is.0, is.1 (omega (arith, behind.0, back)), behind.1 (omega (arith, is.0, back))),
 )
 
--- one behind these places is from there on
+-- one after these positions is from there on
 pub from_behind : {T : Type 0} (channel : Channel T) (from to : ℕ) → IsBehind channel from to → IsFrom channel from to
 from_behind channel from to behind = (behind.0, λ back. omega (arith, behind.1 back))
 
@@ -46,7 +46,7 @@ module _ {T : Type 0} (channel : Channel T) (from to : ℕ) where
         (omega (arith, less), λ back. absurd (omega (arith, less, back)))
   ]
 
-  -- a channel between other places
+  -- a channel between other positions
   elsewhere : (channel.from ≡ from → channel.to ≡ to → ⊥) → is_between channel from to ≡ false
   elsewhere apart = elim (test (channel.from == from)) [
     | inl same ↦ elim (test (channel.to == to)) [
@@ -62,7 +62,7 @@ module _ {T : Type 0} (channel : Channel T) (from to : ℕ) where
   pub behind_elsewhere : IsBehind channel from to → is_between channel from to ≡ false
   behind_elsewhere behind = elsewhere (λ e f. omega (arith, behind.1 (omega (arith, e)), f))
 
-  -- one between these places
+  -- one between these positions
   pub between_places : is_between channel from to ≡ true → (channel.from ≡ from) × (channel.to ≡ to)
   between_places is =
       let tests = both (channel.from == from) (channel.to == to) is in
@@ -71,7 +71,7 @@ module _ {T : Type 0} (channel : Channel T) (from to : ℕ) where
   pub places_between : channel.from ≡ from → channel.to ≡ to → is_between channel from to ≡ true
   places_between e f = rw (eq-eqb channel.from from e, eq-eqb channel.to to f) refl
 
-  -- one that is from these places on, but not at them, is behind them
+  -- one that is from these positions on, but not at them, is after them
   pub behind_from : IsFrom channel from to → is_between channel from to ≡ false → IsBehind channel from to
   behind_from is other = (
     is.0,

@@ -1,4 +1,4 @@
--- Between which places nothing is in flight.
+-- Between which positions nothing is in flight.
 use Rattle.std.proofs.Common.{◌≡◌, ℕ, suc, ◌<◌, true, [], ◌∷◌, refl, sym, ap, subst, ◌∙◌, arith, inl, inr}
 use Rattle.std.proofs.Common.{length, get_or, take, drop, take-append-drop, length-take-le, get_or-take}
 use mathlib.Core.Bool.{true≢false}
@@ -16,7 +16,7 @@ use Rattle.zworld.proofs.links_lemmas.Cached.{not_among, behind_others}
 use Rattle.zworld.proofs.links_lemmas.Order.{before_elsewhere, behind_elsewhere, places_between}
 use Rattle.zworld.proofs.links_lemmas.Sorted.{each}
 
--- places before a turn come before a later one
+-- positions before a turn come before a later one
 pub before_later : (from to sooner_from sooner_to later_from later_to : ℕ) → Precedes from to sooner_from sooner_to
     → Reaches sooner_from sooner_to later_from later_to → Precedes from to later_from later_to
 before_later from to sooner_from sooner_to later_from later_to before later = (

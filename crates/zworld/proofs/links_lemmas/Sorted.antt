@@ -66,20 +66,20 @@ module _ {T : Type 0} where
   sorted_without (d ∷ front) back c sorted =
       (all_without (λ other. IsBehind d other.from other.to) front back c sorted.0, sorted_without front back c sorted.1)
 
-  -- those in front of one come behind it
+  -- those in front of one come after it in the order
   sorted_front : (front back : Sent T) (c : Channel T) → AreSorted (front ++ c ∷ back)
       → AllByRecursion (λ other. IsBehind other c.from c.to) front
   sorted_front [] back c sorted = tt
   sorted_front (d ∷ front) back c sorted =
       (all_middle (λ other. IsBehind d other.from other.to) front back c sorted.0, sorted_front front back c sorted.1)
 
-  -- the last of so many channels
+  -- the last of that many channels
   module _ (channels : Sent T) (c : Channel T) (n count : ℕ) (is : suc n ≡ count) (inside : count ≤ length channels) (read : c ≡ get_or channels n c)
       (from to : ℕ) where
     within : n < length channels
     within = omega (arith, is, inside)
 
-    -- where it is from these places on, all are
+    -- where it is from these positions on, all are
     pub sorted_from : AreSorted channels → IsFrom c from to → AllByRecursion (λ other. IsFrom other from to) (take count channels)
     sorted_from sorted here =
         let whole : AreSorted (take n channels ++ c ∷ drop (suc n) channels) =
@@ -92,7 +92,7 @@ module _ {T : Type 0} where
         (sorted_front (take n channels) (drop (suc n) channels) c whole))
         here)
 
-    -- where it comes before them, with all others behind it in the list, these are one more
+    -- where it comes before them, with all others after it in the list, these are one more
     pub one_more : IsBefore c from to → AllByRecursion (λ other. IsBefore other from to) (drop count channels)
         → AllByRecursion (λ other. IsBefore other from to) (drop n channels)
     one_more before all =
@@ -107,7 +107,7 @@ module _ {T : Type 0} where
     | inr fails ↦ rw fails (sorted_left p cs sorted.1)
   ]
 
-  -- what stands between these places is put there, or nothing
+  -- what is between these positions is put there, or nothing
   pub sorted_at : (front back : Sent T) (from to : ℕ) (c : Channel T) → IsAround front back from to → c.from ≡ from → c.to ≡ to
       → AreSorted (front ++ c ∷ back)
   sorted_at front back from to c around here there =
@@ -116,7 +116,7 @@ module _ {T : Type 0} where
       (each (λ other before. rw (here, there) before) back around.before)
       around.sorted
 
-  -- the front of a list, where its last one isn't between these places
+  -- the front of a list, where its last one isn't between these positions
   front_behind : (front back : Sent T) (from to : ℕ) → AreSorted (front ++ back) → AllByRecursion (λ c. IsFrom c from to) front
       → ((c : Channel T) (n : ℕ) → suc n ≡ length front → c ≡ get_or front n c → is_between c from to ≡ false)
       → AllByRecursion (λ c. IsBehind c from to) front
@@ -128,7 +128,7 @@ module _ {T : Type 0} where
   )
 
   module _ (channels : Sent T) (from to count : ℕ) (sorted : AreSorted channels) (searched : IsCountFrom channels from to count) where
-    -- no channel stands there
+    -- no channel is there
     pub gap_at : ((c : Channel T) → 0 < count → c ≡ get_or channels (count - 1) c → is_between c from to ≡ false) → IsGap channels from to count
     gap_at other =
         let whole : AreSorted (take count channels ++ drop count channels) =

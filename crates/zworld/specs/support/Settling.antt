@@ -16,7 +16,7 @@ use Rattle.zworld.specs.Held.{Held, kept_world}
 use Rattle.zworld.specs.Steps.{AreActed, CanWantMemoryToSettle}
 use Rattle.zworld.specs.support.Stepped.{Seen}
 
--- a settling of the world of kept trees
+-- a settling of the world of trees with cached replies
 abbrev pub TreeSettling : Type 0
 TreeSettling = Settling (CachedState Tree)
 

@@ -1,4 +1,5 @@
--- What is under way to a server: more of it, what of it doesn't count, and that logs only grow by it.
+-- What is in flight to a server: more of it, what of it doesn't count, and that logs only grow by
+-- it.
 use Rattle.std.proofs.Common.{◌≡◌, ℕ, ◌+◌, nat_lt, ◌==◌, List, [], ◌∷◌, ◌++◌, length, Some, None, refl, sym, ap, ◌∙◌}
 use Rattle.std.proofs.Common.{subst, inl, inr, append_assoc, arith, eqb-true}
 use Rattle.zcalls.specs.declared.call.Entry.{Entry}
@@ -94,7 +95,7 @@ flow_below k (Some log) (m ∷ ms) =
     (subst (λ l. IsBelow (or_else l (first_snapshot k ms)) (flow k (log_with_message k (Some log) m) ms)) grows.1
     (flow_below k (log_with_message k (Some log) m) ms))
 
--- the next entry of a longer log goes on in it
+-- the next entry of a longer log continues in it
 pub entry_goes_on : (log more : List Entry) (n : ℕ) (e : Entry) → IsPrefix log more → IsEntry more n e → n ≡ length log + 1
     → IsPrefix (log ++ e ∷ []) more
 entry_goes_on log more n e p entry is =

@@ -1,4 +1,5 @@
--- What is under way after messages are put or a front is taken, and a family after one value is replaced.
+-- What is in flight after messages are put or a front is taken, and a family after one value is
+-- replaced.
 use Rattle.std.specs.Prelude.{◌&&◌}
 use Rattle.std.proofs.Common.{◌≡◌, ◌⊎◌, ℕ, false, cond, ◌==◌, List, [], ◌∷◌, ◌++◌, drop, map, refl, sym, ap, subst, inl, inr, eqb-true, eq-eqb}
 use Rattle.zcalls.specs.Lists.{Among}
@@ -43,7 +44,7 @@ module _ {M : Type 0} where
       first rest same (inl e) = inl (λ i. (sym same i, e i))
       first rest same (inr b) = inr (rest b)
 
-  -- what is under way was there, or was put
+  -- what is in flight was there, or was put
   pub put_among : (links : Links M) (sender : Process) (posts : List (Post M)) (from to : Process) (m : MessageOf M)
       → Among m (put links sender posts from to) → Among m (links from to) ⊎ ((from ≡ sender) × Among (to, m) posts)
   put_among links sender posts from to m a = elim (test (is_same from sender)) [
@@ -55,12 +56,12 @@ module _ {M : Type 0} where
     | inr f ↦ inl (subst (λ l. Among m l) (ap (λ b. cond b (links from to ++ messages_to to posts) (links from to)) f) a)
   ]
 
-  -- what is under way without a front was there
+  -- what is in flight without a front was there
   drop_among : (link : List (MessageOf M)) (m : MessageOf M) → Among m (drop 1 link) → Among m link
   drop_among [] m a = a
   drop_among (x ∷ link) m a = inr a
 
-  -- what is under way without a front was under way with it
+  -- what is in flight without a front was in flight with it
   pub front_among : (links : Links M) (sender taker from to : Process) (m : MessageOf M) → Among m (without_front links sender taker from to)
       → Among m (links from to)
   front_among links sender taker from to m a = elim (test (is_same from sender && is_same to taker)) [
@@ -81,7 +82,7 @@ module _ {M : Type 0} where
   all_and Q first posts h k post (inl e) = subst (λ (p : Post M). Q p.1) e h
   all_and Q first posts h k post (inr a) = k post a
 
-  -- of posts behind posts
+  -- of posts after posts
   pub all_append : (Q : MessageOf M → Type 0) (posts more : List (Post M)) → AllPosts Q posts → AllPosts Q more → AllPosts Q (posts ++ more)
   all_append Q posts more h k post a = elim (among_cases post posts more a) [ inl b ↦ h post b | inr c ↦ k post c ]
 

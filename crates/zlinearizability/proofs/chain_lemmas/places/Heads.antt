@@ -13,7 +13,7 @@ use Rattle.zlinearizability.specs.chain.Sound.{OrdersLead, AreDistinct}
 use Rattle.zlinearizability.proofs.chain_lemmas.places.Orders.{settled}
 use Rattle.zlinearizability.proofs.chain_lemmas.places.Pairs.{has_place}
 
--- behind another no member is first
+-- after another no member is first
 never_first : (b : ℕ) (chain : List Neighbour) (s : ℕ) → place_from (Some b) chain s ≡ Some None → ⊥
 never_first b [] s h = cc h
 never_first b (a ∷ chain) s h = elim (test (a.0 == s)) [
@@ -34,7 +34,7 @@ nobody_before (a ∷ chain) s h apart x before = elim (test (a.0 == s)) [
     again same (inl p) = apart.0 s p.1 same
     again same (inr p) = apart.0 s (before_second x s (map (λ (m : Neighbour). m.0) chain) p) same
 
--- a member with a log and without predecessor has nobody before it
+-- a member with a log and without predecessor has no one before it
 pub head_is_first : (w : LogWorld) → OrdersLead w → AreDistinct w → (s : ℕ) → IsMember w s → (log : List Entry)
     → log_at w s ≡ Some log → (w.servers s).pred ≡ None
     → (x : ℕ) → ComesBefore x s (members w.master) → ⊥

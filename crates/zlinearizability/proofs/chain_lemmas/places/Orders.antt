@@ -1,4 +1,4 @@
--- Orders that lead from one predecessor to another, and places in the chain.
+-- Orders that lead from one predecessor to another, and positions in the chain.
 use Rattle.std.proofs.Common.{◌≡◌, ◌⊎◌, ℕ, Bool, true, false, cond, ◌==◌, List, [], ◌∷◌, ◌++◌, Option, Some, None, refl}
 use Rattle.std.proofs.Common.{sym, ap, ◌∙◌, subst, inl, inr, eqb-true}
 use Rattle.zcalls.proofs.Among.{test}
@@ -47,7 +47,7 @@ last_by : (Past : Place → Type 0) (fresh : Bool) (pred new : Place) (turn : Op
 last_by Past fresh pred new None e past = cc
 last_by Past fresh pred new (Some next) e past = (past, cc e)
 
--- orders that led to a predecessor that is past lead, with one more, to the one that it reports
+-- orders that led to a predecessor that is past lead, with one more, to the one that it names
 pub one_more_order : (Past : Place → Type 0) (fresh : Bool) (pred : Place) (orders : List LogMessage) (target new : Place) (m : LogMessage)
     → turn_of m ≡ Some new → Past target → LeadsTo Past fresh pred orders target → LeadsTo Past fresh pred (orders ++ m ∷ []) new
 one_more_order Past fresh pred [] target new m turn past h = last_by Past fresh pred new (turn_of m) turn (inr (subst Past (sym h) past))
@@ -59,7 +59,7 @@ one_more_order Past fresh pred (o ∷ orders) target new m turn past h =
 pub first_order : (Past : Place → Type 0) (pred new : Place) (m : LogMessage) → turn_of m ≡ Some new → LeadsTo Past true pred (m ∷ []) new
 first_order Past pred new m turn = last_by Past true pred new (turn_of m) turn (inl refl)
 
--- an order that reports no predecessor
+-- an order that names no predecessor
 pub unread_order : (Past : Place → Type 0) (fresh : Bool) (pred : Place) (orders : List LogMessage) (target : Place) (m : LogMessage)
     → turn_of m ≡ None → LeadsTo Past fresh pred orders target → LeadsTo Past fresh pred (orders ++ m ∷ []) target
 unread_order Past fresh pred [] target m turn h = unread (turn_of m) turn
@@ -101,14 +101,14 @@ leads_more Past Later fresh later pred (m ∷ more) target past is h =
     more_by Past Later fresh later pred target more past is (leads_more Past Later fresh later pred more target past is)
     (λ next. leads_more Past Later false false next more target past (λ e. e)) (turn_of m) h
 
--- p stands right before t in this chain, as a pair of this epoch
+-- p is right before t in this chain, as a pair of this epoch
 pub record StandsBefore (chain : List Neighbour) (p t k : ℕ) : Type 0 where
   pub front : List Neighbour
   pub epoch : ℕ
   pub rest : List Neighbour
   pub is : chain ≡ front ++ (p, epoch) ∷ (t, k) ∷ rest
 
--- the place of a server reports its neighbour
+-- the position of a server determines its neighbour
 place_splits : (b : Neighbour) (chain : List Neighbour) (p t k : ℕ) → place_from (Some b.0) chain t ≡ Some (Some (p, k))
     → StandsBefore (b ∷ chain) p t k
 place_splits b [] p t k h = cc
@@ -124,7 +124,7 @@ place_splits b (a ∷ chain) p t k h = elim (test (a.0 == t)) [
       record { front = b ∷ more.front; epoch = more.epoch; rest = more.rest; is = ap (λ l. b ∷ l) more.is }
 ]
 
--- a server with a predecessor in its place stands right behind it
+-- a server with a predecessor at its position is right after it
 pub place_splits_chain : (chain : List Neighbour) (p t k : ℕ) → place_from None chain t ≡ Some (Some (p, k)) → StandsBefore chain p t k
 place_splits_chain [] p t k h = cc
 place_splits_chain (a ∷ chain) p t k h = elim (test (a.0 == t)) [

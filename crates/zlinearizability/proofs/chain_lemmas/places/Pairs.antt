@@ -12,7 +12,7 @@ use Rattle.zlinearizability.specs.chain.Chain.{Place, place_behind, place_from, 
 use Rattle.zlinearizability.specs.chain.Sound.{OrdersLead, AreDistinct, UnusedAreBlank, LiveAreMembers}
 use Rattle.zlinearizability.proofs.chain_lemmas.places.Orders.{settled, place_splits_chain}
 
--- a server that lives and has a log is a member
+-- a server that is alive and has a log is a member
 pub log_member : (w : LogWorld) → UnusedAreBlank w → LiveAreMembers w → (s : ℕ) → w.failed s ≡ false → (log : List Entry)
     → log_at w s ≡ Some log → IsMember w s
 log_member w blank live s alive log has = elim (test (is_among s w.master.used)) [
@@ -22,7 +22,7 @@ log_member w blank live s alive log has = elim (test (is_among s w.master.used))
       let none : ◌≡◌ {A = Log} None (Some log) = sym (ap (λ (u : ServerView (List Entry)). u.machine) view) ∙ has in absurd (cc none)
 ]
 
--- a member has a place
+-- a member has a position
 pub has_place : (before : Option ℕ) (chain : List Neighbour) (s : ℕ) → Among s (map (λ (m : Neighbour). m.0) chain)
     → (place : Place) × (place_from before chain s ≡ Some place)
 has_place before [] s h = absurd h
@@ -55,7 +55,7 @@ settled_pred w line p s k p_in s_in is =
     let same = settled (IsPast w) (Some (p, k)) (queue w s) place.0 (λ past. past.1 p_in) leads in
     place.1 ∙ ap (λ x. Some x) (sym same)
 
--- and stands right before it
+-- and is right before it
 pub record AreNext (w : LogWorld) (p s : ℕ) : Type 0 where
   pub before : ComesBefore p s (members w.master)
   pub others : (a : ℕ) → ComesBefore a s (members w.master) → (a ≡ p) ⊎ ComesBefore a p (members w.master)
@@ -65,7 +65,7 @@ map_split : (front : List Neighbour) (a b : Neighbour) (rest : List Neighbour)
 map_split [] a b rest = refl
 map_split (f ∷ front) a b rest = ap (λ l. f.0 ∷ l) (map_split front a b rest)
 
--- the members of a pair stand next to each other
+-- the members of a pair are adjacent
 pub pair_next : (w : LogWorld) → AreDistinct w → (p s k : ℕ) → IsPair w p s k → AreNext w p s
 pair_next w apart p s k is =
     let split = place_splits_chain w.master.chain p s k is in

@@ -66,7 +66,7 @@ module _ {P : Type 0} (plain : Plain P) (t : Account) (s : IsSound plain t) (fro
   first_log_here : first_log w1 y ≡ Some log
   first_log_here = ap (λ l. or_else l (first_snapshot_by w1 y (w1.servers y).pred)) log_here
 
-  -- who stands before the taker is ahead of its log
+  -- who is before the taker is ahead of its log
   ahead : (z : ℕ) → ComesBefore z y (members w.master) → IsAhead w z log
   ahead z before =
       let more = final_log_of_log w1 y log log_here in

@@ -41,7 +41,7 @@ or_else_with : (own few all : Log) (log : List Entry) → ((l : List Entry) → 
 or_else_with None few all log f is = f log is
 or_else_with (Some own) few all log f is = is
 
--- what is under way on a cut link was under way
+-- what is in flight on a cut link was in flight
 pub cut_among : (w : LogWorld) (stays : Stays) (from to : Process) (m : LogMessage) → Among m (cut_links stays w.links from to)
     → Among m (w.links from to)
 cut_among w stays Master to m a = a

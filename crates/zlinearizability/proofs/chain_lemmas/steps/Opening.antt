@@ -68,7 +68,7 @@ members_are : (xs : List ℕ) → map (λ (m : Neighbour). m.0) (map pair xs) �
 members_are [] = refl
 members_are (x ∷ xs) = ap (λ l. x ∷ l) (members_are xs)
 
--- a member's place
+-- a member's position
 places : (before : Option ℕ) (a n s : ℕ) (place : Place) → place_from before (map pair (range_with_len a n)) s ≡ Some place
     → (s < a + n) × ((a ≡ s) × (place_behind before 0 ≡ place) ⊎ (a < s) × (Some (s - 1, 0) ≡ place))
 places before a zero s place h = cc

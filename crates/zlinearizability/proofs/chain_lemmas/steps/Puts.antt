@@ -1,4 +1,5 @@
--- A server puts one message: what nobody reads changes nothing, and an entry of its own log keeps the order of the chain.
+-- A server puts one message: what no one reads changes nothing, and an entry of its own log keeps
+-- the order of the chain.
 use Rattle.std.proofs.Common.{◌≡◌, ◌⊎◌, ℕ, List, [], ◌∷◌, ◌++◌, Option, Some, None, refl, sym, ap, ◌∙◌, subst, inl, inr, append-nil}
 use Rattle.zcalls.specs.declared.call.Entry.{Entry}
 use Rattle.zcalls.specs.Cached.{Plain}
@@ -98,7 +99,7 @@ module _ (w : LogWorld) (x : ℕ) (to : Process) (m : LogMessage) (foreign : (k 
   pub ordered_unread : ChainIsOrdered w → ChainIsOrdered (with_put w x to m)
   ordered_unread h a b before log is = ahead_put w x to m a log (h a b before log (sym (final_log_unread b) ∙ is))
 
--- what nobody reads (Ack, Joined, Have, Gone, Answer): all stays as it is
+-- what no one reads (Ack, Joined, Have, Gone, Answer): all stays as it is
 pub put_unread : {P : Type 0} (plain : Plain P) (t : Account) (x : ℕ) (to : Process) (m : LogMessage) → ((k : ℕ) → IsForeign k m)
     → IsJustified t.world t.items (Server x) to m → IsSound plain t → IsSound plain (account_with_put t x to m)
 put_unread plain t x to m foreign justified s = record {

@@ -33,7 +33,7 @@ pub below_some : (log : List Entry) (new : Log) → IsBelow (Some log) new → (
 below_some log None h = absurd h
 below_some log (Some more) h = (more, refl, h)
 
--- who has a log would hold one in the end that goes on with it
+-- who has a log would hold one in the end that extends it
 pub final_log_of_log : (w : LogWorld) (x : ℕ) (log : List Entry) → log_at w x ≡ Some log
     → (more : List Entry) × (final_log w x ≡ Some more) × IsPrefix log more
 final_log_of_log w x log is = below_some log (final_log w x) (by (w.servers x).pred)
@@ -59,7 +59,7 @@ module _ (w : LogWorld) (line : OrdersLead w) (apart : AreDistinct w) (ordered :
   abbrev m : LogMessage
   m = message.Update k n e
 
-  -- whoever stands before the receiver is ahead of all that the sender holds
+  -- whoever is before the receiver is ahead of all that the sender holds
   ahead_of_own : (epoch : ℕ) → IsMember w t → (w.servers t).pred ≡ Some (x, epoch) → (a : ℕ) → ComesBefore a t (members w.master)
       → (log : List Entry) → final_log w t ≡ Some log → (new : List Entry) → IsPrefix new own → IsAhead w a new
   ahead_of_own epoch t_in pred a before log is new begins =

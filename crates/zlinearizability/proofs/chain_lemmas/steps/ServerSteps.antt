@@ -1,4 +1,5 @@
--- A server takes a message that isn't the master's: the step of its view is sound, and so is what is put that nobody reads.
+-- A server takes a message that isn't the master's: the step of its view is sound, and so is what
+-- it puts that no one reads.
 use Rattle.std.specs.Prelude.{is_none}
 use Rattle.std.proofs.Common.{◌≡◌, ℕ, true, false, List, [], ◌∷◌, ◌++◌, length, Option, Some, None, refl, sym, ap, ◌∙◌}
 use Rattle.std.proofs.Common.{subst, inl, inr, append-nil, append_assoc}
@@ -56,11 +57,11 @@ puts_at_once t y (post ∷ posts) =
     puts_at_once (account_with_put t y post.0 post.1) y posts
     ∙ (λ i. record t { world = record t.world { links = λ p q. put_more t.world.links (Server y) post posts p q i } })
 
--- a message that nobody reads, and that is justified
+-- a message that no one reads, and that is justified
 abbrev pub IsUnreadAndJustified : LogWorld → List Item → ℕ → Post (List Entry) → Type 0
 IsUnreadAndJustified w items y post = IsUnread post.1 × IsJustified w items (Server y) post.0 post.1
 
--- a run after messages were put goes on from where it was before them
+-- a run after messages were put continues from where it was before them
 pub after_puts : {P : Type 0} (plain : Plain P) (t u later : Account) (y : ℕ) (posts : List (Post (List Entry))) → account_with_puts u y posts ≡ later
     → IsSound plain (account_with_puts u y posts) → IsPrefix t.committed u.committed → IsSoundAfter plain t later
 after_puts plain t u later y posts is sound begins =

@@ -1,5 +1,5 @@
--- What each server's view and each message has on its own: it holds of every run where the server table keeps it and all
--- orders and requests have it.
+-- What each server's view and each message has on its own. It holds of every run where the server
+-- table preserves it and all orders and requests have it.
 use Rattle.std.proofs.Common.{ℕ, List, [], ◌∷◌, refl, inl, inr}
 use Rattle.zcalls.specs.Lists.{Among}
 use Rattle.zcalls.proofs.Among.{test}
@@ -26,7 +26,7 @@ use Rattle.zlinearizability.proofs.chain_lemmas.links.Links.{put_among, front_am
 use Rattle.zlinearizability.proofs.chain_lemmas.tables.OtherPosts.{IsOrder, IsRequest, master_orders, order_orders}
 use Rattle.zlinearizability.proofs.chain_lemmas.tables.OtherPosts.{begin_requests, retry_requests, client_requests}
 
--- each view has the one, and each message under way the other
+-- each view has the one, and each message in flight the other
 pub record Everywhere {M : Type 0} (V : ServerView M → Type 0) (Q : MessageOf M → Type 0) (w : World M) : Type 0 where
   pub views : (s : ℕ) → V (w.servers s)
   pub under_way : (from to : Process) (m : MessageOf M) → Among m (w.links from to) → Q m

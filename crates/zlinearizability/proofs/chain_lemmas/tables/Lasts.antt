@@ -92,7 +92,7 @@ module _ {P : Type 0} (plain : Plain P) where
     | inr f ↦ rw f (elim (test (nat_lt servers s)) [ inl t ↦ rw t refl | inr g ↦ rw g refl ])
   ]
 
-  -- an event keeps last numbers the lengths of logs
+  -- an event preserves that last numbers are the lengths of logs
   pub lasts_keep : (w : LogWorld) (event : Event) → LastsAreLengths w → LastsAreLengths (keeps (log_machine plain) w event)
   lasts_keep w event h =
       let all = keeps_all (log_machine plain) HasExactLast IsExact

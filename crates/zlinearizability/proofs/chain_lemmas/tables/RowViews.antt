@@ -1,4 +1,5 @@
--- What a row keeps of a view alone: Sent is of the log, logs are of calls that began, and who is spare stays so.
+-- What a row preserves of a view alone: Sent is of the log, logs are of calls that began, and who
+-- is spare stays so.
 use Rattle.std.proofs.Common.{◌≡◌, ℕ, ◌+◌, false, nat_lt, List, [], ◌∷◌, ◌++◌, length, Option, Some, None, refl, sym}
 use Rattle.std.proofs.Common.{ap, ◌∙◌, subst, inl, inr, append_assoc}
 use Rattle.zcalls.specs.declared.call.Entry.{Entry}
@@ -61,7 +62,7 @@ module _ {P : Type 0} (plain : Plain P) where
   next_of : (v : ServerView (List Entry)) (mine : List Entry) → v.machine ≡ Some mine → HasExactLast v → v.last + 1 ≡ length mine + 1
   next_of v mine has exact = ap (λ l. l + 1) (exact ∙ ap length_of has)
 
-  -- each row keeps Sent of the log
+  -- each row preserves that Sent is of the log
   pub row_sent : (v : ServerView (List Entry)) (from : Process) (m : LogMessage) (r : ServerResult (List Entry))
       → IsRow (log_machine plain) v from m r
       → HasExactLast v → IsLogged v → IsLogged r.0
@@ -90,7 +91,7 @@ module _ {P : Type 0} (plain : Plain P) where
   accepted_begun w v mine n e r (Forwards succ has_succ) has begun h log is = subst (AllBegun w.history) (cc is)
       (longer_begun w mine e begun (h mine has))
 
-  -- each row keeps logs of calls that began
+  -- each row preserves that logs are of calls that began
   pub row_begun : (w : LogWorld) (items : List Item) (y : ℕ) (v : ServerView (List Entry)) (from : Process) (m : LogMessage)
       (r : ServerResult (List Entry))
       → IsRow (log_machine plain) v from m r → IsJustified w items from (Server y) m → HasBegunLog w v → HasBegunLog w r.0

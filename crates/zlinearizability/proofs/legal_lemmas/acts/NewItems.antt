@@ -19,7 +19,7 @@ use Rattle.zlinearizability.proofs.legal_lemmas.lists.Distinct.{pairwise_append}
 use Rattle.zlinearizability.proofs.legal_lemmas.order.LegalOrders.{in_time_more}
 use Rattle.zlinearizability.proofs.legal_lemmas.acts.ActedLogs.{after_items, after_calls, acted_begins, acted_replays, acted_leads, items_lead, replays_more}
 
--- the updates of a list that goes on
+-- the updates of a list that continues
 pub updates_more : (xs ys : List Item) → updates_of (xs ++ ys) ≡ updates_of xs ++ updates_of ys
 updates_more [] ys = refl
 updates_more (i ∷ xs) ys = elim (test (is_update i.operation.call)) [

@@ -55,7 +55,7 @@ no_two_of_map f R (x ∷ xs) h = (λ y a r. h.0 (f y) (mapped xs y a) r, no_two_
     mapped (z ∷ zs) y (inl e) = inl (ap f e)
     mapped (z ∷ zs) y (inr a) = inr (mapped zs y a)
 
--- each two members, in a list that goes on
+-- each two members, in a list that continues
 pub pairwise_append : {A : Type 0} (R : A → A → Type 0) (xs ys : List A) → Pairwise R xs → Pairwise R ys
     → ((x y : A) → Among x xs → Among y ys → R x y) → Pairwise R (xs ++ ys)
 pairwise_append R [] ys h k f = k

@@ -1,4 +1,4 @@
--- What stands before what in a list.
+-- What comes before what in a list.
 use Rattle.std.proofs.Common.{◌≡◌, ◌⊎◌, ℕ, List, [], ◌∷◌, ◌++◌, refl, sym, ◌∙◌, subst, inl, inr}
 use Rattle.zcalls.specs.Lists.{Among, ComesBefore, NoTwo}
 use Rattle.zlinearizability.specs.legal.Prefix.{Pairwise}
@@ -16,12 +16,12 @@ of_pairwise R [] h x y p = absurd p
 of_pairwise R (z ∷ zs) h x y (inl p) = subst (λ w. R w y) p.0 (h.0 y p.1)
 of_pairwise R (z ∷ zs) h x y (inr p) = of_pairwise R zs h.1 x y p
 
--- who stands right before another
+-- who is right before another
 pub stands_before : {A : Type 0} (front rest : List A) (x y : A) → ComesBefore x y (front ++ x ∷ y ∷ rest)
 stands_before [] rest x y = inl (refl, inl refl)
 stands_before (z ∷ front) rest x y = inr (stands_before front rest x y)
 
--- and who stands before that
+-- and who is before that
 pub before_next : {A : Type 0} (front rest : List A) (x y : A) → NoTwo (λ (a b : A). a ≡ b) (front ++ x ∷ y ∷ rest) → (a : A)
     → ComesBefore a y (front ++ x ∷ y ∷ rest) → (a ≡ x) ⊎ ComesBefore a x (front ++ x ∷ y ∷ rest)
 before_next [] rest x y apart a (inl p) = inl (sym p.0)
@@ -36,14 +36,14 @@ before_insert x y m [] ys h = inr h
 before_insert x y m (z ∷ xs) ys (inl p) = inl (p.0, among_insert y m xs ys p.1)
 before_insert x y m (z ∷ xs) ys (inr h) = inr (before_insert x y m xs ys h)
 
--- who stands before another in a list with one more at its end
+-- who is before another in a list with one more at its end
 pub before_last : {A : Type 0} (x y : A) (xs : List A) (z : A) → ComesBefore x y (xs ++ z ∷ []) → ComesBefore x y xs ⊎ (z ≡ y)
 before_last x y [] z (inl p) = absurd p.1
 before_last x y [] z (inr p) = absurd p
 before_last x y (a ∷ xs) z (inl p) = elim (among_last y xs z p.1) [ inl b ↦ inl (inl (p.0, b)) | inr e ↦ inr e ]
 before_last x y (a ∷ xs) z (inr p) = elim (before_last x y xs z p) [ inl b ↦ inl (inr b) | inr e ↦ inr e ]
 
--- of two members one stands before the other
+-- of two members one is before the other
 pub two_places : (s y : ℕ) (xs : List ℕ) → Among s xs → Among y xs → (s ≡ y) ⊎ (ComesBefore s y xs ⊎ ComesBefore y s xs)
 two_places s y [] a b = absurd a
 two_places s y (x ∷ xs) (inl e) (inl f) = inl (sym e ∙ f)

@@ -10,7 +10,7 @@ prefix_same xs = ([], sym (append-nil xs))
 pub prefix_of : {A : Type 0} (xs ys zs : List A) → IsPrefix xs ys → IsPrefix ys zs → IsPrefix xs zs
 prefix_of xs ys zs h k = (h.0 ++ k.0, k.1 ∙ ap (λ l. l ++ k.0) h.1 ∙ append_assoc xs h.0 k.0)
 
--- a list begins one that goes on
+-- a list is a prefix of one that continues
 pub prefix_append : {A : Type 0} (xs ys : List A) → IsPrefix xs (xs ++ ys)
 prefix_append xs ys = (ys, refl)
 

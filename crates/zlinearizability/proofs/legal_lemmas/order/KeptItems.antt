@@ -17,19 +17,19 @@ pub data Keeps : List Item → List Item → Type 0 where
   Keep : (i : Item) (is kept : List Item) → Keeps is kept → Keeps (i ∷ is) (i ∷ kept)
   Skip : (i : Item) (is kept : List Item) → is_update i.operation.call ≡ false → Keeps is kept → Keeps (i ∷ is) kept
 
--- what is kept is of the list
+-- what is retained is of the list
 pub kept_among : (is kept : List Item) → Keeps is kept → (i : Item) → Among i kept → Among i is
 kept_among is kept None i a = absurd a
 kept_among is kept (Keep j js kept' more) i (inl e) = inl e
 kept_among is kept (Keep j js kept' more) i (inr a) = inr (kept_among js kept' more i a)
 kept_among is kept (Skip j js kept' query more) i a = inr (kept_among js kept' more i a)
 
--- one more is kept: it was already, or it is put between
+-- one more is retained: it was already, or it is put between
 pub data KeepsOne (is kept : List Item) (i : Item) : Type 0 where
   Already : Among i kept → KeepsOne is kept i
   Put : (before after : List Item) → kept ≡ before ++ after → is_update i.operation.call ≡ false → Keeps is (before ++ i ∷ after) → KeepsOne is kept i
 
--- an item of the list can be kept too
+-- an item of the list can be retained too
 pub keep_one : (is kept : List Item) → Keeps is kept → (i : Item) → Among i is → KeepsOne is kept i
 keep_one is kept None i a = absurd a
 keep_one is kept (Keep j js kept' more) i (inl e) = Already (inl e)
@@ -44,7 +44,7 @@ keep_one is kept (Skip j js kept' query more) i (inr a) = elim (keep_one js kept
   | Put before after e asks more' ↦ Put before after e asks (Skip j js (before ++ i ∷ after) query more')
 ]
 
--- at first the updates alone are kept
+-- at first the updates alone are retained
 pub record KeepsUpdates (is : List Item) : Type 0 where
   pub kept : List Item
   pub keeps : Keeps is kept
@@ -71,13 +71,13 @@ keep_updates (i ∷ is) =
       }
     ]
 
--- what is kept replays, as a query leaves the state
+-- what is retained replays, as a query leaves the state
 module _ {P : Type 0} (plain : Plain P) where
   query_leaves : (p : P) (o : Operation) (call : Call) → is_update call ≡ false → (call_step plain p o.client call).0 ≡ p
   query_leaves p o (Update u) f = cc
   query_leaves p o (Query q) f = refl
 
-  -- what is kept replays
+  -- what is retained replays
   pub kept_replays : (is kept : List Item) → Keeps is kept → (p : P) → Replays (service_of plain) p is → Replays (service_of plain) p kept
   kept_replays is kept None p h = tt
   kept_replays is kept (Keep i is' kept' more) p h = (h.0, kept_replays is' kept' more (operation_step (service_of plain) p i.operation).0 h.1)
@@ -90,7 +90,7 @@ kept_rises is kept None h = tt
 kept_rises is kept (Keep i is' kept' more) h = (λ j a. h.0 j (kept_among is' kept' more j a), kept_rises is' kept' more h.1)
 kept_rises is kept (Skip i is' kept' query more) h = kept_rises is' kept' more h.1
 
--- of two in time, the earlier stands first
+-- of two in time, the earlier is first
 pub earlier_is_first : (is : List Item) → TimesRise is → (i j : Item) → Among i is → Among j is → i.time < j.time → ComesBefore i j is
 earlier_is_first [] rise i j a b l = absurd a
 earlier_is_first (k ∷ is) rise i j (inl e) (inl f) l = let same : i.time ≡ j.time = ap (λ m. m.time) (sym e ∙ f) in absurd (omega arith)
@@ -113,13 +113,13 @@ pub states_lawful : {P : Type 0} (Lawful : P → Type 0) (service : Service P)
 states_lawful Lawful service keeps p [] h = (h, tt)
 states_lawful Lawful service keeps p (o ∷ os) h = (h, states_lawful Lawful service keeps (operation_step service p o).0 os (keeps p o h))
 
--- the calls of what is kept
+-- the calls of what is retained
 pub operation_among : (is : List Item) (o : Operation) → Among o (map (λ i. i.operation) is) → (i : Item) × Among i is × (i.operation ≡ o)
 operation_among [] o a = absurd a
 operation_among (i ∷ is) o (inl e) = (i, inl refl, e)
 operation_among (i ∷ is) o (inr a) = let m = operation_among is o a in (m.0, inr m.1, m.2)
 
--- calls stand as their items do
+-- calls are in the order of their items
 pub operations_before : (is : List Item) (i j : Item) → ComesBefore i j is → ComesBefore i.operation j.operation (map (λ k. k.operation) is)
 operations_before [] i j h = absurd h
 operations_before (k ∷ is) i j (inl p) = inl (ap (λ m. m.operation) p.0, among_map is j p.1)

@@ -47,7 +47,7 @@ given is k [] t c n r a = absurd a
 given is k (e ∷ h) t c n r (inl f) = let m : IsAnsweredBy is k (Answer c n r) = subst (IsAnsweredBy is k) f t.0 in (m.0, m.1, m.2)
 given is k (e ∷ h) t c n r (inr a) = given is (k + 1) h t.1 c n r a
 
--- the item of an answer is earlier than that of a call that begins behind it
+-- the item of an answer is earlier than that of a call that begins after it
 earlier : (is : List Item) (k : ℕ) (h : History) → AreAnsweredInTime is k h → EventsDiffer h → (c n : ℕ) (r : Reply) (o : Operation) (t : ℕ)
     → ComesBefore (Answer c n r) (Begin o.client o.number o.call) h → HasBegun (take t h) o
     → (i : Item) × Among i is × IsItemOf c n r i × (i.time < k + t)
@@ -65,7 +65,7 @@ earlier is k (e ∷ h) in_time once c n r o (suc t) (inr p) (inr b) =
     let lt : m.0.time < (k + 1) + t = m.3 in
     (m.0, m.1, m.2, omega arith)
 
--- What is kept for some of the answers.
+-- What is retained for some of the answers.
 record Chosen (items : List Item) (k : ℕ) (answers : History) : Type 0 where
   pub kept : List Item
   pub keeps : Keeps items kept
@@ -131,7 +131,7 @@ update_of : (call : Call) → is_update call ≡ true → IsUpdate call
 update_of (Update u) e = tt
 update_of (Query q) e = cc
 
--- The calls that are kept, in order.
+-- The calls that are retained, in order.
 abbrev order_of : List Item → List Operation
 order_of kept = map (λ i. i.operation) kept
 
@@ -151,7 +151,7 @@ module _ {P : Type 0} (Lawful : P → Type 0) (plain : Plain P) (history : Histo
             (replayed (service_of plain) plain.opening kept replays m.0 m.1),
       )
 
-  -- an item of a call that ended before another began stands first
+  -- an item of a call that ended before another began is first
   stands_first : (i j : Item) → Among i kept → Among j kept → EndsBefore history i.operation j.operation → ComesBefore i j kept
   stands_first i j a b ends =
       let o = i.operation in
@@ -197,7 +197,7 @@ module _ {P : Type 0} (Lawful : P → Type 0) (plain : Plain P) where
             (kept_replays plain items kept chosen.keeps plain.opening replays) chosen.either opened keeps,
       )
 
-  -- the calls of what is kept are a legal order
+  -- the calls of what is retained are a legal order
   pub legal_order : (history : History) (items : List Item)
       → Lawful plain.opening → ((p : P) (o : Operation) → Lawful p → Lawful (operation_step (service_of plain) p o).0)
       → NoTwo AreOneUpdate (updates_of items)

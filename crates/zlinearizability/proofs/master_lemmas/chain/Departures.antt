@@ -118,7 +118,7 @@ module _ {P : Type 0} (plain : Plain P) (t : Account) (s : IsSound plain t) (x :
   past_later None h = absurd h
   past_later (Some p) h = (h.0, λ a. h.1 (was_member p.0 (subst (Among p.0) are a)))
 
-  -- places
+  -- positions
   places : (z : ℕ) (place : Place) → place_from None v.chain z ≡ Some place
       → ((place_from None w.master.chain z ≡ Some place) × IsElsewhere rest z) ⊎ IsTurned before e rest x z place (place_from None w.master.chain z)
   places z place is = elim (place_cases None front z) [
@@ -149,7 +149,7 @@ module _ {P : Type 0} (plain : Plain P) (t : Account) (s : IsSound plain t) (x :
         | inr f ↦ f
       ]
 
-  -- what is reported
+  -- which order is sent
   reported_is : (z : ℕ) → (messages_to (Server z) posts ≡ []) ⊎ ((m : LogMessage) × (messages_to (Server z) posts ≡ m ∷ []) × IsReported before e rest z m)
   reported_is z = elim (reported_one before e rest z) [
     | inl none ↦ inl (addressed_reported z v (repair before e rest).1 ∙ none)
@@ -181,7 +181,7 @@ module _ {P : Type 0} (plain : Plain P) (t : Account) (s : IsSound plain t) (x :
     is_last = λ k same. let not : ◌≡◌ {A = LogMessage} (message.NewPred e p) (message.BecomeTail k) = sym order ∙ same in cc not;
   }
 
-  -- whom no turn is reported
+  -- who is sent no turn
   unread_reported : (z : ℕ) (m : LogMessage) → IsElsewhere rest z → IsReported before e rest z m → turn_of m ≡ None
   unread_reported z m apart (Heads r more is next here order) = absurd (apart r more next here)
   unread_reported z m apart (Ends p is none here order) = ap turn_of order

@@ -1,4 +1,4 @@
--- A server joins: it stands behind the last of the chain, and is reported so.
+-- A server joins: it is after the last of the chain, and an order says so.
 use Rattle.std.specs.Prelude.{◌&&◌, is_none}
 use Rattle.std.specs.List.{last_or}
 use Rattle.std.proofs.Common.{◌≡◌, ◌⊎◌, ℕ, ◌+◌, true, ◌==◌, List, [], ◌∷◌, ◌++◌, Option, Some, None, refl, sym, ap, ◌∙◌}
@@ -29,7 +29,7 @@ use Rattle.zlinearizability.proofs.master_lemmas.chain.MendedChains.{ids_append,
 use Rattle.zlinearizability.proofs.master_lemmas.chain.RepairOrders.{one_reported}
 use Rattle.zlinearizability.proofs.master_lemmas.chain.UsedNumbers.{used_is, used_stays, used_now}
 
--- the place of the last
+-- the position of the last
 last_place : (before : Option ℕ) (x e z : ℕ) (place : Place) → place_from before ((x, e) ∷ []) z ≡ Some place
     → (x ≡ z) × (place_behind before e ≡ place)
 last_place before x e z place h = elim (test (x == z)) [
@@ -84,7 +84,7 @@ module _ {P : Type 0} (plain : Plain P) (t : Account) (s : IsSound plain t) (x :
     λ a. elim (member_cases p.0 a) [ inl b ↦ h.1 b | inr same ↦ unused (subst (IsUsed w) (sym same) h.0) ],
   )
 
-  -- places
+  -- positions
   places : (z : ℕ) (place : Place) → place_from None v.chain z ≡ Some place → (place_from None w.master.chain z ≡ Some place)
       ⊎ ((x ≡ z) × (Some (last, e) ≡ place))
   places z place is = elim (place_cases None w.master.chain z) [

@@ -28,9 +28,9 @@ world_with_move w v posts = record w { master = v; links = put w.links Master po
 -- what is shown of an order that is put to a server
 pub record IsGoodPost (w : LogWorld) (v : MasterView) (z : ℕ) (m : LogMessage) : Type 0 where
   pub is_used : is_among z v.used ≡ true
-  -- a predecessor is reported in a new epoch
+  -- a predecessor is announced in a new epoch
   pub new_epoch : (k p : ℕ) → m ≡ message.NewPred k p → (w.master.epoch < k) × (k ≤ v.epoch)
-  -- only the last is reported to become the tail
+  -- only the last is ordered to become the tail
   pub is_last : (k : ℕ) → m ≡ message.BecomeTail k → (t : ℕ) → ComesBefore z t (members v) → ⊥
 
 -- what is shown of the new view and the posts

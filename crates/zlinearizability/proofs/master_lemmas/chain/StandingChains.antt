@@ -23,7 +23,8 @@ use Rattle.zlinearizability.specs.chain.Sound.{IsSound}
 use Rattle.zlinearizability.proofs.chain_lemmas.places.Orders.{unread_order}
 use Rattle.zlinearizability.proofs.master_lemmas.chain.Moves.{world_with_move, IsGoodPost, IsGoodMove, move_sound}
 
--- an order that reports no predecessor and that isn't one to become the tail, also one to leave; or a configuration
+-- an order that names no predecessor and that isn't one to become the tail, also one to leave; or a
+-- configuration
 abbrev pub IsStanding : LogWorld → LogMessage → Type 0
 IsStanding w (message.NewSucc k t n) = IsOpened w t k
 IsStanding w (message.Config epoch head tail) = Unit {0}
@@ -42,12 +43,12 @@ not_pred w k p m e h = subst (IsStanding w) e h
 not_tail : (w : LogWorld) (k : ℕ) (m : LogMessage) → m ≡ message.BecomeTail k → IsStanding w m → ⊥
 not_tail w k m e h = subst (IsStanding w) e h
 
--- what clients are reported is nothing to servers
+-- what clients are sent is nothing to servers
 pub addressed_clients : (z : ℕ) (m : LogMessage) (cs : List ℕ) → messages_to (Server z) (map (λ c. (Client c, m)) cs) ≡ []
 addressed_clients z m [] = refl
 addressed_clients z m (c ∷ cs) = addressed_clients z m cs
 
--- with the clients reported, servers are put what they were
+-- with the messages to clients, servers are sent the same
 pub addressed_reported : (z : ℕ) (v : MasterView) (first : List (Post (List Entry))) → messages_to (Server z) (first ++ master.config_posts v)
     ≡ messages_to (Server z) first
 addressed_reported z v [] = addressed_clients z (message.Config v.epoch (head_of v) (tail_of v)) (range_with_len 0 v.clients)
@@ -127,11 +128,11 @@ module _ {P : Type 0} (plain : Plain P) (t : Account) (s : IsSound plain t) (joi
     justified = λ to m a. standing_justified to m (standing (to, m) a);
   }
 
-  -- all facts hold where the chain stands
+  -- all facts hold where the chain is unchanged
   pub standing_sound : IsSound plain (record t { world = world_with_move t.world v posts })
   standing_sound = move_sound plain t s v posts good_standing
 
--- who stands before another is a member
+-- who is before another is a member
 before_in : (x epoch : ℕ) (chain : List Neighbour) (p : ℕ) → master.before x epoch chain ≡ Some p → Among p (map (λ (m : Neighbour). m.0) chain)
 before_in x epoch [] p h = cc h
 before_in x epoch (a ∷ []) p h = cc h

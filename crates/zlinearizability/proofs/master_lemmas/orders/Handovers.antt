@@ -82,7 +82,8 @@ module _ {P : Type 0} (plain : Plain P) (reported : Account) (s : IsSound plain 
   abbrev w1 : LogWorld
   w1 = with_put reported.world x (Server t) m
 
-  -- whoever stands before the receiver is ahead of the sender's log, where it is a pair with the receiver
+  -- whoever is before the receiver is ahead of the sender's log, where it is a pair with the
+  -- receiver
   ahead_of_whole : IsPair w x t k → (a : ℕ) → ComesBefore a t (members w.master) → IsAhead w a own
   ahead_of_whole pair a before =
       let next = pair_next w s.distinct x t k pair in

@@ -31,7 +31,7 @@ use Rattle.zlinearizability.proofs.master_lemmas.orders.OrderViews.{order_sound}
 pub record IsGoodTurn (w : LogWorld) (y : ℕ) (v : ServerView (List Entry)) (rest : List LogMessage) : Type 0 where
   -- the log stays
   pub machine : v.machine ≡ (w.servers y).machine
-  -- a successor that nobody orders away stays, or another comes
+  -- a successor that no one orders away stays, or another comes
   pub succ : is_none (w.servers y).succ ≡ false → HasNoTailOrder (queue w y) → is_none v.succ ≡ false
   -- what it would hold in the end is no more than before
   pub final_log : (log : List Entry) → final_log (with_view w Master y v) y ≡ Some log
@@ -55,7 +55,7 @@ module _ {P : Type 0} (plain : Plain P) (t : Account) (s : IsSound plain t) (y :
   abbrev w1 : LogWorld
   w1 = with_view t.world Master y v
 
-  -- the taker is a member, as something was under way to it from the master
+  -- the taker is a member, as something was in flight to it from the master
   pub member : IsMember w y
   member = elim (test (is_among y w.master.used)) [
     | inl used ↦ s.live y used alive
@@ -90,7 +90,7 @@ module _ {P : Type 0} (plain : Plain P) (t : Account) (s : IsSound plain t) (y :
             no_tail_order = no_tail x h.no_tail_order;
           }
 
-  -- who stands before the taker
+  -- who is before the taker
   ahead_of : (x : ℕ) → ComesBefore x y (members w.master) → (log : List Entry) → final_log w1 y ≡ Some log → IsAhead w x log
   ahead_of x before log is = let more = good.final_log log is in ahead_less w x log more.0 more.2 (s.ordered x y before more.0 more.1)
 

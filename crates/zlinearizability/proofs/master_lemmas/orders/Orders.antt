@@ -29,7 +29,7 @@ use Rattle.zlinearizability.proofs.master_lemmas.orders.Neighbours.{take_pred_or
 use Rattle.zlinearizability.proofs.master_lemmas.orders.Successors.{take_succ_order}
 use Rattle.zlinearizability.proofs.master_lemmas.orders.Handovers.{take_whole_order}
 
--- a message that the server ignores, and that turns it to nobody
+-- a message that the server ignores, and that turns it to no one
 module _ {P : Type 0} (plain : Plain P) (t : Account) (s : IsSound plain t) (y : ℕ) (m : LogMessage) (rest : List LogMessage)
     (link : t.world.links Master (Server y) ≡ m ∷ rest) (alive : t.world.failed y ≡ false) where
   abbrev old : ServerView (List Entry)

@@ -12,7 +12,7 @@ use Rattle.zops.specs.support.Ready.{HasMark}
 use Rattle.zops.proofs.Marks.{mark_fewer}
 use Rattle.zops.proofs.run.run.Goals as goal
 
--- the parts that are left are this one, and those behind it
+-- the parts that are left are this one, and those after it
 next : (parts : List Part) (at : ℕ) (part : Part) → at < length parts → part ≡ get_or parts at part → drop at parts ≡ part ∷ drop (at + 1) parts
 next parts at part l is = drop_more parts at part l ∙ ap (λ p. p ∷ drop (at + 1) parts) (sym is)
 

@@ -4,7 +4,7 @@ use Rattle.std.proofs.lemmas.List.{length-drop, length-take-le, take-append-le}
 use borrow.Rule.Slice.PartMut.{put_mid, mid_of, post_of, same_len_mid}
 use Rattle.zdaemon.proofs.pipe.secret.read_secret.Goals as goal
 
--- bytes that are read behind others
+-- bytes that are read after others
 read_behind : (bytes got : List ℕ) (count more room : ℕ) → count ≤ length bytes → more ≤ length got
     → take (count + more) (put_mid count room bytes got) ≡ take count bytes ++ take more got
 read_behind bytes got count more room is fits =

@@ -77,7 +77,7 @@ unreachable-requires-in-None c =
     none_some shown.0
     (sym c.in-None.is ∙ c.take_key.ensures.key ∙ ap (λ w. kept_key w id) owned ∙ key-kept s.slots.items s.index.ids s.owners id r there list ∙ shown.1)
 
--- of two that a number's being 0 reports apart
+-- of two that are distinguished by whether a number is 0
 some : {X : Type 0} (n : ℕ) (a b : X) → (n ≡ 0 → ⊥) → (if n == 0 then a else b) ≡ b
 some n a b other = let e : (n == 0) ≡ false = grind (arith, nat_tests, other) in rw e refl
 

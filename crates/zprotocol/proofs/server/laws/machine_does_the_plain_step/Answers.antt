@@ -8,7 +8,7 @@ use Rattle.zcalls.specs.Step.{step}
 use Rattle.zprotocol.specs.server.Laws.{first_entry}
 use Rattle.zprotocol.proofs.server.laws.machine_does_the_plain_step.Goals as goal
 
--- a client's first entry acts, since nothing is kept
+-- a client's first entry acts, since nothing is cached
 acts : (t : Tree) (client : ℕ) (update : Update)
     → entry_step step (nothing_cached t) (first_entry client update) ≡ act_result step (nothing_cached t) (first_entry client update)
 unfolding entry_step

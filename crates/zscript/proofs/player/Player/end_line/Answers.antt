@@ -11,7 +11,7 @@ use Rattle.zscript.proofs.player.Player.end_line.Given.{Over}
 use Rattle.zscript.proofs.player.Player.end_line.Goals as goal
 use Rattle.zscript.proofs.player.Player.end_line.Goals.{After-len, then-is_empty+in_ok-answer_line, else-is_empty+in_ok-keep+in_ok-answer_line-2}
 
--- the line is done, and its answer is held behind what was held
+-- the line is done, and its answer is held after what was held
 answered : (g : Over) (c : After-len g)
     → IsLineDone (world_now c.args.self.now) (c.args.self.now.line ++ c.args.end.now) (world_now c.if-is_empty.self)
     (λ text. c.if-is_empty.self.held ≡ c.args.self.now.held ++ text)

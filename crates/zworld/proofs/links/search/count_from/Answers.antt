@@ -21,7 +21,7 @@ offset_bounds-queues-count g c = omega (arith, c.loop-count.invariant.within)
 pub bounds-queues-count : goal.bounds-queues-count
 bounds-queues-count g c = omega (arith, c.loop-count.invariant.within, c.loop-count-test.true)
 
--- one that doesn't come before these places: it and all in front of it are counted
+-- one that doesn't come before these positions: it and all in front of it are counted
 pub returns-then-not-is_before : goal.returns-then-not-is_before
 returns-then-not-is_before g c =
     let channels = c.args.queues.now in let queue = c.index-queues-count.result in let count = c.loop-count.count in

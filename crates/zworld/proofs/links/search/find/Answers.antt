@@ -10,7 +10,7 @@ returns-then-count-eq0-clause-gap g c =
     gap_at c.args.queues.now c.args.from c.args.to c.count_from-count.result c.requires c.count_from-count.ensures
     (λ d some read. absurd (omega (arith, some, c.if-count-eq0.true)))
 
--- what does isn't between these places
+-- what does isn't between these positions
 pub returns-then-not-is_between-clause-gap : goal.returns-then-not-is_between-clause-gap
 returns-then-not-is_between-clause-gap g c =
     let channels = c.args.queues.now in let count = c.count_from-count.result in

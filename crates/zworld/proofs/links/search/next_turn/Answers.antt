@@ -12,7 +12,7 @@ returns-then-more-eq0-clause-empty g c =
     turns_until channels from to count c.count_from-more.ensures (record { sender = PROCESSES; receiver = 0 })
     (none_from channels from to count c.count_from-more.ensures c.if-more-eq0.true PROCESSES 0)
 
--- the one that was found is from these places on
+-- the one that was found is from these positions on
 pub returns-clause-ahead : goal.returns-clause-ahead
 returns-clause-ahead g c small =
     let channels = c.args.queues.now in let from = c.args.from in let to = c.args.to in let more = c.count_from-more.result in
@@ -22,7 +22,7 @@ returns-clause-ahead g c small =
     let reached = found_from channels from to more searched c.index-queues-more.result (more - 1) last c.index-queues-more.is in
     (omega (arith, reached.0, places.0), λ back. omega (arith, reached.1 (omega (arith, back, places.0)), places.1))
 
--- so are all behind it, and nothing is on the channels before it
+-- so are all after it, and nothing is on the channels before it
 pub returns-clause-empty : goal.returns-clause-empty
 returns-clause-empty g c =
     let channels = c.args.queues.now in let queue = c.index-queues-more.result in let more = c.count_from-more.result in

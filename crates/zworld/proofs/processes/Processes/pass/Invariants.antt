@@ -4,7 +4,7 @@ use Rattle.zworld.specs.support.Settling.{StillOrCould}
 use Rattle.zworld.proofs.Turns.{CameTo}
 use Rattle.zworld.proofs.processes.Processes.pass.Given as goal
 
--- turns go on by senders, and for one sender by receivers
+-- turns advance by senders, and for one sender by receivers
 abbrev pub decreases-loop-turn : goal.decreases-loop-turn
 decreases-loop-turn l = (PROCESSES - l.turn.sender) * PROCESSES + (PROCESSES - l.turn.receiver)
 

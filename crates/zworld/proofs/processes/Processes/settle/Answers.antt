@@ -10,7 +10,7 @@ use Rattle.zworld.proofs.Skips.{no_retries}
 use Rattle.zworld.proofs.Tries.{strict_tries}
 use Rattle.zworld.proofs.processes.Processes.settle.Goals as goal
 
--- where nobody waits, nothing is sent once more
+-- where no one waits, nothing is sent once more
 pub returns-then-self-eq0-clause-settled : goal.returns-then-self-eq0-clause-settled
 returns-then-self-eq0-clause-settled c =
     settles_at_once c.args.strict c.args.self.now c.passes.new.self c.args.limit c.in_ok-left.left c.args.seen.now.items c.passes.new.seen.items

@@ -4,7 +4,7 @@ use Rattle.zworld.proofs.links_lemmas.Calls.{front_there, none_there}
 use Rattle.zworld.proofs.links_lemmas.Noted.{front_seen, empty_seen, gone_seen}
 use Rattle.zworld.proofs.links.links.Links.front.Goals as goal
 
--- nothing was sent, and a notice is kept
+-- nothing was sent, and a notice is stored
 pub returns-then-is_between : goal.returns-then-is_between
 returns-then-is_between g c =
     let nothing : sent_of c.self.inside.queues.items c.args.from.now c.args.to.now ≡ [] =

@@ -53,7 +53,7 @@ returns-in_default-clause-notices g c =
     ap (λ noted. record { sent = c.self.inside.queues.items; noted = noted }) (c.take.ensures.same c.if-take.false) ∙ c.self.view_is in
     subst (λ v. Notes v (notices_left c.args.self.now (links_of v))) (sym same) (left_over c.args.self.now)
 
--- there is more behind the front
+-- there is more after the front
 pub invariant_of-self-in-Some : goal.invariant_of-self-in-Some
 invariant_of-self-in-Some g c = (
   sorted_there c.deref.ensures.value c.args.from.now c.args.to.now c.place-sender.ensures.place c.place-receiver.ensures.place
