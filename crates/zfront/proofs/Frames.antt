@@ -1,4 +1,4 @@
--- One more frame behind frames that were handled, and what is left behind a frame.
+-- One more frame after frames that were handled, and what is left after a frame.
 use Rattle.std.proofs.Common.{◌≡◌, ◌≤◌, ◌<◌, Bool, true, false, sym, ap, subst, refl, List, [], ◌∷◌, ◌++◌, ℕ, length, take, drop, arith}
 use Rattle.std.specs.Prelude.{nat_lt, if◌then◌else◌}
 use Rattle.std.specs.Int.{w32, from_be_bytes}
@@ -22,7 +22,7 @@ handles_more [] c old middle bytes new same is_on done =
 handles_more (first ∷ frames) c old middle bytes new all is_on done =
     (all.0, all.1, all.2, handles_more frames c all.1 middle bytes new all.3 is_on done)
 
--- what is left behind a frame is shorter than what came
+-- what is left after a frame is shorter than what came
 behind_frame : (b : Bool) (n : ℕ) (rest bytes more : List ℕ) → (if b then Partial else Whole (take n rest) (drop n rest))
     ≡ Whole bytes more → length more ≤ length rest
 behind_frame true n rest bytes more is =

@@ -7,7 +7,7 @@ use Rattle.zconnections.specs.Tables.{TablesView}
 use Rattle.zfront.specs.Restoring.{seated, tables_of}
 use Rattle.zfront.proofs.Asked.{ahead}
 
--- the tables, once the sessions from a place on are put in
+-- the tables, once the sessions from a position on are put in
 abbrev pub with_rest : List ℕ → ℕ → TablesView → TablesView
 with_rest sessions i t = record t { attachments = seated (drop i sessions) t.attachments }
 

@@ -6,9 +6,11 @@
 //! table alone can't know that it is small. The law `every_front_keeps_few` proves it for each
 //! front.
 
-ghost use Rattle.std.specs.Prelude.{◌≡◌, None, Some, IfOk, OnOk};
+ghost use Rattle.std.specs.Prelude.{◌≡◌, None, Some, IfOk, OnOk, IfSome, is_some};
+ghost use Rattle.zconnections.specs.Tables.{is_open};
+ghost use Rattle.zconnections.specs.buffers.Streams.{phase_of};
 ghost use Rattle.zjute.specs.Frames.{next_of};
-ghost use Rattle.zfront.specs.Reading.{Comes, ComesBehind, ComesBy, Handles, HandlesIn};
+ghost use Rattle.zfront.specs.Reading.{Comes, ComesBehind, ComesBy, HandlesIn};
 ghost use Rattle.zfront.specs.Reading.{is_too_long, Keeps, Reads};
 
 use crate::inner::Inner;
@@ -59,10 +61,10 @@ impl<T: TreeService> Inner<T> {
         ensures { IfOk result (λ rest. Reads came.now connection self.old rest.now self.new) }
     {
         let mut rest = came;
-        while self.tables.is_open(connection) {
+        while let Some(phase) = self.open_phase(connection) {
             match next_frame(rest) {
                 Next::Whole(frame, more) => {
-                    self.handle(connection, frame)?;
+                    self.handle(phase, connection, frame)?;
                     rest = more;
                 }
                 Next::Partial | Next::TooLong => break,
@@ -71,18 +73,20 @@ impl<T: TreeService> Inner<T> {
         Ok(rest)
     }
 
-    // Handles a frame, by the phase of its connection.
-    fn handle(&mut self, connection: u32, frame: &[u8]) -> Result<(), Memory>
-        ensures { OnOk result (Handles frame.now connection self.old self.new) }
+    // Returns the phase of a connection that is open.
+    fn open_phase(&self, connection: u32) -> Option<Phase>
+        ensures phase { IfSome result
+            (λ phase. phase_of self.now.tables.streams connection ≡ Some phase) }
+        ensures open { is_some result ≡ is_open self.now.tables connection }
     {
-        match self.tables.phase(connection) {
-            Some(phase) => self.handle_in(phase, connection, frame),
-            None => Ok(()),
+        match self.tables.phase(connection)? {
+            Phase::Closing => None,
+            phase => Some(phase),
         }
     }
 
     // Handles a frame on a connection in this phase.
-    fn handle_in(&mut self, phase: Phase, connection: u32, frame: &[u8]) -> Result<(), Memory>
+    fn handle(&mut self, phase: Phase, connection: u32, frame: &[u8]) -> Result<(), Memory>
         ensures { OnOk result
             (HandlesIn (Some phase) frame.now connection self.old self.new) }
     {

@@ -1,4 +1,4 @@
--- Tables without connections, in which each session has a attachment that is marked.
+-- Tables without connections, in which each session has an attachment that is marked.
 use Rattle.std.proofs.Common.{◌≡◌, ◌≢◌, ◌⊎◌, inl, inr, ◌∙◌, ℕ, Bool, true, false, List, [], ◌∷◌, Option, None, Some, refl, sym, ap, subst}
 use Rattle.std.specs.Prelude.{◌||◌}
 use Rattle.std.specs.Cmp.{nat_cmp_total}
@@ -59,7 +59,7 @@ later_listed id session sessions is = behind (eq_by_cmp nat_cmp id session)
     behind true = refl
     behind false = is
 
--- what holds of each attachment before, and of each session, holds of each attachment behind them
+-- what holds of each attachment before, and of each session, holds of each attachment after them
 each_seat : (P : ℕ → Attachment → Type 0) (sessions : List ℕ) (m : AttachmentsView) → ((id : ℕ) (s : Attachment) → get m id ≡ Some s → P id s)
     → ((id : ℕ) → Listed id sessions → P id restored_attachment) → (id : ℕ) (s : Attachment) → get (seated sessions m) id ≡ Some s → P id s
 each_seat P [] m before at id s there = before id s there
@@ -73,7 +73,7 @@ each_seat P (session ∷ sessions) m before at id s there = each_seat P sessions
     put : (q : ℕ) (x : Attachment) → get (insert m session restored_attachment) q ≡ Some x → P q x
     put q x is = by q x (get-inserted nat_cmp_total nat_cmp-IsAntisymmetric m session restored_attachment q x is)
 
--- who has a attachment keeps one
+-- who has an attachment still has one
 keeps_one : (sessions : List ℕ) (m : AttachmentsView) (id : ℕ) → Has m id → Has (seated sessions m) id
 keeps_one [] m id has = has
 keeps_one (session ∷ sessions) m id has = keeps_one sessions (insert m session restored_attachment) id (by (same_number id session))
@@ -104,7 +104,7 @@ each_sits (session ∷ sessions) m id is = by (each_sits sessions (insert m sess
 nobody_sits : {P : Type 0} (id : ℕ) (s : Attachment) → get no_tables.attachments id ≡ Some s → P
 nobody_sits id s there = absurd (none_some s (sym (finite.get-empty nat_cmp id) ∙ there))
 
--- behind no attachments, no other session has one
+-- with no attachments before, no other session has one
 pub is_listed : (sessions : List ℕ) (id : ℕ) (s : Attachment) → get (tables_of sessions).attachments id ≡ Some s
     → list_any (eq_by_cmp nat_cmp id) sessions ≡ true
 is_listed sessions = each_seat (λ id s. Listed id sessions) sessions finite.empty (λ id s there. nobody_sits id s there) (λ id listed. listed)

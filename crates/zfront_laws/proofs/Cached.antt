@@ -1,4 +1,4 @@
--- Tables whose seats are kept, and that have no session more.
+-- Tables whose seats are preserved, and that have no session more.
 use Rattle.std.proofs.Common.{◌≡◌, ◌≢◌, ◌⊎◌, inl, inr, ◌∙◌, ℕ, Bool, true, false, List, [], ◌∷◌, Option, None, Some, refl, sym, ap}
 use Rattle.std.specs.Prelude.{if◌then◌else◌}
 use Rattle.std.specs.Cmp.{nat_cmp_total}
@@ -33,7 +33,7 @@ unchanged t = (λ seated. seated, λ id has. has)
 pub kept_both : (old middle new : TablesView) → Cached old middle → Cached middle new → Cached old new
 kept_both old middle new one two = (λ seated. two.0 (one.0 seated), λ id has. one.1 id (two.1 id has))
 
--- a attachment that is changed is no new one
+-- an attachment that is changed is no new one
 changed_ids : (to : Attachment → Attachment) (m : AttachmentsView) (key id : ℕ) → Has (with_changed to m key) id → Has m id
 changed_ids to m key id has = each (get m key) refl has
   where

@@ -1,4 +1,4 @@
--- A step at which calls are made, and behind them sessions are swept and watched nodes looked at.
+-- A step at which calls are made. After them sessions are swept, and watched nodes are looked at.
 use Rattle.std.proofs.Common.{◌≡◌, ◌∙◌, ℕ, ◌≤◌, Bool, true, false, List, [], ◌++◌, refl, sym, ap, subst, arith}
 use Rattle.std.specs.FinMap.{contains_key}
 use Rattle.std.specs.List.{list_any}
@@ -65,7 +65,7 @@ tidies_if false replies old new is =
     record { rows = old.tables; becomes = is; light = unmoved old.tables; lives = λ ends. absurd (cc ends) }
 tidies_if true replies old new has = looks_if (took_unnamed replies old) old new has
 
--- so it is behind any calls
+-- so it is after any calls
 pub makes : (calls : List Call) (t : TablesView) (old new : FrontView) → Lighter old.tables t
     → Tidies calls (replies_to calls old) (with_tables t (asked calls old)) new → Goes [] (done_by calls old) old new
 makes calls t old new light has = subst (Goes [] (done_by calls old) old) (sym done.becomes) (made calls done.rows old all.0 seats)

@@ -1,4 +1,4 @@
--- A step at the bytes that come on a connection. Few of them are kept.
+-- A step at the bytes that come on a connection. Few of them are stored.
 use Rattle.std.proofs.Common.{◌≡◌, ℕ, ◌+◌, ◌≤◌, Bool, true, false, List, [], ◌∷◌, ◌++◌, length, Option, None, Some, refl, sym, subst, arith}
 use Rattle.std.specs.Prelude.{nat_lt, ◌||◌, if◌then◌else◌}
 use Rattle.std.proofs.lemmas.Bool.{ltb-false}
@@ -38,7 +38,7 @@ pub handles_all : (frames : List (List ℕ)) (c : ℕ) (old new : FrontView) →
 handles_all [] c old new is = same old new is
 handles_all (bytes ∷ frames) c old new has = both (handles bytes c old has.1 has.2) (handles_all frames c has.1 new has.3)
 
--- ---- what is kept
+-- ---- what is stored
 
 with_rest : (rest : List ℕ) (c : ℕ) (t : TablesView) → nat_lt MAX_KEPT (held_of t.streams + length rest) ≡ false
     → held_of (with_bytes t.streams c rest) ≤ MAX_KEPT
@@ -61,7 +61,7 @@ rest_kept : (over : Bool) (rest : List ℕ) (c : ℕ) (t : TablesView)
 rest_kept true rest c t = closes_kept c t
 rest_kept false rest c t = bytes_kept c rest t
 
--- the rest of what came is kept, unless it is too much
+-- the rest of what came is stored, unless it is too much
 pub keeps_rest : (rest : List ℕ) (c : ℕ) (v : FrontView) → Goes [] [] v (keeps rest c v)
 keeps_rest rest c v = elim (is_open v.tables c) as (λ b. Goes [] [] v (if b then with_tables (kept rest c v.tables) v else v)) [
   | true ↦ tables_change (kept rest c v.tables) v
@@ -71,7 +71,7 @@ keeps_rest rest c v = elim (is_open v.tables c) as (λ b. Goes [] [] v (if b the
   | false ↦ same v v refl
 ]
 
--- where few bytes were kept before
+-- where few bytes were stored before
 pub keeps_now : (rest : List ℕ) (c : ℕ) (old new : FrontView) → KeepsFew old → Keeps rest c old new → new ≡ keeps rest c old
 keeps_now rest c old new few keep =
     let little : held_of old.tables.streams ≤ MAX_KEPT = few in

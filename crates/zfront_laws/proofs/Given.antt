@@ -1,4 +1,4 @@
--- What each step gives the connections: what is kept of one, and what an opening and an end do.
+-- What each step gives the connections: what is stored of one, and what an opening and an end do.
 use Rattle.std.proofs.Common.{◌≡◌, ◌≢◌, ◌⊎◌, inl, inr, ◌∙◌, ℕ, ◌+◌, Bool, true, false, List, [], ◌++◌, length, Option, Some, refl, sym, ap, subst}
 use Rattle.std.proofs.lemmas.Bool.{eq-eqb, ne_eqb}
 use Rattle.std.specs.Prelude.{nat_eq, nat_lt, ◌||◌, if◌then◌else◌}
@@ -22,7 +22,7 @@ use Rattle.zfront_laws.proofs.Greeted.{GainsBy, IsShut, shuts, silent_on, speaks
 use Rattle.zfront_laws.proofs.Quiet.{Quiet, StaysOpen, carries_quiet, phase_by, row_elsewhere, row_here, row_of, was_in}
 use Rattle.zfront_laws.proofs.Seated.{same_number}
 
--- ---- what is kept of a connection
+-- ---- what is stored of a connection
 
 -- the bytes of a connection that isn't closing are as they were
 bytes_stay : (old new : StreamRows) (d : ℕ) (p : Phase) → StaysOpen old new d → (p ≡ Closing → ⊥) → phase_of new d ≡ Some p
@@ -56,7 +56,7 @@ in_no_phase t c p shut going is =
     let clash : true ≡ false = sym (goes_out p going) ∙ sym (ap may_send is) ∙ shut in
     cc
 
--- the rest of what came on a connection is kept
+-- the rest of what came on a connection is stored
 pub record KeepsRest (rest : List ℕ) (c : ℕ) (old new : StreamRows) : Type 0 where
   pub others : (d : ℕ) → d ≢ c → StaysOpen old new d
   pub here : (p : Phase) → (p ≡ Closing → ⊥) → phase_of new c ≡ Some p → (phase_of old c ≡ Some p) × (bytes_of new c ≡ rest)
@@ -99,7 +99,7 @@ pub record GotBy (step : Step) (d session : ℕ) (old : FrontView) : Type 0 wher
   pub first : next_of (bytes_of old.tables.streams d ++ bytes) ≡ Whole frame more
   pub gains : GainsBy frame session old
 
--- all that came on a connection that is silent is kept
+-- all that came on a connection that is silent is stored
 abbrev pub IsWaiting : ℕ → StreamRows → Option (List ℕ) → Type 0
 IsWaiting d rows since = phase_of rows d ≡ Some Silent → since ≡ Some (bytes_of rows d)
 

@@ -37,7 +37,7 @@ gives_by Took old new few is =
 
 -- ---- and steps, one after the other
 
--- how each connection stands behind steps
+-- the state of each connection after steps
 record Stands (done : List Step) (first v : FrontView) : Type 0 where
   silent : (c : ℕ) → IsWaiting c v.tables.streams (since_opened c done None)
   speaks : (c session : ℕ) → phase_of v.tables.streams c ≡ Some (Speaking session) → HasGot c session done first v

@@ -43,7 +43,7 @@ one_more : {A : Type 0} (xs : List A) (x : A) → xs ++ x ∷ [] ≡ xs → ⊥
 one_more [] x is = cc
 one_more (y ∷ xs) x is = one_more xs x (ap (drop 1) is)
 
--- a connection that was closed is shut, since nothing goes behind its last chunk
+-- a connection that was closed is shut, since nothing is sent after its last chunk
 pub shuts : (c : ℕ) (t : TablesView) → IsShut (closed c t) c
 shuts c t = by (is_open u c) refl (nothing_behind c [] t)
   where
@@ -103,7 +103,7 @@ closes frame c v = shut_becomes frame c v (closed c v.tables) (carries_quiet.clo
 turns_away : (frame : List ℕ) (greeting : ConnectRequest) (c : ℕ) (v : FrontView) → Becomes frame c v (turned_away greeting c v.tables)
 turns_away frame greeting c v = shut_becomes frame c v (turned_away greeting c v.tables) (changes.says Quiet carries_quiet c _ v.tables) (shuts c _)
 
--- its connection speaks for a session now, which it is reported
+-- its connection speaks for a session now, and is sent it
 module _ (frame : List ℕ) (session c : ℕ) (bytes : List ℕ) (v : FrontView) (u : TablesView) (m : AttachmentsView) where
   abbrev speaking : TablesView
   speaking = record u { streams = with_phase u.streams c (Speaking session); attachments = m }

@@ -53,7 +53,7 @@ abbrev pub FramesGive : List (List ℕ) → ℕ → FrontView → FrontView → 
 FramesGive frames c old new =
     (Quiet old.tables new.tables × (((frames ≡ []) × (new ≡ old)) ⊎ NotSilent c new.tables)) ⊎ IsGreeted frames c old new
 
--- frames behind a first one that gave nothing
+-- frames after a first one that gave nothing
 behind : (frame : List ℕ) (frames : List (List ℕ)) (c : ℕ) (old middle new : FrontView) → NotSilent c old.tables → Quiet old.tables middle.tables
     → HandlesAll frames c middle new → FramesGive (frame ∷ frames) c old new
 behind frame frames c old middle new loud calm has =

@@ -117,7 +117,7 @@ module _ (c : ℕ) (bytes rest : List ℕ) (old middle new : FrontView)
         gains = greeted.becomes.gains session spoke;
       })
 
-  -- where no frame was whole, all that came is kept
+  -- where no frame was whole, all that came is stored
   all_kept : (frames : List (List ℕ)) → frames ≡ [] → Cuts came frames rest → came ≡ rest
   all_kept [] none cut = cut
   all_kept (frame ∷ frames) none cut = absurd (cc none)

@@ -1,4 +1,4 @@
--- No change of the tables makes the streams hold more, but that what comes is kept.
+-- No change of the tables makes the streams hold more, except that what comes is stored.
 use Rattle.std.proofs.Common.{ℕ, ◌+◌, ◌≤◌, true, false, None, Some, arith}
 use Rattle.std.specs.Prelude.{if◌then◌else◌}
 use Rattle.std.specs.Option.{option_map_or}
@@ -12,7 +12,7 @@ use Rattle.zfront_laws.proofs.Held.{held-changed}
 use Rattle.zfront_laws.proofs.Cached.{Cached, unchanged, kept_both, closes_kept, noted_kept, rests_kept, sweeps_kept, touched_kept}
 use Rattle.zfront_laws.proofs.Changes.{Carries}
 
--- the streams hold no more, and the seats are kept
+-- the streams hold no more, and the seats are preserved
 abbrev pub Lighter : TablesView → TablesView → Type 0
 Lighter old new = (held_of new.streams ≤ held_of old.streams) × Cached old new
 

@@ -1,4 +1,4 @@
--- Behind a sweep each session that has a attachment is one of the tree.
+-- After a sweep each session that has an attachment is one of the tree.
 use Rattle.std.proofs.Common.{◌≡◌, ◌∙◌, ℕ, Bool, true, false, List, [], ◌∷◌, refl, sym, ap}
 use Rattle.std.specs.Prelude.{not, ◌||◌}
 use Rattle.std.specs.Cmp.{nat_cmp_total}
@@ -44,7 +44,7 @@ among test id passes (first ∷ ids) is = by (among test id passes ids) (eq_by_c
     by later false are true taken some = rw (taken, are) (later some)
     by later false are false left some = rw left (later some)
 
--- so behind a sweep each attachment is of a session of the tree
+-- so after a sweep each attachment is of a session of the tree
 pub swept_lives : (sessions : Sessions) (t : TablesView) (id : ℕ) → Has (swept_all (gone sessions t.attachments) t).attachments id
     → contains_key sessions id ≡ true
 swept_lives sessions t id has = by (contains_key sessions id) refl

@@ -54,7 +54,7 @@ same_session session other is = cc
 closed_silent : (rows : StreamRows) (c session : ℕ) → phase_of (stream.closed rows c) c ≡ Some (Speaking session) → ⊥
 closed_silent rows c session is = never_speaks session (phase_here (λ s. empty_in Closing) rows c (Speaking session) is).2
 
--- a attachment that is changed, and the others
+-- an attachment that is changed, and the others
 pub seat_elsewhere : (to : Attachment → Attachment) (m : AttachmentsView) (id other : ℕ) → other ≢ id → get (with_changed to m id) other ≡ get m other
 seat_elsewhere to m id other apart = each (get m id)
   where
@@ -69,11 +69,11 @@ seat_here to m id s is =
 abbrev pub connection_in : Option Attachment → Option ℕ
 connection_in o = option_and_then (λ s. s.connection) o
 
--- a session has a attachment
+-- a session has an attachment
 abbrev pub Has : AttachmentsView → ℕ → Type 0
 Has m id = (s : Attachment) × (get m id ≡ Some s)
 
--- who speaks has a attachment
+-- who speaks has an attachment
 pub has_seat : (t : TablesView) (c session : ℕ) → IsSeated t → phase_of t.streams c ≡ Some (Speaking session) → Has t.attachments session
 has_seat t c session seated speaks = each (get t.attachments session) refl (seated c session speaks)
   where
@@ -150,7 +150,7 @@ reports_all [] t seated = seated
 reports_all (e ∷ es) t seated =
     reports_all es (reported e t) (sends_on (in_order (watches.reported t.watches e.kind e.path)) (event_frame e) (unwatched e t) seated)
 
--- who speaks behind a close spoke before, and is another one
+-- who speaks after a close spoke before, and is another one
 spoke : (c : ℕ) (t : TablesView) (d session : ℕ) → phase_of (closed c t).streams d ≡ Some (Speaking session)
     → (d ≢ c) × (phase_of t.streams d ≡ Some (Speaking session))
 spoke c t d session speaks = each (is_open t c) refl speaks
@@ -176,7 +176,7 @@ moves session t seated = elim (connection_of t.attachments session) as (λ o. Is
   | Some c ↦ closes c t seated
 ]
 
--- nobody speaks for a session whose connection was closed
+-- no one speaks for a session whose connection was closed
 nobody : (session : ℕ) (t : TablesView) → IsSeated t → (d : ℕ) → phase_of (moved session t).streams d ≡ Some (Speaking session) → ⊥
 nobody session t seated d speaks = each (connection_of t.attachments session) refl speaks
   where
@@ -222,7 +222,7 @@ takes_seat session c t m here elsewhere free seated d other speaks = near (same_
         ap (connection_of m) (sym (same_session session other row.2)) ∙ here ∙ ap (λ n. Some n) (sym same)
     near (inr away) = far (sym (phase_elsewhere same_rows t.streams c d away) ∙ speaks) (same_number other session)
 
--- where a attachment is put, its session has the connection that stands in it
+-- where an attachment is put, its session has the connection that is in it
 module _ (m : AttachmentsView) (session : ℕ) (s : Attachment) where
   put_here : connection_of (insert m session s) session ≡ s.connection
   put_here = ap connection_in (get-insert-here nat_cmp_total nat_cmp-IsAntisymmetric m session s)

@@ -76,7 +76,7 @@ serves bytes session c old new has = requests (whole request bytes) session c ol
 
 -- ---- a client comes back
 
--- who sits where a attachment is put
+-- which connection has the seat where an attachment is put
 sits : (m n : AttachmentsView) (session : ℕ) (s : Attachment) → ((id : ℕ) → Has n id → Has m id) → (id : ℕ) → Has (insert n session s) id
     → (id ≡ session) ⊎ Has m id
 sits m n session s kept id has = by (get-inserted nat_cmp_total nat_cmp-IsAntisymmetric n session s id has.0 has.1)
@@ -144,7 +144,7 @@ returns greeting (pos session) c v = by (get v.tree.sessions session) refl
 
 -- ---- a session is opened
 
--- a new one, so nobody sits there yet
+-- a new one, so it has no connection yet
 no_attachment : (m : AttachmentsView) (id bound : ℕ) → id ≡ bound + 1 → ((other : ℕ) → Has m other → other ≤ bound) → connection_of m id ≡ None
 no_attachment m id bound is low = by (get m id) refl
   where

@@ -1,5 +1,5 @@
--- What a server's steps keep: the log goes on, few bytes are kept, seats are in order, and what was
--- made is left until it is taken.
+-- What a server's steps preserve: the log continues, few bytes are stored, and seats are in order.
+-- What was made remains until it is taken.
 use Rattle.std.proofs.Common.{◌≡◌, ◌∙◌, ℕ, ◌≤◌, true, List, [], ◌∷◌, ◌++◌, refl, sym, ap, subst, arith, append_assoc}
 use Rattle.std.proofs.lemmas.List.{append-nil, map-append}
 use Rattle.std.specs.FinMap.{contains_key, get}
@@ -23,24 +23,24 @@ use Rattle.zfront_laws.proofs.Seated.{Has}
 use Rattle.zfront_laws.proofs.Cached.{Cached}
 use Rattle.zfront_laws.proofs.Lighter.{Lighter, unmoved}
 
--- each connection that speaks for a session has its seat, each session with a attachment is one of the
--- tree, and a service can begin with this tree
+-- each connection that speaks for a session has its seat, each session with an attachment is one of
+-- the tree, and a service can begin with this tree
 pub record Fine (v : FrontView) : Type 0 where
   pub seated : IsSeated v.tables
   pub alive : (id : ℕ) → Has v.tables.attachments id → contains_key v.tree.sessions id ≡ true
   pub can : CanStart v.tree
 
--- so no session with a attachment is newer than the tree
+-- so no session with an attachment is newer than the tree
 pub below : (v : FrontView) → Fine v → (id : ℕ) → Has v.tables.attachments id → id ≤ v.tree.zxid
 below v fine id has =
     let s = has_some (get v.tree.sessions id) (fine.alive id has) in
     (fine.can.granted id s.0 s.1).before
 
--- the same tree, and tables whose seats are kept
+-- the same tree, and tables whose seats are preserved
 pub seats_kept : (t : TablesView) (v : FrontView) → Cached v.tables t → Fine v → Fine (with_tables t v)
 seats_kept t v kept fine = record { seated = kept.0 fine.seated; alive = λ id has. fine.alive id (kept.1 id has); can = fine.can }
 
--- the secret, the clock and whether updates are kept stay
+-- the secret, the clock and whether updates are recorded stay
 abbrev pub Alike : FrontView → FrontView → Type 0
 Alike old new = (new.secret ≡ old.secret) × (new.clock ≡ old.clock) × (new.is_kept ≡ old.is_kept)
 
@@ -52,7 +52,7 @@ pub record Goes (took : List Update) (log : Log) (old new : FrontView) : Type 0 
   pub alike : Alike old new
   pub made : old.is_kept ≡ true → old.made ++ updates_in log ≡ took ++ new.made
 
--- ---- one step behind another
+-- ---- one step after another
 
 among_both : (calls more : List Call) → updates_among (calls ++ more) ≡ updates_among calls ++ updates_among more
 among_both [] more = refl
@@ -81,7 +81,7 @@ both {took} {rest} {log} {more} {old} {middle} {new} one two = record {
       ∙ all_made old.made (updates_in log) (updates_in more) took rest middle.made new.made (one.made kept) (two.made (one.alike.2 ∙ kept));
 }
 
--- behind a step no more calls are made
+-- after a step no more calls are made
 pub then_none : {log : Log} {old middle new : FrontView} → Goes [] log old middle → Goes [] [] middle new → Goes [] log old new
 then_none {log} {old} {middle} {new} one two = subst (λ l. Goes [] l old new) (append-nil log) (both one two)
 

@@ -33,15 +33,15 @@ use Rattle.zresponses.specs.effects.Wishes.{query_wish, first_wish, look_wish, w
 use Rattle.zfront_laws.proofs.Changes.{Carries, absorbs_all, replies_to, sends}
 use Rattle.std.specs.FinSet.{insert}
 
--- what is granted behind other wishes
+-- what is granted after other wishes
 module _ {W : Type 0} (one : W → TablesView → TablesView) (all : List W → TablesView → TablesView) (first : (t : TablesView) → all [] t ≡ t)
     (next : (w : W) (ws : List W) (t : TablesView) → all (w ∷ ws) t ≡ all ws (one w t)) where
   appended : (xs ys : List W) (t : TablesView) → all (xs ++ ys) t ≡ all ys (all xs t)
   appended [] ys t = ap (all ys) (sym (first t))
   appended (x ∷ xs) ys t = next x (xs ++ ys) t ∙ appended xs ys (one x t) ∙ ap (all ys) (sym (next x xs t))
 
--- what is so where nothing is done, of one thing behind another, where a watch waits and where an
--- event is reported: so it is of all wishes of a request
+-- what is so where nothing is done, of one thing after another, where a watch waits and where an
+-- event is reported. So it is of all wishes of a request
 module _ (Is : TablesView → TablesView → Type 0) (same : (t : TablesView) → Is t t) (both : (t u w : TablesView) → Is t u → Is u w → Is t w) (c : ℕ)
     (waits : (kind : Kind) (path : Path) (t : TablesView) → Is t (waiting c kind path t)) (reports : (e : Event) (t : TablesView)
     → Is t (sent c (event_frame e) t)) where

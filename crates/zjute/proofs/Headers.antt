@@ -1,4 +1,4 @@
--- The headers of parts, the parts behind them, and the lists of parts are forms.
+-- The headers of parts, the parts after them, and the lists of parts are forms.
 use Rattle.std.proofs.Common.{◌≡◌, ℕ, ◌<◌, ℤ, Bool, true, false, cond, List, ◌++◌, length, Option, Some, None, Result, Ok, Err, refl, sym, ap, subst, ◌∙◌, arith}
 use Rattle.std.specs.Int.{w32}
 use Rattle.std.specs.Ordering.{int_eq}
@@ -12,8 +12,8 @@ use Rattle.zcodec.specs.Laws.{IsBytes, IsForm}
 use Rattle.zcodec.proofs.Bytes.{bind_ok, done, ok_is}
 use Rattle.zcodec.proofs.Parts.{is_both, is_made}
 use Rattle.zcodec.proofs.Choices.{is_flag}
-use Rattle.zjute.specs.declared.part.Part.{Part}
-use Rattle.zjute.specs.declared.part.Part.TheVariants as part
+use Rattle.zjute.specs.declared.part.PartRequest.{PartRequest}
+use Rattle.zjute.specs.declared.part.PartRequest.TheVariants as part
 use Rattle.zjute.specs.declared.part.LookPart.{LookPart}
 use Rattle.zjute.specs.declared.part.LookPart.TheVariants as look_part
 use Rattle.zjute.specs.declared.part_kind.PartKind.{PartKind}
@@ -39,7 +39,7 @@ neg_1 = sfits_lit {w = w32} {z = neg 1} tt
 pub is_header_fields : IsForm header_fields
 is_header_fields = is_both int (both flag int) is_int (is_both flag int is_flag is_int)
 
--- ---- a header stands for a kind
+-- ---- a header encodes a kind
 
 -- the header of a kind that was read is the one that it was read of
 abbrev Back : {K : Type 0} → (K → ℤ) → (ℤ → Option K) → Header → Option K → Type 0
@@ -80,7 +80,7 @@ is_header number of reports = is_made header_fields (header_of number) (header_k
     (λ h o fits e. header_back number of reports h.0 h.1.0 h.1.1 o (int_eq h.1.1 (neg 1)) fits.0 refl e)
     (header_forth number of)
 
--- ---- behind a header
+-- ---- after a header
 
 end_takes : {K A : Type 0} (at : K → List ℕ → Result (A × List ℕ) Fault) (spelled : A → Spelled K)
     → ((k : K) (bytes : List ℕ) (y : A × List ℕ) → IsBytes bytes → at k bytes ≡ Ok y → TakesAt spelled k bytes y)
@@ -103,7 +103,7 @@ part_header_is : IsForm part_header
 unfolding part_header
 part_header_is = is_header part_number part_kind_of (λ n k e. has_number part_number part_kinds n k e)
 
-part_takes : (k : PartKind) (bytes : List ℕ) (y : Part × List ℕ) → IsBytes bytes → part_at k bytes ≡ Ok y → TakesAt part_spelled k bytes y
+part_takes : (k : PartKind) (bytes : List ℕ) (y : PartRequest × List ℕ) → IsBytes bytes → part_at k bytes ≡ Ok y → TakesAt part_spelled k bytes y
 part_takes kind.Create bytes y are e = takes_as Anything part_spelled kind.Create create (λ x. part.Create x) (before Anything create is_create) (λ x. refl) (λ x. refl) (λ x fits. fits) bytes y are e
 part_takes kind.Delete bytes y are e = takes_as Anything part_spelled kind.Delete at_version (λ x. part.Delete x) (before Anything at_version is_at_version) (λ x. refl) (λ x. refl) (λ x fits. fits) bytes y are e
 part_takes kind.SetData bytes y are e = takes_as Anything part_spelled kind.SetData set_data (λ x. part.SetData x) (before Anything set_data is_set_data) (λ x. refl) (λ x. refl) (λ x fits. fits) bytes y are e
@@ -112,7 +112,7 @@ part_takes kind.Create2 bytes y are e = takes_as Anything part_spelled kind.Crea
 part_takes kind.CreateContainer bytes y are e = takes_as Anything part_spelled kind.CreateContainer create (λ x. part.CreateContainer x) (before Anything create is_create) (λ x. refl) (λ x. refl) (λ x fits. fits) bytes y are e
 part_takes kind.CreateTtl bytes y are e = takes_as Anything part_spelled kind.CreateTtl create_ttl (λ x. part.CreateTtl x) (before Anything create_ttl is_create_ttl) (λ x. refl) (λ x. refl) (λ x fits. fits) bytes y are e
 
-part_again : (p : Part) (rest : List ℕ) → Anything rest → (part_spelled p).fits → part_at (part_spelled p).tag ((part_spelled p).text ++ rest) ≡ Ok (p, rest)
+part_again : (p : PartRequest) (rest : List ℕ) → Anything rest → (part_spelled p).fits → part_at (part_spelled p).tag ((part_spelled p).text ++ rest) ≡ Ok (p, rest)
 part_again (part.Create x) rest ends fits = again_as Anything create (λ x. part.Create x) (before Anything create is_create) x rest ends fits
 part_again (part.Delete x) rest ends fits = again_as Anything at_version (λ x. part.Delete x) (before Anything at_version is_at_version) x rest ends fits
 part_again (part.SetData x) rest ends fits = again_as Anything set_data (λ x. part.SetData x) (before Anything set_data is_set_data) x rest ends fits
@@ -125,7 +125,7 @@ part_is : IsForm part_or_end
 unfolding part_or_end
 part_is = is_form part_or_end (is_by_tag Anything part_header (or_end part_at) (end_or part_spelled) part_header_is (end_takes part_at part_spelled part_takes) (end_again part_at part_spelled part_again))
 
-part_long : (o : Option Part) → 0 < length (part_or_end.spell o)
+part_long : (o : Option PartRequest) → 0 < length (part_or_end.spell o)
 unfolding part_or_end part_header int
 part_long o = omega arith
 

@@ -12,7 +12,7 @@ found x = Some x
 some_is : {A : Type 0} (x y : A) → found x ≡ found y → x ≡ y
 some_is x y e = cc
 
--- what a number stands for has this number
+-- what a number decodes to has this number
 pub has_number : {K : Type 0} (number : K → ℤ) (ks : List K) (n : ℤ) (k : K) → with_number number ks n ≡ Some k → number k ≡ n
 has_number number [] n k e = absurd cc
 has_number {K} number (x ∷ xs) n k e = by (int_eq n (number x)) refl e (λ f. has_number number xs n k f)

@@ -1,4 +1,4 @@
--- A tag with what stands behind it, and values up to an end, are forms.
+-- A tag with what follows it, and values up to an end, are forms.
 use Rattle.std.proofs.Common.{◌≡◌, ℕ, zero, suc, ◌<◌, ◌≤◌, List, [], ◌∷◌, ◌++◌, length, Option, Some, None, Result, Ok, sym, ap, subst, ◌∙◌, append_assoc, arith}
 use Rattle.std.specs.List.{AllByRecursion, flat_map}
 use Rattle.std.proofs.lemmas.List.{length-append}
@@ -13,7 +13,7 @@ use Rattle.zjute.proofs.Before.{IsFormBefore}
 
 -- ---- tags
 
--- what is read behind a tag was spelled so behind this tag
+-- what is read after a tag was spelled so after this tag
 abbrev pub TakesAt : {T B : Type 0} → (B → Spelled T) → T → List ℕ → B × List ℕ → Type 0
 TakesAt spelled t bytes y = (bytes ≡ (spelled y.0).text ++ y.1) × ((spelled y.0).tag ≡ t) × (spelled y.0).fits
 
@@ -31,7 +31,7 @@ pub again_as : {A B : Type 0} (Ends : List ℕ → Type 0) (c : Form A) (make : 
     → read_as c make (c.spell x ++ rest) ≡ Ok (make x, rest)
 again_as {A} Ends c make is x rest ends fits = ap (λ (r : Result (A × List ℕ) Fault). r >>= λ x. done (make x.0, x.1)) (is.again x rest ends fits)
 
--- a tag with what stands behind it
+-- a tag with what follows it
 pub is_by_tag : {T B : Type 0} (Ends : List ℕ → Type 0) (tag : Form T) (at : T → List ℕ → Result (B × List ℕ) Fault) (spelled : B → Spelled T) → IsForm tag
     → ((t : T) (bytes : List ℕ) (y : B × List ℕ) → IsBytes bytes → at t bytes ≡ Ok y → TakesAt spelled t bytes y)
     → ((y : B) (rest : List ℕ) → Ends rest → (spelled y).fits → at (spelled y).tag ((spelled y).text ++ rest) ≡ Ok (y, rest))

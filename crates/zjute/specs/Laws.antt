@@ -2,7 +2,7 @@
 use Rattle.std.specs.Prelude.{◌≡◌}
 use Rattle.zjute.specs.declared.connecting.ConnectRequest.{ConnectRequest}
 use Rattle.zjute.specs.declared.request.Request.{Request}
-use Rattle.zjute.specs.declared.stat.Stat.{Stat}
+use Rattle.zjute.specs.declared.stat.StatRecord.{StatRecord}
 use Rattle.zjute.specs.Asking.{request}
 use Rattle.zjute.specs.Connecting.{connect_request}
 use Rattle.zjute.specs.Stats.{stat}
@@ -20,4 +20,4 @@ GreetingsAreDistinct =
 
 -- two different stats have different bytes
 abbrev pub StatsAreDistinct : Type 0
-StatsAreDistinct = (x y : Stat) → stat.Fits x → stat.Fits y → stat.spell x ≡ stat.spell y → x ≡ y
+StatsAreDistinct = (x y : StatRecord) → stat.Fits x → stat.Fits y → stat.spell x ≡ stat.spell y → x ≡ y

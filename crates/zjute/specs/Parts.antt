@@ -6,8 +6,8 @@ use Rattle.zcodec.specs.declared.fault.Fault.{Fault}
 use Rattle.zcodec.specs.declared.fault.Fault.TheVariants.{Invalid}
 use Rattle.zcodec.specs.Forms.{Form, both, made, ◌>>=◌}
 use Rattle.zcodec.specs.Choices.{flag}
-use Rattle.zjute.specs.declared.part.Part.{Part}
-use Rattle.zjute.specs.declared.part.Part.TheVariants as part
+use Rattle.zjute.specs.declared.part.PartRequest.{PartRequest}
+use Rattle.zjute.specs.declared.part.PartRequest.TheVariants as part
 use Rattle.zjute.specs.declared.part.LookPart.{LookPart}
 use Rattle.zjute.specs.declared.part.LookPart.TheVariants as look_part
 use Rattle.zjute.specs.declared.part_kind.PartKind.{PartKind}
@@ -84,7 +84,7 @@ abbrev pub part_kind_of : ℤ → Option PartKind
 part_kind_of = with_number part_number part_kinds
 
 -- the contents after the header of each kind
-abbrev pub part_at : PartKind → List ℕ → Result (Part × List ℕ) Fault
+abbrev pub part_at : PartKind → List ℕ → Result (PartRequest × List ℕ) Fault
 part_at kind.Create = read_as create (λ x. part.Create x)
 part_at kind.Delete = read_as at_version (λ x. part.Delete x)
 part_at kind.SetData = read_as set_data (λ x. part.SetData x)
@@ -93,7 +93,7 @@ part_at kind.Create2 = read_as create (λ x. part.Create2 x)
 part_at kind.CreateContainer = read_as create (λ x. part.CreateContainer x)
 part_at kind.CreateTtl = read_as create_ttl (λ x. part.CreateTtl x)
 
-abbrev pub part_spelled : Part → Spelled PartKind
+abbrev pub part_spelled : PartRequest → Spelled PartKind
 part_spelled (part.Create x) = behind kind.Create create x
 part_spelled (part.Delete x) = behind kind.Delete at_version x
 part_spelled (part.SetData x) = behind kind.SetData set_data x
@@ -106,11 +106,11 @@ unfoldable pub part_header : Form (Option PartKind)
 part_header = header part_number part_kind_of
 
 -- a part, or the end
-unfoldable pub part_or_end : Form (Option Part)
+unfoldable pub part_or_end : Form (Option PartRequest)
 part_or_end = by_tag part_header (or_end part_at) (end_or part_spelled)
 
 -- `MultiTransactionRecord`
-unfoldable pub parts : Form (List Part)
+unfoldable pub parts : Form (List PartRequest)
 parts = until_end part_or_end
 
 -- ---- the parts of a multiRead

@@ -4,11 +4,11 @@ use Rattle.zcodec.specs.Forms.{Form, both}
 use Rattle.zcodec.specs.Choices.{listed, flag}
 use Rattle.zjute.specs.declared.limits.TheConstants.{MAX_FRAME}
 use Rattle.zjute.specs.declared.acl.Acl.{Acl}
-use Rattle.zjute.specs.declared.request.Create.{Create}
+use Rattle.zjute.specs.declared.request.CreateRequest.{CreateRequest}
 use Rattle.zjute.specs.declared.request.CreateTtl.{CreateTtl}
 use Rattle.zjute.specs.declared.request.AtVersion.{AtVersion}
 use Rattle.zjute.specs.declared.request.Look.{Look}
-use Rattle.zjute.specs.declared.request.SetData.{SetData}
+use Rattle.zjute.specs.declared.request.SetDataRequest.{SetDataRequest}
 use Rattle.zjute.specs.declared.request.SetAcl.{SetAcl}
 use Rattle.zjute.specs.declared.request.WatchesAt.{WatchesAt}
 use Rattle.zjute.specs.declared.request.AddWatch.{AddWatch}
@@ -28,7 +28,7 @@ unfoldable pub acls : Form (List Acl)
 acls = listed MAX_FRAME acl
 
 -- `CreateRequest`
-unfoldable pub create : Form Create
+unfoldable pub create : Form CreateRequest
 create = fields (both buffer (both buffer (both acls int)))
     (λ c. (c.path, (c.bytes, (c.acls, c.flags))))
     (λ f. record { path = f.0; bytes = f.1.0; acls = f.1.1.0; flags = f.1.1.1 })
@@ -48,7 +48,7 @@ unfoldable pub look : Form Look
 look = fields (both buffer flag) (λ l. (l.path, l.watch)) (λ f. record { path = f.0; watch = f.1 })
 
 -- `SetDataRequest`
-unfoldable pub set_data : Form SetData
+unfoldable pub set_data : Form SetDataRequest
 set_data = fields (both buffer (both buffer int)) (λ s. (s.path, (s.bytes, s.version)))
     (λ f. record { path = f.0; bytes = f.1.0; version = f.1.1 })
 

@@ -1,7 +1,7 @@
 -- The stat of a node (`Stat` of zookeeper.jute).
 use Rattle.std.specs.Prelude.{ℤ}
 use Rattle.zcodec.specs.Forms.{Form, both}
-use Rattle.zjute.specs.declared.stat.Stat.{Stat}
+use Rattle.zjute.specs.declared.stat.StatRecord.{StatRecord}
 use Rattle.zjute.specs.Jute.{int, long}
 use Rattle.zjute.specs.Shapes.{fields}
 
@@ -12,7 +12,7 @@ Times = ℤ × (ℤ × (ℤ × ℤ))
 abbrev pub times : Form Times
 times = both long (both long (both long long))
 
-abbrev pub times_of : Stat → Times
+abbrev pub times_of : StatRecord → Times
 times_of s = (s.czxid, (s.mzxid, (s.ctime, s.mtime)))
 
 -- version, cversion, aversion
@@ -22,7 +22,7 @@ Versions = ℤ × (ℤ × ℤ)
 abbrev pub versions : Form Versions
 versions = both int (both int int)
 
-abbrev pub versions_of : Stat → Versions
+abbrev pub versions_of : StatRecord → Versions
 versions_of s = (s.version, (s.cversion, s.aversion))
 
 -- ephemeralOwner, dataLength, numChildren, pzxid
@@ -32,10 +32,10 @@ Sizes = ℤ × (ℤ × (ℤ × ℤ))
 abbrev pub sizes : Form Sizes
 sizes = both long (both int (both int long))
 
-abbrev pub sizes_of : Stat → Sizes
+abbrev pub sizes_of : StatRecord → Sizes
 sizes_of s = (s.ephemeral_owner, (s.data_length, (s.num_children, s.pzxid)))
 
-abbrev pub stat_of : Times × (Versions × Sizes) → Stat
+abbrev pub stat_of : Times × (Versions × Sizes) → StatRecord
 stat_of f = record {
   czxid = f.0.0;
   mzxid = f.0.1.0;
@@ -50,6 +50,6 @@ stat_of f = record {
   pzxid = f.1.1.1.1.1;
 }
 
-unfoldable pub stat : Form Stat
+unfoldable pub stat : Form StatRecord
 stat = fields (both times (both versions sizes))
     (λ s. (times_of s, (versions_of s, sizes_of s))) stat_of

@@ -6,7 +6,7 @@ ghost use Rattle.zjute.specs.Stats.{stat as stat_form, times, times_of, versions
 ghost use Rattle.zjute.specs.Stats.{sizes, sizes_of};
 
 use crate::bytes::Bytes;
-use crate::stat::Stat;
+use crate::stat::StatRecord;
 use std::alloc::AllocError;
 use zcodec::{NULL, put_u32};
 
@@ -49,7 +49,7 @@ pub(crate) fn put_buffer(out: &mut Vec<u8>, bytes: &Option<Bytes>) -> Result<(),
 
 /// Writes a `Stat`.
 #[tactic(auto, unfolding(crate::specs::Stats::stat))]
-pub(crate) fn put_stat(out: &mut Vec<u8>, stat: &Stat) -> Result<(), AllocError>
+pub(crate) fn put_stat(out: &mut Vec<u8>, stat: &StatRecord) -> Result<(), AllocError>
     ensures { OnOk result (out.new.items ≡ out.old.items ++ stat_form.spell stat.now) }
 {
     put_times(out, stat)?;
@@ -58,7 +58,7 @@ pub(crate) fn put_stat(out: &mut Vec<u8>, stat: &Stat) -> Result<(), AllocError>
 }
 
 // Writes its first four fields.
-fn put_times(out: &mut Vec<u8>, stat: &Stat) -> Result<(), AllocError>
+fn put_times(out: &mut Vec<u8>, stat: &StatRecord) -> Result<(), AllocError>
     ensures { OnOk result (out.new.items ≡ out.old.items ++ times.spell (times_of stat.now)) }
 {
     put_long(out, &stat.czxid)?;
@@ -68,7 +68,7 @@ fn put_times(out: &mut Vec<u8>, stat: &Stat) -> Result<(), AllocError>
 }
 
 // Writes its three versions.
-fn put_versions(out: &mut Vec<u8>, stat: &Stat) -> Result<(), AllocError>
+fn put_versions(out: &mut Vec<u8>, stat: &StatRecord) -> Result<(), AllocError>
     ensures { OnOk result (out.new.items
         ≡ out.old.items ++ versions.spell (versions_of stat.now)) }
 {
@@ -78,7 +78,7 @@ fn put_versions(out: &mut Vec<u8>, stat: &Stat) -> Result<(), AllocError>
 }
 
 // Writes its last four fields.
-fn put_sizes(out: &mut Vec<u8>, stat: &Stat) -> Result<(), AllocError>
+fn put_sizes(out: &mut Vec<u8>, stat: &StatRecord) -> Result<(), AllocError>
     ensures { OnOk result (out.new.items ≡ out.old.items ++ sizes.spell (sizes_of stat.now)) }
 {
     put_long(out, &stat.ephemeral_owner)?;

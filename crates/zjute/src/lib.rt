@@ -46,13 +46,13 @@ pub use event::{EventKind, KeeperState, WatcherEvent};
 pub use fault::WriteError;
 pub use frames::{Next, next_frame};
 pub use limits::MAX_FRAME;
-pub use part::{LookPart, Looks, Part, Parts};
+pub use part::{LookPart, Looks, PartRequest, Parts};
 pub use reading::read_request;
 pub use reply::{Body, PartResult, Reply, Results};
 pub use request::{
-    AddWatch, Asked, AtVersion, Auth, Create, CreateTtl, Look, Request, SetAcl, SetData,
-    SetWatches, SetWatches2, WatchesAt,
+    AddWatch, Asked, AtVersion, Auth, CreateRequest, CreateTtl, Look, Request, SetAcl,
+    SetDataRequest, SetWatches, SetWatches2, WatchesAt,
 };
-pub use stat::Stat;
+pub use stat::StatRecord;
 pub use writing::{write_connect_response, write_event, write_reply};
 pub use zcodec::{Fault, ReadError};

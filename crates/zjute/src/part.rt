@@ -2,25 +2,25 @@
 
 ghost use Rattle.std.specs.Prelude.{◌≡◌};
 
-use crate::request::{AtVersion, Create, CreateTtl, Look, SetData};
+use crate::request::{AtVersion, CreateRequest, CreateTtl, Look, SetDataRequest};
 use std::marker::Model;
 
 /// A part of a multi, after its `MultiHeader` (zookeeper.jute). Each kind has the number of the
 /// same request outside a multi.
 #[derive(Drop)]
-pub enum Part {
+pub enum PartRequest {
     /// 1: create a node.
-    Create(Create),
+    Create(CreateRequest),
     /// 2: delete a node.
     Delete(AtVersion),
     /// 5: write the data of a node.
-    SetData(SetData),
+    SetData(SetDataRequest),
     /// 13: check the version of a node.
     Check(AtVersion),
     /// 15: create a node, and return its stat too.
-    Create2(Create),
+    Create2(CreateRequest),
     /// 19: create a container node.
-    CreateContainer(Create),
+    CreateContainer(CreateRequest),
     /// 21: create a node with a TTL.
     CreateTtl(CreateTtl),
 }
@@ -28,35 +28,35 @@ pub enum Part {
 /// The parts of a multi, in order.
 #[derive(Drop)]
 pub struct Parts {
-    parts: Vec<Part>,
+    parts: Vec<PartRequest>,
 }
 
 impl Model for Parts {
     ghost use Rattle.std.specs.Prelude.{List};
-    ghost use Rattle.zjute.specs.declared.part.Part.{Part};
+    ghost use Rattle.zjute.specs.declared.part.PartRequest.{PartRequest};
 
-    ghost Value = { List Part };
+    ghost Value = { List PartRequest };
 
     ghost view = { λ parts. parts.parts.items };
 }
 
 impl Parts {
     /// Wraps the parts.
-    pub fn new(parts: Vec<Part>) -> Parts
+    pub fn new(parts: Vec<PartRequest>) -> Parts
         ensures { result ≡ parts.items }
     {
         Parts { parts }
     }
 
     /// Returns the parts in order.
-    pub fn as_slice(&self) -> &[Part]
+    pub fn as_slice(&self) -> &[PartRequest]
         ensures { result.now ≡ self.now }
     {
         &self.parts
     }
 
     /// Returns the parts, and consumes the list.
-    pub fn into_parts(self) -> Vec<Part>
+    pub fn into_parts(self) -> Vec<PartRequest>
         ensures { result.items ≡ self }
     {
         self.parts

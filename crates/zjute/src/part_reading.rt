@@ -6,7 +6,7 @@ ghost use Rattle.zjute.specs.Parts.{part_header, part_at, part_or_end, parts};
 ghost use Rattle.zjute.specs.Parts.{look_header, look_at, look_or_end, looks};
 
 use crate::field_reading::int_at;
-use crate::part::{LookPart, Looks, Part, Parts};
+use crate::part::{LookPart, Looks, PartRequest, Parts};
 use crate::part_kind::{LookKind, PartKind};
 use crate::record_reading::{at_version_of, create_of, create_ttl_of, look_of, set_data_of};
 use std::alloc::Global;
@@ -40,14 +40,14 @@ fn part_header_at(bytes: &[u8]) -> Result<(Option<PartKind>, &[u8]), Fault>
 macro_rules! part {
     ($kind:ident, $read:expr) => {
         match $read {
-            Ok((it, rest)) => Ok((Part::$kind(it), rest)),
+            Ok((it, rest)) => Ok((PartRequest::$kind(it), rest)),
             Err(error) => Err(error),
         }
     };
 }
 
 // Reads a part of this kind.
-fn part_of(alloc: Global, kind: PartKind, bytes: &[u8]) -> Result<(Part, &[u8]), ReadError>
+fn part_of(alloc: Global, kind: PartKind, bytes: &[u8]) -> Result<(PartRequest, &[u8]), ReadError>
     ensures { Gives (λ x. (x.0, x.1.now)) result (part_at kind bytes.now) }
 {
     match kind {
@@ -63,7 +63,7 @@ fn part_of(alloc: Global, kind: PartKind, bytes: &[u8]) -> Result<(Part, &[u8]),
 
 // Reads a part with its header, or the end.
 #[tactic(auto, unfolding(crate::specs::Parts::part_or_end))]
-fn part_or_end_of(alloc: Global, bytes: &[u8]) -> Result<(Option<Part>, &[u8]), ReadError>
+fn part_or_end_of(alloc: Global, bytes: &[u8]) -> Result<(Option<PartRequest>, &[u8]), ReadError>
     ensures { Gives (λ x. (x.0, x.1.now)) result (part_or_end.read bytes.now) }
 {
     let (kind, rest) = part_header_at(bytes)?;

@@ -8,22 +8,22 @@ ghost use Rattle.zjute.specs.Requests.{watches_at, add_watch, auth, set_watches,
 use crate::field_reading::{buffer_of, int_at, long_at};
 use crate::list_reading::{acls_of, texts_of};
 use crate::request::{
-    AddWatch, AtVersion, Auth, Create, CreateTtl, Look, SetAcl, SetData, SetWatches, SetWatches2,
-    WatchesAt,
+    AddWatch, AtVersion, Auth, CreateRequest, CreateTtl, Look, SetAcl, SetDataRequest, SetWatches,
+    SetWatches2, WatchesAt,
 };
 use std::alloc::Global;
 use zcodec::{ReadError, flag_at};
 
 /// Reads a `CreateRequest`.
 #[tactic(auto, unfolding(crate::specs::Requests::create))]
-pub(crate) fn create_of(alloc: Global, bytes: &[u8]) -> Result<(Create, &[u8]), ReadError>
+pub(crate) fn create_of(alloc: Global, bytes: &[u8]) -> Result<(CreateRequest, &[u8]), ReadError>
     ensures { Gives (λ x. (x.0, x.1.now)) result (create.read bytes.now) }
 {
     let (path, rest) = buffer_of(alloc, bytes)?;
     let (data, rest) = buffer_of(alloc, rest)?;
     let (acls, rest) = acls_of(alloc, rest)?;
     let (flags, rest) = int_at(rest)?;
-    let create = Create {
+    let create = CreateRequest {
         path,
         bytes: data,
         acls,
@@ -64,13 +64,13 @@ pub(crate) fn look_of(alloc: Global, bytes: &[u8]) -> Result<(Look, &[u8]), Read
 
 /// Reads a `SetDataRequest`.
 #[tactic(auto, unfolding(crate::specs::Requests::set_data))]
-pub(crate) fn set_data_of(alloc: Global, bytes: &[u8]) -> Result<(SetData, &[u8]), ReadError>
+pub(crate) fn set_data_of(alloc: Global, bytes: &[u8]) -> Result<(SetDataRequest, &[u8]), ReadError>
     ensures { Gives (λ x. (x.0, x.1.now)) result (set_data.read bytes.now) }
 {
     let (path, rest) = buffer_of(alloc, bytes)?;
     let (data, rest) = buffer_of(alloc, rest)?;
     let (version, rest) = int_at(rest)?;
-    let set = SetData {
+    let set = SetDataRequest {
         path,
         bytes: data,
         version,

@@ -5,7 +5,7 @@ ghost use Rattle.std.specs.Prelude.{◌≡◌};
 use crate::acl::Acls;
 use crate::bytes::{Bytes, Texts};
 use crate::code::Code;
-use crate::stat::Stat;
+use crate::stat::StatRecord;
 use std::marker::Model;
 
 /// The result of a part of a multi or multiRead, after its `MultiHeader` (zookeeper.jute). The
@@ -20,17 +20,17 @@ pub enum PartResult {
     /// 2: the node was deleted.
     Delete,
     /// 4: the data of the node and its stat (`GetDataResponse`); `None` is a null buffer.
-    GetData(Option<Bytes>, Stat),
+    GetData(Option<Bytes>, StatRecord),
     /// 5: the new stat of the node (`SetDataResponse`).
-    SetData(Stat),
+    SetData(StatRecord),
     /// 8: the names of the node's children (`GetChildrenResponse`).
     GetChildren(Texts),
     /// 13: the node has the version.
     Check,
     /// 15: the path of the node that was created and its stat (`Create2Response`).
-    Create2(Bytes, Stat),
+    Create2(Bytes, StatRecord),
     /// 21: the same for a node with a TTL (`Create2Response`).
-    CreateTtl(Bytes, Stat),
+    CreateTtl(Bytes, StatRecord),
 }
 
 /// The results of the parts, in order (`MultiResponse`).
@@ -73,17 +73,17 @@ pub enum Body {
     /// A path (`CreateResponse`, `SyncResponse`).
     Path(Bytes),
     /// A path and a stat (`Create2Response`).
-    PathStat(Bytes, Stat),
+    PathStat(Bytes, StatRecord),
     /// A stat (`ExistsResponse`, `SetDataResponse`, `SetACLResponse`).
-    Stat(Stat),
+    Stat(StatRecord),
     /// Data and a stat (`GetDataResponse`); `None` is a null buffer.
-    DataStat(Option<Bytes>, Stat),
+    DataStat(Option<Bytes>, StatRecord),
     /// Names (`GetChildrenResponse`).
     Names(Texts),
     /// Names and a stat (`GetChildren2Response`).
-    NamesStat(Texts, Stat),
+    NamesStat(Texts, StatRecord),
     /// An ACL and a stat (`GetACLResponse`).
-    AclsStat(Acls, Stat),
+    AclsStat(Acls, StatRecord),
     /// The results of a multi or of a multiRead (`MultiResponse`).
     Results(Results),
 }

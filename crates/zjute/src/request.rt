@@ -6,7 +6,7 @@ use crate::part::{Looks, Parts};
 
 /// A node to create (`CreateRequest` of zookeeper.jute).
 #[derive(Drop)]
-pub struct Create {
+pub struct CreateRequest {
     /// Its path; without the counter for a sequential node. `None` is a null string.
     pub path: Option<Bytes>,
     /// Its data; `None` is a null buffer.
@@ -21,7 +21,7 @@ pub struct Create {
 #[derive(Drop)]
 pub struct CreateTtl {
     /// The fields before the TTL.
-    pub create: Create,
+    pub create: CreateRequest,
     /// The TTL in milliseconds.
     pub ttl: i64,
 }
@@ -48,7 +48,7 @@ pub struct Look {
 
 /// A node and its new data (`SetDataRequest` of zookeeper.jute).
 #[derive(Drop)]
-pub struct SetData {
+pub struct SetDataRequest {
     /// The path of the node; `None` is a null string.
     pub path: Option<Bytes>,
     /// Its new data; `None` is a null buffer.
@@ -125,7 +125,7 @@ pub struct SetWatches2 {
 #[derive(Drop)]
 pub enum Asked {
     /// 1: create a node, and return its path.
-    Create(Create),
+    Create(CreateRequest),
     /// 2: delete a node.
     Delete(AtVersion),
     /// 3: read whether a node exists.
@@ -133,7 +133,7 @@ pub enum Asked {
     /// 4: get the data of a node.
     GetData(Look),
     /// 5: write the data of a node.
-    SetData(SetData),
+    SetData(SetDataRequest),
     /// 6: get the ACL of a node, by its path (`GetACLRequest`).
     GetAcl(Option<Bytes>),
     /// 7: write the ACL of a node.
@@ -151,7 +151,7 @@ pub enum Asked {
     /// 14: do all parts, or no part (`MultiTransactionRecord`).
     Multi(Parts),
     /// 15: create a node, and return its path and stat.
-    Create2(Create),
+    Create2(CreateRequest),
     /// 17: check that there is a watch.
     CheckWatches(WatchesAt),
     /// 18: remove watches.

@@ -2,7 +2,7 @@
 
 /// The stat of a node (`Stat` of zookeeper.jute); its fields are in the order of the encoding.
 #[derive(Clone, Copy, Debug, PartialEq, Eq)]
-pub struct Stat {
+pub struct StatRecord {
     /// The zxid of the change that created the node.
     pub czxid: i64,
     /// The zxid of the last write of its data.

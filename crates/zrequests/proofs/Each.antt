@@ -1,11 +1,11 @@
--- What each of some things means, from the left: one more of them, and lists behind each other.
+-- What each of some things means, from the left: one more of them, and lists one after the other.
 use Rattle.std.proofs.Common.{◌≡◌, ◌<◌, ◌+◌, inl, inr, ℕ, suc, List, [], ◌∷◌, ◌++◌, length, drop, Ok, Err, refl, sym, ap, ◌∙◌, append_assoc}
 use Rattle.std.proofs.Math.ListN.{get_or}
 use Rattle.std.proofs.lemmas.List.{drop_more, append-nil}
 use Rattle.zrequests.specs.declared.fault.Unasked.{Unasked}
 use Rattle.zrequests.specs.Asking.{Meaning, IsUnasked, then_means, each_in, each_behind}
 
--- what stands before the rest may stand behind what is known
+-- what precedes the rest may be appended to what is known
 behind_known : {B : Type 0} (rest : Meaning (List B)) (y : B) (known : List B)
     → then_means (then_means rest (λ more. Ok (y ∷ more))) (λ more. Ok (known ++ more))
     ≡ then_means rest (λ more. Ok ((known ++ y ∷ []) ++ more))
@@ -38,7 +38,7 @@ behind_nothing {A} {B} means xs = at (each_in means xs)
     at (Err fault) = refl
     at (Ok more) = refl
 
--- a list behind another
+-- a list after another
 each_behind-append : {A B : Type 0} (means : A → Meaning B) (known : List B) (xs ys : List A)
     → each_behind known means (xs ++ ys) ≡ then_means (each_behind known means xs) (λ read. each_behind read means ys)
 each_behind-append means known [] ys = ap (λ read. each_behind read means ys) (sym (append-nil known))
@@ -54,7 +54,7 @@ each_behind-append {A} {B} means known (x ∷ xs) ys = at (means x) (λ y. each_
         ∙ rest y
         ∙ ap (λ read. then_means read (λ read. each_behind read means ys)) (sym (behind_known (each_in means xs) y known))
 
--- three lists behind each other
+-- three lists, one after the other
 three_lists : {A B : Type 0} (means : A → Meaning B) (xs ys zs : List A)
     → each_in means (xs ++ ys ++ zs)
     ≡ then_means (then_means (each_behind [] means xs) (λ read. each_behind read means ys)) (λ read. each_behind read means zs)

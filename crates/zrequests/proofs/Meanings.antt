@@ -4,7 +4,7 @@ use Rattle.std.specs.List.{AllByRecursion}
 use Rattle.zrequests.specs.declared.fault.Unasked.{Unasked}
 use Rattle.zrequests.specs.Asking.{Meaning, then_means, each_in}
 
--- the steps of a meaning: what is done, what is refused, a choice, and what goes on
+-- the steps of a meaning: what is done, what is refused, a choice, and what comes next
 abbrev pub meant : {A : Type 0} → A → Meaning A
 meant x = Ok x
 
@@ -26,7 +26,7 @@ pub through : {A B : Type 0} (P : A → Type 0) (Q : B → Type 0) (m : Meaning 
 through P Q (Err fault) next first second y e = cc
 through P Q (Ok x) next first second y e = second x (first x refl) y e
 
--- what goes on, whatever was read
+-- what comes next, whatever was read
 pub behind : {A B : Type 0} (Q : B → Type 0) (m : Meaning A) (next : A → Meaning B) → ((x : A) (y : B) → next x ≡ Ok y → Q y) → (y : B) → then_means m next ≡ Ok y → Q y
 behind Q m next on = through (λ x. Unit {0}) Q m next (λ x e. tt) (λ x p. on x)
 

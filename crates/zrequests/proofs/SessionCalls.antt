@@ -18,10 +18,10 @@ use Rattle.zcalls.specs.declared.call.Call.{Call}
 use Rattle.zcalls.specs.declared.call.Call.TheVariants.{Update, Query}
 use Rattle.zjute.specs.declared.code.Code.TheVariants.{BadArguments, InvalidAcl, Unimplemented, AuthFailed}
 use Rattle.zjute.specs.declared.request.Asked.TheVariants as asked
-use Rattle.zjute.specs.declared.request.Create.{Create as AskedCreate}
+use Rattle.zjute.specs.declared.request.CreateRequest.{CreateRequest as AskedCreate}
 use Rattle.zjute.specs.declared.request.CreateTtl.{CreateTtl}
-use Rattle.zjute.specs.declared.part.Part.{Part as AskedPart}
-use Rattle.zjute.specs.declared.part.Part.TheVariants as of_multi
+use Rattle.zjute.specs.declared.part.PartRequest.{PartRequest as AskedPart}
+use Rattle.zjute.specs.declared.part.PartRequest.TheVariants as of_multi
 use Rattle.zjute.specs.declared.part.LookPart.{LookPart}
 use Rattle.zjute.specs.declared.part.LookPart.TheVariants as of_look
 use Rattle.zrequests.specs.declared.fault.Unasked.TheVariants.{Refused}

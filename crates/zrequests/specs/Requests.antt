@@ -18,14 +18,14 @@ use Rattle.zcalls.specs.declared.call.Call.TheVariants.{Update, Query}
 use Rattle.zjute.specs.declared.code.Code.TheVariants.{BadArguments, InvalidAcl, Unimplemented, AuthFailed}
 use Rattle.zjute.specs.declared.request.Asked.{Asked}
 use Rattle.zjute.specs.declared.request.Asked.TheVariants as asked
-use Rattle.zjute.specs.declared.request.Create.{Create as AskedCreate}
+use Rattle.zjute.specs.declared.request.CreateRequest.{CreateRequest as AskedCreate}
 use Rattle.zjute.specs.declared.request.CreateTtl.{CreateTtl}
 use Rattle.zjute.specs.declared.request.AtVersion.{AtVersion}
-use Rattle.zjute.specs.declared.request.SetData.{SetData as AskedSet}
+use Rattle.zjute.specs.declared.request.SetDataRequest.{SetDataRequest as AskedSet}
 use Rattle.zjute.specs.declared.request.SetWatches.{SetWatches}
 use Rattle.zjute.specs.declared.request.Auth.{Auth}
-use Rattle.zjute.specs.declared.part.Part.{Part as AskedPart}
-use Rattle.zjute.specs.declared.part.Part.TheVariants as of_multi
+use Rattle.zjute.specs.declared.part.PartRequest.{PartRequest as AskedPart}
+use Rattle.zjute.specs.declared.part.PartRequest.TheVariants as of_multi
 use Rattle.zjute.specs.declared.part.LookPart.{LookPart}
 use Rattle.zjute.specs.declared.part.LookPart.TheVariants as look
 use Rattle.zrequests.specs.declared.limits.TheConstants.{MAX_PATHS}

@@ -18,7 +18,7 @@ pub(crate) fn parts_of(
     alloc: Global,
     tick: TickLength,
     session: SessionId,
-    parts: &[zjute::Part],
+    parts: &[zjute::PartRequest],
 ) -> Result<Vec<Part>, Unasked>
     ensures found { IfOk result (λ read. each_in (part_in tick session) parts.now ≡ Ok read.items) }
     ensures fault { IfErr result (IsUnasked (each_in (part_in tick session) parts.now)) }

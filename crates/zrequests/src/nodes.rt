@@ -13,7 +13,11 @@ use zcalls::{Check, Create, Delete, Kind, Part, SessionId, SetData};
 use zjute::{AtVersion, Code, CreateTtl};
 
 /// Reads a create of a node of this kind.
-pub(crate) fn node_of(alloc: Global, kind: Kind, create: &zjute::Create) -> Result<Create, Unasked>
+pub(crate) fn node_of(
+    alloc: Global,
+    kind: Kind,
+    create: &zjute::CreateRequest,
+) -> Result<Create, Unasked>
     ensures found { IfOk result (λ read. node_in kind create.now ≡ Ok read) }
     ensures fault { IfErr result (IsUnasked (node_in kind create.now)) }
 {
@@ -29,7 +33,7 @@ pub(crate) fn node_of(alloc: Global, kind: Kind, create: &zjute::Create) -> Resu
 pub(crate) fn create_of(
     alloc: Global,
     session: SessionId,
-    create: &zjute::Create,
+    create: &zjute::CreateRequest,
 ) -> Result<Create, Unasked>
     ensures found { IfOk result (λ read. create_in session create.now ≡ Ok read) }
     ensures fault { IfErr result (IsUnasked (create_in session create.now)) }
@@ -77,7 +81,7 @@ pub(crate) fn check_of(alloc: Global, at: &AtVersion) -> Result<Check, Unasked>
 }
 
 /// Reads a set.
-pub(crate) fn set_of(alloc: Global, set: &zjute::SetData) -> Result<SetData, Unasked>
+pub(crate) fn set_of(alloc: Global, set: &zjute::SetDataRequest) -> Result<SetData, Unasked>
     ensures found { IfOk result (λ read. set_in set.now ≡ Ok read) }
     ensures fault { IfErr result (IsUnasked (set_in set.now)) }
 {
@@ -95,25 +99,29 @@ pub(crate) fn part_of(
     alloc: Global,
     tick: TickLength,
     session: SessionId,
-    part: &zjute::Part,
+    part: &zjute::PartRequest,
 ) -> Result<Part, Unasked>
     ensures found { IfOk result (λ read. part_in tick session part.now ≡ Ok read) }
     ensures fault { IfErr result (IsUnasked (part_in tick session part.now)) }
 {
     match part {
-        zjute::Part::Create(create) | zjute::Part::Create2(create) => {
+        zjute::PartRequest::Create(create) | zjute::PartRequest::Create2(create) => {
             create_part(alloc, session, create)
         }
-        zjute::Part::CreateTtl(timed) => timed_part(alloc, tick, timed),
-        zjute::Part::CreateContainer(_) => Err(Unasked::Refused(Code::Unimplemented)),
-        zjute::Part::Delete(at) => delete_part(alloc, at),
-        zjute::Part::SetData(set) => set_part(alloc, set),
-        zjute::Part::Check(at) => check_part(alloc, at),
+        zjute::PartRequest::CreateTtl(timed) => timed_part(alloc, tick, timed),
+        zjute::PartRequest::CreateContainer(_) => Err(Unasked::Refused(Code::Unimplemented)),
+        zjute::PartRequest::Delete(at) => delete_part(alloc, at),
+        zjute::PartRequest::SetData(set) => set_part(alloc, set),
+        zjute::PartRequest::Check(at) => check_part(alloc, at),
     }
 }
 
 // Reads a part that creates a node for a session.
-fn create_part(alloc: Global, session: SessionId, create: &zjute::Create) -> Result<Part, Unasked>
+fn create_part(
+    alloc: Global,
+    session: SessionId,
+    create: &zjute::CreateRequest,
+) -> Result<Part, Unasked>
     ensures found { IfOk result (λ read. part_of_create (create_in session create.now) ≡ Ok read) }
     ensures fault { IfErr result (IsUnasked (part_of_create (create_in session create.now))) }
 {
@@ -138,7 +146,7 @@ fn delete_part(alloc: Global, at: &AtVersion) -> Result<Part, Unasked>
 }
 
 // Reads a part that writes a node's data.
-fn set_part(alloc: Global, set: &zjute::SetData) -> Result<Part, Unasked>
+fn set_part(alloc: Global, set: &zjute::SetDataRequest) -> Result<Part, Unasked>
     ensures found { IfOk result (λ read. part_of_set set.now ≡ Ok read) }
     ensures fault { IfErr result (IsUnasked (part_of_set set.now)) }
 {

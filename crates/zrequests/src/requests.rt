@@ -18,7 +18,9 @@ use crate::tick::TickLength;
 use crate::words::{is_text_of, path_of};
 use std::alloc::Global;
 use zcalls::{Call, MAX_PARTS, Multi, Part, Query, SessionId, Update};
-use zjute::{Asked, AtVersion, Auth, Bytes, Code, CreateTtl, Looks, Parts, SetData, SetWatches};
+use zjute::{
+    Asked, AtVersion, Auth, Bytes, Code, CreateTtl, Looks, Parts, SetDataRequest, SetWatches,
+};
 use zpath::Path;
 
 /// Returns the calls that a session's request makes, in order. Each is made whatever the replies to
@@ -75,7 +77,11 @@ fn one(alloc: Global, call: Call) -> Result<Calls, Unasked>
 }
 
 // Reads a create.
-fn one_create(alloc: Global, session: SessionId, create: &zjute::Create) -> Result<Calls, Unasked>
+fn one_create(
+    alloc: Global,
+    session: SessionId,
+    create: &zjute::CreateRequest,
+) -> Result<Calls, Unasked>
     ensures found { IfOk result
         (λ calls. create_alone (create_in session create.now) ≡ Ok calls) }
     ensures fault { IfErr result (IsUnasked (create_alone (create_in session create.now))) }
@@ -104,7 +110,7 @@ fn delete(alloc: Global, at: &AtVersion) -> Result<Calls, Unasked>
 }
 
 // Reads a set.
-fn set_data(alloc: Global, set: &SetData) -> Result<Calls, Unasked>
+fn set_data(alloc: Global, set: &SetDataRequest) -> Result<Calls, Unasked>
     ensures found { IfOk result (λ calls. set_alone set.now ≡ Ok calls) }
     ensures fault { IfErr result (IsUnasked (set_alone set.now)) }
 {

@@ -74,7 +74,7 @@ module _ (t : Tree) (path : Path) (new : Node) (f : Node → Node) (below : path
       ap (option_map (stat_of More path)) more-here
       ∙ ap (λ (names : List Name). Some (stat_with new (length names))) (more-leaf lawful free)
 
--- the stat is reported wherever the path is
+-- the stat is returned wherever the path is
 abbrev Reports : Create → Path → Tree × Reply → Type 0
 Reports create path s = s.1 ≡ reply.Created path → stat_at s.0.nodes path ≡ Some (made_stat (now_of s.0) create)
 

@@ -1,11 +1,11 @@
--- The results of the parts of a multi, behind the last part.
+-- The results of the parts of a multi, after the last part.
 use Rattle.std.proofs.Common.{◌≡◌, ℕ, ◌≤◌, Bool, true, false, List, [], ◌∷◌, length, drop, refl, arith}
 use Rattle.std.specs.Prelude.{min, nat_le}
 use Rattle.std.proofs.lemmas.Bool.Decides.{nat_tests}
 use Rattle.std.proofs.lemmas.List.{drop_all}
 use Rattle.zcalls.specs.declared.call.Part.{Part}
 use Rattle.zcalls.specs.declared.reply.PartReply.{PartReply}
-use Rattle.zjute.specs.declared.part.Part.{Part as AskedPart}
+use Rattle.zjute.specs.declared.part.PartRequest.{PartRequest as AskedPart}
 use Rattle.zresponses.specs.declared.clock.Clock.{Clock}
 use Rattle.zresponses.specs.declared.clock.Now.{Now}
 use Rattle.zresponses.specs.Results.{part_results}
@@ -21,7 +21,7 @@ module _ (clock : Clock) (now : Now) where
   no_replies (first ∷ asked) [] = refl
   no_replies (first ∷ asked) (part ∷ parts) = refl
 
-  -- behind the last of each
+  -- after the last of each
   pub none_left : (asked : List AskedPart) (parts : List Part) (replies : List PartReply) (i : ℕ)
       → min (min (length asked) (length parts)) (length replies) ≤ i
       → part_results clock now (drop i asked) (drop i parts) (drop i replies) ≡ []

@@ -7,7 +7,7 @@ use Rattle.zcalls.specs.declared.call.Update.TheVariants as act
 use Rattle.zcalls.specs.declared.reply.Reply.{Reply}
 use Rattle.zjute.specs.declared.code.Code.TheVariants as code
 use Rattle.zjute.specs.declared.reply.Body.TheVariants as body
-use Rattle.zjute.specs.declared.part.Part.{Part as AskedPart}
+use Rattle.zjute.specs.declared.part.PartRequest.{PartRequest as AskedPart}
 use Rattle.zjute.specs.declared.request.Asked.{Asked}
 use Rattle.zjute.specs.declared.request.Asked.TheVariants as asked
 use Rattle.zresponses.specs.declared.clock.Clock.{Clock}

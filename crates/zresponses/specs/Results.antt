@@ -15,8 +15,8 @@ use Rattle.zcalls.specs.declared.reply.Reply.TheVariants as reply
 use Rattle.zjute.specs.declared.limits.TheConstants.{MAX_FRAME}
 use Rattle.zjute.specs.declared.code.Code.{Code}
 use Rattle.zjute.specs.declared.code.Code.TheVariants as code
-use Rattle.zjute.specs.declared.part.Part.{Part as AskedPart}
-use Rattle.zjute.specs.declared.part.Part.TheVariants as asked
+use Rattle.zjute.specs.declared.part.PartRequest.{PartRequest as AskedPart}
+use Rattle.zjute.specs.declared.part.PartRequest.TheVariants as asked
 use Rattle.zjute.specs.declared.reply.PartResult.{PartResult}
 use Rattle.zjute.specs.declared.reply.PartResult.TheVariants as result_of
 use Rattle.zjute.specs.declared.reply.Body.TheVariants as body

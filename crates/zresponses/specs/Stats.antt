@@ -7,7 +7,7 @@ use Rattle.ztree.specs.Tree.{new_node, stat_with}
 use Rattle.ztree.specs.declared.node.Stat.{Stat}
 use Rattle.zcalls.specs.declared.call.Create.{Create}
 use Rattle.zcalls.specs.Part.{owner_of, ttl_of}
-use Rattle.zjute.specs.declared.stat.Stat.{Stat as ReportedStat}
+use Rattle.zjute.specs.declared.stat.StatRecord.{StatRecord as ReportedStat}
 use Rattle.zresponses.specs.declared.clock.Clock.{Clock}
 use Rattle.zresponses.specs.declared.clock.Now.{Now}
 

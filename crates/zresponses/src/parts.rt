@@ -22,7 +22,7 @@ pub(crate) fn multi_answer(
     alloc: Global,
     clock: &Clock,
     at: &Now,
-    asked: &[zjute::Part],
+    asked: &[zjute::PartRequest],
     parts: &[Part],
     reply: &Reply,
 ) -> Result<Answer, Memory>
@@ -47,7 +47,7 @@ fn results_of(
     alloc: Global,
     clock: &Clock,
     at: &Now,
-    asked: &[zjute::Part],
+    asked: &[zjute::PartRequest],
     parts: &[Part],
     replies: &[PartReply],
 ) -> Result<Vec<PartResult>, Memory>

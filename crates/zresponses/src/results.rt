@@ -26,7 +26,7 @@ pub(crate) fn part_result(
     alloc: Global,
     clock: &Clock,
     at: &Now,
-    asked: &zjute::Part,
+    asked: &zjute::PartRequest,
     part: &Part,
     reply: &PartReply,
 ) -> Result<PartResult, Memory>
@@ -51,7 +51,7 @@ fn made_result(
     alloc: Global,
     clock: &Clock,
     at: &Now,
-    asked: &zjute::Part,
+    asked: &zjute::PartRequest,
     create: &Create,
     path: &Path,
 ) -> Result<PartResult, Memory>
@@ -60,7 +60,7 @@ fn made_result(
 {
     let path = path_reported(alloc, path)?;
     match asked {
-        zjute::Part::Create2(_) | zjute::Part::CreateTtl(_) => {
+        zjute::PartRequest::Create2(_) | zjute::PartRequest::CreateTtl(_) => {
             let stat = stat_reported(clock, &made_stat(at, create));
             Ok(PartResult::Create2(path, stat))
         }

@@ -28,10 +28,10 @@ pub fn made_stat(at: &Now, create: &Create) -> Stat
 
 /// Returns a stat for a client: times in milliseconds since 1970, and each number in 32 or 64 bits,
 /// as in zookeeper.jute.
-pub fn stat_reported(clock: &Clock, stat: &Stat) -> zjute::Stat
+pub fn stat_reported(clock: &Clock, stat: &Stat) -> zjute::StatRecord
     ensures { result ≡ reported.stat_reported clock.now stat.now }
 {
-    zjute::Stat {
+    zjute::StatRecord {
         czxid: long_of(stat.czxid.number()),
         mzxid: long_of(stat.mzxid.number()),
         ctime: time_of(clock, stat.ctime),

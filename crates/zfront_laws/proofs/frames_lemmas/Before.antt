@@ -116,7 +116,7 @@ module _ (c : ℕ) where
         )
 
     module _ (log : Log) (old new : FrontView) (few : KeepsFew old) (reported : IsBehind clock secret log old) (free : Free c old.tables) where
-      -- behind a step
+      -- after a step
       abbrev Then : (step : Step) → Does step old new → Type 0
       Then step does = Known (log ++ step_log step old new does) new.tables × Free c new.tables
 

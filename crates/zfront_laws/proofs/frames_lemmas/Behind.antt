@@ -1,4 +1,4 @@
--- What goes on a connection at each step behind its opening.
+-- What is sent and received on a connection at each step after its opening.
 use Rattle.std.proofs.Common.{◌≡◌, ◌≢◌, ◌⊎◌, inl, inr, ◌∙◌, ℕ, Bool, true, false, ◌&&◌, List, [], ◌∷◌, ◌++◌, take, drop}
 use Rattle.std.proofs.Common.{refl, sym, ap, subst, append_assoc}
 use Rattle.std.specs.Prelude.{if◌then◌else◌}
@@ -33,7 +33,7 @@ use Rattle.zfront_laws.proofs.frames_lemmas.Reading.{Holds, HoldsAt, bytes_in, h
 use Rattle.zfront_laws.proofs.frames_lemmas.Coming.{After, IsBehind, comes_open}
 
 module _ (clock : Clock) (secret : List ℕ) where
-  -- the log goes on
+  -- the log continues
   pub goes_behind : (step : Step) (log : Log) (old new : FrontView) → KeepsFew old → IsBehind clock secret log old → (does : Does step old new)
       → IsBehind clock secret (log ++ step_log step old new does) new
   goes_behind step log old new few reported does =
@@ -120,7 +120,7 @@ module _ (clock : Clock) (secret : List ℕ) where
           subst (After clock secret c (came ++ []) (taken ++ on c (take 1 old.tables.unsent)) (log ++ [])) (sym is) sends_first
       step_stays Took stays is = calm_step [] (fronts.becomes c old new (all_taken old) is (same c old.tables))
 
-    -- steps behind its opening
+    -- steps after its opening
     pub runs_behind : (steps : List Step) (came : List ℕ) (taken : List ChunkView) (log : Log) (old new : FrontView) → KeepsFew old
         → IsBehind clock secret log old → HoldsAt clock secret c came taken log (view c old.tables) → Free c old.tables
         → AllByRecursion (Stays c) steps → (runs : Runs steps old new)

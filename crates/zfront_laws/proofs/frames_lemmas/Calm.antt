@@ -176,7 +176,7 @@ module _ (c : ℕ) where
   free_sent_on [] bytes t free = free
   free_sent_on (d ∷ ds) bytes t free = free_sent_on ds bytes (sent d bytes t) (free-sent c d bytes t free)
 
-  -- who is reported has a watch
+  -- who is notified has a watch
   listed_by : (x : ℕ) (b : Bool) (rest : Option (Unit {0})) → is_some (cond b (Some tt) rest) ≡ (b || is_some rest)
   listed_by x true rest = refl
   listed_by x false rest = refl

@@ -1,4 +1,4 @@
--- Bytes that come on a connection: its frames are answered, and the rest is kept.
+-- Bytes that come on a connection: its frames are answered, and the rest is stored.
 use Rattle.std.proofs.Common.{◌≡◌, inl, inr, ◌∙◌, ℕ, ◌+◌, Bool, true, false, List, [], ◌∷◌, ◌++◌, length, Option, None}
 use Rattle.std.proofs.Common.{Some, refl, sym, ap, subst, append_assoc}
 use Rattle.std.specs.Prelude.{nat_lt, ◌||◌, if◌then◌else◌}
@@ -32,7 +32,7 @@ use Rattle.zfront_laws.proofs.frames_lemmas.Reading.{Holds, HoldsAt, bytes_in, H
 use Rattle.zfront_laws.proofs.frames_lemmas.Others.{now_kept}
 use Rattle.zfront_laws.proofs.frames_lemmas.Own as own
 
--- how far a connection is behind its first frames
+-- the state of a connection after its first frames
 standing : (session : ℕ) (first : List ℕ) (frames : List (List ℕ)) (talk : Talk) (phase : Option Phase) (ends : Bool) → is_closed talk ≡ ends
     → phase ≡ (if is_closed talk then Some Closing else Some (Speaking session)) → Stands session (first ∷ frames) talk phase
 standing session first frames talk phase true ends leaves = inl (
@@ -59,7 +59,7 @@ module _ (clock : Clock) (secret : List ℕ) (c : ℕ) where
   abbrev pub After : List ℕ → List ChunkView → Log → FrontView → Type 0
   After came taken log new = HoldsAt clock secret c came taken log (view c new.tables) × Free c new.tables
 
-  -- the rest is kept
+  -- the rest is stored
   module _ (came : List ℕ) (taken : List ChunkView) (log : Log) (rest : List ℕ) where
     kept_as : (t : TablesView) → Heard clock secret c came (taken ++ on c t.unsent) log rest (phase_of t.streams c) → is_open t c ≡ true
         → IsEnd rest → (o : Option StreamView) → finite.get t.streams c ≡ o

@@ -73,7 +73,7 @@ pub cuts_both : (came : List ℕ) (frames next : List (List ℕ)) (rest last : L
 cuts_both came [] next rest last is more = subst (λ xs. Cuts xs next last) (sym is) more
 cuts_both came (bytes ∷ frames) next rest last has more = (has.0, has.1, cuts_both has.0 frames next rest last has.2 more)
 
--- four bytes tell the word
+-- four bytes determine the word
 word_more : (came more : List ℕ) → 4 ≤ length came → word_in (came ++ more) ≡ word_in came
 word_more came more enough = rw (take-append-le 4 came more enough) refl
 

@@ -1,4 +1,4 @@
--- What is done on one connection while calls are made, and one thing behind another.
+-- What is done on one connection while calls are made, and one thing after another.
 use Rattle.std.proofs.Common.{◌≡◌, ◌∙◌, ℕ, true, false, List, sym, ap, subst}
 use Rattle.std.specs.Prelude.{ℤ, if◌then◌else◌}
 use Rattle.zresponses.specs.declared.answer.Answer.{Answer}
@@ -22,7 +22,7 @@ abbrev pub Serving : ℕ → ℕ → Log → List (List ℕ) → FrontView → F
 Serving c session log frames old new = Done c (λ talk. Answered old.clock old.secret session old.tree log frames talk) old new
 
 module _ (c : ℕ) where
-  -- one thing behind another
+  -- one thing after another
   pub behind : (One Two Both : Talk → Type 0) (old middle new : FrontView) (one : Done c One old middle)
       → ((talk : Talk) → Two talk → Both (followed one.0 talk)) → Done c Two middle new → Done c Both old new
   behind One Two Both old middle new one join two = (
@@ -32,7 +32,7 @@ module _ (c : ℕ) where
     two.3,
   )
 
-  -- what answers nothing, behind one that answers
+  -- what answers nothing, after one that answers
   pub calmly : (One Both : Talk → Type 0) (old middle new : FrontView) (one : Done c One old middle)
       → ((talk : Talk) → IsCalm (speaks (phase_of middle.tables.streams c)) talk → Both (followed one.0 talk))
       → Calm c middle.tables new.tables → Done c Both old new
@@ -52,7 +52,7 @@ module _ (c : ℕ) where
   shuts Is it old new is free =
       quietly Is Closes (closed c old.tables) old new it is (view-closed c old.tables) (free-closed c c old.tables free)
 
--- an answer, and the close behind it where its code ends the connection
+-- an answer, and the close after it where its code ends the connection
 pub replies : (c zxid : ℕ) (xid : ℤ) (answer : Answer) (t : TablesView)
     → (end : Talk) × IsCalm false end × (view c (replied zxid c xid answer t) ≡ run c (Answers (answer_frame zxid xid answer) end) (view c t))
     × (Free c t → Free c (replied zxid c xid answer t))

@@ -159,7 +159,7 @@ free-forgotten c session t free =
     near other is (inr apart) = sym
         (ap connection_in (get-remove-elsewhere nat_cmp_total nat_cmp-IsAntisymmetric t.attachments session other apart)) ∙ is
 
--- who has the seats, where a session gets a attachment with a connection
+-- who has the seats, where a session gets an attachment with a connection
 new_seat : (m : AttachmentsView) (session d x other : ℕ) (s : Attachment) → s.connection ≡ Some d → connection_of (insert m session s) other ≡ Some x
     → ((other ≡ session) × (d ≡ x)) ⊎ ((other ≢ session) × (connection_of m other ≡ Some x))
 new_seat m session d x other s sits is = near (same_number other session)

@@ -1,5 +1,5 @@
--- The first frame of a connection is answered as a greeting, or the connection is closed. Behind it
--- the connection speaks for the session that it was reported.
+-- The first frame of a connection is answered as a greeting, or the connection is closed. After it
+-- the connection speaks for the session that was reported to it.
 use Rattle.std.proofs.Common.{◌≡◌, ◌≢◌, inl, inr, ◌∙◌, ℕ, Bool, true, false, List, [], ◌∷◌, ◌++◌, Option, None, Some}
 use Rattle.std.proofs.Common.{Result, Ok, Err, refl, sym, ap, subst, append_assoc, arith}
 use Rattle.std.specs.Prelude.{◌||◌, ℤ, pos, negsuc, nat_eq, replicate, zip, if◌then◌else◌}
@@ -145,7 +145,7 @@ module _ (c : ℕ) where
             free-closed c c u (free-sent c c reported old free),
           )
 
-      -- who is reported a session, which the connection has then
+      -- who is sent a session, which the connection has then
       met_reported : (session : ℕ) (reported : List ℕ) (log : Log) (old u : TablesView)
           → IsWelcome clock secret session bytes reported (tree_behind tree log) log → on c u.unsent ≡ on c old.unsent
           → phase_of u.streams c ≡ Some (Speaking session) → Free c u → Met clock secret c (bytes ∷ []) tree log old (sent c reported u)

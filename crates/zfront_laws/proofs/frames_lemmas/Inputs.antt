@@ -1,4 +1,5 @@
--- What goes on a connection at all steps: those before its opening, and those behind it.
+-- What is sent and received on a connection at all steps: those before its opening, and those after
+-- it.
 use Rattle.std.proofs.Common.{◌≡◌, inl, inr, ◌∙◌, ℕ, true, false, List, [], ◌∷◌, ◌++◌, Option, None, Some, refl, sym, ap, subst, append_assoc}
 use Rattle.std.specs.FinMap as finite
 use Rattle.std.specs.FinSet.{contains, contains-empty}

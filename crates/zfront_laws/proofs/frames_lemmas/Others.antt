@@ -64,7 +64,7 @@ use Rattle.zfront_laws.proofs.frames_lemmas.Calm as table
 use Rattle.zfront_laws.proofs.frames_lemmas.Calm.{Calm}
 use Rattle.zfront_laws.proofs.frames_lemmas.Fronts as front
 
--- few bytes were kept before, and so the rest is kept now
+-- few bytes were stored before, and so the rest is stored now
 pub now_kept : (c : ℕ) (came rest : List ℕ) (old middle new : FrontView) → KeepsFew old → Reads came c old rest middle
     → Keeps rest c middle new → new ≡ keeps rest c middle
 now_kept c came rest old middle new few reads after =

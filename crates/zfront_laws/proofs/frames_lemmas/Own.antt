@@ -140,7 +140,7 @@ module _ (c : ℕ) where
       → Serving c session (done_by (frame_calls phase bytes old) old) (bytes ∷ []) old new) (sym speaking)
       (λ serving. serves_by session bytes (whole request bytes) refl old new (ap speaks speaking) free serving) handling
 
-  -- frames behind one that closed the connection
+  -- frames after one that closed the connection
   pub none_behind : (frames : List (List ℕ)) (old new : FrontView) → is_open old.tables c ≡ false → (has : HandlesAll frames c old new)
       → (frames ≡ []) × (new ≡ old) × (frames_log frames c old new has ≡ [])
   none_behind [] old new shut is = (refl, is, refl)

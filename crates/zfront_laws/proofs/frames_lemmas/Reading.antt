@@ -1,4 +1,4 @@
--- What came on a connection, and what went on it, as an invariant of its inputs.
+-- What came on a connection, and what was sent on it, as an invariant of its inputs.
 use Rattle.std.proofs.Common.{◌≡◌, ◌⊎◌, inl, inr, ◌∙◌, ℕ, Bool, true, false, List, [], ◌∷◌, ◌++◌, Option, None, Some}
 use Rattle.std.proofs.Common.{refl, sym, ap, subst, append_assoc, arith}
 use Rattle.std.specs.Prelude.{◌||◌, if◌then◌else◌}
@@ -45,7 +45,7 @@ HoldsAt clock secret c came taken log w = Holds clock secret c came (taken ++ w.
 pair : (w : View) (stream : Option StreamView) (chunks : List ChunkView) → w.0 ≡ stream → w.1 ≡ chunks → w ≡ (stream, chunks)
 pair w stream chunks one two = ap (λ o. (o, w.1)) one ∙ ap (λ ps. (stream, ps)) two
 
--- ---- what was read and answered, before the rest is kept
+-- ---- what was read and answered, before the rest is stored
 
 -- how far the connection is
 abbrev pub Stands : ℕ → List (List ℕ) → Talk → Option Phase → Type 0
@@ -64,7 +64,7 @@ pub record Heard (clock : Clock) (secret : List ℕ) (c : ℕ) (came : List ℕ)
   pub chunks : went ≡ chunks_of c talk
   pub stands : Stands session frames talk phase
 
--- the rest is kept: no whole frame stands in front of it
+-- the rest is stored: it begins with no whole frame
 pub heard_holds : (clock : Clock) (secret : List ℕ) (c : ℕ) (came : List ℕ) (went : List ChunkView) (log : Log) (rest bytes : List ℕ) (phase : Option Phase)
     → Heard clock secret c came went log rest phase
     → (may_send phase ≡ true → (bytes ≡ rest) × IsEnd rest) → Holds clock secret c came went log phase bytes
@@ -96,7 +96,7 @@ heard_holds clock secret c came went log rest bytes phase h keeps = by h.stands
           h.chunks ∙ ap (chunks_of c) silent.2,
         )
 
--- and a connection that is closed behind it
+-- and a connection that is closed after it
 pub heard_closed : (clock : Clock) (secret : List ℕ) (c : ℕ) (came : List ℕ) (went next : List ChunkView) (log : Log) (rest : List ℕ) (phase : Option Phase)
     → Heard clock secret c came went log rest phase
     → may_send phase ≡ true → next ≡ went ++ chunks_of c Closes → Heard clock secret c came next log rest (Some Closing)
@@ -129,7 +129,7 @@ heard_closed clock secret c came went next log rest phase h is_on is = by h.stan
       stands = inl (refl, refl);
     }
 
--- frames of a session, behind those before
+-- frames of a session, after those before
 module _ (clock : Clock) (secret : List ℕ) (c : ℕ) (came all : List ℕ) (before went : List ChunkView) (log more : Log) (session : ℕ) (bytes rest : List ℕ)
     (next : List (List ℕ)) (talk : Talk)
     (new : Option Phase) where

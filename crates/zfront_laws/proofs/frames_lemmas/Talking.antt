@@ -1,4 +1,4 @@
--- One talk behind another: its frames are those of both, and so are its answers and its log.
+-- One talk after another: its frames are those of both, and so are its answers and its log.
 use Rattle.std.proofs.Common.{◌≡◌, ◌⊎◌, inl, inr, ◌∙◌, ℕ, ◌≤◌, Bool, true, List, [], ◌∷◌, ◌++◌, length, None, Some}
 use Rattle.std.proofs.Common.{refl, sym, ap, subst, append_assoc, arith}
 use Rattle.std.specs.Option.{MatchOption}
@@ -15,7 +15,7 @@ use Rattle.zfront_laws.specs.frames.Talk.{IsOpened, IsReturned, IsWelcome, IsTur
 use Rattle.zfront_laws.proofs.frames_lemmas.Views.{followed}
 use Rattle.zfront_laws.proofs.frames_lemmas.Calm.{IsCalm}
 
--- the tree behind two logs
+-- the tree after two logs
 pub behind-both : (tree : Tree) (log more : Log) → tree_behind (tree_behind tree log) more ≡ tree_behind tree (log ++ more)
 behind-both tree [] more = refl
 behind-both tree (reported ∷ log) more = behind-both (tree_behind tree (reported ∷ [])) log more
@@ -87,7 +87,7 @@ module _ (clock : Clock) (secret : List ℕ) where
     )
     answered_wider tree log more frames Closes has = has
 
-    -- behind a close there are no frames
+    -- after a close there are no frames
     pub answered_both : (tree : Tree) (log more : Log) (frames next : List (List ℕ)) (one two : Talk) → Answered clock secret session tree log frames one
         → Answered clock secret session (tree_behind tree log) more next two → (is_closed one ≡ true → next ≡ [])
         → Answered clock secret session tree (log ++ more) (frames ++ next) (followed one two)
@@ -117,7 +117,7 @@ module _ (clock : Clock) (secret : List ℕ) where
     answered_calm speaking tree log (Answers bytes talk) calm = absurd calm
     answered_calm speaking tree log Closes calm = omega arith
 
-    -- and one frame that is answered behind events
+    -- and one frame that is answered after events
     pub answered_behind : (speaking : Bool) (tree : Tree) (log : Log) (bytes : List ℕ) (one two : Talk) → IsCalm speaking one
         → Answered clock secret session tree log (bytes ∷ []) two
         → Answered clock secret session tree log (bytes ∷ []) (followed one two)
@@ -126,7 +126,7 @@ module _ (clock : Clock) (secret : List ℕ) where
     answered_behind speaking tree log bytes (Answers reported one) two calm has = absurd calm
     answered_behind speaking tree log bytes Closes two calm has = omega arith
 
-    -- a greeting, and what is behind it
+    -- a greeting, and what is after it
     welcome_deeper : (bytes reported : List ℕ) (tree : Tree) (more log : Log) → IsWelcome clock secret session bytes reported tree log
         → IsWelcome clock secret session bytes reported tree (more ++ log)
     welcome_deeper bytes reported tree more log a = record { greeting = a.greeting; reads = a.reads; has = by a.has }
@@ -250,7 +250,7 @@ module _ (clock : Clock) (secret : List ℕ) where
         ),
       )
 
-  -- no word stands in front
+  -- it begins with no word
   pub unworded : (came : List ℕ) (log : Log) (frames : List (List ℕ)) (talk : Talk) → word_in came ≡ None
       → (session : ℕ) × Greeted clock secret session opening_tree log frames talk
       → IsTalk clock secret came log frames talk

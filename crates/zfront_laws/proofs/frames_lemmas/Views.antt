@@ -43,7 +43,7 @@ run c (Reports event talk) w = run c talk (added c (event_frame event) w)
 run c (Answers bytes talk) w = run c talk (added c bytes w)
 run c Closes w = shut c w
 
--- ---- one talk behind another
+-- ---- one talk after another
 
 abbrev pub followed : Talk → Talk → Talk
 followed Quiet next = next
@@ -104,7 +104,7 @@ run_then c (Reports event a) b w = run_then c a b (added c (event_frame event) w
 run_then c (Answers bytes a) b w = run_then c a b (added c bytes w)
 run_then c Closes b w = sym (run_not c b (shut c w) (shut_ends c w))
 
--- what isn't closed keeps its stream
+-- what isn't closed has its stream unchanged
 pub run_stream : (c : ℕ) (talk : Talk) (w : View) → is_closed talk ≡ false → (run c talk w).0 ≡ w.0
 run_stream c Quiet w still = refl
 run_stream c (Reports event talk) w still = run_stream c talk (added c (event_frame event) w) still ∙ added_stream c (event_frame event) w

@@ -38,13 +38,13 @@ use Rattle.zfront_laws.proofs.watches_lemmas.Scenes.{is_older}
 use Rattle.zfront_laws.proofs.watches_lemmas.Touching.{Reports, no_event, update_touches, create_leaves}
 use Rattle.zfront_laws.proofs.watches_lemmas.Waiting.{reports_creation, reports_loss}
 
--- what an event reports a watch of this kind
+-- what an event reports to a watch of this kind
 abbrev pub reports_of : Kind → EventKind → Bool
 reports_of Data k = reports_data k
 reports_of Missing k = reports_creation k
 reports_of Children k = reports_loss k
 
--- a watch that is fired is at the event's path, and the event reports it something
+-- a watch that is fired is at the event's path, and the event reports something to it
 abbrev IsFired : EventKind → Path → Watch → Type 0
 IsFired k path w = (path ≡ w.path) × (reports_of w.kind k ≡ true)
 
@@ -100,7 +100,7 @@ no_creation : {P : Type 0} (path : Path) (e : Event) (k : EventKind) (at : Path)
     → reports_creation e.kind ≡ true → P
 no_creation path e k at none is does = absurd (true≢false (sym does ∙ ap (λ (e : Event). reports_creation e.kind) (sym is) ∙ none))
 
--- only a create and a multi tell of a new node
+-- only a create and a multi report a new node
 creates : (u : Act) (reported : Reply) (path : Path) → Reports reports_creation path (events_of u reported)
     → ((create : Create) × (u ≡ act.Create create)) ⊎ OfMulti u
 creates (act.Create create) reported path reports = inl (create, refl)

@@ -79,7 +79,7 @@ handles_all (bytes ∷ frames) c old new s renewed fine there has =
     renewed frame set (request_among phase bytes frame frames (request_later (phase_of middle.tables.streams c) frame frames among)) asks)
     ((step.handles bytes c old middle has.2).seats fine) here has.3)
 
--- ---- what is kept
+-- ---- what is stored
 
 rest_moves : {Renews : Renewals} (over : Bool) (rest : List ℕ) (c : ℕ) (v : FrontView) (s : Scene) → At v s
     → Reaches Renews (with_tables (if over then closed c v.tables else record v.tables { streams = with_bytes v.tables.streams c rest }) v) s []

@@ -60,7 +60,7 @@ module _ (s : Scene) (c : ℕ) (kind : Kind) (path : Path) where
   abbrev t : TablesView
   t = s.tables
 
-  -- a watch that stands is the one that was set, or stood before
+  -- a watch in the table is the one that was set, or was there before
   stood : (w : Watch) → In (waiting c kind path t) w → (eq_by_cmp watch_cmp w mine ≡ true) ⊎ In t w
   stood w = elim (is_full t.watches mine) as (λ b. In (if b then t else record t { watches = insert t.watches mine }) w
       → (eq_by_cmp watch_cmp w mine ≡ true) ⊎ In t w) [
@@ -138,7 +138,7 @@ grants_both first second nodes one two v s is there =
     let u = with_tables (first v.tables) v in
     still false false u (with_tables (second (first v.tables)) v) s [] (one v s is there) (λ next here. two u next is here)
 
--- what is granted behind other wishes
+-- what is granted after other wishes
 module _ {W : Type 0} (one : W → TablesView → TablesView) (all : List W → TablesView → TablesView) (first : (t : TablesView) → all [] t ≡ t)
     (next : (w : W) (ws : List W) (t : TablesView) → all (w ∷ ws) t ≡ all ws (one w t)) where
   appended : (xs ys : List W) (t : TablesView) → all ys (all xs t) ≡ all (xs ++ ys) t

@@ -77,7 +77,7 @@ module _ (greeting : ConnectRequest) (c : ℕ) (old : FrontView) (s : Scene) (fi
   abbrev v : FrontView
   v = asked calls old
 
-  -- the scene behind the call
+  -- the scene after the call
   abbrev then_scene : Scene
   then_scene = next calls old s there
 

@@ -1,4 +1,4 @@
--- What holds of the watches that stand, of the tree and of its owners; and how calls keep it.
+-- What holds of the watches that are set, of the tree and of its owners; and how calls preserve it.
 use Rattle.std.proofs.Common.{◌≡◌, ◌∙◌, ◌+◌, ℕ, Bool, true, false, List, Option, Some, None, Result, Ok, Err, refl, sym, ap, subst, inl, inr}
 use Rattle.std.specs.Prelude.{◌⊎◌, is_some, if◌then◌else◌}
 use Rattle.std.specs.List.{AllByRecursion}
@@ -195,7 +195,7 @@ update_owned m t u stays all names =
 abbrev pub absorbing : Update → Reply → TablesView → TablesView
 absorbing u reported tables = reported_all (events_of u reported) (record tables { attachments = noted u reported tables.attachments })
 
--- behind an update that takes nothing away, and its events, all holds again
+-- after an update that takes nothing away, and its events, all holds again
 pub update_holds : (t : Tree) (set_at : Watch → Nodes) (tables : TablesView) (u : Update) → takes_away u ≡ false
     → UpdateNames (Known tables.attachments) u
     → Holds false t set_at tables → Holds false (step t 0 u).0 set_at (absorbing u (step t 0 u).1 tables)
@@ -304,7 +304,7 @@ reported_holds must t set_at tables es holds =
     fewer_holds must t set_at tables (reported_all es tables) (λ w stands. (reported_all_leaves es tables w stands).0)
     (λ all. subst (λ m. OwnersAre (Marked m) t.nodes) (sym (reported_all_attachments es tables)) all) holds
 
--- and no watch that stands behind them waits in vain
+-- and no watch that is set after them waits in vain
 pub look_holds : (t : Tree) (set_at : Watch → Nodes) (tables : TablesView) (es : List Event)
     → ((w : Watch) → In tables w → Unfired w es → WentAway w.kind w.path t → ⊥) → Holds true t set_at tables
     → Holds false t set_at (reported_all es tables)

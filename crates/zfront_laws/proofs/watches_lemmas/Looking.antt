@@ -1,4 +1,4 @@
--- What a look sees, and that no watch that stands behind it waits in vain.
+-- What a look sees, and that no watch that is set after it waits in vain.
 use Rattle.std.proofs.Common.{◌≡◌, ◌∙◌, ℕ, Bool, true, false, List, [], ◌∷◌, ◌++◌, Option, Some, None}
 use Rattle.std.proofs.Common.{refl, sym, ap, subst, inl, inr, arith}
 use mathlib.Core.Bool.{true≢false}
@@ -110,7 +110,7 @@ deleted_fires w Children is of_node = fires_children w NodeDeleted is refl
 level : (a b : ℕ) → a ≡ b → (a == b) ≡ true
 level a b is = grind (arith, nat_tests)
 
--- what is reported of a place settles the watch there
+-- what is reported of a position settles the watch there
 settled_there : (t : Tree) (p : Place) (w : Watch) (n : Node) (k : Kind) → w.kind ≡ k → place_of w ≡ p → finite.get t.nodes w.path ≡ Some n
     → Unfired w (node_seen t.zxid k p (stat_of t.nodes p.path n)) → WentAway k w.path t → ⊥
 settled_there t p w n Data is at there unfired away = none_some (but_children n) (sym away ∙ ap (option_map but_children) there)
@@ -150,7 +150,7 @@ looks_settle t (p ∷ places) w among of_node unfired away =
     by true is rest = look_settles t p w (tied_same places_total same_place (place_of w) p is) of_node parts.0 away
     by false is rest = rest (sym (ap (λ b. b || list_any (eq_by_cmp place_cmp (place_of w)) places) is) ∙ among)
 
--- each watch of a node is at one of the places
+-- each watch of a node is at one of the positions
 watched : (table : Watches) (places : List Place) (w : Watch) → Lists places (node_places table) → contains table w ≡ true → is_of_node w.kind ≡ true
     → list_any (eq_by_cmp place_cmp (place_of w)) places ≡ true
 watched table places w lists stands of_node =

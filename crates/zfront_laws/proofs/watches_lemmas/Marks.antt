@@ -26,11 +26,11 @@ use Rattle.zconnections.specs.buffers.Streams.{phase_of}
 use Rattle.zfront_laws.proofs.Seated.{Has, same_number, seat_here, seat_elsewhere}
 use Rattle.zfront_laws.proofs.watches_lemmas.Owners.{PartNames}
 
--- nobody, or a session that is there
+-- no one, or a session that is there
 abbrev pub Known : AttachmentsView → ℕ → Type 0
 Known m id = (id ≡ 0) ⊎ Has m id
 
--- nobody, or a session that made an ephemeral node
+-- no one, or a session that made an ephemeral node
 abbrev pub Marked : AttachmentsView → ℕ → Type 0
 Marked m id = (id ≡ 0) ⊎ (made_one m id ≡ true)
 
@@ -64,7 +64,7 @@ made_there m id is = by (finite.get m id) refl
 pub marked_in : (m : AttachmentsView) (id : ℕ) (s : Attachment) → finite.get m id ≡ Some s → made_one m id ≡ s.made_ephemeral
 marked_in m id s there = ap (λ o. option_map_or (λ (s : Attachment). s.made_ephemeral) o false) there
 
--- a attachment is changed
+-- an attachment is changed
 module _ (to : Attachment → Attachment) (keeps_mark : (s : Attachment) → s.made_ephemeral ≡ true → (to s).made_ephemeral ≡ true)
     (m : AttachmentsView) (key : ℕ) where
   pub changed : Keeps m (with_changed to m key)
@@ -97,7 +97,7 @@ closed_keeps c t = elim (is_open t c) as (λ b. Keeps t.attachments (if b then c
   | false ↦ unchanged t.attachments
 ]
 
--- a attachment is put, in the place of one or beside the others
+-- an attachment is put, in the place of one or beside the others
 module _ (m : AttachmentsView) (key : ℕ) (s : Attachment) (keeps_mark : made_one m key ≡ true → s.made_ephemeral ≡ true) where
   put_keeps : Keeps m (finite.insert m key s)
   put_keeps = record { has = λ id there. near id (same_number id key) there; marks = λ id is. still id (same_number id key) is }

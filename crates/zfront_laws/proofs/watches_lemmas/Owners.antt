@@ -1,4 +1,4 @@
--- Who owns nodes: behind an update each owner owned one before, or the update names it.
+-- Who owns nodes: after an update each owner owned one before, or the update names it.
 use Rattle.std.proofs.Common.{◌+◌, ℕ, Bool, List, [], ◌∷◌}
 use Rattle.std.specs.List.{AllByRecursion}
 use Rattle.std.specs.FinMap as finite

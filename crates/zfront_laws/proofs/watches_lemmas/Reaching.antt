@@ -51,7 +51,7 @@ sends must v s c bytes there = record {
       there.holds;
 }
 
--- where no look is due, all watches were reported all
+-- where no look is due, everything was reported to all watches
 pub all_reported : (v : FrontView) (s : Scene) (c : ℕ) → At v s → HasReportedAll s c
 all_reported v s c there w stands mine = settled (tree_of s) (s.set_at w) w.kind w.path (there.holds.seen w stands)
 
@@ -76,7 +76,7 @@ module _ {Renews : Renewals} where
   pub stays : (must : Bool) (v : FrontView) (s : Scene) → AtIf must v s → Arrives Renews must v s []
   stays must v s there = record { happenings = []; scene = s; happens = refl; log = sym (append-nil s.log); there = there }
 
-  -- behind things that happened before
+  -- after things that happened before
   precede : (n : Bool) (w : FrontView) (s t : Scene) (hs : List Happening) (first more : Log) → Happens Renews hs s t → t.log ≡ s.log ++ first
       → Arrives Renews n w t more → Arrives Renews n w s (first ++ more)
   precede n w s t hs first more has goes rest = record {
@@ -93,7 +93,7 @@ module _ {Renews : Renewals} where
   behind m n v w s first more one next =
       precede n w s one.scene one.happenings first more one.happens one.log (next one.scene one.there)
 
-  -- behind which no call is made
+  -- after which no call is made
   pub still : (m n : Bool) (v w : FrontView) (s : Scene) (first : Log) → Arrives Renews m v s first → ((t : Scene) → AtIf m v t → Arrives Renews n w t [])
       → Arrives Renews n w s first
   still m n v w s first one next = subst (Arrives Renews n w s) (append-nil first) (behind m n v w s first [] one next)
@@ -149,7 +149,7 @@ module _ {Renews : Renewals} where
       sends_as must v s c (answer_frame v.tree.zxid xid answer) (Answered c xid answer) may
       (ap (λ (t : Tree). record s { tables = sent c (answer_frame t.zxid xid answer) s.tables }) there.tree) there
 
-  -- and behind one that ends the connection it is closed
+  -- and after one that ends the connection it is closed
   pub replies : (must : Bool) (v : FrontView) (s : Scene) (c : ℕ) (xid : ℤ) (answer : Answer) → AtIf must v s → (HasReportedAll s c ⊎ IsClose s c)
       → Arrives Renews must (with_tables (replied v.tree.zxid c xid answer v.tables) v) s []
   replies must v s c xid answer there may = elim (ends_connection answer.code) as (λ b. Arrives Renews must (with_tables (

@@ -18,7 +18,7 @@ use Rattle.zwatches.specs.declared.kind.Kind.{Kind}
 use Rattle.zwatches.specs.declared.kind.Kind.TheVariants.{Data, Missing, Children}
 use Rattle.zfront_laws.specs.watches.Watching.{Names}
 
--- the calls of a list, then those of the list behind it
+-- the calls of a list, then those of the list after it
 module _ {A B : Type 0} (means : A → Meaning B) where
   abbrev Parts : List A → List A → List B → Type 0
   Parts xs ys read = (each_in means xs ≡ Ok (take (length xs) read)) × (each_in means ys ≡ Ok (drop (length xs) read))

@@ -1,4 +1,4 @@
--- Scenes: how a log goes on in one, and what happens in its order.
+-- Scenes: how a log continues in one, and what happens in its order.
 use Rattle.std.proofs.Common.{◌≡◌, ◌∙◌, ℕ, List, [], ◌∷◌, ◌++◌, Some, refl, sym, ap, subst, inl, inr, append_assoc, true}
 use Rattle.std.specs.Prelude.{map, zip}
 use Rattle.std.specs.FinMap.{get}
@@ -62,14 +62,14 @@ servings calls replies = []
 abbrev pub logged : Scene → Log → Scene
 logged s more = record s { log = s.log ++ more }
 
--- the tree behind them
+-- the tree after them
 pub tree_logged : (calls : List Call) (t : Tree) (s : Scene) → tree_of s ≡ t → tree_of (logged s (zip calls (served t calls))) ≡ tree_after t calls
 tree_logged calls t s is =
     incarnations_leave_one_tree opening_tree s.log (zip calls (served t calls)) ∙ ap (tree_after (tree_of s)) (calls_zipped t calls)
     ∙ ap (λ u. tree_after u calls) is
 
 module _ (Renews : Renewals) where
-  -- what happens behind something else
+  -- what happens after something else
   pub happens_both : (hs more : List Happening) (a b c : Scene) → Happens Renews hs a b → Happens Renews more b c → Happens Renews (hs ++ more) a c
   happens_both [] more a b c is rest = subst (λ s. Happens Renews more s c) is rest
   happens_both (h ∷ hs) more a b c has rest = (has.0, happens_both hs more (after h a) b c has.1 rest)

@@ -14,7 +14,7 @@ use Rattle.zcalls.specs.declared.reply.Reply.{Reply}
 use Rattle.zjute.specs.declared.code.Code.TheVariants.{BadArguments, Unimplemented, AuthFailed}
 use Rattle.zjute.specs.declared.request.Asked.{Asked}
 use Rattle.zjute.specs.declared.request.Asked.TheVariants as asked
-use Rattle.zjute.specs.declared.part.Part.{Part as AskedPart}
+use Rattle.zjute.specs.declared.part.PartRequest.{PartRequest as AskedPart}
 use Rattle.zjute.specs.declared.part.LookPart.{LookPart}
 use Rattle.zjute.specs.declared.part.LookPart.TheVariants as of_look
 use Rattle.zrequests.specs.declared.fault.Unasked.{Unasked}

@@ -1,4 +1,4 @@
--- The watches that stand where events are reported: no event reported fires them.
+-- The watches that remain set where events are reported: no event reported fires them.
 use Rattle.std.proofs.Common.{◌≡◌, ◌∙◌, ℕ, Bool, true, false, List, [], ◌∷◌, refl, sym, ap, inl, inr}
 use Rattle.std.proofs.Math.Bool.{or-true}
 use mathlib.Core.Bool.{true≢false}
@@ -59,7 +59,7 @@ pub reported_all_attachments : (es : List Event) (t : TablesView) → (reported_
 reported_all_attachments [] t = refl
 reported_all_attachments (e ∷ es) t = reported_all_attachments es (reported e t) ∙ reported_attachments e t
 
--- a watch that stands behind an event stood before, and isn't fired
+-- a watch that is set after an event was set before, and isn't fired
 pub reported_leaves : (e : Event) (t : TablesView) (w : Watch) → In (reported e t) w → In t w × (fires e.kind e.path w ≡ false)
 reported_leaves e t w stands = (fires_once t.watches e.kind e.path w).0 (ap (λ table. contains table w) (sym (reported_watches e t)) ∙ stands)
 
@@ -73,7 +73,7 @@ reported_all_leaves (e ∷ es) t w stands =
     let first = reported_leaves e t w rest.0 in
     (first.0, (first.1, rest.1))
 
--- an event at a watch's place fires it
+-- an event at a watch's position fires it
 at_place : (w : Watch) (path : Path) (k : Kind) → place_of w ≡ place path k → is_at (place path k) w ≡ true
 at_place w path k is = ap (λ p. eq_by_cmp place_cmp p (place path k)) is ∙ tied places_total same_place (place path k)
 
@@ -99,7 +99,7 @@ fires_children w kind.NodeDeleted is reports =
 fires_children w kind.NodeChildrenChanged is reports = ap (λ b. b || false) (at_place w w.path Children (placed w Children is))
 fires_children w other is reports = absurd (cc reports)
 
--- so events that fire none tell nothing of its path
+-- so events that fire none report nothing of its path
 pub misses : (reports : EventKind → Bool) (w : Watch) → ((k : EventKind) → reports k ≡ true → fires k w.path w ≡ true) → (es : List Event)
     → Unfired w es → Misses reports w.path es
 misses reports w fire [] unfired = tt

@@ -137,7 +137,7 @@ looks_if must true old new s why there (places, lists, is) =
       holds = more_due must true (tree_of s) s.set_at s.tables (λ due. refl) there.holds;
     }))
 
--- behind calls that ended sessions
+-- after calls that ended sessions
 pub tidies : {Renews : Renewals} (must : Bool) (reported : List Reply) (old new : FrontView) (s : Scene) → AtIf must old s
     → (must ≡ true → (list_any takes_nodes reported ≡ true) ⊎ Gone old) → LooksIf (took_unnamed reported old) (swept old) new → Reaches Renews new s []
 tidies must reported old new s there why has =

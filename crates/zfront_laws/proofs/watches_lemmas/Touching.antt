@@ -207,7 +207,7 @@ with_parent_children k at path here above (e, inl is, does, same) =
 with_parent_children k at path here above (e, inr (inl is), does, same) = above (ap (λ (e : Event). e.path) is ∙ same)
 with_parent_children k at path here above (e, inr (inr none), does, same) = absurd none
 
--- what a change did where its events tell it
+-- what a change did where its events report it
 abbrev ChangeDid : ℕ → Path → (ChangeReply → List Event) → Result (Tree × ChangeReply) Refusal → Type 0
 ChangeDid zxid path events (Err refusal) = Unit {0}
 ChangeDid zxid path events (Ok (u, did)) =
@@ -403,7 +403,7 @@ run_did zxid path client (p ∷ parts) t is =
     run_then zxid path client p parts (part_step t client p) (subst (λ z. PartDid z path p (part_step t client p)) is (part_did t client p path))
     (same_zxid zxid t client p is) (λ v same. run_did zxid path client parts v same)
 
--- what an update did, where its events tell it
+-- what an update did, where its events report it
 abbrev pub Touches : ℕ → Path → Update → Tree × Reply → Type 0
 Touches zxid path u did =
     (Reports reports_data path (events_of u did.1) → Dated written_at zxid did.0.nodes path)

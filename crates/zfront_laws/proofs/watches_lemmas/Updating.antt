@@ -118,14 +118,14 @@ owner_made m nodes id all (above, path, n, found, is) = by (all path n found)
     by (inl nobody) = absurd (omega (arith, above, nobody, is))
     by (inr made) = ap (made_one m) (sym is) ∙ made
 
--- a look is due behind them where they took something
+-- a look is due after them where they took something
 pub record Taken (v : FrontView) (s : Scene) (took : Bool) : Type 0 where
   pub must : Bool
   pub there : AtIf must v s
   pub why : must ≡ true → (took ≡ true) ⊎ Gone v
 
 module _ (calls : List Call) (v : FrontView) (s : Scene) (there : At v s) where
-  -- the scene behind them
+  -- the scene after them
   abbrev pub next : Scene
   next = logged s (done_by calls v)
 
@@ -176,7 +176,7 @@ module _ (calls : List Call) (v : FrontView) (s : Scene) (there : At v s) where
   taken took takes =
       taken_so took (subst (λ t. TakesTo t (tree_of next) took) (sym there.tree) (subst (λ t. TakesTo v.tree t took) (sym goes_to) takes))
 
--- a close leaves the tree, or is reported as closed
+-- a close leaves the tree, or its reply is Closed
 closes_so : (t : Tree) (exhausted gone : Bool) (why other : Reply) (did : Tree × Reply) → did.1 ≡ reply.Closed
     → ((if exhausted then (t, why) else if gone then (t, other) else did).0 ≡ t)
     ⊎ ((if exhausted then (t, why) else if gone then (t, other) else did).1 ≡ reply.Closed)
@@ -216,7 +216,7 @@ open_leaves t ticks =
 
 -- ---- what the calls of a tick take away
 
--- behind a call that leaves the nodes
+-- after a call that leaves the nodes
 behind_ping : (t u v : Tree) (first : Reply) (rest : List Reply) → u.nodes ≡ t.nodes → u.zxid ≡ t.zxid → TakesTo u v (list_any takes_nodes rest)
     → TakesTo t v (list_any takes_nodes (first ∷ rest))
 behind_ping t u v first rest nodes zxid (inl same) = inl (same ∙ nodes)

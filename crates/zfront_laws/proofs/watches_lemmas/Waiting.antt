@@ -132,7 +132,7 @@ written nodes at old new path is same = near (same_or_other paths_total same_pat
       );
     }
 
--- one change behind another
+-- one change after another
 misses-append : (reports : EventKind → Bool) (path : Path) (events more : List Event) → Misses reports path (events ++ more)
     → Misses reports path events × Misses reports path more
 misses-append reports path [] more misses = (tt, misses)

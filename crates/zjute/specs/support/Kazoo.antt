@@ -2,7 +2,7 @@
 use Rattle.std.specs.Prelude.{pos, ℕ, List, [], ◌∷◌, Option, Some, None, Bool, true, false}
 use Rattle.zjute.specs.declared.acl.Acl.{Acl}
 use Rattle.zjute.specs.declared.connecting.ConnectRequest.{ConnectRequest}
-use Rattle.zjute.specs.declared.part.Part.TheVariants as part
+use Rattle.zjute.specs.declared.part.PartRequest.TheVariants as part
 use Rattle.zjute.specs.declared.request.Asked.{Asked}
 use Rattle.zjute.specs.declared.request.Asked.TheVariants as asks
 use Rattle.zjute.specs.declared.request.Request.{Request}

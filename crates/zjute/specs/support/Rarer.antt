@@ -1,7 +1,7 @@
 -- What clients send that kazoo doesn't, by the records of zookeeper.jute, field by field.
 use Rattle.std.specs.Prelude.{pos, ℕ, List, [], ◌∷◌, Some, false}
 use Rattle.zjute.specs.declared.part.LookPart.TheVariants as look_part
-use Rattle.zjute.specs.declared.part.Part.TheVariants as part
+use Rattle.zjute.specs.declared.part.PartRequest.TheVariants as part
 use Rattle.zjute.specs.declared.request.Asked.TheVariants as asks
 use Rattle.zjute.specs.declared.request.Request.{Request}
 use Rattle.zjute.specs.Jute.{neg}

@@ -1,4 +1,4 @@
--- What is sent, field by field. kazoo 2.8.0 reads each as it is reported here.
+-- What is sent, field by field. kazoo 2.8.0 reads each as it is stated here.
 use Rattle.std.specs.Prelude.{pos, ℕ, List, [], ◌∷◌, Option, Some, None, Bool}
 use Rattle.zjute.specs.declared.code.Code.{Code}
 use Rattle.zjute.specs.declared.code.Code.TheVariants as code
@@ -10,10 +10,10 @@ use Rattle.zjute.specs.declared.reply.PartResult.TheVariants as result
 use Rattle.zjute.specs.declared.reply.Body.{Body}
 use Rattle.zjute.specs.declared.reply.Body.TheVariants as body
 use Rattle.zjute.specs.declared.reply.Reply.{Reply}
-use Rattle.zjute.specs.declared.stat.Stat.{Stat}
+use Rattle.zjute.specs.declared.stat.StatRecord.{StatRecord}
 use Rattle.zjute.specs.support.Kazoo.{slash_a, hi, open_acls, no_password}
 
-abbrev pub some_stat : Stat
+abbrev pub some_stat : StatRecord
 some_stat = record { czxid = pos 1; mzxid = pos 2; ctime = pos 3; mtime = pos 4; version = pos 5; cversion = pos 6; aversion = pos 7; ephemeral_owner = pos 8; data_length = pos 9; num_children = pos 10; pzxid = pos 11 }
 
 abbrev pub stat_bytes : List ℕ

@@ -2,10 +2,10 @@
 use Rattle.std.specs.Prelude.{ℕ, List, [], ◌∷◌, pos, negsuc, codes, Option, None, Some, Err, false}
 use Rattle.zjute.specs.declared.acl.Acl.{Acl}
 use Rattle.zjute.specs.declared.code.Code.TheVariants.{BadArguments, InvalidAcl, Unimplemented, AuthFailed}
-use Rattle.zjute.specs.declared.request.Create.{Create}
+use Rattle.zjute.specs.declared.request.CreateRequest.{CreateRequest}
 use Rattle.zjute.specs.declared.request.CreateTtl.{CreateTtl}
 use Rattle.zjute.specs.declared.request.AtVersion.{AtVersion}
-use Rattle.zjute.specs.declared.request.SetData.{SetData}
+use Rattle.zjute.specs.declared.request.SetDataRequest.{SetDataRequest}
 use Rattle.zjute.specs.declared.request.Look.{Look}
 use Rattle.zrequests.specs.declared.fault.Unasked.TheVariants.{Refused}
 use Rattle.zrequests.specs.Asking.{Meaning}
@@ -32,7 +32,7 @@ abbrev pub text_a : Option (List ℕ)
 text_a = Some (codes "/a")
 
 -- requests for /a
-abbrev pub create_a : Create
+abbrev pub create_a : CreateRequest
 create_a = record { path = text_a; bytes = None; acls = open_entry ∷ []; flags = pos 1 }
 
 abbrev pub timed_a : CreateTtl
@@ -41,7 +41,7 @@ timed_a = record { create = record create_a { flags = pos 5 }; ttl = pos 3000 }
 abbrev pub at_version : AtVersion
 at_version = record { path = text_a; version = negsuc 1 }
 
-abbrev pub set_a : SetData
+abbrev pub set_a : SetDataRequest
 set_a = record { path = text_a; bytes = Some (7 ∷ []); version = negsuc 0 }
 
 abbrev pub look_a : Look

@@ -9,7 +9,7 @@ ghost use Rattle.zcalls.specs.declared.call.Part.TheVariants as part;
 ghost use Rattle.zcalls.specs.declared.call.Update.TheVariants as act;
 ghost use Rattle.zcalls.specs.declared.call.Query.TheVariants.{GetData, Exists, GetChildren};
 ghost use Rattle.zcalls.specs.declared.call.Call.TheVariants.{Update, Query};
-ghost use Rattle.zjute.specs.declared.part.Part.TheVariants as of_multi;
+ghost use Rattle.zjute.specs.declared.part.PartRequest.TheVariants as of_multi;
 ghost use Rattle.zjute.specs.declared.part.LookPart.TheVariants as of_look;
 ghost use Rattle.zjute.specs.declared.request.Asked.TheVariants as asked;
 ghost use Rattle.zrequests.specs.declared.limits.TheConstants.{NO_VERSION};

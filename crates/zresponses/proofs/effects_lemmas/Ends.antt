@@ -12,7 +12,7 @@ use Rattle.zresponses.specs.effects.Looking.{seen}
 use Rattle.zresponses.specs.effects.Replying.{absorbed_all}
 use Rattle.zconnections.specs.Tables.{TablesView}
 
--- behind the end of the shorter list, one of them has ended
+-- after the end of the shorter list, one of them has ended
 pub one_ended : {A B : Type 0} (xs : List A) (ys : List B) (i : ℕ) → min (length xs) (length ys) ≤ i → (drop i xs ≡ []) ⊎ (drop i ys ≡ [])
 one_ended {A} {B} xs ys i end = by (nat_le (length xs) i) refl
   where
@@ -24,7 +24,7 @@ no_replies_again : (kind : Kind) (seen : ℤ) (calls : List Call) → wishes_aga
 no_replies_again kind seen [] = refl
 no_replies_again kind seen (call ∷ calls) = refl
 
--- no watches are set again behind the last call or reply
+-- no watches are set again after the last call or reply
 pub none_again : (kind : Kind) (seen : ℤ) (calls : List Call) (replies : List Reply) (i : ℕ) → min (length calls) (length replies) ≤ i
     → wishes_again kind seen (drop i calls) (drop i replies) ≡ []
 none_again kind seen calls replies i end =
@@ -37,7 +37,7 @@ no_replies_seen : (zxid : ℕ) (places : List Place) → seen zxid places [] ≡
 no_replies_seen zxid [] = refl
 no_replies_seen zxid (p ∷ places) = refl
 
--- nothing is seen behind the last place or reply
+-- nothing is seen after the last position or reply
 pub none_seen : (zxid : ℕ) (places : List Place) (replies : List Reply) (i : ℕ) → min (length places) (length replies) ≤ i
     → seen zxid (drop i places) (drop i replies) ≡ []
 none_seen zxid places replies i end =
@@ -50,7 +50,7 @@ no_replies_absorbed : (calls : List Call) (t : TablesView) → absorbed_all call
 no_replies_absorbed [] t = refl
 no_replies_absorbed (call ∷ calls) t = refl
 
--- no call was answered behind the last call or reply
+-- no call was answered after the last call or reply
 pub none_absorbed : (calls : List Call) (replies : List Reply) (t : TablesView) (i : ℕ) → min (length calls) (length replies) ≤ i
     → absorbed_all (drop i calls) (drop i replies) t ≡ t
 none_absorbed calls replies t i end =

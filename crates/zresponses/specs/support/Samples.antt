@@ -4,8 +4,8 @@ use Rattle.ztree.specs.support.Samples.{at_a_b}
 use Rattle.zcalls.specs.declared.call.Create.{Create}
 use Rattle.zcalls.specs.declared.call.Lifetime.TheVariants.{Ephemeral, WithTtl}
 use Rattle.zcalls.specs.Part.{named, sequential}
-use Rattle.zjute.specs.declared.stat.Stat.{Stat as ReportedStat}
-use Rattle.zjute.specs.declared.request.Create.{Create as AskedCreate}
+use Rattle.zjute.specs.declared.stat.StatRecord.{StatRecord as ReportedStat}
+use Rattle.zjute.specs.declared.request.CreateRequest.{CreateRequest as AskedCreate}
 use Rattle.zjute.specs.declared.request.Look.{Look}
 use Rattle.zresponses.specs.declared.clock.Clock.{Clock}
 use Rattle.zresponses.specs.declared.clock.Now.{Now}

@@ -7,7 +7,7 @@ ghost use Rattle.zcalls.specs.declared.refusal.Refusal.TheVariants.{NoNode, BadV
 ghost use Rattle.zcalls.specs.declared.reply.PartReply.TheVariants as part_reply;
 ghost use Rattle.zcalls.specs.declared.reply.Reply.TheVariants as reply;
 ghost use Rattle.zjute.specs.declared.code.Code.TheVariants as code;
-ghost use Rattle.zjute.specs.declared.part.Part.TheVariants as asked;
+ghost use Rattle.zjute.specs.declared.part.PartRequest.TheVariants as asked;
 ghost use Rattle.zjute.specs.declared.reply.PartResult.TheVariants as result_of;
 ghost use Rattle.zresponses.specs.Results.{refused_results, part_result, look_result};
 ghost use Rattle.zresponses.specs.support.Samples.{clock, now, reported_stat, create_b, reported_of_b, text_a_b, asked_b};
