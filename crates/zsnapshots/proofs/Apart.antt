@@ -1,4 +1,4 @@
--- The bytes of a state tell which it is: the header reports how many rows of each kind follow.
+-- The bytes of a state determine it: the header reports how many rows of each kind follow.
 use Rattle.std.proofs.Common.{◌≡◌, ℕ, ◌<◌, true, false, List, [], ◌∷◌, ◌++◌, length, map, take, drop, append_assoc}
 use Rattle.std.proofs.Common.{append-nil, refl, sym, ap, subst, ◌∙◌, arith}
 use Rattle.std.proofs.lemmas.Bool.{le-ltb}
@@ -120,7 +120,7 @@ module _ (s w : MachineState) (after behind : List ℕ) (readable : IsReadable s
 pub text_in_front : OneStateInFrontOfText
 text_in_front s w rest more readable also same = one_state s w rest more readable also same
 
--- ---- rows that each stand alone
+-- ---- rows that are each on their own
 
 abbrev joined : List (List ℕ) → List ℕ
 joined = flat_map (λ bytes. bytes)

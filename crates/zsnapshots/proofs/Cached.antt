@@ -1,4 +1,4 @@
--- What a reader keeps: each row that is put goes behind those before it.
+-- What a reader stores: each row that is put goes after those before it.
 use Rattle.std.proofs.Common.{◌≡◌, ℕ, ◌-◌, ◌<◌, true, false, List, [], ◌∷◌, ◌++◌, length, length-append, drop, Option, Some, sym, ap, ◌∙◌, arith}
 use Rattle.std.proofs.lemmas.Bool.{ltb-true, ltb-false}
 use Rattle.std.specs.Ordering.{nat_cmp}

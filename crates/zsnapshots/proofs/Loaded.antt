@@ -1,4 +1,4 @@
--- Rows that each stand alone.
+-- Rows that are each on their own.
 use Rattle.std.proofs.Common.{◌≡◌, ◌≢◌, ℕ, List, [], ◌∷◌, ◌++◌, length, Option, Some, None, Result, Ok, Err, map}
 use Rattle.std.proofs.Common.{append-nil, append_assoc, refl, sym, ap, subst, ◌∙◌, arith}
 use Rattle.std.proofs.lemmas.List.{map-append}
@@ -38,7 +38,7 @@ module _ (bytes : List ℕ) where
       let both = ok_is (text, rest) (followed.0, followed.1) (sym read ∙ followed.2) in
       followed.3 (sym (ap (λ (p : List ℕ × List ℕ). p.1) both) ∙ none)
 
--- what stands behind the length of a row
+-- what follows the length of a row
 contents_of : StateRow → List ℕ
 contents_of (OfHeader h) = header_text.spell h
 contents_of (OfSession e) = session_text.spell e

@@ -1,5 +1,5 @@
--- The row of a readable state that comes behind the rows before it: of which kind it is, that it is in
--- order, and that it can be put.
+-- The row of a readable state that comes after the rows before it: of which kind it is, that it is
+-- in order, and that it can be put.
 use Rattle.std.proofs.Common.{◌≡◌, ℕ, ◌<◌, true, List, [], ◌∷◌, ◌++◌, length, length-append, map, take, drop}
 use Rattle.std.proofs.Common.{append_assoc, append-nil, Option, Some, None, refl, sym, ap, subst, ◌∙◌, arith}
 use lib.Dec.{T}
@@ -226,7 +226,7 @@ module _ (w s : MachineState) (x : StateRow) (after : List StateRow) (body : bod
       below_left ∙ ap (λ more. below_of s ++ more) (none_left (below_of w) (below_of s) (of_kind node_in (x ∷ after)) below_left same)
       ∙ append-nil (below_of s)
 
-  -- where all sessions and nodes were read, a kept reply is left
+  -- where all sessions and nodes were read, a cached reply is left
   pub more_replies : length (sessions_of s) ≡ length (sessions_of w) → length (below_of s) ≡ length (below_of w)
       → length (replies_of s) < length (replies_of w)
   more_replies same same_nodes =
@@ -252,7 +252,7 @@ module _ (w s : MachineState) (x : StateRow) (after : List StateRow) (body : bod
       (some_left (below_of w) (below_of s) (of_kind node_in (x ∷ after)) below_left less) (behind_nodes (same_sessions same) none_kept) in
       (f.0, f.1, nodes_left w s (x ∷ after) body ∙ ap (λ more. nodes_of s ++ more) f.2, f.3)
 
-  -- a kept reply comes next
+  -- a cached reply comes next
   pub next_reply : length (sessions_of s) ≡ length (sessions_of w) → length (below_of s) ≡ length (below_of w)
       → length (replies_of s) < length (replies_of w) →
       (e : ℕ × Cached) × (more : List (ℕ × Cached)) × (replies_of w ≡ replies_of s ++ e ∷ more) × (x ≡ OfReply e)
@@ -289,7 +289,7 @@ module _ (w s : MachineState) (readable : IsReadable w) where
   pub reply_next : (e : ℕ × Cached) (more : List (ℕ × Cached)) → replies_of w ≡ replies_of s ++ e ∷ more → IsAbove nat_cmp (replies_of s) e.0
   reply_next e more is = next_above nat_cmp (replies_of s) more e (subst (λ es. T (is_sorted nat_cmp es)) is (entries_sorted w.service.kept))
 
--- the rows behind the header, and the header
+-- the rows after the header, and the header
 pub same_header : (w : MachineState) (h : Header) (rows : List StateRow) → rows_of w ≡ OfHeader h ∷ rows → head_of w ≡ h
 same_header w h rows is = cc
 

@@ -1,4 +1,4 @@
--- What stands at a place of a list, and of the entries of a map.
+-- What is at a position of a list, and of the entries of a map.
 use Rattle.std.proofs.Common.{◌≡◌, ℕ, zero, suc, ◌+◌, ◌<◌, List, [], ◌∷◌, ◌++◌, length, map, drop, get_or, drop-drop}
 use Rattle.std.proofs.Common.{drop_at, Some, None, refl, sym, ap, ◌∙◌, arith}
 use lib.Dec.{T}
@@ -13,7 +13,7 @@ use Rattle.std.specs.FinMap.Entries.{below_all}
 use Rattle.ztree.proofs.Sorted.{both_parts, is_less}
 use Rattle.ztree.proofs.Maps.{same_some, none_some}
 
--- this item stands at this place
+-- this item is at this position
 abbrev pub At : {X : Type 0} → List X → ℕ → X → Type 0
 At xs i x = drop i xs ≡ x ∷ drop (i + 1) xs
 
@@ -68,7 +68,7 @@ module _ {K X : Type 0} {R : K → K → Ordering} (o : IsTotalOrder R) where
         get-entries m k ∙ ap (λ q. find R q (finite.entries m)) (key_is v)
         ∙ found_nth (finite.entries m) i (k, v) (entries_sorted m) within
 
-    -- the entry with this key stands at the key's place
+    -- the entry with this key is at the key's position
     pub entry_at : (v : X) → finite.get m k ≡ Some v → At (finite.entries m) i (k, v)
     entry_at v there =
         let value : (get_or (finite.entries m) i (k, v)).1 ≡ v = same_some _ v (sym (found_is v) ∙ there) in

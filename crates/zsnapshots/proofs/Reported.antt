@@ -38,11 +38,11 @@ module _ {A : Type 0} (c : Form A) (is : IsForm c) where
   pub framed_is : IsForm (row c)
   framed_is = is_framed 8388608 c (omega arith) is
 
-  -- what was found stands in front
+  -- what was found is in front
   pub read_is : (x : A) (rest bytes : List ℕ) → (row c).Fits x → bytes ≡ (row c).spell x ++ rest → (row c).read bytes ≡ Ok (x, rest)
   read_is x rest bytes fits front = ap (row c).read front ∙ framed_is.again x rest fits
 
-  -- one row stands in front
+  -- one row is in front
   pub one_row : (x y : A) (after behind bytes : List ℕ) → (row c).Fits x → (row c).Fits y → bytes ≡ (row c).spell x ++ after
       → bytes ≡ (row c).spell y ++ behind → (x ≡ y) × (after ≡ behind)
   one_row x y after behind bytes fits also front same = one_value (row c) framed_is x y after behind fits also (sym front ∙ same)
@@ -110,7 +110,7 @@ pub all_at : (before : List StateRow) (x : StateRow) (after all : List StateRow)
 all_at [] x after all fit is = (subst (AllByRecursion Fits) is fit).0
 all_at (y ∷ before) x after all fit is = all_at before x after (before ++ x ∷ after) (subst (AllByRecursion Fits) is fit).1 refl
 
--- two rows of a kind that stand in front are one
+-- two rows of a kind that are in front are one
 same_row : {A : Type 0} (c : Form A) → IsForm c → (kind : A → StateRow) → ((a : A) → spelled (kind a) ≡ (row c).spell a)
     → ((a : A) → Fits (kind a) → (row c).Fits a) →
     (x y : StateRow) (e f : A) → x ≡ kind e → y ≡ kind f → Fits x → Fits y → (bytes rest more : List ℕ) → bytes ≡ spelled x ++ rest

@@ -1,4 +1,4 @@
--- The root, behind a header.
+-- The root, after a header.
 use Rattle.std.proofs.Common.{◌≡◌, ℕ, ◌+◌, List, [], ◌∷◌, ◌++◌, length, take, drop, map, Some, None, Result, Ok, Err}
 use Rattle.std.proofs.Common.{refl, sym, ap, subst, ◌∙◌, zero-add}
 use Rattle.std.specs.Prelude.{IfOk, IfErr}

@@ -1,4 +1,4 @@
--- One more row of a state stands behind the rows before it.
+-- One more row of a state comes after the rows before it.
 use Rattle.std.proofs.Common.{◌≡◌, ℕ, List, [], ◌∷◌, ◌++◌, take, drop, map, append_assoc, append-nil, sym, ap, ◌∙◌}
 use Rattle.std.proofs.lemmas.List.{map-append}
 use Rattle.std.specs.Ordering.{nat_cmp}

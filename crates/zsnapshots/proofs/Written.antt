@@ -1,7 +1,7 @@
 -- Which row of a state has which number.
-use Rattle.std.proofs.Common.{◌≡◌, ℕ, ◌+◌, ◌<◌, ◌≤◌, List, [], ◌∷◌, ◌++◌, length, map, take, drop, Bool, true, false}
+use Rattle.std.proofs.Common.{◌≡◌, ℕ, ◌+◌, ◌^◌, ◌<◌, ◌≤◌, List, [], ◌∷◌, ◌++◌, length, map, take, drop, Bool, true, false}
 use Rattle.std.proofs.Common.{Option, Some, None, Result, Ok, Err, refl, sym, ap, subst, ◌∙◌, arith}
-use Rattle.std.proofs.lemmas.List.{length-map}
+use Rattle.std.proofs.lemmas.List.{length-map, length-take, length-append, length-drop}
 use Rattle.std.specs.Prelude.{OnOk, is_some}
 use Rattle.std.specs.Ordering.{nat_cmp}
 use Rattle.std.specs.FinMap as finite
@@ -14,13 +14,13 @@ use Rattle.ztree.proofs.Maps.{none_some}
 use Rattle.zcalls.specs.Cached.{Cached}
 use Rattle.zops.specs.Machine.{MachineState}
 use Rattle.zops.specs.declared.limits.TheConstants.{MAX_APPLIED}
-use Rattle.zsnapshots.specs.States.{StateRow, Fits, spelled, head_of, sessions_of, nodes_of, replies_of, below_of, body_of, rows_of, written_of}
+use Rattle.zsnapshots.specs.States.{StateRow, KeysView, AreKeysOf, Fits, spelled, head_of, sessions_of, nodes_of, replies_of, below_of, body_of, rows_of, written_of}
 use Rattle.zsnapshots.specs.States.StateRow.{OfHeader, OfSession, OfNode, OfReply}
-use Rattle.zsnapshots.specs.support.Writing.{IsItem, IsRow}
+use Rattle.zsnapshots.specs.States.{IsItem, IsRow}
 use Rattle.zsnapshots.proofs.Keys.{entries-empty}
 use Rattle.zsnapshots.proofs.Places.{At, at_left, at_right, at_below, at_map}
 
--- an item is a row, by the place of the row
+-- an item is a row, by the position of the row
 pub row_of : {A : Type 0} (s : MachineState) (kind : A → StateRow) (items : List A) (i n : ℕ) (before after : List ℕ) →
     ((x : A) → At items i x → At (rows_of s) n (kind x)) → IsItem kind items i before after → IsRow s n before after
 row_of s kind items i n before after place it =
@@ -37,7 +37,7 @@ module _ (s : MachineState) where
       by [] some = absurd (omega (arith, some))
       by (e ∷ nodes) some = refl
 
-  -- behind the header and the root
+  -- after the header and the root
   behind_root : (i n : ℕ) (x : StateRow) → 0 < length (nodes_of s) → n ≡ i + 2 →
       At (map OfSession (sessions_of s) ++ (map OfNode (below_of s) ++ map OfReply (replies_of s))) i x → At (rows_of s) n x
   behind_root i n x some is at =
@@ -63,7 +63,7 @@ module _ (s : MachineState) where
       behind_root i n (OfSession e) some is
       (at_left (map OfSession (sessions_of s)) more i (OfSession e) (omega (arith, within, long)) (at_map OfSession (sessions_of s) i e at))
 
-  -- behind the sessions
+  -- after the sessions
   behind_sessions : (i n : ℕ) (x : StateRow) → 0 < length (nodes_of s) → n ≡ length (sessions_of s) + i + 2 →
       At (map OfNode (below_of s) ++ map OfReply (replies_of s)) i x → At (rows_of s) n x
   behind_sessions i n x some is at =
@@ -99,7 +99,7 @@ header_row s n before after is bytes fits =
       fits = fits;
     }
 
--- an item that was written at its place
+-- an item that was written at its position
 pub item_ok : {A E : Type 0} (kind : A → StateRow) (items : List A) (i : ℕ) (before after : List ℕ) (r : Result (Unit {0}) E) (a : A) → At items i a →
     OnOk r (after ≡ before ++ spelled (kind a)) → OnOk r (Fits (kind a)) → OnOk r (IsItem kind items i before after)
 item_ok kind items i before after (Ok u) a at bytes fits = record { item = a; next = at; bytes = bytes; fits = fits }
@@ -113,7 +113,7 @@ pub none_there : {A : Type 0} (o : Option A) → false ≡ is_some o → o ≡ N
 none_there None no_one = refl
 none_there (Some x) no_one = cc
 
--- where a kept reply is written, all are
+-- where a cached reply is written, all are
 pub kept_is : (is_alone : Bool) (s : MachineState) (i : ℕ) → i < length (replies_of (written_of is_alone s))
     → (written_of is_alone s).service.kept ≡ s.service.kept
 kept_is true s i within = let none = ap length (entries-empty {X = Cached} nat_cmp) in absurd (omega (arith, within, none))
@@ -133,3 +133,29 @@ nodes_some t lawful = by (finite.entries t.nodes) refl
         let found = sym lawful.root.1 ∙ finite.get-entries t.nodes [] ∙ ap (finite.find path_cmp []) none in
         absurd (none_some lawful.root.0 (sym found))
     by (e ∷ es) some = omega arith
+
+-- a row's number is small
+pub row_room : (keys : KeysView) (s : MachineState) (n : ℕ) (before after : List ℕ) → AreKeysOf keys s → IsRow s n before after → n + 1 < 2 ^ 64
+row_room keys s n before after are row =
+    let t = s.service.plain in
+    let last = map OfReply (replies_of s) in
+    let nodes = map OfNode (below_of s) ++ last in
+    let sessions = map OfSession (sessions_of s) ++ nodes in
+    let left = length-drop n (rows_of s) in
+    let some : 0 < length (drop n (rows_of s)) = subst (λ (l : List StateRow). 0 < length l) (sym row.next) (omega arith) in
+    let whole = length-append (map OfNode (take 1 (nodes_of s))) sessions in
+    let further = length-append (map OfSession (sessions_of s)) nodes in
+    let rest = length-append (map OfNode (below_of s)) last in
+    let root = length-map (take 1 (nodes_of s)) OfNode in
+    let one = length-take 1 (nodes_of s) in
+    let ids = length-map (sessions_of s) OfSession in
+    let below = length-map (below_of s) OfNode in
+    let less = length-drop 1 (nodes_of s) in
+    let replies = length-map (replies_of s) OfReply in
+    let kept = ap length are.clients ∙ length-map (replies_of s) (λ e. e.0) in
+    let all_sessions = finite.len-entries t.sessions in
+    let all_nodes = finite.len-entries t.nodes in
+    let few_sessions = are.settled.lawful.few_sessions in
+    let few_nodes = are.settled.lawful.few_nodes in
+    let few_clients = are.few_clients in
+    omega (arith, left, some, whole, further, rest, root, one, ids, below, less, replies, kept, all_sessions, all_nodes, few_sessions, few_nodes, few_clients)

@@ -1,5 +1,5 @@
 -- A state that is read from rows, each in bytes of its own.
-use Rattle.std.specs.Prelude.{◌≡◌, ◌≢◌, ℕ, List, [], ◌∷◌, ◌++◌, map, Option, None, Some, Result, Ok, IfErr}
+use Rattle.std.specs.Prelude.{◌≡◌, ◌≢◌, ℕ, Bool, false, List, [], ◌∷◌, ◌++◌, map, Option, None, Some, Result, Ok, IfErr}
 use Rattle.zcodec.specs.Choices.{sized}
 use Rattle.zops.specs.Machine.{MachineState}
 use Rattle.zwire.specs.declared.limits.TheConstants.{MAX_FRAME}
@@ -7,7 +7,7 @@ use Rattle.zsnapshots.specs.declared.header.Header.{Header}
 use Rattle.zsnapshots.specs.declared.fault.RowFault.{RowFault}
 use Rattle.zsnapshots.specs.declared.fault.RowFault.TheVariants.{Trailing, Memory}
 use Rattle.zsnapshots.specs.Rows.{header_text}
-use Rattle.zsnapshots.specs.States.{StateRow, ReadingView, Fits, spelled, rows_of, rows_so_far, IsReadable, IsRowFault, IsRootFault, IsNextFault}
+use Rattle.zsnapshots.specs.States.{StateRow, ReadingView, Fits, spelled, rows_of, rows_so_far, is_done, IsReadable, IsRowFault, IsRootFault, IsNextFault}
 use Rattle.zsnapshots.specs.States.StateRow.{OfHeader}
 
 -- what was taken so far: nothing; the header; or the header, the root and the rows after them
@@ -31,6 +31,14 @@ rows_loaded l = rows_from l.header l.reading
 -- their bytes, row by row
 abbrev pub bytes_loaded : LoadingView → List (List ℕ)
 bytes_loaded l = map spelled (rows_loaded l)
+
+-- all rows that the header announces were taken
+abbrev pub is_whole_from : Option ReadingView → Bool
+is_whole_from None = false
+is_whole_from (Some r) = is_done r
+
+abbrev pub is_whole : LoadingView → Bool
+is_whole l = is_whole_from l.reading
 
 -- one row was taken: these are its bytes, and it comes after the rows so far
 pub record IsLoaded (before after : List StateRow) (bytes : List ℕ) : Type 0 where

@@ -9,6 +9,7 @@ use Rattle.std.specs.declared.cmp.Ordering.TheVariants.{Less}
 use Rattle.std.specs.FinMap.{entries, empty}
 use Rattle.zcodec.specs.Forms.{Form}
 use Rattle.zpath.specs.Grammar.{path_cmp}
+use Rattle.ztree.specs.declared.limits.TheConstants.{MAX_CLIENTS}
 use Rattle.ztree.specs.declared.node.Node.{Node}
 use Rattle.ztree.specs.declared.session.Session.{Session}
 use Rattle.ztree.specs.Tree.{Path}
@@ -109,6 +110,34 @@ written_of is_alone s = record {
   };
   applied = if is_alone then 0 else s.applied;
 }
+
+-- the keys of rows, each kind in its order, and whether the rows are those of a tree alone
+pub record KeysView : Type 0 where
+  pub is_alone : Bool
+  pub sessions : List ℕ
+  pub paths : List Path
+  pub clients : List ℕ
+
+-- they are the keys of the rows of this state
+pub record AreKeysOf (keys : KeysView) (s : MachineState) : Type 0 where
+  pub settled : IsSettled s.service.plain
+  pub few : s.applied ≤ MAX_APPLIED
+  pub sessions : keys.sessions ≡ map (λ e. e.0) (sessions_of s)
+  pub paths : keys.paths ≡ map (λ e. e.0) (nodes_of s)
+  pub clients : keys.clients ≡ map (λ e. e.0) (replies_of s)
+  pub few_clients : length keys.clients ≤ MAX_CLIENTS
+
+-- an item of a list was written at the end of the bytes, and it fits
+pub record IsItem {A : Type 0} (kind : A → StateRow) (items : List A) (i : ℕ)
+    (before after : List ℕ) : Type 0 where
+  pub item : A
+  pub next : drop i items ≡ item ∷ drop (i + 1) items
+  pub bytes : after ≡ before ++ spelled (kind item)
+  pub fits : Fits (kind item)
+
+-- the row with this number was
+abbrev pub IsRow : MachineState → ℕ → List ℕ → List ℕ → Type 0
+IsRow s = IsItem (λ x. x) (rows_of s)
 
 -- the state that is written, and how many of its rows were written
 pub record WritingView : Type 0 where

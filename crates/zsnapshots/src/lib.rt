@@ -4,9 +4,10 @@
 //! by client. A row is a frame of its own (`zwire`), so that no buffer has to hold a state, which
 //! is up to 268 MB.
 //!
-//! `Writing` returns the rows of a machine in order, or those of its tree alone. `Reading` takes
-//! one row at a time, and returns the machine at the end, or says which row has which fault.
-//! `Loading` does the same where each row has bytes of its own.
+//! `Writing` returns the rows of a machine in order, or those of its tree alone. `RowKeys` borrows
+//! no machine, and writes a row by its number. `Reading` takes one row at a time, and returns the
+//! machine at the end, or says which row has which fault. `Loading` does the same where each row
+//! has bytes of its own.
 //!
 //! The next row of a state that a machine wrote is never refused, unless memory runs out. Whatever
 //! the bytes are, what is read in the end is a machine whose own rows they are.
@@ -32,6 +33,7 @@ mod node_reading;
 mod node_writing;
 mod order;
 mod reading;
+mod row_keys;
 mod row_reading;
 mod row_writing;
 mod rows;
@@ -44,6 +46,7 @@ pub use header::Header;
 pub use limits::MAX_ROW;
 pub use loading::Loading;
 pub use reading::Reading;
+pub use row_keys::RowKeys;
 pub use row_reading::{read_header_row, read_node_row, read_reply_row, read_session_row};
 pub use row_writing::{write_header_row, write_node_row, write_reply_row, write_session_row};
 pub use writing::Writing;

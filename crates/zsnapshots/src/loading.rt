@@ -5,10 +5,10 @@ ghost use Rattle.std.specs.Prelude.{IfSome, IfNone, OnOk, OnErr, IfErr};
 ghost use Rattle.zops.specs.declared.limits.TheConstants.{MAX_APPLIED};
 ghost use Rattle.zops.specs.Machine.{MachineState};
 ghost use Rattle.zops.specs.RestoredLaws.{IsSettled};
-ghost use Rattle.zsnapshots.specs.States.{rows_of, rows_so_far, IsReadable, IsNextFault};
+ghost use Rattle.zsnapshots.specs.States.{rows_of, rows_so_far, is_done, IsReadable, IsNextFault};
 ghost use Rattle.zsnapshots.specs.Loading.{nothing_loaded, rows_loaded, bytes_loaded, IsLoaded};
 ghost use Rattle.zsnapshots.specs.Loading.{IsFollowed, NeverRefusesAlone, AreOfNone, IsFaultFrom};
-ghost use Rattle.zsnapshots.specs.Loading.{IsLoadingFault};
+ghost use Rattle.zsnapshots.specs.Loading.{IsLoadingFault, is_whole};
 ghost use Rattle.zsnapshots.specs.support.Loading.{NeverRefusesNext};
 
 use crate::fault::RowFault;
@@ -161,6 +161,18 @@ impl Loading {
         Ok(())
     }
 
+    /// Returns whether all rows that the header announces were taken.
+    pub fn is_whole(&self) -> bool
+        ensures whole { result ≡ is_whole self.now }
+        // If not, no state that can be read has exactly these rows.
+        ensures part { IsFalse result → AreOfNone (bytes_loaded self.now) }
+    {
+        match &self.reading {
+            Some(reading) => reading.is_done(),
+            None => false,
+        }
+    }
+
     /// Returns the machine, once all rows were taken: these are its rows, and they can be read.
     pub fn finish(self) -> Option<Machine>
         ensures rows { IfSome result (λ m. rows_of m.state ≡ rows_loaded self) }
@@ -168,6 +180,7 @@ impl Loading {
         ensures whole { IfSome result (λ m. m.is_broken ≡ false) }
         // Otherwise no state that can be read has exactly these rows.
         ensures none { IfNone result (AreOfNone (bytes_loaded self)) }
+        ensures part { IfNone result (is_whole self ≡ false) }
     {
         match self.reading {
             Some(reading) => finished(reading),
@@ -200,6 +213,7 @@ fn finished(reading: Reading) -> Option<Machine>
     ensures few { IfSome result (λ m. m.state.applied ≤ MAX_APPLIED) }
     ensures whole { IfSome result (λ m. m.is_broken ≡ false) }
     ensures none { IfNone result ((s : MachineState) → rows_of s ≡ rows_so_far reading → ⊥) }
+    ensures part { IfNone result (is_done reading ≡ false) }
 {
     match reading.finish() {
         Some(machine) => {

@@ -3,36 +3,23 @@
 //! # Why
 //! A writer borrows its machine, so the machine can't change between two rows.
 
-ghost use Rattle.std.specs.Prelude.{◌≡◌, ◌<◌, ◌≤◌, ◌++◌, true, false, length, map, IfOk};
-ghost use Rattle.std.specs.Prelude.{OnOk, OnErr};
-ghost use Rattle.zsnapshots.specs.States.{rows_of, head_of, sessions_of, nodes_of, replies_of};
-ghost use Rattle.zsnapshots.specs.States.{spelled, Fits, IsWritten, tree_alone, written_of};
-ghost use Rattle.ztree.specs.declared.limits.TheConstants.{MAX_CLIENTS};
-ghost use Rattle.zsnapshots.specs.States.StateRow.{OfHeader, OfSession, OfNode, OfReply};
+ghost use Rattle.std.specs.Prelude.{◌≡◌, ◌≤◌, true, false, length, IfOk, OnErr};
+ghost use Rattle.zsnapshots.specs.States.{rows_of, IsWritten, tree_alone};
 ghost use Rattle.zops.specs.declared.limits.TheConstants.{MAX_APPLIED};
 ghost use Rattle.zops.specs.RestoredLaws.{IsSettled};
-ghost use Rattle.zsnapshots.specs.support.Writing.{IsItem, IsRow};
 
-use crate::header::Header;
-use crate::row_writing::{write_header_row, write_node_row, write_reply_row, write_session_row};
+use crate::row_keys::RowKeys;
 use std::alloc::{AllocError, Global};
 use std::marker::Model;
 use zalloc::Memory;
 use zops::Machine;
-use zpath::Path;
-use zprotocol::LogNumber;
-use ztree::{ClientId, SessionId};
 
 /// A machine that is being written, one row at a time.
 #[derive(Drop)]
 pub struct Writing<'a> {
     alloc: Global,
     machine: &'a Machine,
-    sessions: Vec<SessionId>,
-    paths: Vec<Path>,
-    clients: Vec<ClientId>,
-    // Whether the tree alone is written.
-    is_alone: bool,
+    keys: RowKeys,
     // How many rows were written.
     written: usize,
 }
@@ -46,12 +33,11 @@ impl<'a> Model for Writing<'a> {
     ghost coded = { coded_writing };
 
     ghost view = { λ w. record {
-      state = written_of w.is_alone w.machine.now.state;
+      state = written_of w.keys.is_alone w.machine.now.state;
       written = w.written;
     } };
 
-    ghost invariant = { λ w. IsWriting w.machine.now w.is_alone w.sessions.items w.paths.items
-        w.clients.items };
+    ghost invariant = { λ w. IsWriting w.machine.now w.keys };
 }
 
 impl<'a> Writing<'a> {
@@ -63,8 +49,13 @@ impl<'a> Writing<'a> {
         ensures settled { IfOk result (λ w. IsSettled w.state.service.plain) }
         ensures few { IfOk result (λ w. w.state.applied ≤ MAX_APPLIED) }
     {
-        let clients = machine.clients()?;
-        Writing::begun(alloc, machine, clients, false)
+        let keys = RowKeys::new(machine)?;
+        Ok(Writing {
+            alloc,
+            machine,
+            keys,
+            written: 0,
+        })
     }
 
     /// Begins to write the tree alone, as that of a machine with no cached reply that applied no
@@ -75,35 +66,11 @@ impl<'a> Writing<'a> {
         ensures none { IfOk result (λ w. w.written ≡ 0) }
         ensures settled { IfOk result (λ w. IsSettled w.state.service.plain) }
     {
-        Writing::begun(alloc, machine, Vec::new(alloc), true)
-    }
-
-    // Begins with the cached replies of these clients.
-    fn begun(
-        alloc: Global,
-        machine: &'a Machine,
-        clients: Vec<ClientId>,
-        is_alone: bool,
-    ) -> Result<Writing<'a>, Memory>
-        requires whole { machine.now.is_broken ≡ false }
-        requires clients { clients.items
-            ≡ map (λ e. e.0) (replies_of (written_of is_alone machine.now.state)) }
-        requires few { length clients.items ≤ MAX_CLIENTS }
-        ensures state { IfOk result (λ w. w.state ≡ written_of is_alone machine.now.state) }
-        ensures none { IfOk result (λ w. w.written ≡ 0) }
-        ensures settled { IfOk result (λ w. IsSettled w.state.service.plain) }
-        ensures few { IfOk result (λ w. w.state.applied ≤ MAX_APPLIED) }
-    {
-        let _ = machine.applied();
-        let sessions = machine.session_ids()?;
-        let paths = machine.paths()?;
+        let keys = RowKeys::of_tree(alloc, machine)?;
         Ok(Writing {
             alloc,
             machine,
-            sessions,
-            paths,
-            clients,
-            is_alone,
+            keys,
             written: 0,
         })
     }
@@ -120,123 +87,12 @@ impl<'a> Writing<'a> {
         ensures err { OnErr result (self.new ≡ self.old) }
         ensures out { OnErr result (out.new.items ≡ out.old.items) }
     {
-        let more = self.write_row(self.written, out)?;
+        let more = self
+            .keys
+            .write_row(self.alloc, self.machine, self.written, out)?;
         if more {
             self.written += 1;
         }
         Ok(more)
-    }
-
-    // Appends the row with this number, if there is one.
-    fn write_row(&self, number: usize, out: &mut Vec<u8>) -> Result<bool, AllocError>
-        ensures row { IfOk result (λ more. more ≡ true
-            → IsRow self.now.state number out.old.items out.new.items) }
-        ensures end { IfOk result (λ more. more ≡ false
-            → length (rows_of self.now.state) ≤ number) }
-        ensures nothing { IfOk result (λ more. more ≡ false → out.new.items ≡ out.old.items) }
-        ensures out { OnErr result (out.new.items ≡ out.old.items) }
-    {
-        let sessions = self.sessions.len();
-        let below = self.paths.len() - 1;
-        let replies = self.clients.len();
-        if number == 0 {
-            self.write_header(out)?;
-            return Ok(true);
-        }
-        if number == 1 {
-            self.write_node(0, out)?;
-            return Ok(true);
-        }
-        let behind = number - 2;
-        if behind < sessions {
-            self.write_session(behind, out)?;
-            return Ok(true);
-        }
-        let behind = behind - sessions;
-        if behind < below {
-            self.write_node(behind + 1, out)?;
-            return Ok(true);
-        }
-        let behind = behind - below;
-        if behind < replies {
-            self.write_reply(behind, out)?;
-            return Ok(true);
-        }
-        Ok(false)
-    }
-
-    // Appends the header.
-    fn write_header(&self, out: &mut Vec<u8>) -> Result<(), AllocError>
-        ensures ok { OnOk result (out.new.items
-            ≡ out.old.items ++ spelled (OfHeader (head_of self.now.state))) }
-        ensures fits { OnOk result (Fits (OfHeader (head_of self.now.state))) }
-        ensures err { OnErr result (out.new.items ≡ out.old.items) }
-    {
-        let header = Header {
-            last: self.last(),
-            time: self.machine.time(),
-            zxid: self.machine.zxid(),
-            sessions: self.sessions.len() as u32,
-            nodes: (self.paths.len() - 1) as u32,
-            replies: self.clients.len() as u32,
-        };
-        write_header_row(self.alloc, out, header)
-    }
-
-    // Returns the number of the last entry that was applied.
-    fn last(&self) -> LogNumber
-        ensures { result ≡ self.now.state.applied }
-    {
-        let applied = if self.is_alone {
-            0
-        } else {
-            self.machine.applied()
-        };
-        match LogNumber::new(applied) {
-            Some(last) => last,
-            None => unreachable!(),
-        }
-    }
-
-    // Appends the session with this index among all.
-    fn write_session(&self, place: usize, out: &mut Vec<u8>) -> Result<(), AllocError>
-        requires { place < length (sessions_of self.now.state) }
-        ensures ok { OnOk result
-            (IsItem OfSession (sessions_of self.now.state) place out.old.items out.new.items) }
-        ensures err { OnErr result (out.new.items ≡ out.old.items) }
-    {
-        let id = self.sessions[place];
-        match self.machine.session(id) {
-            Some(session) => write_session_row(self.alloc, out, id, session),
-            None => unreachable!(),
-        }
-    }
-
-    // Appends the node with this index among all.
-    fn write_node(&self, place: usize, out: &mut Vec<u8>) -> Result<(), AllocError>
-        requires { place < length (nodes_of self.now.state) }
-        ensures ok { OnOk result
-            (IsItem OfNode (nodes_of self.now.state) place out.old.items out.new.items) }
-        ensures err { OnErr result (out.new.items ≡ out.old.items) }
-    {
-        let path = &self.paths[place];
-        match self.machine.node(path) {
-            Some(node) => write_node_row(self.alloc, out, path, node),
-            None => unreachable!(),
-        }
-    }
-
-    // Appends the cached reply with this index among all.
-    fn write_reply(&self, place: usize, out: &mut Vec<u8>) -> Result<(), AllocError>
-        requires { place < length (replies_of self.now.state) }
-        ensures ok { OnOk result
-            (IsItem OfReply (replies_of self.now.state) place out.old.items out.new.items) }
-        ensures err { OnErr result (out.new.items ≡ out.old.items) }
-    {
-        let client = self.clients[place];
-        match self.machine.kept(client) {
-            Some(kept) => write_reply_row(self.alloc, out, client, kept.0, kept.1),
-            None => unreachable!(),
-        }
     }
 }

@@ -70,7 +70,7 @@ module _ {A : Type 0} (c : Form A) (is : IsForm c) where
       ≡ Ok (c.spell x, rest)
   frame_sized x rest fits = (is_sized MAX_FRAME (omega arith)).again (c.spell x) rest (fits.1, refl)
 
-  -- where a frame stands, no fault but a want of memory is reported
+  -- where a frame comes first, no fault but out of memory is reported
   only_memory : (bytes : List ℕ) (fault : FrameFault) (x : A) (rest : List ℕ) → (framed MAX_FRAME c).Fits x
       → bytes ≡ (framed MAX_FRAME c).spell x ++ rest → IsFaultOf c bytes fault → fault ≡ Memory
   only_memory bytes Cut x rest fits same reported = absurd (apart (c.spell x, rest) Short (sym (frame_sized x rest fits)
@@ -83,14 +83,14 @@ module _ {A : Type 0} (c : Form A) (is : IsForm c) where
       absurd (apart x fault (sym (whole_again c is x fits.0) ∙ ap (whole c) text ∙ reported.3))
   only_memory bytes Memory x rest fits same reported = refl
 
-  -- what was read stands in front
+  -- what was read is in front
   pub found_in : {V : Type 0} (of : V → A × List ℕ) (bytes : List ℕ) (r : Result V FrameFault) → IsBytes bytes
       → IfOk r (λ v. (framed MAX_FRAME c).read bytes ≡ Ok (of v))
       → IfOk r (λ v. (framed MAX_FRAME c).Fits (of v).0 × (bytes ≡ (framed MAX_FRAME c).spell (of v).0 ++ (of v).1))
   found_in of bytes (Ok v) are read = let t = (is_framed MAX_FRAME c (omega arith) is).takes bytes (of v) are read in (t.1, t.0)
   found_in of bytes (Err fault) are read = tt
 
-  -- and what stands in front is read
+  -- and what is in front is read
   pub only_in : {V : Type 0} (of : V → A × List ℕ) (bytes : List ℕ) (r : Result V FrameFault)
       → IfOk r (λ v. (framed MAX_FRAME c).read bytes ≡ Ok (of v)) → IfErr r (IsFaultOf c bytes)
       → (x : A) (rest : List ℕ) → (framed MAX_FRAME c).Fits x → bytes ≡ (framed MAX_FRAME c).spell x ++ rest

@@ -112,7 +112,7 @@ is_two text is =
       unreserved = refl;
     }
 
--- the second of two names is the text behind the second slash
+-- the second of two names is the text after the second slash
 second_name : (text : List ℕ) (first second : List ℕ) → IsPath (first ∷ second ∷ []) → below text ≡ text_of (first ∷ second ∷ []) → IsName text
 second_name text first second is same =
     let names : (45 ∷ []) ∷ parts_of text ≡ first ∷ second ∷ [] = ap names_of same ∙ names_of-text_of (first ∷ second ∷ []) is in

@@ -1,5 +1,5 @@
--- What more bytes change of a reading: what was read is read again with more behind it, and a fault
--- other than a want of bytes stays.
+-- What more bytes change of a reading. What was read is read again with more after it, and a fault
+-- stays, unless bytes were missing.
 use Rattle.std.proofs.Common.{◌≡◌, ℕ, ◌≤◌, Bool, true, false, cond, ltb, List, ◌++◌, length, take, drop, Result, Ok, Err, refl, arith}
 use Rattle.std.proofs.lemmas.Bool.{ltb-false, le-ltb}
 use Rattle.std.proofs.lemmas.List.{length-append, take-append-le, drop-append-le}
@@ -36,7 +36,7 @@ stays_made from more (Err Long) s stays = rw stays refl
 stays_made from more (Err Invalid) s stays = rw stays refl
 stays_made from more (Err Trailing) s stays = rw stays refl
 
--- what is read behind it
+-- what is read after it
 stays_then : {A B : Type 0} (next : A → Form B) (more : List ℕ) (r s : Result (A × List ℕ) Fault) → ((x : A) → IsSteady (next x)) → Stays more r s
     → Stays more (r >>= λ x. (next x.0).read x.1) (s >>= λ x. (next x.0).read x.1)
 stays_then next more (Ok x) s steady stays = rw stays (steady x.0 x.1 more)

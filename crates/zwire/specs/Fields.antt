@@ -1,5 +1,5 @@
 -- Forms of what messages are made of: numbers with a limit, processes, stats, refusals and names.
--- Numbers have the highest byte first. A tag keeps its meaning in every later version.
+-- Numbers have the highest byte first. The meaning of a tag is unchanged in every later version.
 --
 -- A process is spelled by its kind and number, not by its index among all processes, which changes
 -- with the number of servers.

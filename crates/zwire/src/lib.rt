@@ -41,7 +41,7 @@ pub use field_reading::{call_number_at, client_at, four_at, log_number_at, three
 pub use field_writing::{put_call_number, put_client, put_log_number};
 pub use frame::Frame;
 pub use limits::MAX_FRAME;
-pub use reading::{cut_frame, read_frame, whole_of};
+pub use reading::{cut_frame, read_contents, read_frame, whole_of};
 pub use reply_reading::reply_of;
 pub use reply_writing::put_reply;
 pub use writing::{put_framed, write_frame};

@@ -38,7 +38,7 @@ fn frame_in(alloc: Global, bytes: &[u8]) -> Result<(Frame, &[u8]), FrameFault>
     ensures fault { IfErr result (IsFaultOf contents bytes.now) }
 {
     let (text, rest) = cut_frame(bytes)?;
-    match whole_contents(alloc, text) {
+    match read_contents(alloc, text) {
         Ok(frame) => Ok((frame, rest)),
         Err(ReadError::Fault(fault)) => Err(FrameFault::Contents(fault)),
         Err(ReadError::Memory) => Err(FrameFault::Memory),
@@ -63,8 +63,8 @@ pub fn cut_frame(bytes: &[u8]) -> Result<(&[u8], &[u8]), FrameFault>
     }
 }
 
-// Reads the sender, the receiver and the message that all of the bytes spell.
-fn whole_contents(alloc: Global, bytes: &[u8]) -> Result<Frame, ReadError>
+/// Reads the message that all of the bytes are: a frame without its length.
+pub fn read_contents(alloc: Global, bytes: &[u8]) -> Result<Frame, ReadError>
     ensures { Gives (λ it. it) result (whole contents bytes.now) }
 {
     let (frame, rest) = contents_of(alloc, bytes)?;

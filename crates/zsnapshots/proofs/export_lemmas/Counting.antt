@@ -105,7 +105,7 @@ pub record IsWriting (t : Tree) (written : List ℕ) (paths : List Path) : Type 
 pub writing_all : (t : Tree) (paths : List Path) → paths ≡ keys t.nodes → IsWriting t [] paths
 writing_all t paths named = record { rows = entries t.nodes; left = all_left t.nodes paths named; within = all_within t.nodes; all = refl }
 
--- the next of them, and what is left behind its lines
+-- the next of them, and what is left after its lines
 record IsNext (t : Tree) (written : List ℕ) (path : Path) (paths : List Path) (n : Node) (rows : List (Path × Node)) : Type 0 where
   more : List (Path × Node)
   left : AreLeft t.nodes paths more
@@ -157,7 +157,7 @@ pub writing_front : (t : Tree) (written : List ℕ) (paths : List Path) → IsWr
     → (more : List ℕ) × (export_text t ≡ written ++ more)
 writing_front t written paths w = (flat_map ended (flat_map lines_for w.rows), w.all)
 
--- and so is a prefix of the next node's lines behind it
+-- and so is a prefix of the next node's lines after it
 pub writing_part : (t : Tree) (written : List ℕ) (path : Path) (paths : List Path) (n : Node) (front back : List ℕ) → get t.nodes path ≡ Some n
     → text_for path n ≡ front ++ back → IsWriting t written (path ∷ paths) → (more : List ℕ) × (export_text t ≡ (written ++ front) ++ more)
 writing_part t written path paths n front back got split w =
@@ -170,7 +170,7 @@ writing_part t written path paths n front back got split w =
 
 -- ---- what was counted
 
--- the nodes that are left are still to be counted; so many were
+-- the nodes that are left are still to be counted; that many were
 pub record IsCounting (t : Tree) (c : TreeCounts) (paths : List Path) : Type 0 where
   pub rows : List (Path × Node)
   pub left : AreLeft t.nodes paths rows

@@ -35,7 +35,7 @@ use Rattle.zsnapshots.proofs.export_lemmas.Data.{data_length, data_of-text, data
 
 -- ---- kinds
 
--- how long a node without an owner lives that has so many ticks
+-- the lifetime of a node without an owner, by its TTL in ticks
 abbrev pub lifetime_for : ℕ → Lifetime
 lifetime_for ttl = if ttl == 0 then Persistent else WithTtl ttl
 

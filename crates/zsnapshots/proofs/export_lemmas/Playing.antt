@@ -71,7 +71,7 @@ under limit n h = grind (arith, nat_tests)
 len-more : (nodes : Nodes) (path : Path) (n : Node) (most : ℕ) → finite.len nodes < most → finite.len (finite.insert nodes path n) ≤ most
 len-more nodes path n most few = len-insert-most paths_total same_path nodes path n most few
 
--- a lifetime of a node that nobody owns
+-- a lifetime of a node without an owner
 record IsPlain (l : Lifetime) (ttl : ℕ) : Type 0 where
   nobodys : owner_of l ≡ 0
   lives : ttl_of l ≡ ttl

@@ -41,7 +41,7 @@ unowned n e = rw e refl
 pub owner_none : (n : Node) → is_owned n ≡ false → n.owner ≡ 0
 owner_none n e = grind (arith, nat_tests)
 
--- a node that is kept is there, and nobody's
+-- a node that is exported is there, and has no owner
 pub kept_there : (o : Option Node) (n : Node) → n.owner ≡ 0 → shown o ≡ kept (Some n) → (m : Node) × (o ≡ Some m)
 kept_there None n nobodys e =
     let is : ◌≡◌ {A = Option Shown} None (Some (0, said_of n)) = e ∙ ap (λ b. cond b None (Some (0, said_of n))) (unowned n nobodys) in
@@ -124,7 +124,7 @@ mirrors_owned nodes made p n owned free mirrors q = by (same_or_other paths_tota
         ∙ ap (λ b. cond b None (Some (0, said_of n))) owned)
     by (inr other) = mirrors q ∙ sym (ap kept (get-insert-elsewhere paths_total same_path nodes p n q other))
 
--- the next node is nobody's: the second map has one of which the same is shown
+-- the next node has no owner: the second map has one of which the same is shown
 pub mirrors_more : (nodes made : Nodes) (p : Path) (n m : Node) → is_owned n ≡ false → shown_of m ≡ (0, said_of n)
     → Mirrors nodes made → Mirrors (finite.insert nodes p n) (finite.insert made p m)
 mirrors_more nodes made p n m nobodys same_node mirrors q = by (same_or_other paths_total same_path q p)

@@ -1,4 +1,4 @@
--- A text keeps one tree, and what is written is read back.
+-- A text stores one tree, and what is written is read back.
 use Rattle.std.proofs.Common.{◌≡◌, ◌⊎◌, inl, inr, ℕ, List, [], ◌∷◌, ◌++◌, map, refl, sym, ap, ◌∙◌, append_assoc, append-nil}
 use Rattle.ztree.specs.Tree.{Tree, opening_tree}
 use Rattle.zops.specs.Machine.{MachineState}

@@ -19,7 +19,7 @@ use Rattle.zsnapshots.specs.folder.Laws.{NothingIsLeft, ChunksAreAll, ChunksJoin
 use Rattle.zsnapshots.specs.folder.Texts.{row_bytes, row_record, row_records}
 use Rattle.zsnapshots.specs.folder.support.Writing.{IsRecordWritten, IsCompaction}
 
--- what stands at a place is within, and comes next
+-- what is at a position is within, and comes next
 module _ {X : Type 0} where
   at_within : (xs : List X) (n : ℕ) (x : X) → At xs n x → n < length xs
   at_within [] n x at = absurd (let none = drop_all n [] (omega arith) in let bad : [] ≡ x ∷ drop (n + 1) [] = sym none ∙ at in cc)
@@ -41,7 +41,7 @@ module _ {X : Type 0} where
 take_all_of : {X : Type 0} (xs : List X) (n : ℕ) → length xs ≤ n → take n xs ≡ xs
 take_all_of xs n all = take_all n xs all
 
--- so many records were written since the old view, and the bytes are their text
+-- that many records were written since the old view, and the bytes are their text
 pub record IsSoFar (old now : CompactionView) (text : List ℕ) : Type 0 where
   pub count : ℕ
   pub some : 0 < count
@@ -50,7 +50,7 @@ pub record IsSoFar (old now : CompactionView) (text : List ℕ) : Type 0 where
   pub within : old.written + count ≤ length (row_records old.tree)
   pub view : now ≡ record old { written = old.written + count }
 
--- a record that stands at a place, seen from an earlier place
+-- a record at a position, seen from an earlier position
 at_behind : (records : List Record) (first count : ℕ) (r : Record) → drop (first + count) records ≡ r ∷ drop (first + count + 1) records
     → At (drop first records) count r
 at_behind records first count r at =
@@ -177,7 +177,7 @@ pub less_left : (old now : CompactionView) (before after : List ℕ) → IsRecor
     → 65536 - length after < 65536 - length before
 less_left old now before after written room = let more = longer old now before after written in omega (arith, more, room)
 
--- ---- chunks one behind the other
+-- ---- chunks one after the other
 
 pub chunks_join : ChunksJoin
 chunks_join old new chunk is =

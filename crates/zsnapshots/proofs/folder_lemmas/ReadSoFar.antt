@@ -102,7 +102,7 @@ module _ (what : List Record) (had : Bool) (text rest : List ℕ) (read : IsRead
     reported = read.reported;
   }
 
--- ---- what stands in front
+-- ---- what is in front
 
 -- the records of a text with a record in front
 pub first_is : (r : Record) (rest more : List ℕ) (records : List Record) → Fits r → rest ≡ line_of r ++ more → AllFit records
@@ -158,7 +158,7 @@ row_more rows after had text rest read r more fits front row is is_after =
     subst (λ (rs : List Record). IsRead rs had text more) (sym (ap (map row_record) is_after ∙ map-append row_record rows (row ∷ [])))
     (read_row (map row_record rows) had text rest read r more fits front row is)
 
--- what was reported of two parts is reported of both
+-- what holds of two parts holds of both together
 pub reports_both : (a b : Bool) (x y : List ℕ) → ReportsPasswords x a → ReportsPasswords y b → ReportsPasswords (x ++ y) (a || b)
 reports_both a b x y first second = record {
   records = first.records ++ second.records;

@@ -77,7 +77,7 @@ pub entries_both : (a b : List Entry) (x y : List ℕ) → IsEntriesText a x →
 entries_both a b x y first second =
     subst (λ (rs : List Record). Says rs (x ++ y)) (sym (map-append entry_record a b)) (says_join (records_of a) (records_of b) x y first second)
 
--- ---- what stands behind records that were read
+-- ---- what follows records that were read
 
 -- all records are those that were read, and more: the rest is the text of these
 pub record IsAhead (before all : List Record) (rest : List ℕ) : Type 0 where
@@ -99,7 +99,7 @@ ahead (r ∷ before) (x ∷ all) rest fit also same =
     let next = ahead before all rest fit.1 also.1 one.1 in
     record { more = next.more; fit = next.fit; both = (λ i. sym one.0 i ∷ next.both i); is = next.is }
 
--- ---- rows, and entries behind them
+-- ---- rows, and entries after them
 
 rows_no_entries : (row : List ℕ) (x : List Record) (entries : List Entry) → Row row ∷ x ≡ records_of entries → ⊥
 rows_no_entries row x [] same = cc same
@@ -167,7 +167,7 @@ pub entries_come_back : EntriesComeBack
 entries_come_back [] = refl
 entries_come_back (entry ∷ entries) = ap (behind entry) (entries_come_back entries)
 
--- what stands behind a first entry
+-- what follows a first entry
 behind_some : (entry : Entry) (more : Option (List Entry)) (entries : List Entry) → behind entry more ≡ Some entries
     → (rest : List Entry) × (more ≡ Some rest) × (entries ≡ entry ∷ rest)
 behind_some entry None entries is = absurd (cc is)

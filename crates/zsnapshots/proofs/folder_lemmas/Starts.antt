@@ -1,4 +1,4 @@
--- A service can begin with a tree that is kept.
+-- A service can begin with a tree that is stored.
 use Rattle.std.proofs.Common.{ℕ, List, [], inl, inr, sym, subst, ◌∙◌}
 use Rattle.ztree.specs.Tree.{Tree}
 use Rattle.zcalls.proofs.LawfulCalls.{after-good}

@@ -1,4 +1,4 @@
--- Which text keeps which tree.
+-- Which text stores which tree.
 use Rattle.std.proofs.Common.{◌≡◌, ◌⊎◌, inl, inr, ℕ, ◌+◌, ◌-◌, Bool, true, false, List, [], ◌∷◌, ◌++◌, map, length, length-append, refl, sym, ap, subst, ◌∙◌, arith}
 use Rattle.std.specs.Prelude.{◌||◌, Result, Err}
 use Rattle.ztree.specs.Tree.{Tree, opening_tree}
@@ -23,7 +23,7 @@ use Rattle.zsnapshots.specs.folder.support.Reading.{AreApplied, AreOfNoTree, Beg
 use Rattle.zsnapshots.proofs.folder_lemmas.ReadSoFar.{ahead_of, first_is, says_more, reports_both}
 use Rattle.zsnapshots.proofs.folder_lemmas.Records.{fit_without, rows_end, rows_more, says_join}
 
--- what all of a text says that keeps a tree
+-- all that a text says if it stores a tree
 pub record IsWhole (t : Tree) (text : List ℕ) : Type 0 where
   pub start : Tree
   pub rows : List (List ℕ)

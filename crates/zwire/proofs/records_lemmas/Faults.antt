@@ -1,4 +1,4 @@
--- Where no record's line stands in front of a text, and which line is the first that is no record's.
+-- Where no record's line begins a text, and which line is the first that is no record's.
 use Rattle.std.proofs.Common.{◌≡◌, ◌≢◌, ℕ, List, [], ◌∷◌, ◌++◌, Result, Ok, Err, refl, sym, ap, subst, ◌∙◌, append_assoc}
 use Rattle.base64.specs.Engines.{standard}
 use Rattle.base64.specs.GeneralPurpose.{encode_of, decode_of}
@@ -21,7 +21,7 @@ use Rattle.zwire.proofs.records_lemmas.Texts.{line-split, letters_end, letters, 
 pub none_without_end : (text : List ℕ) → HasNoEnd text → HasNoRecord text
 none_without_end text none r rest fits same = no_end_none (letters r) rest (subst HasNoEnd (same ∙ line-split r rest) none)
 
--- the record that stands in front spells the first line
+-- the record at the front spells the first line
 first_line : (text line more : List ℕ) → HasNoEnd line → text ≡ line ++ 10 ∷ more → (r : Record) (rest : List ℕ) → Fits r → text ≡ line_of r ++ rest → line ≡ letters r
 first_line text line more none whole r rest fits same =
     (one_end line (letters r) more rest none (letters_end r fits) (sym whole ∙ same ∙ line-split r rest)).0
@@ -45,7 +45,7 @@ none_unread text line more bytes fault none split good bad r rest fits same =
     apart : ◌≡◌ {A = Result Record Fault} (Err fault) (Ok r) → ⊥
     apart same = cc
 
--- what was read stands in front
+-- what was read is in front
 pub some_read : (text line more bytes : List ℕ) (r : Record) → text ≡ line ++ 10 ∷ more → line ≡ encode_of standard bytes → IsBytes bytes → whole logged bytes ≡ Ok r → Fits r × (text ≡ line_of r ++ more)
 some_read text line more bytes r split coded are read =
     let t = whole_takes logged is_logged bytes r are read in (

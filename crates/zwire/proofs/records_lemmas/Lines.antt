@@ -95,7 +95,7 @@ pub no_end_none : (a x : List ℕ) → HasNoEnd (a ++ 10 ∷ x) → ⊥
 no_end_none [] x none = none.0 refl
 no_end_none (b ∷ a) x none = no_end_none a x none.1
 
--- no byte before this place is an LF
+-- no byte before this position is an LF
 abbrev pub NoEndBelow : List ℕ → ℕ → Type 0
 NoEndBelow bytes k = (j : ℕ) → j < k → ¬ ((slice_index bytes j == 10) ≡ true)
 

@@ -1,4 +1,4 @@
--- What is read behind a tag was spelled behind it.
+-- What is read after a tag was spelled after it.
 use Rattle.std.proofs.Common.{◌≡◌, ℕ, Bool, true, false, cond, eqb, List, Result, Ok, refl, sym, subst}
 use Rattle.std.proofs.lemmas.Bool.{eqb-true}
 use Rattle.zcodec.specs.declared.fault.Fault.{Fault}

@@ -1,5 +1,5 @@
 -- Forms of what calls are made of: paths, data, versions and kinds of nodes. Numbers have the
--- highest byte first. A tag keeps its meaning in every later version.
+-- highest byte first. The meaning of a tag is unchanged in every later version.
 use Rattle.std.specs.Prelude.{ℕ, Bool, true, false, ◌<◌, ◌≤◌, ◌&&◌, List, Result, Ok, Err, is_some, nat_lt, nat_le, if◌then◌else◌}
 use Rattle.std.specs.Int.{Width, w8, w64}
 use Rattle.zcodec.specs.declared.fault.Fault.{Fault}

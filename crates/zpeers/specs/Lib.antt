@@ -1,0 +1,5 @@
+pub mod Records
+pub mod Outgoing
+pub mod Incoming
+pub mod Laws
+pub mod support
