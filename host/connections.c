@@ -5,7 +5,6 @@
 #include <string.h>
 #include <sys/epoll.h>
 #include <sys/socket.h>
-#include <time.h>
 #include <unistd.h>
 #include "connections.h"
 #include "front.h"
@@ -27,12 +26,6 @@ static size_t held;
 /* The connections with new chunks, and those that are GONE. */
 static uint32_t touched[MOST + 1], gone[MOST];
 static size_t touched_count, gone_count;
-
-uint64_t now(void) {
-    struct timespec at;
-    clock_gettime(CLOCK_MONOTONIC, &at);
-    return (uint64_t)at.tv_sec * 1000 + (uint64_t)at.tv_nsec / 1000000;
-}
 
 bool is_there(const struct connection *it) {
     return it->state == OPEN || it->state == LAST;

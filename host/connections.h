@@ -51,9 +51,6 @@ extern size_t unfinished;
 /* The requests passed on since the last commit. */
 extern size_t asked;
 
-/* Milliseconds of a clock that no one can set. */
-uint64_t now(void);
-
 /* Whether it isn't closed. */
 bool is_there(const struct connection *it);
 

@@ -12,16 +12,13 @@
    like any other. */
 #define _GNU_SOURCE
 #include <errno.h>
-#include <fcntl.h>
 #include <poll.h>
-#include <signal.h>
 #include <stdio.h>
 #include <stdlib.h>
 #include <string.h>
-#include <sys/prctl.h>
-#include <sys/wait.h>
 #include <time.h>
 #include <unistd.h>
+#include "child.h"
 #include "front.h"
 
 /* The tags of records, and their limits. */
@@ -29,8 +26,7 @@ enum { OPENED, CAME, ENDED, TICK, KEEP };
 enum { CHUNK, END };
 enum { MOST_CAME = 65536 };
 
-static pid_t child;
-static int to_child, from_child;
+static struct child child = {.name = "zk_serve"};
 /* The inputs that wait. */
 static uint8_t *inputs;
 static size_t count, room;
@@ -41,24 +37,6 @@ static size_t at, end;
 static enum next next = NOTHING;
 static uint32_t connection;
 static size_t length;
-
-/* Waits for the end of the child, and returns its status. */
-static int status_of_child(void) {
-    int status;
-    close(to_child);
-    while (waitpid(child, &status, 0) < 0) {
-        if (errno != EINTR) return 1;
-    }
-    if (WIFEXITED(status)) return WEXITSTATUS(status);
-    stop(1, "zk_serve was ended by signal %d", WTERMSIG(status));
-}
-
-/* Ends with the status of a child that has ended. The child printed why. */
-static _Noreturn void end_with_child(void) {
-    int status = status_of_child();
-    if (!status) stop(1, "zk_serve has ended");
-    exit(status);
-}
 
 /* ---- inputs */
 
@@ -108,9 +86,9 @@ void front_tick(void) { put_tag(TICK); }
 static void take_bytes(uint8_t *to, size_t size) {
     while (size) {
         if (at == end) {
-            ssize_t came = read(from_child, block, sizeof block);
+            ssize_t came = read(child.from, block, sizeof block);
             if (came < 0 && errno == EINTR) continue;
-            if (came <= 0) end_with_child();
+            if (came <= 0) end_with(&child);
             at = 0, end = (size_t)came;
         }
         size_t part = end - at < size ? end - at : size;
@@ -141,9 +119,9 @@ static void take_head(void) {
 /* Sends bytes to the child. */
 static void send_to_child(const uint8_t *bytes, size_t size) {
     while (size) {
-        ssize_t part = write(to_child, bytes, size);
+        ssize_t part = write(child.to, bytes, size);
         if (part < 0 && errno == EINTR) continue;
-        if (part < 0) end_with_child();
+        if (part < 0) end_with(&child);
         bytes += part, size -= (size_t)part;
     }
 }
@@ -172,9 +150,10 @@ size_t front_take(uint8_t *to, size_t left) {
 
 /* ---- its beginning and its end */
 
-/* Becomes the child: in memory alone if no folder is named. */
-static _Noreturn void become(int in, int out, const struct words *words, pid_t parent) {
+/* Starts the child: in memory alone if no folder is named. */
+static void start_child(const struct words *words) {
     char servers[24], tick[24], time[24], journal[24];
+    char *program = (char *)words->program, *sync = (char *)words->sync;
     struct timespec now;
     const char *folder = words->data && !strcmp(words->data, "-") ? "./-" : words->data;
     clock_gettime(CLOCK_REALTIME, &now);
@@ -182,41 +161,28 @@ static _Noreturn void become(int in, int out, const struct words *words, pid_t p
     snprintf(tick, sizeof tick, "%ld", words->tick);
     snprintf(time, sizeof time, "%lld", (long long)now.tv_sec * 1000 + now.tv_nsec / 1000000);
     snprintf(journal, sizeof journal, "%ld", words->journal);
-    prctl(PR_SET_PDEATHSIG, SIGKILL);
-    if (getppid() != parent) _exit(1);
-    dup2(in, STDIN_FILENO);
-    dup2(out, STDOUT_FILENO);
-    if (!folder) execl(words->program, words->program, "-", tick, time, (char *)NULL);
-    else execl(words->program, words->program, folder, words->sync, servers, tick, time, journal,
-               (char *)NULL);
-    fprintf(stderr, "zk: %s: %s\n", words->program, strerror(errno));
-    _exit(3);
+    char *in_memory[] = {program, "-", tick, time, NULL};
+    char *in_folder[] = {program, (char *)folder, sync, servers, tick, time, journal, NULL};
+    child_start(&child, folder ? in_folder : in_memory);
 }
 
 /* Waits until the child has opened the front, or a signal ends this process. */
 static void wait_for_child(int signals) {
     struct pollfd ends[] = {
-        {.fd = from_child, .events = POLLIN}, {.fd = signals, .events = POLLIN}};
+        {.fd = child.from, .events = POLLIN}, {.fd = signals, .events = POLLIN}};
     while (poll(ends, 2, -1) < 0 && errno == EINTR) continue;
     if (ends[1].revents) exit(0);
     take_head();
 }
 
 void front_open(const struct words *words, const uint8_t secret[SECRET], int signals) {
-    int in[2], out[2];
-    if (pipe2(in, O_CLOEXEC) || pipe2(out, O_CLOEXEC)) stop(3, "no pipes: %s", strerror(errno));
-    pid_t parent = getpid();
-    child = fork();
-    if (child < 0) stop(3, "no process: %s", strerror(errno));
-    if (!child) become(in[0], out[1], words, parent);
-    close(in[0]), close(out[1]);
-    to_child = in[1], from_child = out[0];
+    start_child(words);
     send_to_child(secret, SECRET);
     wait_for_child(signals);
 }
 
 void front_close(void) {
-    int status = status_of_child();
+    int status = child_status(&child);
     free(inputs);
     if (status) exit(status);
 }

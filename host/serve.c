@@ -175,8 +175,18 @@ static void say(const struct words *words, unsigned port) {
     fputs(OPEN_TO_ALL, stderr);
 }
 
+/* Becomes the program that does a task with a folder. */
+static _Noreturn void become(const struct words *words) {
+    char *folder = strcmp(words->data, "-") ? (char *)words->data : "./-", servers[24];
+    char *own[] = {(char *)words->program, folder, (char *)words->task, servers, NULL};
+    snprintf(servers, sizeof servers, "%d", servers_of(folder));
+    execv(own[0], own);
+    stop(3, "%s: %s", own[0], strerror(errno));
+}
+
 int main(int count, char **given) {
     struct words words = understood(given + (count > 0));
+    if (words.task) become(&words);
     unsigned port;
     uint8_t secret[SECRET];
     make_ready(MOST + 32);

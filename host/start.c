@@ -3,6 +3,7 @@
 #include <arpa/inet.h>
 #include <errno.h>
 #include <fcntl.h>
+#include <limits.h>
 #include <signal.h>
 #include <stdarg.h>
 #include <stdbool.h>
@@ -12,6 +13,7 @@
 #include <sys/resource.h>
 #include <sys/signalfd.h>
 #include <sys/socket.h>
+#include <time.h>
 #include <unistd.h>
 #include "jellqupas.h"
 #include "start.h"
@@ -25,22 +27,20 @@ _Noreturn void stop(int status, const char *format, ...) {
     exit(status);
 }
 
-/* A number from `least` to `most`, or -1. */
-static long number_in(const char *text, long least, long most) {
+uint64_t now(void) {
+    struct timespec at;
+    clock_gettime(CLOCK_MONOTONIC, &at);
+    return (uint64_t)at.tv_sec * 1000 + (uint64_t)at.tv_nsec / 1000000;
+}
+
+long number_in(const char *text, long least, long most) {
     char *end;
     text += *text == '+';
     long found = strtol(text, &end, 10);
     return *text >= '0' && *text <= '9' && !*end && least <= found && found <= most ? found : -1;
 }
 
-union address {
-    struct sockaddr any;
-    struct sockaddr_in four;
-    struct sockaddr_in6 six;
-};
-
-/* Reads ADDRESS:PORT. Returns its size, or 0 if it isn't one. */
-static socklen_t read_address(const char *text, union address *to) {
+socklen_t read_address(const char *text, union address *to) {
     char host[INET6_ADDRSTRLEN + 2];
     const char *colon = strrchr(text, ':');
     size_t length = colon ? (size_t)(colon - text) : 0;
@@ -105,9 +105,33 @@ static const char USAGE[] =
     "  --journal MIB            compacts its journal from this size on, 1 to 1048576 (64)\n"
     "  --program PROGRAM        the program that it starts: zk_serve\n"
     "  --version, --help\n\n"
-    "Without --data all is in memory. Nothing reads standard input.\n";
+    "Without --data all is in memory. Nothing reads standard input.\n\n"
+    "compact, export or stat before --data DIR: does that with the folder, and ends.\n";
 
 static const char NO_CHAIN[] = "--servers isn't taken: this is one server, without a chain";
+
+/* The program of an installed host, ../libexec/jellqupas/zk_serve from its own folder, or NULL. */
+static const char *installed(void) {
+    static char path[PATH_MAX + 32];
+    ssize_t length = readlink("/proc/self/exe", path, PATH_MAX);
+    path[length > 0 ? length : 0] = 0;
+    for (int up = 0; up < 2; up++) {
+        char *slash = strrchr(path, '/');
+        if (!slash) return NULL;
+        *slash = 0;
+    }
+    strcat(path, "/libexec/jellqupas/zk_serve");
+    return access(path, X_OK) ? NULL : path;
+}
+
+/* The task that a word names, or NULL. */
+static const char *task_of(const char *word) {
+    static const char *const tasks[] = {"compact", "export", "stat"};
+    for (int i = 0; word && i < 3; i++) {
+        if (!strcmp(word, tasks[i])) return tasks[i];
+    }
+    return NULL;
+}
 
 /* Where a word's value is stored: a text, or a number from `least` to `most`. */
 struct place {
@@ -124,13 +148,16 @@ static bool is_put(const struct place *place, const char *value) {
 
 struct words understood(char **words) {
     struct words found = {
-        .listen = "127.0.0.1:2181", .sync = "batch", .tick = 2000, .journal = 64};
+        .listen = "127.0.0.1:2181", .sync = "batch", .tick = 2000, .journal = 64,
+        .task = task_of(*words)};
+    /* (the first two are a task's) */
     const struct place places[] = {
-        {.name = "--listen", .text = &found.listen}, {.name = "--data", .text = &found.data},
-        {.name = "--sync", .text = &found.sync}, {.name = "--program", .text = &found.program},
+        {.name = "--data", .text = &found.data}, {.name = "--program", .text = &found.program},
+        {.name = "--listen", .text = &found.listen}, {.name = "--sync", .text = &found.sync},
         {.name = "--journal", .number = &found.journal, .least = 1, .most = 1048576},
         {.name = "--tick", .number = &found.tick, .least = 10, .most = 3600000}};
-    const struct place *const end = places + sizeof places / sizeof *places;
+    const struct place *const end = places + (found.task ? 2 : sizeof places / sizeof *places);
+    words += found.task != NULL;
     for (; *words; words++) {
         const char *word = *words, *value = strchr(word, '=');
         size_t length = value ? (size_t)(value - word) : strlen(word);
@@ -147,6 +174,8 @@ struct words understood(char **words) {
     if (strcmp(found.sync, "batch") && strcmp(found.sync, "never")) {
         stop(2, "--sync isn't '%s'", found.sync);
     }
+    if (found.task && !found.data) stop(2, "%s needs --data", found.task);
+    if (!found.program) found.program = installed();
     if (!found.program) stop(2, "--program is missing");
     return found;
 }

@@ -2,6 +2,7 @@
 #ifndef START_H
 #define START_H
 
+#include <netinet/in.h>
 #include <stdint.h>
 
 /* The bytes of the secret from which passwords of sessions are derived. */
@@ -10,10 +11,26 @@ enum { SECRET = 32 };
 /* Prints one line on standard error, and ends with this status. */
 _Noreturn void stop(int status, const char *format, ...);
 
+/* Milliseconds of a clock that no one can set. */
+uint64_t now(void);
+
+/* The number from `least` to `most` that this text is, or -1. */
+long number_in(const char *text, long least, long most);
+
+union address {
+    struct sockaddr any;
+    struct sockaddr_in four;
+    struct sockaddr_in6 six;
+};
+
+/* Reads ADDRESS:PORT. Returns its size, or 0 if it isn't one. */
+socklen_t read_address(const char *text, union address *to);
+
 /* What the words ask for. `program` is the one that serves. `data` is its folder, or NULL,
-   and `servers` the number in its journal's head. */
+   and `servers` the number in its journal's head. `task` is what is done with the folder in the
+   place of serving, or NULL. */
 struct words {
-    const char *listen, *data, *sync, *program;
+    const char *listen, *data, *sync, *program, *task;
     long tick, journal;
     int servers;
 };

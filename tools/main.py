@@ -8,6 +8,9 @@ import os
 import signal
 import sys
 
+import calling
+import clusters
+import installing
 import places
 import programs
 import proof
@@ -55,22 +58,46 @@ def play(mode, command, words, _):
     become(get(mode, command), [command, *words])
 
 
-def serve(mode, command, words, _):
-    """Runs the server for ZooKeeper's clients, behind its host, which is compiled meanwhile."""
+def hosted(host, mode, command):
+    """The host of a command, which is compiled while its program is built, and that program."""
     with concurrent.futures.ThreadPoolExecutor(1) as aside:
-        made = aside.submit(serving.host)
+        made = aside.submit(host)
         try:
             program = get(mode, command)
         finally:
             # (what keeps the host from being compiled is said first)
-            host = made.result()
+            path = made.result()
+    return path, program
+
+
+def serve(mode, command, words, _):
+    """Runs the server for ZooKeeper's clients, behind its host."""
+    host, program = hosted(serving.host, mode, command)
     become(host, [f"--program={program}", *words])
+
+
+def node(mode, words):
+    """Runs a node of a cluster, behind its host: `node FILE [--self NODE]`."""
+    if len(words) not in (1, 3) or words[1:2] not in ([], ["--self"]):
+        refuse("node takes FILE [--self NODE]")
+    cluster = clusters.read(words[0], *words[2:])
+    if not cluster.self:
+        raise Stopped(f"{words[0]}: self= or --self is to name the node", 2)
+    host, program = hosted(serving.node_host, mode, "node")
+    become(host, clusters.words_of(cluster, program))
 
 
 def at_rest(mode, command, _, given):
     """Does with a server's folder, on which no server runs, what the command says."""
     servers = serving.servers_of(given.data)
     become(get(mode, "serve"), [given.data, command, str(servers)])
+
+
+def install(mode, _, __, given):
+    """Installs the server for ZooKeeper's clients, and prints what it installed."""
+    installing.make_ready(given.prefix)
+    host, program = hosted(serving.host, "--unproved" if given.unproved else mode, "serve")
+    print(*installing.install(given.prefix, host, program), sep="\n")
 
 
 def prove(words):
@@ -97,10 +124,16 @@ def do(is_folder, words):
         given = words_of.read(command, words)
         if is_folder and command in ("script", "serve"):
             raise Stopped("standard input is a folder")
-        by_command = {"serve": serve, **dict.fromkeys(words_of.AT_REST, at_rest)}
+        by_command = {"serve": serve, "install": install}
+        by_command.update(dict.fromkeys(words_of.AT_REST, at_rest))
         by_command.get(command, play)(mode, command, words, given)
+    elif command == "node":
+        node(mode, words)
     elif mode:
-        refuse(f"{mode} takes script, race, serve, compact, export or stat, not '{command}'")
+        known = "script, race, serve, install, node, compact, export or stat"
+        refuse(f"{mode} takes {known}, not '{command}'")
+    elif command in ("cluster", "call"):
+        {"cluster": clusters, "call": calling}[command].command(words)
     elif command == "prove":
         prove(words)
     elif command == "clean" and words in ([], ["--all"]):

@@ -3,17 +3,21 @@
     programs/KEY/NAME            a proved program, by the sum of its sources
     programs/KEY/NAME-unproved   the same, built without proof
     proofs/                      where crates are proved
+
+What was built last comes in the place of what was used longest ago, so that they stay small. Each
+version of the sources has folders of its own, and a call that is killed leaves what it has made.
 """
 import contextlib
 import fcntl
+import glob
 import os
 import shutil
 
 import sources
 from ending import Stopped
 
-# What a checkout may have built.
-TOPS = ("zk", "zk_race", "zk_serve", "zc_library")
+# The most bytes of all that is kept.
+MOST = 3 * 10**9
 
 
 def cache():
@@ -44,10 +48,17 @@ def programs(key):
     return f"{cache()}/programs/{key}"
 
 
+def used(folder):
+    """Notes that a program of the folder is used now."""
+    with contextlib.suppress(OSError):
+        os.utime(folder)
+
+
 @contextlib.contextmanager
 def locked(folder, tell):
     """Keeps others out of the folder, which is made where it isn't there. Gives the lock's file."""
     with open(f"{made(folder)}/lock", "w", encoding="ascii") as lock:
+        used(folder)
         try:
             fcntl.flock(lock, fcntl.LOCK_EX | fcntl.LOCK_NB)
         except BlockingIOError:
@@ -56,12 +67,50 @@ def locked(folder, tell):
         yield lock
 
 
+def size_of(folder):
+    """The bytes of all files below a folder. Others may remove some meanwhile."""
+    found = 0
+    for at, _, files in os.walk(folder):
+        for it in files:
+            with contextlib.suppress(OSError):
+                found += os.lstat(f"{at}/{it}").st_size
+    return found
+
+
+def running():
+    """The names of the folders of all programs that run."""
+    for it in glob.glob("/proc/[0-9]*/exe"):
+        with contextlib.suppress(OSError):
+            yield os.path.basename(os.path.dirname(os.readlink(it)))
+
+
+def drop(folder, inside=""):
+    """Removes a folder, or one inside it, unless a call works in it. Returns whether it is gone."""
+    with contextlib.suppress(OSError), open(f"{folder}/lock", "w", encoding="ascii") as lock:
+        fcntl.flock(lock, fcntl.LOCK_EX | fcntl.LOCK_NB)
+        shutil.rmtree(f"{folder}{inside}", ignore_errors=True)
+    return not os.path.exists(f"{folder}{inside}")
+
+
+def bound(most=MOST):
+    """Drops what was used longest ago until the rest has at most so many bytes: no program of this
+    checkout, none that runs, and no folder in which a call works."""
+    with contextlib.suppress(OSError):
+        drop(room(), "/repository")
+        sizes = {it: size_of(programs(it)) for it in os.listdir(f"{cache()}/programs")}
+        over = sum(sizes.values()) - most
+        if over > 0:
+            others = sizes.keys() - {*sources.all_keys(), *running()}
+            for it in sorted(others, key=lambda it: os.path.getmtime(programs(it))):
+                over -= sizes[it] if over > 0 and drop(programs(it)) else 0
+
+
 def clean(is_all, tell):
     """Removes what this checkout doesn't use, or all, and prints how much that was."""
     there = os.listdir(made(f"{cache()}/programs"))
     with locked(room(), tell):
         shutil.rmtree(f"{room()}/repository", ignore_errors=True)
-    own = {sources.key_of(sources.lines_below(it)) for it in TOPS}
+    own = sources.all_keys()
     gone = [it for it in there if is_all or it not in own]
     for it in gone:
         shutil.rmtree(programs(it), ignore_errors=True)

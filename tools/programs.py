@@ -6,8 +6,8 @@ import kit
 import places
 import sources
 
-# The program that a command runs; that of a server is behind a host.
-NAMES = {"script": "zk", "race": "zk_race", "serve": "zk_serve"}
+# The program that a command runs; that of a server, or of a node, is behind a host.
+NAMES = {"script": "zk", "race": "zk_race", "serve": "zk_serve", "node": "zk_node"}
 
 
 def of_the_gate(name, lines):
@@ -26,16 +26,22 @@ def kept(name, key, is_proved):
 def proved(name):
     """The proved program of these very sources, or None."""
     lines = sources.lines_below(name)
-    return of_the_gate(name, lines) or there(kept(name, sources.key_of(lines), True))
+    return of_the_gate(name, lines) or used(kept(name, sources.key_of(lines), True))
 
 
 def unproved(name):
     """The program of these very sources that was built without proof, or None."""
-    return there(kept(name, sources.key_of(sources.lines_below(name)), False))
+    return used(kept(name, sources.key_of(sources.lines_below(name)), False))
 
 
 def there(path):
     return path if os.access(path, os.X_OK) else None
+
+
+def used(path):
+    """The path of a program of the cache, which is used now, or None."""
+    places.used(os.path.dirname(path))
+    return there(path)
 
 
 def kit_of(path):
@@ -50,3 +56,4 @@ def keep(made, path):
         file.write(f"{kit.identity()}\n")
     os.chmod(made, 0o755)
     os.replace(made, path)
+    places.bound()

@@ -1,7 +1,7 @@
-"""The server for ZooKeeper's clients: a host in C, and the program zk_serve that it starts.
+"""Hosts in C, each with the program that it starts: of a server for ZooKeeper's clients, of a node.
 
-The host is kept by the sum of what it is compiled of. It needs the machine's own C compiler: that
-of the toolchain has no headers.
+A host is kept by the sum of what it is compiled of. It needs the machine's own C compiler: that of
+the toolchain has no headers.
 """
 import hashlib
 import os
@@ -14,11 +14,15 @@ import programs
 import sources
 from ending import Stopped
 
-# The program behind the host.
-PROGRAM = "zk_serve"
-# What the host is compiled of.
-HOST = tuple(f"host/{it}.c" for it in ("serve", "connections", "start", "piped", "folder"))
-HEADERS = ("host/connections.h", "host/front.h", "host/start.h", "include/jellqupas.h")
+# The programs behind the hosts.
+PROGRAM, NODE_PROGRAM = "zk_serve", "zk_node"
+# What the hosts are compiled of.
+HOST = tuple(f"host/{it}.c" for it in (
+    "serve", "connections", "start", "piped", "folder", "child"))
+NODE_HOST = tuple(f"host/{it}.c" for it in (
+    "node", "seat", "log", "peers", "guests", "bytes", "child", "start"))
+HEADERS = (*(f"host/{it}.h" for it in (
+    "bytes", "child", "connections", "front", "node", "start")), "include/jellqupas.h")
 FLAGS = "-std=c11 -O2 -Wall -Wextra".split()
 COMPILERS = ("cc", "gcc", "clang")
 
@@ -31,20 +35,25 @@ def compiler():
     return found
 
 
-def host():
+def host(name="serve", program=PROGRAM, files=HOST):
     """The host of these very sources, which is compiled where it isn't there."""
     found = hashlib.sha256()
-    for it in (*HOST, *HEADERS):
+    for it in (*files, *HEADERS):
         found.update(repr((it, sources.text_of(f"{sources.ROOT}/{it}"))).encode())
-    top = places.made(places.programs(sources.key_of(sources.lines_below(PROGRAM))))
-    path = f"{top}/serve-{found.hexdigest()[:16]}"
-    if programs.there(path):
+    top = places.made(places.programs(sources.key_of(sources.lines_below(program))))
+    path = f"{top}/{name}-{found.hexdigest()[:16]}"
+    if programs.used(path):
         return path
-    with tempfile.TemporaryDirectory(prefix="serve-", dir=top) as folder:
-        words = [compiler(), *FLAGS, f"-I{sources.ROOT}/include", "-o", f"{folder}/serve", *HOST]
+    with tempfile.TemporaryDirectory(prefix=f"{name}-", dir=top) as folder:
+        words = [compiler(), *FLAGS, f"-I{sources.ROOT}/include", "-o", f"{folder}/{name}", *files]
         archives.run(words, sources.ROOT)
-        programs.keep(f"{folder}/serve", path)
+        programs.keep(f"{folder}/{name}", path)
     return path
+
+
+def node_host():
+    """The host of a node."""
+    return host("node", NODE_PROGRAM, NODE_HOST)
 
 
 def servers_of(folder):

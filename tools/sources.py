@@ -1,4 +1,5 @@
 """The crates of this checkout: what each uses, and the files that a proof reads of it."""
+import functools
 import hashlib
 import os
 
@@ -54,16 +55,29 @@ def text_of(path):
         return b""
 
 
-def key_of(lines, root=ROOT):
+def summed(name, root):
+    """What the sum of a crate is taken of: its files, by their paths."""
+    found = bytearray()
+    for part in READ:
+        top = f"{root}/crates/{name}/{part}"
+        for at, folders, files in os.walk(top):
+            folders.sort()
+            for it in sorted(files):
+                path = f"{at}/{it}"
+                found += repr((path[len(top) :], text_of(path))).encode()
+    return bytes(found)
+
+
+def key_of(lines, root=ROOT, read=summed):
     """A sum of all that is proved and built of these crates, wherever the checkout is."""
     found = hashlib.sha256(text_of(f"{root}/HANDLES"))
     for name in sorted(lines):
         found.update(repr((name, sorted(uses_of(lines[name])), lines[name].split(":")[0])).encode())
-        for part in READ:
-            top = f"{root}/crates/{name}/{part}"
-            for at, folders, files in os.walk(top):
-                folders.sort()
-                for it in sorted(files):
-                    path = f"{at}/{it}"
-                    found.update(repr((path[len(top) :], text_of(path))).encode())
+        found.update(read(name, root))
     return found.hexdigest()[:32]
+
+
+def all_keys():
+    """The sums of all crates of this checkout, each with those below it."""
+    read = functools.cache(summed)
+    return {key_of(lines_below(it), read=read) for it in known_lines()}

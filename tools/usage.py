@@ -25,29 +25,31 @@ A coordination service with ZooKeeper's data model and chain replication.
 ./zk serve --data DIR [--sync batch|never] [--journal MIB] ..
                               stores its state in DIR; with never a power cut may
                               lose it; compacts its journal from MIB on (64)
+./zk node FILE [--self NODE]  runs a server of a chain as a process of its own
+./zk cluster FILE init|status|retire ..  the log of the nodes (docs/GUIDE.md)
+./zk call FILE [--client N]   plays calls over the nodes, or those of client N
 ./zk compact --data DIR       compacts a server's journal that isn't in use
 ./zk export|stat --data DIR   writes its tree as a script; says how large it is
 Without a proved program each builds one without proof, in a minute, and says so.
 
-./zk prove [script|race|serve|library]
-                              proves the program of a command, or the library, by
-                              the toolchain's rt ci, in an hour on four
-                              cores; some toolchains continue a stopped one
-./zk --proved script ..       runs the proved program, or nothing; others too
-./zk --unproved script ..     runs the one without proof; others too
+./zk install --prefix DIR     installs the server: it needs no toolchain there
+./zk prove [script|race|serve|node|library]
+                              proves it by the toolchain's rt ci, in an hour
+./zk --proved script ..       runs the proved program or none; --unproved, the other
 ./zk --version                the version, and which program would run
 ./zk clean [--all]            removes programs that aren't of this checkout, or all
 
 The status is the program's; 2: a word that isn't understood; 3: the program
-can't be built, or isn't proved. Programs are kept in {kept}
+can't be built, or isn't proved. Programs, {most} GB at most, are kept in {kept}
 """
 
 
 def usage():
     try:
-        return USAGE.format(kept=places.cache())
+        kept = places.cache()
     except Stopped as error:
-        return USAGE.format(kept=f"no folder: {error}")
+        kept = f"no folder: {error}"
+    return USAGE.format(kept=kept, most=places.MOST // 10**9)
 
 
 def version_number():

@@ -4,6 +4,8 @@ The programs refuse wrong words themselves. Here they are refused before a build
 """
 import argparse
 import ipaddress
+import os
+import re
 
 from ending import Stopped
 
@@ -49,7 +51,15 @@ def folder(text):
     return "./-" if text == "-" else text
 
 
+def prefix(text):
+    """The folder below which something is installed. Units and other texts name it as it is."""
+    if not re.fullmatch(r"/[\w/.+-]*", text, re.ASCII):
+        raise ValueError
+    return f"/{os.path.normpath(text).lstrip('/')}"
+
+
 address.__name__ = "ADDRESS:PORT"
+prefix.__name__ = "DIR (absolute, of letters, digits and /._+-)"
 SERVERS = {"--servers": number(1, 16)}
 # The options of each command, each with the type of its value.
 OPTIONS = {
@@ -62,6 +72,7 @@ OPTIONS = {
         "--journal": number(1, 1048576), "--sync": str,
     },
     **dict.fromkeys(AT_REST, {"--data": folder}),
+    "install": {"--prefix": prefix},
 }
 
 
@@ -70,7 +81,10 @@ def read(command, words):
     parser = Words(f"{command}: ", "./zk help")
     for name, kind in OPTIONS[command].items():
         choices = ("batch", "never") if name == "--sync" else None
-        parser.add_argument(name, type=kind, choices=choices, required=command in AT_REST)
+        is_required = command in (*AT_REST, "install")
+        parser.add_argument(name, type=kind, choices=choices, required=is_required)
+    if command == "install":
+        parser.add_argument("--unproved", action="store_true")
     if command == "serve" and any(it.startswith("--servers") for it in words):
         parser.error("--servers isn't taken: this is one server, without a chain")
     found = parser.parse_args(words)

@@ -17,13 +17,17 @@ CITES = re.compile(r"\b(?:document 0[0-9]|[Dd]emand [0-9]+|[TDWR][0-9]{1,2}\b)")
 FOLDER = re.compile(r"/(?:work|farm|root|tmp)/")
 CITING = (".rt", ".antt", ".md", ".edit", ".txt")
 # What repeats a constant of a file limits.rt, or one less, in a document or an interface.
-REPEATING = re.compile(r"(?:README\.md|GUIDE\.md|usage\.py|jellqupas\.(?:py|h)|piped\.c)$")
+REPEATING = re.compile(
+    r"(?:README\.md|GUIDE\.md|(?:usage|messages|log_entries)\.py|jellqupas\.(?:py|h)|piped\.c|node\.h)$"
+)
 NUMBERS = (
     ("MAX_SERVERS", 0, r"^MAX_SERVERS = (.+)$|\b1 to (\d+) servers|N is 1 to (\d+)|s1 to s(\d+)"),
     ("MAX_CLIENTS", 0, r"^MAX_CLIENTS = (.+)$"),
     ("MAX_CLIENTS", 1, r"c0 to c(\d+)|umber,? (?:from )?1 to (\d+)\b|C clients 1 to (\d+)"),
     ("MAX_DATA", 0, r"^MAX_DATA = (.+)$"),
     ("MAX_TTL", 0, r"^MAX_TTL = (.+)$"),
+    ("MAX_SERVERS", 0, r"^    SERVERS = (\d+)"),
+    ("MAX_CLIENTS", 0, r"^    CLIENTS = (\d+)"),
     ("MAX_CAME", 0, r"MOST_CAME = (\d+)"),
 )
 

@@ -19,7 +19,10 @@ from ending import Stopped
 from report import Failed, Skipped, Tally
 
 # The parts, each a module of this folder with a function `tests(builds)`, in the order of work.
-PARTS = ("tests", "rows", "race", "states", "memory", "serve", "folder", "library", "commands")
+PARTS = (
+    "tests", "rows", "race", "states", "memory", "serve", "folder", "nodes", "library", "commands",
+    "install",
+)
 # The part without one: `rt ci` runs the test functions itself.
 OF_THE_GATE = "tests"
 # The bytes of disk that are needed, and prctl's number for who takes over processes.

@@ -40,10 +40,10 @@ def program(builds, text):
 class Server:
     """A server that was started, and that has ended after the block of a `with`."""
 
-    def __init__(self, builds, folder=None, words=(), wrap=(), tick=2000, sync="never"):
+    def __init__(self, builds, folder=None, words=(), wrap=(), tick=2000, sync="never", own=()):
         self.error, none = tempfile.TemporaryFile(), subprocess.DEVNULL
         self.ran = subprocess.Popen(
-            [*wrap, *words_of(builds, folder, sync), "--tick", str(tick), *words],
+            [*wrap, *(own or words_of(builds, folder, sync)), "--tick", str(tick), *words],
             stdin=none, stdout=none, stderr=self.error, env=ENVIRONMENT,
         )
         until(lambda: LAST in self.said() or self.ran.poll() is not None, 60)

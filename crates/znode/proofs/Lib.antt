@@ -1,0 +1,2 @@
+pub mod pipe_lemmas
+pub mod node_lemmas

@@ -1,0 +1,17 @@
+pub mod Runs
+pub mod Logs
+pub mod Links
+pub mod Adding
+pub mod Accounts
+pub mod Sending
+pub mod Putting
+pub mod Results
+pub mod Refusals
+pub mod Receiving
+pub mod Hearing
+pub mod Turning
+pub mod Reporting
+pub mod Playing
+pub mod FirstEntries
+pub mod OwnEntries
+pub mod ReportOrder

@@ -1,0 +1,6 @@
+pub mod Codes
+pub mod Standings
+pub mod Entries
+pub mod Turns
+pub mod Serving
+pub mod Faults
