@@ -3,8 +3,8 @@
 
 The first counts creates of 10 bytes and gets a second, with one and with 200 calls under way on
 each of 1 and 4 connections. Each figure is the best of five rounds and their median, or the mean of
-the processor time that the server took for a call; the servers take turns. ZooKeeper is Debian's, where it is installed; its log is written with fsync (batch) and
-without (never).
+the processor time that the server took for a call; the servers take turns. ZooKeeper is Debian's,
+where it is installed; its log is written with fsync (batch) and without (never).
 
 The second has folders of 4,000 nodes: the best times to compact and to open one.
 The folders are below TMPDIR.
@@ -17,16 +17,14 @@ import atexit
 import contextlib
 import itertools
 import os
-import shutil
 import socket
 import statistics
 import subprocess
 import sys
-import tempfile
 import time
 
+import loads
 import measuring
-import frames
 import running
 import serving
 
@@ -34,46 +32,18 @@ ROUNDS, SHAPES = 5, ((1, 1), (4, 1), (1, 200), (4, 200))
 NODES, GETS, CALLS = 4_000, 5, 2_000
 # The MiB from which on a journal is shortened: never.
 NEVER = 1 << 20
-JARS = "/usr/share/java/zookeeper.jar", "/usr/share/java/slf4j-nop.jar"
-ZOOKEEPER = f"""java -Xmx512m -cp {':'.join(JARS)} -Dzookeeper.forceSync={{force}}
-    -Dzookeeper.4lw.commands.whitelist=ruok -Dzookeeper.admin.enableServer=false
-    org.apache.zookeeper.server.ZooKeeperServerMain {{port}} {{folder}} 2000 0"""
+ZOOKEEPER = """-Dzookeeper.forceSync={force} -Dzookeeper.admin.enableServer=false
+    -Dzookeeper.4lw.commands.whitelist=ruok
+    org.apache.zookeeper.server.ZooKeeperServerMain {port} {folder} 2000 0"""
 
 
-def requests(op, size):
-    """The bytes of a greeting and of a request for each node, and those of an answer."""
-    number, body, answer = {
-        "create": (frames.CREATE, lambda path: frames.create_body(path, bytes(size)), 12),
-        "delete": (frames.DELETE, frames.at_version, 0),
-        "get": (frames.GET, frames.look_body, 72 + size),
-        "set": (frames.SET, lambda path: frames.set_body(path, bytes(size)), 68),
-    }[op]
-    made = [frames.request(it, number, body(f"/n-{it:05}")) for it in range(NODES)]
-    return frames.greeting(30000) + b"".join(made), len(made[0]), 20 + answer
-
-
-def start(load, port, shape, calls, op, size=10):
-    """Starts the program that makes these calls."""
-    asked, request, answer = requests(op, size)
-    words = [load, *map(str, (port, *shape, calls, request, answer))]
-    with tempfile.TemporaryFile() as file:
-        file.write(asked)
-        file.seek(0)
-        return subprocess.Popen(words, stdin=file, stdout=subprocess.PIPE, text=True)
-
-
-def ended(ran):
-    """The seconds of the calls."""
-    said = ran.communicate()[0]
-    measuring.want(not ran.returncode, "the calls are not answered")
-    return float(said)
-
-
-def processor(number):
-    """The microseconds of processor time that a process has had."""
-    with open(f"/proc/{number}/stat", encoding="ascii") as file:
-        times = file.read().rpartition(")")[2].split()[11:13]
-    return sum(map(int, times)) * 1e6 / os.sysconf("SC_CLK_TCK")
+def made(load, port, shape, calls, op, size=10):
+    """The seconds in which so many calls are answered."""
+    connections, depth = shape
+    with contextlib.ExitStack() as opened:
+        ends = [opened.enter_context(loads.session(port)) for _ in range(connections)]
+        asked, answer = loads.requests(op, NODES, size)
+        return next(loads.call(load, [(it, it) for it in ends], asked, depth, calls, answer))
 
 
 class Server:
@@ -105,12 +75,12 @@ class Server:
     def processors(self):
         """The microseconds of processor time of what it started, if anything, and of itself."""
         with open(f"/proc/{self.ran.pid}/task/{self.ran.pid}/children", encoding="ascii") as file:
-            return [processor(int(it)) for it in [*file.read().split(), self.ran.pid]]
+            return [loads.processor(int(it)) for it in [*file.read().split(), self.ran.pid]]
 
     def measure(self, load, shape, calls, op):
         """Notes how many of these calls are answered in a second, and the processor time of one."""
         before = sum(self.processors())
-        took = ended(start(load, self.port, shape, calls, op))
+        took = made(load, self.port, shape, calls, op)
         self.found.setdefault((shape, op), []).append(calls / took)
         spent = (sum(self.processors()) - before) / calls
         self.spent.setdefault((shape, op), []).append(spent)
@@ -130,13 +100,12 @@ def started(builds):
     yield kept(builds, None)
     for sync in ("batch", "never"):
         yield kept(builds, f"{builds.room}/{sync}", sync)
-    if not shutil.which("java") or not all(map(os.path.exists, JARS)):
-        builds.say("Debian's zookeeper isn't installed")
+    if not loads.has_zookeeper(builds):
         return
     for sync, force in (("batch", "yes"), ("never", "no")):
         folder = f"{builds.room}/zookeeper-{sync}"
         words = ZOOKEEPER.format(force=force, folder=folder, port="{port}").split()
-        yield Server(f"ZooKeeper, {sync}", words)
+        yield Server(f"ZooKeeper, {sync}", [*loads.JAVA, *words])
 
 
 def of_requests(builds, load, rounds):
@@ -161,7 +130,7 @@ def of_folder(builds, load, size, rounds):
     """Prints the row of a folder with nodes of this size."""
     folder, compacted, opened = f"{builds.room}/kept-{size}", [], []
     it = kept(builds, folder, journal=NEVER)
-    ended(start(load, it.port, (1, 2), NODES, "create", size))
+    made(load, it.port, (1, 2), NODES, "create", size)
     it.stop()
     for _ in range(rounds):
         words, began = [builds.program("zk_serve"), folder, "compact", "1"], time.monotonic()
@@ -182,11 +151,7 @@ def peak(number):
 
 def idle(server, count):
     """Opens so many sessions."""
-    found = [socket.create_connection(("127.0.0.1", server.port)) for _ in range(count)]
-    for it in found:
-        it.sendall(frames.greeting(30000))
-        measuring.want(it.recv(41), "no answer to the greeting")
-    return found
+    return [loads.session(server.port) for _ in range(count)]
 
 
 def counted(builds, load, others, op, calls):
@@ -198,8 +163,8 @@ def counted(builds, load, others, op, calls):
     os.chmod(program, 0o755)
     it = kept(builds, None, program=program)
     sessions = idle(it, others)
-    ended(start(load, it.port, (1, 200), NODES, "create"))
-    ended(start(load, it.port, (1, 200), calls, op))
+    made(load, it.port, (1, 200), NODES, "create")
+    made(load, it.port, (1, 200), calls, op)
     it.stop()
     del sessions
     with open(said, "rb") as file:
@@ -210,9 +175,9 @@ def spent(builds, load, others, op, calls):
     """Microseconds of a call: of the program, of its host, and from its request to its reply."""
     it = kept(builds, None)
     sessions = idle(it, others)
-    ended(start(load, it.port, (1, 200), NODES, "create"))
+    made(load, it.port, (1, 200), NODES, "create")
     before = it.processors()
-    took = ended(start(load, it.port, (1, 200), calls, op)) * 1e6
+    took = made(load, it.port, (1, 200), calls, op) * 1e6
     times = [(now - then) / calls for now, then in zip(it.processors(), before)]
     memory = peak(running.children(it.ran.pid)[0])
     it.stop()

@@ -4,9 +4,9 @@
 A race has 1,000 rounds of three calls. Its time is that of the program, with its start, its audit
 and its lines.
 
-At rest (the program zrun_bench) one client makes 500 updates, with a pause of 10 ms before each. The
-table has the processors' time over the time that passed; the switches of all threads a second; and
-of the calls' microseconds the median, what nine of ten don't exceed, and the most.
+At rest (the program zrun_bench) one client makes 500 updates, with a pause of 10 ms before each.
+The table has the processors' time over the time that passed; the switches of all threads a second;
+and of the calls' microseconds the median, what nine of ten don't exceed, and the most.
 
 Through many calls (the same program) one client sets and reads one node by turns. Nothing may be
 lost, and the memory in use may grow by a megabyte.

@@ -199,15 +199,19 @@ def late(builds):
 
 def clock(builds):
     """Under full load there is a tick each second, for 10 s or for 60."""
-    load, size = builds.compiled("load", ["bench/load.c"]), len(request(1, GET, look_body("/")))
-    with Server(builds, tick=1000) as server, server.client() as it:
-        it.create("/a")
+    load, asked = builds.compiled("load", ["bench/load.c"]), request(1, GET, look_body("/"))
+    with Server(builds, tick=1000) as server, contextlib.ExitStack() as opened:
+        clients = [opened.enter_context(server.client()) for _ in range(64)]
+        for it in clients:
+            it.socket.settimeout(None)
+        clients[0].create("/a")
+        began, first = time.monotonic(), clients[0].set("/a").mtime
+        numbers = [it.socket.fileno() for it in clients for _ in ("requests", "answers")]
+        words = map(str, (load, 256, 10**8, len(asked), 92, *numbers))
         with tempfile.TemporaryFile() as file:
-            file.write(greeting() + request(1, GET, look_body("/")) * 700 * 64)
+            file.write(asked * 256 * 64)
             file.seek(0)
-            began, first = time.monotonic(), it.set("/a").mtime
-            words = map(str, (load, server.address[1], 64, 700, 10**9, size, 92))
-            with subprocess.Popen([*words], stdin=file) as ran:
+            with subprocess.Popen([*words], stdin=file, pass_fds={*numbers}) as ran:
                 time.sleep(60 if builds.is_long else 10)
                 want(ran.poll() is None, "the load is answered")
                 ran.kill()

@@ -8,9 +8,6 @@ use Rattle.zprotocol.specs.declared.process.Process.TheVariants.{Master, Server}
 use Rattle.zserver.specs.Server.{TreeMessage}
 use Rattle.zactor.specs.Acting.{TreeStanding, TreePost}
 use Rattle.zmaster_log.specs.declared.entry.LogEntry.{LogEntry}
-use Rattle.zmaster_log.specs.declared.entry.LogEntry.TheVariants as log
-use Rattle.zmaster_log.specs.declared.entry.News.TheVariants as news
-use Rattle.zmaster_log.specs.Bytes.{entry}
 use Rattle.zmaster_log.specs.Log.{State, log_played}
 use Rattle.zpeers.specs.Records.{LinkRecord, TreeTransfer, records_of}
 use Rattle.zpeers.specs.Incoming.{ArrivingView, arriving_from}

@@ -1,7 +1,7 @@
 -- Outputs are a form.
 use Rattle.std.proofs.Common.{◌≡◌, ◌<◌, ℕ, List, length, length-append, ◌++◌, Ok, refl, arith}
 use Rattle.std.specs.Int.{w8}
-use Rattle.zcodec.specs.Forms.{number, both}
+use Rattle.zcodec.specs.Forms.{number}
 use Rattle.zcodec.specs.Choices.{flag}
 use Rattle.zcodec.specs.Laws.{IsForm}
 use Rattle.zcodec.proofs.Numbers.{is_u8}

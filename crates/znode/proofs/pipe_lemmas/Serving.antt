@@ -1,12 +1,12 @@
 -- How far the loop over inputs is.
-use Rattle.std.proofs.Common.{◌≡◌, ◌⊎◌, inl, inr, Bool, true, false, ℕ, List, [], ◌∷◌, ◌++◌, refl, sym, ap, subst, ◌∙◌, append_assoc}
-use Rattle.std.specs.List.{flat_map, AllByRecursion}
+use Rattle.std.proofs.Common.{◌≡◌, inl, inr, Bool, true, false, ℕ, List, [], ◌∷◌, ◌++◌, refl, sym, ap, subst, ◌∙◌, append_assoc}
+use Rattle.std.specs.List.{AllByRecursion}
 use Rattle.std.proofs.lemmas.List.{append-nil}
 use Rattle.std.proofs.lemmas.List.Concat.{flat_map-append}
 use Rattle.zdevices.specs.Device.{TookBeginning}
 use Rattle.znode.specs.pipe.Inputs.{InputView, Turn, input}
 use Rattle.znode.specs.pipe.Outputs.{OutputView, output}
-use Rattle.znode.specs.pipe.Serving.{Serves, ServesSome, GoesOn, Ends, ServesFront, ServesAll, inputs_text, outputs_text}
+use Rattle.znode.specs.pipe.Serving.{Serves, ServesSome, GoesOn, ServesFront, ServesAll, inputs_text, outputs_text}
 use Rattle.znode.specs.support.Serving.{SendsFor, Part, SendsPart, IsGoing}
 
 -- joined bytes were taken

@@ -1,5 +1,5 @@
 -- The steps in which a node serves.
-use Rattle.std.specs.Prelude.{◌≡◌, ◌⊎◌, Bool, ℕ, List, [], ◌++◌}
+use Rattle.std.specs.Prelude.{◌⊎◌, Bool, ℕ, List, [], ◌++◌}
 use Rattle.std.specs.List.{AllByRecursion}
 use Rattle.zdevices.specs.Device.{IsBeginning}
 use Rattle.znode.specs.pipe.Inputs.{InputView, input}

@@ -1,4 +1,4 @@
-use Rattle.std.proofs.Common.{inl, inr, refl, arith}
+use Rattle.std.proofs.Common.{inr, refl, arith}
 use Rattle.zpeers.specs.declared.fault.PeerFault.TheVariants as peer
 use Rattle.znode.proofs.rows.bad_records_of_clients_are_dropped.Goals as goal
 
