@@ -23,7 +23,7 @@ REFUSED = (
     *((ACL, CREATE, create_body("/x", acls=it)) for it in (acl(1), acl(name="me"), int4(0))),
     *((UNIMPLEMENTED, op, text("/a") + int4(3)) for op in (16, 17, 18, 102, 106, 999, -77)),
     (UNIMPLEMENTED, SET_ACL, text("/a") + acl() + int4(-1)),
-    (UNIMPLEMENTED, CONTAINER, create_body("/x", kind=4)),
+    (NO_NODE, CONTAINER, create_body("/no/a", kind=OF_CHILDREN)),
     *((ARGUMENTS, CREATE, create_body("/x", kind=kind)) for kind in (7, -1, 5, 6)),
     *((ARGUMENTS, CREATE_TTL, create_body("/x", kind=TTL, ttl=it)) for it in (0, -1, 1 << 62)),
     (ARGUMENTS, CREATE, create_body("/x", b"x" * 65537)), (ARGUMENTS, DELETE, at_version("/")),
@@ -57,6 +57,9 @@ def requests(builds):
         body = create_body("/a/t-", kind=TTL_SEQUENTIAL, ttl=60000)
         made = it.call(CREATE_TTL, body, Reader.named)
         want_same(made, ("/a/t-0000000000", it.exists("/a/t-0000000000")), "one with a TTL")
+        made = it.call(CONTAINER, create_body("/c", kind=OF_CHILDREN), Reader.named)
+        want_same(made, ("/c", it.exists("/c")), "a container")
+        want_same(made[1].owner, -(1 << 63), "the owner of a container")
         new = it.set("/a", b"second", 0)
         want_same((new.version, new.length, new.mzxid), (1, 6, it.zxid), "the stat of a set")
         want_same((new.czxid, new.ctime, new.cversion), (stat.czxid, stat.ctime, 2), "what stays")
@@ -102,6 +105,14 @@ def watches(builds):
         it.call(CREATE_TTL, create_body("/t", kind=TTL, ttl=2000), Reader.named)
         it.exists("/t", True)
         want_same(it.next(), (DELETED, "/t"), "what a tick takes away")
+        for path in ("/c", "/empty"):
+            it.call(CONTAINER, create_body(path, kind=OF_CHILDREN), Reader.named)
+        it.create("/c/a")
+        other.exists("/empty", True)
+        it.exists("/c", True)
+        it.delete("/c/a")
+        want_same(it.next(), (DELETED, "/c"), "a container whose last child is gone")
+        want_same(other.events(), [], "a container that never had a child")
         with server.client(timeout=1000) as short:
             short.create("/e", kind=EPHEMERAL)
             it.exists("/e", True)

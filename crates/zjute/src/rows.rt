@@ -33,11 +33,11 @@ ghost use Rattle.zjute.specs.support.Sent.{multi_done_bytes, multi_refused_bytes
 ghost use Rattle.zjute.specs.support.Sent.{multi_kinds_bytes, event_bytes, data_changed};
 ghost use Rattle.zjute.specs.support.Sent.{some_stat, stat_bytes, connected_front, connected};
 ghost use Rattle.zjute.specs.support.Rarer.{check_bytes, check_watches_bytes};
-ghost use Rattle.zjute.specs.support.Rarer.{remove_watches_bytes, create_ttl_bytes};
+ghost use Rattle.zjute.specs.support.Rarer.{remove_watches_bytes, create_ttl_bytes, create_container_bytes};
 ghost use Rattle.zjute.specs.support.Rarer.{multi_read_bytes, set_watches_bytes};
 ghost use Rattle.zjute.specs.support.Rarer.{set_watches_2_bytes, add_watch_bytes};
 ghost use Rattle.zjute.specs.support.Rarer.{container_bytes, check_asked, check_watches_asked};
-ghost use Rattle.zjute.specs.support.Rarer.{remove_watches_asked, create_ttl_asked};
+ghost use Rattle.zjute.specs.support.Rarer.{remove_watches_asked, create_ttl_asked, create_container_asked};
 ghost use Rattle.zjute.specs.support.Rarer.{multi_read_asked, set_watches_asked};
 ghost use Rattle.zjute.specs.support.Rarer.{set_watches_2_asked, add_watch_asked};
 ghost use Rattle.zjute.specs.support.Rarer.{container_asked};
@@ -94,6 +94,7 @@ pub fn rarer_requests_are_read()
     ensures check_watches { whole request check_watches_bytes ≡ Ok check_watches_asked }
     ensures remove_watches { whole request remove_watches_bytes ≡ Ok remove_watches_asked }
     ensures create_ttl { whole request create_ttl_bytes ≡ Ok create_ttl_asked }
+    ensures create_container { whole request create_container_bytes ≡ Ok create_container_asked }
     ensures multi_read { whole request multi_read_bytes ≡ Ok multi_read_asked }
     ensures set_watches { whole request set_watches_bytes ≡ Ok set_watches_asked }
     ensures set_watches_2 { whole request set_watches_2_bytes ≡ Ok set_watches_2_asked }

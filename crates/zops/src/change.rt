@@ -128,8 +128,8 @@ pub(crate) fn create(
         return Err(Stop::Memory);
     };
     let owner = create.kind.lifetime.owner();
-    let ttl = create.kind.lifetime.ttl();
-    store.add(parent, made, bytes, owner, ttl, create.kind.is_sequential)?;
+    let term = create.kind.lifetime.term();
+    store.add(parent, made, bytes, owner, term, create.kind.is_sequential)?;
     Ok(ChangeReply::Created(path))
 }
 

@@ -6,7 +6,7 @@ use Rattle.std.specs.Ordering.{int_eq}
 use Rattle.ztree.specs.Tree.{Path}
 use Rattle.zcalls.specs.declared.limits.TheConstants.{MAX_PARTS}
 use Rattle.zcalls.specs.declared.call.Kind.{Kind}
-use Rattle.zcalls.specs.declared.call.Lifetime.TheVariants.{Persistent, WithTtl, Ephemeral}
+use Rattle.zcalls.specs.declared.call.Lifetime.TheVariants.{Persistent, WithTtl, Ephemeral, Container}
 use Rattle.zcalls.specs.Part.{named, sequential}
 use Rattle.zcalls.specs.declared.call.Create.{Create}
 use Rattle.zcalls.specs.declared.call.Part.{Part}
@@ -45,7 +45,7 @@ module _ (session : ℕ) where
       (choice P (int_eq flags (pos 1)) (Ok (named (Ephemeral session))) _ (done P (named (Ephemeral session)) refl)
       (choice P (int_eq flags (pos 2)) (Ok (sequential Persistent)) _ (done P (sequential Persistent) tt)
       (choice P (int_eq flags (pos 3)) (Ok (sequential (Ephemeral session))) _ (done P (sequential (Ephemeral session)) refl)
-      (choice P (int_eq flags (pos 4)) (Err (Refused Unimplemented)) (Err (Refused BadArguments)) (never P (Refused Unimplemented)) (never P (Refused BadArguments))))))
+      (choice P (int_eq flags (pos 4)) (Ok (named Container)) (Err (Refused BadArguments)) (done P (named Container) tt) (never P (Refused BadArguments))))))
 
   timed_for : (ticks : ℕ) (flags : ℤ) (kind : Kind) → timed_kind_in ticks flags ≡ Ok kind → IsForSession session kind.lifetime
   timed_for ticks flags =
@@ -75,7 +75,7 @@ module _ (session : ℕ) where
   part_for tick (of_multi.Create create) = made_part (create_in session create) (create_for create)
   part_for tick (of_multi.Create2 create) = made_part (create_in session create) (create_for create)
   part_for tick (of_multi.CreateTtl timed) = made_part (timed_create_in tick timed) (timed_create_for tick timed)
-  part_for tick (of_multi.CreateContainer create) = never (PartIsFor session) (Refused Unimplemented)
+  part_for tick (of_multi.CreateContainer create) = made_part (create_in session create) (create_for create)
   part_for tick (of_multi.Delete at) = behind (PartIsFor session) (delete_in at) (λ delete. Ok (part.Delete delete)) (λ delete. done (PartIsFor session) (part.Delete delete) tt)
   part_for tick (of_multi.SetData set) = behind (PartIsFor session) (set_in set) (λ set. Ok (part.SetData set)) (λ set. done (PartIsFor session) (part.SetData set) tt)
   part_for tick (of_multi.Check at) = behind (PartIsFor session) (check_in at) (λ check. Ok (part.Check check)) (λ check. done (PartIsFor session) (part.Check check) tt)
@@ -113,6 +113,7 @@ module _ (session : ℕ) where
 pub calls_are_for_their_session : CallsAreForTheirSession
 calls_are_for_their_session tick session (asked.Create create) = made_for session (create_in session create) (create_for session create)
 calls_are_for_their_session tick session (asked.Create2 create) = made_for session (create_in session create) (create_for session create)
+calls_are_for_their_session tick session (asked.CreateContainer create) = made_for session (create_in session create) (create_for session create)
 calls_are_for_their_session tick session (asked.CreateTtl timed) = made_for session (timed_create_in tick timed) (timed_create_for session tick timed)
 calls_are_for_their_session tick session (asked.Delete at) = behind (Calls session) (delete_in at) (λ delete. one (Update (act.Delete delete))) (λ delete. one_for session (Update (act.Delete delete)) tt)
 calls_are_for_their_session tick session (asked.SetData set) = behind (Calls session) (set_in set) (λ set. one (Update (act.SetData set))) (λ set. one_for session (Update (act.SetData set)) tt)

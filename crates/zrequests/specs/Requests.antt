@@ -86,7 +86,7 @@ abbrev pub part_in : ℕ → ℕ → AskedPart → Meaning Part
 part_in tick session (of_multi.Create create) = part_of_create (create_in session create)
 part_in tick session (of_multi.Create2 create) = part_of_create (create_in session create)
 part_in tick session (of_multi.CreateTtl timed) = part_of_create (timed_create_in tick timed)
-part_in tick session (of_multi.CreateContainer create) = Err (Refused Unimplemented)
+part_in tick session (of_multi.CreateContainer create) = part_of_create (create_in session create)
 part_in tick session (of_multi.Delete at) = part_of_delete at
 part_in tick session (of_multi.SetData set) = part_of_set set
 part_in tick session (of_multi.Check at) = part_of_check at
@@ -185,6 +185,7 @@ reads_in other = Err (Refused Unimplemented)
 abbrev pub calls_in : ℕ → ℕ → Asked → Meaning (List Call)
 calls_in tick session (asked.Create create) = create_alone (create_in session create)
 calls_in tick session (asked.Create2 create) = create_alone (create_in session create)
+calls_in tick session (asked.CreateContainer create) = create_alone (create_in session create)
 calls_in tick session (asked.CreateTtl timed) = create_alone (timed_create_in tick timed)
 calls_in tick session (asked.Delete at) = delete_alone at
 calls_in tick session (asked.SetData set) = set_alone set

@@ -37,7 +37,9 @@ pub fn calls_of(
     ensures fault { IfErr result (IsUnasked (calls_in tick session asked.now)) }
 {
     match asked {
-        Asked::Create(create) | Asked::Create2(create) => one_create(alloc, session, create),
+        Asked::Create(create) | Asked::Create2(create) | Asked::CreateContainer(create) => {
+            one_create(alloc, session, create)
+        }
         Asked::CreateTtl(timed) => one_timed_create(alloc, tick, timed),
         Asked::Delete(at) => delete(alloc, at),
         Asked::SetData(set) => set_data(alloc, set),

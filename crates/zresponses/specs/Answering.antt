@@ -51,6 +51,7 @@ sync_by path = option_map_or (λ text. done (body.Path text)) path was_done
 -- the answer to a request, with the zxid and the tick after its calls
 abbrev pub answer_in : Clock → Now → Asked → List Call → List Reply → Answer
 answer_in clock now (asked.Create2 create) calls replies = made_by clock now calls replies
+answer_in clock now (asked.CreateContainer create) calls replies = made_by clock now calls replies
 answer_in clock now (asked.CreateTtl timed) calls replies = made_by clock now calls replies
 answer_in clock now (asked.Multi parts) calls replies = multi_by clock now parts calls replies
 answer_in clock now (asked.MultiRead looks) calls replies = looks_answer clock replies

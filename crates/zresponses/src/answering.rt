@@ -29,7 +29,9 @@ pub fn answer_to(
         ≡ answer_in clock.now at.now asked.now calls.now replies.now) }
 {
     match asked {
-        Asked::Create2(_) | Asked::CreateTtl(_) => made(alloc, clock, at, calls, replies),
+        Asked::Create2(_) | Asked::CreateContainer(_) | Asked::CreateTtl(_) => {
+            made(alloc, clock, at, calls, replies)
+        }
         Asked::Multi(parts) => multi(alloc, clock, at, parts, calls, replies),
         Asked::MultiRead(_) => looks_answer(alloc, clock, replies),
         Asked::GetChildren2(_) => children(alloc, clock, replies),

@@ -18,7 +18,7 @@ use Rattle.zcalls.specs.declared.refusal.Refusal.{Refusal}
 use Rattle.zcalls.specs.declared.refusal.Refusal.TheVariants.{Exhausted}
 use Rattle.zcalls.specs.declared.reply.Reply.{Reply}
 use Rattle.zcalls.specs.declared.reply.Reply.TheVariants as reply
-use Rattle.zcalls.specs.Part.{create_step, delete_step, set_step, create_refusals, unless_refused, made_path, owner_of, ttl_of}
+use Rattle.zcalls.specs.Part.{create_step, delete_step, set_step, create_refusals, unless_refused, made_path, owner_of, term_of}
 use Rattle.zcalls.specs.Multi.{Run, run}
 use Rattle.zcalls.specs.Step.{step, is_exhausted, update_result, change_result, multi_result}
 use Rattle.zcalls.proofs.Leaving.{Leaves}
@@ -137,13 +137,13 @@ create_owned m t create all names = by (first_that_holds (create_refusals t 0 cr
     at = made_path t.nodes create.kind create.path
 
     by : (refused : Option Refusal) → Own m (Create create) (change_result t (unless_refused refused (
-      with_node t at create.bytes (owner_of create.kind.lifetime) (ttl_of create.kind.lifetime) create.kind.is_sequential,
+      with_node t at create.bytes (owner_of create.kind.lifetime) (term_of create.kind.lifetime) create.kind.is_sequential,
       Created at,
     )))
     by (Some refusal) = all
     by None =
         made (Marked (made_by create.kind.lifetime m)) t at create.bytes (owner_of create.kind.lifetime)
-        (ttl_of create.kind.lifetime) create.kind.is_sequential
+        (term_of create.kind.lifetime) create.kind.is_sequential
         (owners_kept m (made_by create.kind.lifetime m) t.nodes (made_keeps create.kind.lifetime m) all) (made_marked create.kind.lifetime m names)
 
 -- where nothing is noted

@@ -9,7 +9,7 @@ use Rattle.ztree.specs.Tree.{Tree}
 use Rattle.zcalls.specs.declared.call.Call.{Call}
 use Rattle.zcalls.specs.declared.call.Call.TheVariants.{Update, Query}
 use Rattle.zcalls.specs.declared.call.Lifetime.{Lifetime}
-use Rattle.zcalls.specs.declared.call.Lifetime.TheVariants.{Persistent, WithTtl, Ephemeral}
+use Rattle.zcalls.specs.declared.call.Lifetime.TheVariants.{Persistent, WithTtl, Ephemeral, Container}
 use Rattle.zcalls.specs.declared.call.Part.{Part}
 use Rattle.zcalls.specs.declared.call.Part.TheVariants as part
 use Rattle.zcalls.specs.declared.call.Update.{Update as Act}
@@ -218,6 +218,7 @@ lifetime_names : (m : AttachmentsView) (session : ℕ) → Has m session → (li
     → Known m (owner_of lifetime)
 lifetime_names m session has Persistent for = inl refl
 lifetime_names m session has (WithTtl ttl) for = inl refl
+lifetime_names m session has Container for = inl refl
 lifetime_names m session has (Ephemeral owner) for = inr (subst (Has m) (sym for) has)
 
 parts_names : (m : AttachmentsView) (session : ℕ) → Has m session → (parts : List Part) → AllByRecursion (PartIsFor session) parts

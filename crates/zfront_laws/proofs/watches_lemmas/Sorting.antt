@@ -79,6 +79,10 @@ sorts tick session (asked.Create2 create) =
     let asks = asked.Create2 create in
     behind (Sorts asks) (create_in session create) (λ create. one (Update (act.Create create)))
     (λ create. update asks (act.Create create) (λ replies. refl))
+sorts tick session (asked.CreateContainer create) =
+    let asks = asked.CreateContainer create in
+    behind (Sorts asks) (create_in session create) (λ create. one (Update (act.Create create)))
+    (λ create. update asks (act.Create create) (λ replies. refl))
 sorts tick session (asked.CreateTtl timed) =
     let asks = asked.CreateTtl timed in
     behind (Sorts asks) (timed_create_in tick timed) (λ create. one (Update (act.Create create)))

@@ -31,7 +31,7 @@ use Rattle.zcalls.specs.declared.change.ChangeReply.TheVariants.{Created, Delete
 use Rattle.zcalls.specs.declared.reply.PartReply.{PartReply}
 use Rattle.zcalls.specs.declared.reply.PartReply.TheVariants as part_reply
 use Rattle.zcalls.specs.Part.{create_step, delete_step, set_step, check_step, part_step, reported_as_part, create_refusals}
-use Rattle.zcalls.specs.Part.{delete_refusals, unless_refused, made_path, owner_of, ttl_of, on_version}
+use Rattle.zcalls.specs.Part.{delete_refusals, unless_refused, made_path, owner_of, term_of, on_version}
 use Rattle.zcalls.specs.Part.{has_other_version, with_node_set}
 use Rattle.zcalls.specs.Multi.{Run, run, behind, and_then}
 use Rattle.zcalls.proofs.Leaving.{Leaves, create_step-leaves, delete_step-leaves, set_step-leaves, part_step-leaves, run-leaves}
@@ -132,7 +132,7 @@ module _ (zxid : ℕ) (path : Path) where
       create_step-leaves (IsDated written_at zxid path) t client create
       (λ none.
       let at = made_path t.nodes create.kind create.path in
-      let new = new_node create.bytes (owner_of create.kind.lifetime) (ttl_of create.kind.lifetime) (t.zxid + 1) t.time in (
+      let new = new_node create.bytes (owner_of create.kind.lifetime) (term_of create.kind.lifetime) (t.zxid + 1) t.time in (
         dated.0,
         changed written_at zxid path (finite.insert t.nodes at new) (parent_of at) (with_child (t.zxid + 1) create.kind.is_sequential) (λ n is. is)
             (inserted written_at zxid path t.nodes at new dated.0 dated.1),
@@ -157,7 +157,7 @@ module _ (zxid : ℕ) (path : Path) where
       create_step-leaves (IsDated children_changed_at zxid path) t client create
       (λ none.
       let at = made_path t.nodes create.kind create.path in
-      let new = new_node create.bytes (owner_of create.kind.lifetime) (ttl_of create.kind.lifetime) (t.zxid + 1) t.time in (
+      let new = new_node create.bytes (owner_of create.kind.lifetime) (term_of create.kind.lifetime) (t.zxid + 1) t.time in (
         dated.0,
         changed children_changed_at zxid path (finite.insert t.nodes at new) (parent_of at) (with_child (t.zxid + 1) create.kind.is_sequential)
             (λ n is. dated.0)
@@ -234,7 +234,7 @@ create_did t client create path = by (first_that_holds (create_refusals t client
     at = made_path t.nodes create.kind create.path
 
     new : Node
-    new = new_node create.bytes (owner_of create.kind.lifetime) (ttl_of create.kind.lifetime) (t.zxid + 1) t.time
+    new = new_node create.bytes (owner_of create.kind.lifetime) (term_of create.kind.lifetime) (t.zxid + 1) t.time
 
     more : Nodes
     more = finite.insert t.nodes at new
@@ -243,7 +243,7 @@ create_did t client create path = by (first_that_holds (create_refusals t client
     f = with_child (t.zxid + 1) create.kind.is_sequential
 
     by : (refused : Option Refusal) → ChangeDid (t.zxid + 1) path of_create (unless_refused refused (
-      with_node t at create.bytes (owner_of create.kind.lifetime) (ttl_of create.kind.lifetime) create.kind.is_sequential,
+      with_node t at create.bytes (owner_of create.kind.lifetime) (term_of create.kind.lifetime) create.kind.is_sequential,
       Created at,
     ))
     by (Some refusal) = tt
@@ -484,10 +484,10 @@ create_made t create path = by (first_that_holds (create_refusals t 0 create))
     at = made_path t.nodes create.kind create.path
 
     new : Node
-    new = new_node create.bytes (owner_of create.kind.lifetime) (ttl_of create.kind.lifetime) (t.zxid + 1) t.time
+    new = new_node create.bytes (owner_of create.kind.lifetime) (term_of create.kind.lifetime) (t.zxid + 1) t.time
 
     by : (refused : Option Refusal) → Makes path (unless_refused refused (
-      with_node t at create.bytes (owner_of create.kind.lifetime) (ttl_of create.kind.lifetime) create.kind.is_sequential,
+      with_node t at create.bytes (owner_of create.kind.lifetime) (term_of create.kind.lifetime) create.kind.is_sequential,
       Created at,
     ))
     by (Some refusal) = tt

@@ -3,7 +3,7 @@
 ghost use Rattle.std.specs.Prelude.{◌≡◌, [], ◌∷◌, pos, codes, None, Some, Ok, replicate};
 ghost use Rattle.ztree.specs.support.Samples.{at_a};
 ghost use Rattle.zcalls.specs.Part.{named};
-ghost use Rattle.zcalls.specs.declared.call.Lifetime.TheVariants.{Ephemeral, WithTtl};
+ghost use Rattle.zcalls.specs.declared.call.Lifetime.TheVariants.{Ephemeral, WithTtl, Container};
 ghost use Rattle.zcalls.specs.declared.call.Expected.TheVariants.{Any, Exactly};
 ghost use Rattle.zcalls.specs.declared.call.Part.TheVariants as part;
 ghost use Rattle.zcalls.specs.declared.call.Update.TheVariants as act;
@@ -17,7 +17,7 @@ ghost use Rattle.zrequests.specs.Requests.{calls_in};
 ghost use Rattle.zrequests.specs.support.Samples.{bad, unimplemented, invalid_acl, auth_failed, open_entry, text_a};
 ghost use Rattle.zrequests.specs.support.Samples.{create_a, timed_a, at_version, set_a, look_a};
 
-/// Creates: an ephemeral of the session, and a node with a TTL.
+/// Creates: an ephemeral of the session, a node with a TTL, and a container.
 #[tactic(auto, unfolding(zpath::specs::Faults::fault_of))]
 pub fn calls_of_creates()
     ensures create { calls_in 2000 9 (asked.Create create_a) ≡ Ok (Update (act.Create
@@ -28,8 +28,12 @@ pub fn calls_of_creates()
         (record { path = at_a; kind = named (WithTtl 2); bytes = [] })) ∷ []) }
     ensures closed { calls_in 2000 9 (asked.Create (record create_a { acls = [] })) ≡ invalid_acl }
     ensures no_path { calls_in 2000 9 (asked.Create (record create_a { path = None })) ≡ bad }
-    ensures container { calls_in 2000 9 (asked.Create (record create_a { flags = pos 4 }))
-        ≡ unimplemented }
+    ensures flag_4 { calls_in 2000 9 (asked.Create (record create_a { flags = pos 4 }))
+        ≡ Ok (Update (act.Create
+        (record { path = at_a; kind = named Container; bytes = [] })) ∷ []) }
+    ensures container { calls_in 2000 9 (asked.CreateContainer (record create_a { flags = pos 4 }))
+        ≡ Ok (Update (act.Create
+        (record { path = at_a; kind = named Container; bytes = [] })) ∷ []) }
     ensures no_time { calls_in 2000 9 (asked.CreateTtl (record timed_a { ttl = pos 0 })) ≡ bad }
 {}
 
@@ -76,8 +80,9 @@ pub fn calls_of_multis()
         (part.Check (record { path = at_a; version = Exactly NO_VERSION })
         ∷ part.SetData (record { path = at_a; bytes = 7 ∷ []; version = Any }) ∷ [])) ∷ []) }
     ensures container { calls_in 2000 9
-        (asked.Multi (of_multi.SetData set_a ∷ of_multi.CreateContainer create_a ∷ []))
-        ≡ unimplemented }
+        (asked.Multi (of_multi.CreateContainer (record create_a { flags = pos 4 }) ∷ []))
+        ≡ Ok (Update (act.Multi (part.Create
+        (record { path = at_a; kind = named Container; bytes = [] }) ∷ [])) ∷ []) }
     ensures too_many { calls_in 2000 9 (asked.Multi (replicate 65 (of_multi.SetData set_a)))
         ≡ bad }
 {}

@@ -163,7 +163,7 @@ module _ (nodes : Nodes) (places : Places) (sessions : Sessions) (time zxid : �
 
   -- a node written, by a change that leaves its owner and its time to live
   pub kept_changed : (path : Path) (f : Node → Node) →
-      ((n : Node) → ((f n).owner ≡ n.owner) × ((f n).ttl ≡ n.ttl)) →
+      ((n : Node) → ((f n).owner ≡ n.owner) × ((f n).term ≡ n.term)) →
       IsKept (with_change_at nodes path f) places sessions time zxid
   kept_changed path f owner = record {
     lawful = lawful_changed (tree_of nodes sessions time zxid) path f owner kept.lawful;
