@@ -273,7 +273,7 @@ def drill(builds):
 
 EACH = (
     asking.limits, asking.sessions, clock, drill, many, readers, silence, words, asking.requests,
-    asking.watches, hostile.frames, addresses, ends, four_letters, secrets, late, unfinished, chunks
+    asking.watches, asking.persistent, hostile.frames, addresses, ends, four_letters, secrets, late, unfinished, chunks
 )
 
 

@@ -1,6 +1,7 @@
 pub mod Waiting
 pub mod Touching
 pub mod Taking
+pub mod Telling
 pub mod Owners
 pub mod Marks
 pub mod Standing

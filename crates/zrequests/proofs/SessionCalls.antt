@@ -16,7 +16,7 @@ use Rattle.zcalls.specs.declared.call.Query.{Query as Question}
 use Rattle.zcalls.specs.declared.call.Query.TheVariants.{GetData, Exists, GetChildren}
 use Rattle.zcalls.specs.declared.call.Call.{Call}
 use Rattle.zcalls.specs.declared.call.Call.TheVariants.{Update, Query}
-use Rattle.zjute.specs.declared.code.Code.TheVariants.{BadArguments, InvalidAcl, Unimplemented, AuthFailed}
+use Rattle.zjute.specs.declared.code.Code.TheVariants.{BadArguments, InvalidAcl, MarshallingError, Unimplemented, AuthFailed}
 use Rattle.zjute.specs.declared.request.Asked.TheVariants as asked
 use Rattle.zjute.specs.declared.request.CreateRequest.{CreateRequest as AskedCreate}
 use Rattle.zjute.specs.declared.request.CreateTtl.{CreateTtl}
@@ -24,10 +24,11 @@ use Rattle.zjute.specs.declared.part.PartRequest.{PartRequest as AskedPart}
 use Rattle.zjute.specs.declared.part.PartRequest.TheVariants as of_multi
 use Rattle.zjute.specs.declared.part.LookPart.{LookPart}
 use Rattle.zjute.specs.declared.part.LookPart.TheVariants as of_look
+use Rattle.zjute.specs.WatchNumbers.{mode_of, type_of}
 use Rattle.zrequests.specs.declared.fault.Unasked.TheVariants.{Refused}
 use Rattle.zrequests.specs.declared.limits.TheConstants.{MAX_PATHS}
 use Rattle.zrequests.specs.Asking.{Meaning, then_means, each_in, path_in, data_in, has_open_acl, kind_in, ttl_in, timed_kind_in}
-use Rattle.zrequests.specs.Requests.{node_in, create_in, timed_create_in, delete_in, check_in, set_in, part_in, one, one_of_parts, multi_in, query_in, look_in, looks_in, watch_in, watched_in, look_alone, create_alone}
+use Rattle.zrequests.specs.Requests.{node_in, create_in, timed_create_in, delete_in, check_in, set_in, part_in, one, one_of_parts, multi_in, query_in, look_in, looks_in, watch_in, watched_in, all_watched_in, numbered_in, look_alone, create_alone}
 use Rattle.zrequests.proofs.Meanings.{choice, done, each_for, never, behind, through}
 use Rattle.zrequests.specs.Laws.{IsForSession, PartIsFor, CallIsFor, CallsAreForTheirSession}
 
@@ -110,6 +111,10 @@ module _ (session : ℕ) where
       choice Calls (nat_lt MAX_PARTS (length looks)) (Err (Refused BadArguments)) (each_in look_in looks) (never Calls (Refused BadArguments))
       (each_for (CallIsFor session) look_in look_for looks)
 
+numbered_for : {A : Type 0} (session : ℕ) (known : Option A) (path : Option (List ℕ)) (calls : List Call) → numbered_in known path ≡ Ok calls → Calls session calls
+numbered_for session None path = never (Calls session) (Refused MarshallingError)
+numbered_for session (Some known) path = alone_for session Exists path
+
 pub calls_are_for_their_session : CallsAreForTheirSession
 calls_are_for_their_session tick session (asked.Create create) = made_for session (create_in session create) (create_for session create)
 calls_are_for_their_session tick session (asked.Create2 create) = made_for session (create_in session create) (create_for session create)
@@ -136,8 +141,10 @@ calls_are_for_their_session tick session (asked.Auth auth) =
 calls_are_for_their_session tick session asked.Ping = done (Calls session) [] tt
 calls_are_for_their_session tick session asked.CloseSession = one_for session (Update (act.Close session)) refl
 calls_are_for_their_session tick session (asked.SetAcl set) = never (Calls session) (Refused Unimplemented)
-calls_are_for_their_session tick session (asked.CheckWatches watches) = never (Calls session) (Refused Unimplemented)
-calls_are_for_their_session tick session (asked.RemoveWatches watches) = never (Calls session) (Refused Unimplemented)
-calls_are_for_their_session tick session (asked.SetWatches2 set) = never (Calls session) (Refused Unimplemented)
-calls_are_for_their_session tick session (asked.AddWatch watch) = never (Calls session) (Refused Unimplemented)
+calls_are_for_their_session tick session (asked.CheckWatches at) = numbered_for session (type_of at.kind) at.path
+calls_are_for_their_session tick session (asked.RemoveWatches at) = numbered_for session (type_of at.kind) at.path
+calls_are_for_their_session tick session (asked.SetWatches2 set) =
+    choice (Calls session) (nat_lt MAX_PATHS (length (all_watched_in set))) (Err (Refused BadArguments)) (each_in watch_in (all_watched_in set)) (never (Calls session) (Refused BadArguments))
+    (each_for (CallIsFor session) watch_in (λ path. query_for session Exists (Some path)) (all_watched_in set))
+calls_are_for_their_session tick session (asked.AddWatch add) = numbered_for session (mode_of add.mode) add.path
 calls_are_for_their_session tick session (asked.Other kind bytes) = never (Calls session) (Refused Unimplemented)

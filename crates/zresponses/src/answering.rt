@@ -35,7 +35,13 @@ pub fn answer_to(
         Asked::GetChildren2(_) => children(alloc, clock, replies),
         Asked::GetAcl(_) => acl(alloc, clock, replies),
         Asked::Sync(path) => sync(alloc, path),
-        Asked::SetWatches(_) | Asked::Auth(_) | Asked::Ping => Ok(Answer::done(Body::Nothing)),
+        Asked::SetWatches(_)
+        | Asked::SetWatches2(_)
+        | Asked::CheckWatches(_)
+        | Asked::RemoveWatches(_)
+        | Asked::Auth(_)
+        | Asked::Ping => Ok(Answer::done(Body::Nothing)),
+        Asked::AddWatch(_) => Ok(Answer::done(Body::Error(Code::Ok))),
         _ => first(alloc, clock, replies),
     }
 }

@@ -10,7 +10,7 @@ use Rattle.std.proofs.lemmas.List.{get_or-take, get_or-drop, length-take, length
 use Rattle.std.proofs.lemmas.List.Elements.{recursion_from_All, All-from_all_within, filter-append}
 use Rattle.std.proofs.lemmas.List.Folds.{drop_split}
 use Rattle.zwatches.specs.declared.kind.Kind.TheVariants.{Data}
-use Rattle.zwatches.specs.declared.place.Place.{Place}
+use Rattle.zwatches.specs.Watches.{Place}
 use Rattle.zwatches.specs.declared.watch.Watch.{Watch}
 use Rattle.zwatches.specs.Watches.{place_cmp, place_of, watch}
 use Rattle.zwatches.specs.support.Groups.{IsGroup}

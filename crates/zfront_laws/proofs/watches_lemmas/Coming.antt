@@ -20,7 +20,7 @@ use Rattle.zfront_laws.proofs.Coming as step
 use Rattle.zfront_laws.proofs.Seated.{has_seat}
 use Rattle.zfront_laws.proofs.Steps.{Fine}
 use Rattle.zfront_laws.specs.watches.Laws.{Arriving, IsRenewal, requests_in}
-use Rattle.zfront_laws.specs.watches.Watching.{Scene, Renewals, Said, after}
+use Rattle.zfront_laws.specs.watches.Watching.{Scene, Asking, Said, after}
 use Rattle.zfront_laws.proofs.frames_lemmas.Views.{phase_with}
 use Rattle.zfront_laws.proofs.watches_lemmas.Greeting.{greets}
 use Rattle.zfront_laws.proofs.watches_lemmas.Marks.{closed_keeps, unchanged}
@@ -30,7 +30,7 @@ use Rattle.zfront_laws.proofs.watches_lemmas.Requesting.{serves}
 use Rattle.zfront_laws.proofs.watches_lemmas.Standing.{closed_fewer}
 
 -- nothing happens
-unmoved : {Renews : Renewals} (old new : FrontView) (s : Scene) → At old s → new ≡ old → Reaches Renews new s []
+unmoved : {Asks : Asking} (old new : FrontView) (s : Scene) → At old s → new ≡ old → Reaches Asks new s []
 unmoved old new s there is = becomes new old s [] is (stays false old s there)
 
 -- ---- frames
@@ -51,12 +51,12 @@ request_among (Some Closing) first frame frames among = inr among
 request_among None first frame frames among = inr among
 
 -- the connection re-registers the watches of each request among the frames
-abbrev RenewsIn : Renewals → ℕ → List (List ℕ) → Type 0
-RenewsIn Renews c requests = (frame : List ℕ) (set : SetWatches) → Among frame requests → IsRenewal set frame → Renews c set
+abbrev RenewsIn : Asking → ℕ → List (List ℕ) → Type 0
+RenewsIn Asks c requests = (frame : List ℕ) (set : SetWatches) → Among frame requests → IsRenewal set frame → Asks c set
 
-handles_in : {Renews : Renewals} (phase : Option Phase) (bytes : List ℕ) (frames : List (List ℕ)) (c : ℕ) (old new : FrontView) (s : Scene)
-    → RenewsIn Renews c (requests_in phase (bytes ∷ frames)) → phase_of old.tables.streams c ≡ phase
-    → Fine old → At old s → HandlesIn phase bytes c old new → Reaches Renews new s (done_by (frame_calls phase bytes old) old)
+handles_in : {Asks : Asking} (phase : Option Phase) (bytes : List ℕ) (frames : List (List ℕ)) (c : ℕ) (old new : FrontView) (s : Scene)
+    → RenewsIn Asks c (requests_in phase (bytes ∷ frames)) → phase_of old.tables.streams c ≡ phase
+    → Fine old → At old s → HandlesIn phase bytes c old new → Reaches Asks new s (done_by (frame_calls phase bytes old) old)
 handles_in (Some Silent) bytes frames c old new s renewed is fine there same =
     becomes new (greeted bytes c old) s (done_by (frame_calls (Some Silent) bytes old) old) same (greets bytes c old s fine there)
 handles_in (Some (Speaking session)) bytes frames c old new s renewed is fine there has =
@@ -64,9 +64,9 @@ handles_in (Some (Speaking session)) bytes frames c old new s renewed is fine th
 handles_in (Some Closing) bytes frames c old new s renewed is fine there same = unmoved old new s there same
 handles_in None bytes frames c old new s renewed is fine there same = unmoved old new s there same
 
-handles_all : {Renews : Renewals} (frames : List (List ℕ)) (c : ℕ) (old new : FrontView) (s : Scene)
-    → RenewsIn Renews c (requests_in (phase_of old.tables.streams c) frames) → Fine old → At old s → (has : HandlesAll frames c old new)
-    → Reaches Renews new s (frames_log frames c old new has)
+handles_all : {Asks : Asking} (frames : List (List ℕ)) (c : ℕ) (old new : FrontView) (s : Scene)
+    → RenewsIn Asks c (requests_in (phase_of old.tables.streams c) frames) → Fine old → At old s → (has : HandlesAll frames c old new)
+    → Reaches Asks new s (frames_log frames c old new has)
 handles_all [] c old new s renewed fine there is = unmoved old new s there is
 handles_all (bytes ∷ frames) c old new s renewed fine there has =
     let middle = has.1 in
@@ -81,15 +81,15 @@ handles_all (bytes ∷ frames) c old new s renewed fine there has =
 
 -- ---- what is stored
 
-rest_moves : {Renews : Renewals} (over : Bool) (rest : List ℕ) (c : ℕ) (v : FrontView) (s : Scene) → At v s
-    → Reaches Renews (with_tables (if over then closed c v.tables else record v.tables { streams = with_bytes v.tables.streams c rest }) v) s []
+rest_moves : {Asks : Asking} (over : Bool) (rest : List ℕ) (c : ℕ) (v : FrontView) (s : Scene) → At v s
+    → Reaches Asks (with_tables (if over then closed c v.tables else record v.tables { streams = with_bytes v.tables.streams c rest }) v) s []
 rest_moves true rest c v s there = closes false v s c there
 rest_moves false rest c v s there =
     let t : TablesView = record v.tables { streams = with_bytes v.tables.streams c rest } in
     moves false v s t there (bytes_move v.tables c rest) (unchanged v.tables.attachments)
 
-keeps_rest : {Renews : Renewals} (rest : List ℕ) (c : ℕ) (v : FrontView) (s : Scene) → At v s → Reaches Renews (keeps rest c v) s []
-keeps_rest {Renews} rest c v s there = elim (is_open v.tables c) as (λ b. Reaches Renews (if b then with_tables (kept rest c v.tables) v else v) s []) [
+keeps_rest : {Asks : Asking} (rest : List ℕ) (c : ℕ) (v : FrontView) (s : Scene) → At v s → Reaches Asks (keeps rest c v) s []
+keeps_rest {Asks} rest c v s there = elim (is_open v.tables c) as (λ b. Reaches Asks (if b then with_tables (kept rest c v.tables) v else v) s []) [
   | true ↦ rest_moves (is_too_long (next_of rest) || nat_lt MAX_KEPT (held_of v.tables.streams + length rest)) rest c v s there
   | false ↦ stays false v s there
 ]
@@ -97,8 +97,8 @@ keeps_rest {Renews} rest c v s there = elim (is_open v.tables c) as (λ b. Reach
 -- ---- bytes
 
 -- a word is answered, and its connection closed
-says : {Renews : Renewals} (text : List ℕ) (c : ℕ) (v : FrontView) (s : Scene) → phase_of v.tables.streams c ≡ Some Silent → At v s
-    → Reaches Renews (with_tables (closed c (sent c text v.tables)) v) s []
+says : {Asks : Asking} (text : List ℕ) (c : ℕ) (v : FrontView) (s : Scene) → phase_of v.tables.streams c ≡ Some Silent → At v s
+    → Reaches Asks (with_tables (closed c (sent c text v.tables)) v) s []
 says text c v s silent there =
     let t = sent c text s.tables in
     once false (with_tables (closed c (sent c text v.tables)) v) s (Said c text) (after (Said c text) s)
@@ -114,13 +114,13 @@ asked_silent (Some Closing) came word is = absurd (cc is)
 asked_silent None came word is = absurd (cc is)
 
 -- the connection re-registers the watches of each request in these bytes
-abbrev RenewsOf : Renewals → ℕ → Option Phase → List ℕ → Type 0
-RenewsOf Renews c phase came = (frames : List (List ℕ)) (rest : List ℕ) → Cuts came frames rest → RenewsIn Renews c (requests_in phase frames)
+abbrev RenewsOf : Asking → ℕ → Option Phase → List ℕ → Type 0
+RenewsOf Asks c phase came = (frames : List (List ℕ)) (rest : List ℕ) → Cuts came frames rest → RenewsIn Asks c (requests_in phase frames)
 
-comes_by : {Renews : Renewals} (word : _) (came : List ℕ) (c : ℕ) (old new : FrontView) (s : Scene)
-    → RenewsOf Renews c (phase_of old.tables.streams c) came → KeepsFew old → Fine old → At old s
+comes_by : {Asks : Asking} (word : _) (came : List ℕ) (c : ℕ) (old new : FrontView) (s : Scene)
+    → RenewsOf Asks c (phase_of old.tables.streams c) came → KeepsFew old → Fine old → At old s
     → word_asked (phase_of old.tables.streams c) came ≡ word
-    → (has : ComesBy word came c old new) → Reaches Renews new s (bytes_log word came c old new has)
+    → (has : ComesBy word came c old new) → Reaches Asks new s (bytes_log word came c old new has)
 comes_by (Some word) came c old new s renewed few fine there asks is =
     becomes new (said word c old) s [] is (says (text_of_word word old) c old s (asked_silent (phase_of old.tables.streams c) came word asks) there)
 comes_by None came c old new s renewed few fine there asks has =
@@ -131,11 +131,11 @@ comes_by None came c old new s renewed few fine there asks has =
     (handles_all has.2.frames c old middle s (renewed has.2.frames has.0 has.2.cuts) fine there handled)
     (λ next here. becomes new (keeps has.0 c middle) next [] (step.keeps_now has.0 c middle new kept has.3) (keeps_rest has.0 c middle next here))
 
-comes_if : {Renews : Renewals} (on : Bool) (bytes : List ℕ) (c : ℕ) (old new : FrontView) (s : Scene)
-    → RenewsOf Renews c (phase_of old.tables.streams c) (bytes_of old.tables.streams c ++ bytes) → KeepsFew old → Fine old → At old s
-    → (has : ComesIf on bytes c old new) → Reaches Renews new s (came_log on bytes c old new has)
+comes_if : {Asks : Asking} (on : Bool) (bytes : List ℕ) (c : ℕ) (old new : FrontView) (s : Scene)
+    → RenewsOf Asks c (phase_of old.tables.streams c) (bytes_of old.tables.streams c ++ bytes) → KeepsFew old → Fine old → At old s
+    → (has : ComesIf on bytes c old new) → Reaches Asks new s (came_log on bytes c old new has)
 comes_if false bytes c old new s renewed few fine there is = unmoved old new s there is
-comes_if {Renews} true bytes c old new s renewed few fine there has =
+comes_if {Asks} true bytes c old new s renewed few fine there has =
     let came = bytes_of old.tables.streams c ++ bytes in
     let v = emptied c old in
     let empty = step.empties c old in
@@ -143,7 +143,7 @@ comes_if {Renews} true bytes c old new s renewed few fine there has =
     behind false false v new s [] (came_log true bytes c old new has)
     (moves false old s v.tables there (bytes_move old.tables c []) (unchanged old.tables.attachments))
     (λ next here.
-    comes_by (word_asked (phase_of v.tables.streams c) came) came c v new next (subst (λ phase. RenewsOf Renews c phase came) (sym same) renewed)
+    comes_by (word_asked (phase_of v.tables.streams c) came) came c v new next (subst (λ phase. RenewsOf Asks c phase came) (sym same) renewed)
     (empty.few few) (empty.seats fine) here refl has)
 
 pub comes : (bytes : List ℕ) (c : ℕ) (old new : FrontView) (s : Scene) → KeepsFew old → Fine old → At old s

@@ -37,14 +37,14 @@ use Rattle.zconnections.specs.Tables.{TablesView, closed, sent}
 use Rattle.zresponses.specs.effects.Answering.{answer_unless, granted_and_answered, now_of}
 use Rattle.zresponses.specs.effects.Replying.{absorbed_all, replied}
 use Rattle.zresponses.specs.effects.Frames.{answer_frame, ends_connection}
-use Rattle.zresponses.specs.effects.Watching.{granted_all, some_lacked}
+use Rattle.zresponses.specs.effects.Watching.{granted_all, first_fault}
 use Rattle.zresponses.specs.effects.Wishes.{wishes}
 use Rattle.zfront.specs.Front.{FrontView, with_tables, asked, replies_to, may_end, swept, took_unnamed, LooksIf, TidiesIf, takes_nodes}
 use Rattle.zfront.specs.Requests.{touched_by, with_answer, Makes, Acts, Requests, Serves}
 use Rattle.zfront_laws.specs.Logs.{done_by, meant, request_calls}
 use Rattle.zfront_laws.proofs.Seated.{Has}
 use Rattle.zfront_laws.specs.watches.Laws.{IsRenewal}
-use Rattle.zfront_laws.specs.watches.Watching.{Scene, Renewals, HasReportedAll, IsClose}
+use Rattle.zfront_laws.specs.watches.Watching.{Scene, Asking, HasReportedAll, IsClose}
 use Rattle.zfront_laws.proofs.watches_lemmas.Granting.{RenewsIf, granted_answers, no_wish_grants, wishes_grant}
 use Rattle.zfront_laws.proofs.watches_lemmas.Holding.{UpdateNames, absorbing}
 use Rattle.zfront_laws.proofs.watches_lemmas.Marks.{Known, Keeps, unchanged, closed_keeps, touched_keeps}
@@ -81,13 +81,13 @@ absorbed_queries (Update update ∷ calls) (reply ∷ reported) t all = absurd a
 
 module _ (c : ℕ) (asks : Request) where
   -- queries set watches, and are answered
-  makes_queries : {Renews : Renewals} (calls : List Call) (old new : FrontView) (s : Scene) → RenewsIf Renews c asks.asked → AsksIf asks.asked calls
-      → AreQueries calls → At old s → Makes calls c asks old new → Reaches Renews new s (done_by calls old)
-  makes_queries {Renews} calls old new s renewed named all there has =
+  makes_queries : {Asks : Asking} (calls : List Call) (old new : FrontView) (s : Scene) → RenewsIf Asks c asks.asked → AsksIf asks.asked calls
+      → AreQueries calls → At old s → Makes calls c asks old new → Reaches Asks new s (done_by calls old)
+  makes_queries {Asks} calls old new s renewed named all there has =
       becomes new (with_answer calls c asks old) s (done_by calls old)
       (subst (λ b. TidiesIf b reported (with_answer calls c asks old) new) (never_end calls all) has)
       (behind_calls calls old s there (with_answer calls c asks old)
-      (subst (λ t. Reaches Renews (with_tables (granted_and_answered old.clock (now_of v.tree) c asks calls reported t) v) (next calls old s there) [])
+      (subst (λ t. Reaches Asks (with_tables (granted_and_answered old.clock (now_of v.tree) c asks calls reported t) v) (next calls old s there) [])
       (sym (absorbed_queries calls reported old.tables all)) granted))
     where
       reported : List Reply
@@ -99,7 +99,7 @@ module _ (c : ℕ) (asks : Request) where
       same : v.tree ≡ old.tree
       same = same_tree old.tree calls all
 
-      granted : Reaches Renews (with_tables (granted_and_answered old.clock (now_of v.tree) c asks calls reported old.tables) v) (next calls old s there) []
+      granted : Reaches Asks (with_tables (granted_and_answered old.clock (now_of v.tree) c asks calls reported old.tables) v) (next calls old s there) []
       granted =
           granted_answers v (next calls old s there) c asks calls reported (nothing_taken calls old s there (ap (λ (t : Tree). t.nodes) same))
           (wishes_grant c v.tree asks.asked calls reported renewed named (subst (λ t. AreOf t calls reported) (sym same) (served_are_of old.tree calls all)))
@@ -117,7 +117,7 @@ module _ (c : ℕ) (asks : Request) where
     v = asked calls old
 
     -- it takes nothing away
-    updates : {Renews : Renewals} → takes_away u ≡ false → UpdateNames (Known s.tables.attachments) u → new ≡ with_answer calls c asks old → Reaches Renews new s (done_by calls old)
+    updates : {Asks : Asking} → takes_away u ≡ false → UpdateNames (Known s.tables.attachments) u → new ≡ with_answer calls c asks old → Reaches Asks new s (done_by calls old)
     updates stays names is =
         let w = with_tables (absorbing u reported old.tables) v in
         becomes new (with_answer calls c asks old) s (done_by calls old) is
@@ -136,7 +136,7 @@ module _ (c : ℕ) (asks : Request) where
     no_wishes : with_tables (granted_and_answered old.clock (now_of v.tree) c asks calls (reported ∷ []) old.tables) v ≡ answered
     no_wishes =
         ap (λ ws. with_tables (replied v.tree.zxid c asks.xid
-        (answer_unless (some_lacked c ws old.tables) old.clock (now_of v.tree) asks.asked calls (reported ∷ [])) (granted_all c ws old.tables)) v)
+        (answer_unless (first_fault c ws old.tables) old.clock (now_of v.tree) asks.asked calls (reported ∷ [])) (granted_all c ws old.tables)) v)
         (no_watch (reported ∷ []))
 
     -- it is answered, and what it took away is reported
@@ -148,8 +148,8 @@ module _ (c : ℕ) (asks : Request) where
           | false ↦ subst (Keeps t.attachments) (sym (sent_attachments c (answer_frame v.tree.zxid asks.xid answer) t)) (unchanged t.attachments)
         ]
 
-    ends : {Renews : Renewals} (took : Taken v (next calls old s there) (takes_nodes reported)) → (HasReportedAll (next calls old s there) c ⊎ IsClose (next calls old s there) c)
-        → LooksIf (took_unnamed (reported ∷ []) answered) (swept answered) new → Reaches Renews new s (done_by calls old)
+    ends : {Asks : Asking} (took : Taken v (next calls old s there) (takes_nodes reported)) → (HasReportedAll (next calls old s there) c ⊎ IsClose (next calls old s there) c)
+        → LooksIf (took_unnamed (reported ∷ []) answered) (swept answered) new → Reaches Asks new s (done_by calls old)
     ends took may has =
         behind_calls calls old s there new
         (behind took.must false answered new (next calls old s there) [] []
@@ -161,10 +161,10 @@ module _ (c : ℕ) (asks : Request) where
         why (inr (id, gone, made)) = inr (id, gone, (replied_keeps old.tables).marks id made)
 
   -- a close
-  closes_session : {Renews : Renewals} (session : ℕ) (old new : FrontView) (s : Scene) → phase_of old.tables.streams c ≡ Some (Speaking session)
+  closes_session : {Asks : Asking} (session : ℕ) (old new : FrontView) (s : Scene) → phase_of old.tables.streams c ≡ Some (Speaking session)
       → ((reported : List Reply) → wishes asks.asked (Update (act.Close session) ∷ []) reported ≡ []) → At old s
-      → Makes (Update (act.Close session) ∷ []) c asks old new → Reaches Renews new s (done_by (Update (act.Close session) ∷ []) old)
-  closes_session {Renews} session old new s speaks no_watch there has = by (close_does old.tree session)
+      → Makes (Update (act.Close session) ∷ []) c asks old new → Reaches Asks new s (done_by (Update (act.Close session) ∷ []) old)
+  closes_session {Asks} session old new s speaks no_watch there has = by (close_does old.tree session)
     where
       u : Act
       u = act.Close session
@@ -178,7 +178,7 @@ module _ (c : ℕ) (asks : Request) where
       looks : LooksIf (took_unnamed ((step old.tree 0 u).1 ∷ []) done) (swept done) new
       looks = subst (λ w. LooksIf (took_unnamed ((step old.tree 0 u).1 ∷ []) w) (swept w) new) (no_wishes u old new s no_watch there) has
 
-      by : ((step old.tree 0 u).0 ≡ old.tree) ⊎ ((step old.tree 0 u).1 ≡ reply.Closed) → Reaches Renews new s (done_by (Update u ∷ []) old)
+      by : ((step old.tree 0 u).0 ≡ old.tree) ⊎ ((step old.tree 0 u).1 ≡ reply.Closed) → Reaches Asks new s (done_by (Update u ∷ []) old)
       by (inl same) =
           let here = nothing_taken (Update u ∷ []) old s there (ap (λ (t : Tree). t.nodes) same) in
           ends u old new s no_watch there (record { must = false; there = here; why = λ due. absurd (cc due) })
@@ -195,9 +195,9 @@ module _ (c : ℕ) (asks : Request) where
           )) looks
 
   -- an update
-  makes_update : {Renews : Renewals} (session : ℕ) (u : Act) → UpdateIsFor session u → ((reported : List Reply) → wishes asks.asked (Update u ∷ []) reported ≡ [])
+  makes_update : {Asks : Asking} (session : ℕ) (u : Act) → UpdateIsFor session u → ((reported : List Reply) → wishes asks.asked (Update u ∷ []) reported ≡ [])
       → (old new : FrontView) (s : Scene) → phase_of old.tables.streams c ≡ Some (Speaking session) → UpdateNames (Known s.tables.attachments) u
-      → At old s → Makes (Update u ∷ []) c asks old new → Reaches Renews new s (done_by (Update u ∷ []) old)
+      → At old s → Makes (Update u ∷ []) c asks old new → Reaches Asks new s (done_by (Update u ∷ []) old)
   makes_update session (act.Create create) for no_watch old new s speaks names there is =
       updates (act.Create create) old new s no_watch there refl names is
   makes_update session (act.Delete delete) for no_watch old new s speaks names there is =
@@ -243,14 +243,14 @@ update_names m session has act.Tick for = tt
 
 -- ---- a request
 
-module _ {Renews : Renewals} (c session : ℕ) (asks : Request) (renewed : RenewsIf Renews c asks.asked) where
+module _ {Asks : Asking} (c session : ℕ) (asks : Request) (renewed : RenewsIf Asks c asks.asked) where
   makes : (made : List Call) → AsksIf asks.asked made → Sorts asks.asked made → AllByRecursion (CallIsFor session) made
       → (old new : FrontView) (s : Scene) → phase_of old.tables.streams c ≡ Some (Speaking session) → Has s.tables.attachments session → At old s
-      → Makes made c asks old new → Reaches Renews new s (done_by made old)
+      → Makes made c asks old new → Reaches Asks new s (done_by made old)
   makes made named (inl all) for old new s speaks sits there has = makes_queries c asks made old new s renewed named all there has
   makes made named (inr (u, is, no_watch)) for old new s speaks sits there has =
       let own : UpdateIsFor session u = (subst (AllByRecursion (CallIsFor session)) is for).0 in
-      subst (λ cs. Reaches Renews new s (done_by cs old)) (sym is)
+      subst (λ cs. Reaches Asks new s (done_by cs old)) (sym is)
       (makes_update c asks session u own (λ reported. ap (λ cs. wishes asks.asked cs reported) (sym is) ∙ no_watch reported) old new s speaks
       (update_names s.tables.attachments session sits u own) there
       (subst (λ cs. Makes cs c asks old new) is has))
@@ -258,7 +258,7 @@ module _ {Renews : Renewals} (c session : ℕ) (asks : Request) (renewed : Renew
   acts : (meaning : Meaning (List Call)) → ((calls : List Call) → meaning ≡ Ok calls
       → AsksIf asks.asked calls × Sorts asks.asked calls × AllByRecursion (CallIsFor session) calls)
       → (old new : FrontView) (s : Scene) → phase_of old.tables.streams c ≡ Some (Speaking session) → Has s.tables.attachments session
-      → At old s → Acts meaning c asks old new → Reaches Renews new s (done_by (meant meaning) old)
+      → At old s → Acts meaning c asks old new → Reaches Asks new s (done_by (meant meaning) old)
   acts (Err (Refused code)) each old new s speaks sits there is =
       becomes new (with_tables (replied old.tree.zxid c asks.xid (failed code) old.tables) old) s [] is
       (replies false old s c asks.xid (failed code) there (inl (all_reported old s c there)))
@@ -268,9 +268,9 @@ module _ {Renews : Renewals} (c session : ℕ) (asks : Request) (renewed : Renew
       makes calls sorted.0 sorted.1 sorted.2 old new s speaks sits there has
 
 -- a frame of a session
-requests : {Renews : Renewals} (read : Result Request Fault) (session c : ℕ) (old new : FrontView) (s : Scene)
-    → ((asks : Request) → read ≡ Ok asks → RenewsIf Renews c asks.asked) → phase_of old.tables.streams c ≡ Some (Speaking session)
-    → Has old.tables.attachments session → At old s → Requests read session c old new → Reaches Renews new s (done_by (request_calls read session old) old)
+requests : {Asks : Asking} (read : Result Request Fault) (session c : ℕ) (old new : FrontView) (s : Scene)
+    → ((asks : Request) → read ≡ Ok asks → RenewsIf Asks c asks.asked) → phase_of old.tables.streams c ≡ Some (Speaking session)
+    → Has old.tables.attachments session → At old s → Requests read session c old new → Reaches Asks new s (done_by (request_calls read session old) old)
 requests (Err fault) session c old new s renewed speaks sits there is =
     becomes new (with_tables (closed c old.tables) old) s [] is (closes false old s c there)
 requests (Ok asks) session c old new s renewed speaks sits there has =
@@ -284,9 +284,9 @@ requests (Ok asks) session c old new s renewed speaks sits there has =
     (touched_by session old) new next speaks
     (subst (λ (u : TablesView). Has u.attachments session) (sym here.tables) (kept.has session sits)) here has)
 
-pub serves : {Renews : Renewals} (bytes : List ℕ) (session c : ℕ) (old new : FrontView) (s : Scene)
-    → ((set : SetWatches) → IsRenewal set bytes → Renews c set) → phase_of old.tables.streams c ≡ Some (Speaking session)
+pub serves : {Asks : Asking} (bytes : List ℕ) (session c : ℕ) (old new : FrontView) (s : Scene)
+    → ((set : SetWatches) → IsRenewal set bytes → Asks c set) → phase_of old.tables.streams c ≡ Some (Speaking session)
     → Has old.tables.attachments session → At old s → Serves bytes session c old new
-    → Reaches Renews new s (done_by (request_calls (whole request bytes) session old) old)
+    → Reaches Asks new s (done_by (request_calls (whole request bytes) session old) old)
 serves bytes session c old new s renewed speaks sits there has =
     requests (whole request bytes) session c old new s (λ asks reads set is. renewed set (asks, reads, is)) speaks sits there has

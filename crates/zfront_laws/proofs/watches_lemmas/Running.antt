@@ -31,7 +31,7 @@ use Rattle.zfront_laws.proofs.Restored.{is_bare, is_few, is_fine, sits}
 use Rattle.zfront_laws.proofs.Seated.{Has}
 use Rattle.zfront_laws.proofs.Steps.{Fine}
 use Rattle.zfront_laws.specs.watches.Watching.{Scene, tree_of}
-use Rattle.zfront_laws.specs.watches.Laws.{Brings, BringsAll, EveryWatchIsReported, none_renewed, opening_scene}
+use Rattle.zfront_laws.specs.watches.Laws.{Brings, BringsAll, EveryWatchIsReported, none_asked, opening_scene}
 use Rattle.zfront_laws.proofs.watches_lemmas.Coming.{comes}
 use Rattle.zfront_laws.proofs.watches_lemmas.Holding.{settled}
 use Rattle.zfront_laws.proofs.watches_lemmas.Marks.{Marked, unchanged, without_seat_keeps}
@@ -70,7 +70,7 @@ brings (Takes (Ended c)) old new s few fine there is =
           (without_seat_keeps (session_in (phase_of s.tables.streams c)) s.tables),
     )
 brings (Takes Tick) old new s few fine there has =
-    let done = ticks {Renews = none_renewed} old new s there has in
+    let done = ticks {Asks = none_asked} old new s there has in
     (done.scene, (done.happenings, done.happens), done.log, done.there)
 brings Sent old new s few fine there is =
     let to : TablesView → TablesView = λ t. record t { unsent = drop 1 t.unsent } in

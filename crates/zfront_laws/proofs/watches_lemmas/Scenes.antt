@@ -23,7 +23,7 @@ use Rattle.ztree_service.proofs.log_lemmas.Incarnations.{calls_zipped, incarnati
 use Rattle.ztree_service.proofs.log_lemmas.Logs.{last_tree}
 use Rattle.zconnections.specs.Tables.{TablesView}
 use Rattle.zconnections.specs.Reporting.{reported_all}
-use Rattle.zfront_laws.specs.watches.Watching.{Scene, Happening, Renewals, Served, Fired, tree_of, after, May, Happens}
+use Rattle.zfront_laws.specs.watches.Watching.{Scene, Happening, Asking, Served, Fired, tree_of, after, May, Happens}
 use Rattle.zfront_laws.proofs.watches_lemmas.Standing.{Fewer, reported_leaves}
 
 -- the tree of a scene can start a service: it is lawful
@@ -68,28 +68,28 @@ tree_logged calls t s is =
     incarnations_leave_one_tree opening_tree s.log (zip calls (served t calls)) ∙ ap (tree_after (tree_of s)) (calls_zipped t calls)
     ∙ ap (λ u. tree_after u calls) is
 
-module _ (Renews : Renewals) where
+module _ (Asks : Asking) where
   -- what happens after something else
-  pub happens_both : (hs more : List Happening) (a b c : Scene) → Happens Renews hs a b → Happens Renews more b c → Happens Renews (hs ++ more) a c
-  happens_both [] more a b c is rest = subst (λ s. Happens Renews more s c) is rest
+  pub happens_both : (hs more : List Happening) (a b c : Scene) → Happens Asks hs a b → Happens Asks more b c → Happens Asks (hs ++ more) a c
+  happens_both [] more a b c is rest = subst (λ s. Happens Asks more s c) is rest
   happens_both (h ∷ hs) more a b c has rest = (has.0, happens_both hs more (after h a) b c has.1 rest)
 
   pub served_happens : (calls : List Call) (t : Tree) (s : Scene) → tree_of s ≡ t
-      → Happens Renews (servings calls (served t calls)) s (logged s (zip calls (served t calls)))
+      → Happens Asks (servings calls (served t calls)) s (logged s (zip calls (served t calls)))
   served_happens [] t s is = ap (λ (log : Log). record s { log = log }) (append-nil s.log)
   served_happens (call ∷ calls) t s is =
       let did = serve t 0 call in
       let next = after (Served call did.1) s in (
         ap (λ u. (serve u 0 call).1) (sym is),
-        subst (λ log. Happens Renews (servings calls (served did.0 calls)) next (record s { log = log }))
+        subst (λ log. Happens Asks (servings calls (served did.0 calls)) next (record s { log = log }))
             (append_assoc s.log ((call, did.1) ∷ []) (zip calls (served did.0 calls)))
             (served_happens calls did.0 next (last_tree s.log opening_tree call did.1 ∙ ap (λ u. (serve u 0 call).0) is)),
       )
 
   -- events are reported, one after the other
   pub fired_happens : (es : List Event) (s : Scene)
-      → ((e : Event) (t : TablesView) → Among e es → Fewer s.tables t → May Renews (Fired e) (record s { tables = t }))
-      → Happens Renews (map (λ e. Fired e) es) s (record s { tables = reported_all es s.tables })
+      → ((e : Event) (t : TablesView) → Among e es → Fewer s.tables t → May Asks (Fired e) (record s { tables = t }))
+      → Happens Asks (map (λ e. Fired e) es) s (record s { tables = reported_all es s.tables })
   fired_happens [] s cause = refl
   fired_happens (e ∷ es) s cause = (
     cause e s.tables (inl refl) (λ w stands. stands),

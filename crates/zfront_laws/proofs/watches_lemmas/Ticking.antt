@@ -13,7 +13,7 @@ use Rattle.zconnections.specs.Tables.{TablesView}
 use Rattle.zfront.specs.Front.{FrontView, asked, replies_to, may_end, takes_nodes, TidiesIf}
 use Rattle.zfront.specs.Ticking.{tick_calls, rested, TicksBy, Ticks}
 use Rattle.zfront_laws.specs.Logs.{done_by}
-use Rattle.zfront_laws.specs.watches.Watching.{Scene, Renewals}
+use Rattle.zfront_laws.specs.watches.Watching.{Scene, Asking}
 use Rattle.zfront_laws.proofs.watches_lemmas.Marks.{rested_keeps}
 use Rattle.zfront_laws.proofs.watches_lemmas.Moving.{attachments_move}
 use Rattle.zfront_laws.proofs.watches_lemmas.Reaching.{At, Reaches, behind, moves}
@@ -46,7 +46,7 @@ module _ (sessions : List ℕ) (old new : FrontView) (s : Scene) (there : At old
   why (inl some) = inl some
   why (inr (id, gone, made)) = inr (id, gone, (rested_keeps v.tables.attachments).marks id made)
 
-  ticks_by : {Renews : Renewals} → TicksBy calls old new → Reaches Renews new s (done_by calls old)
+  ticks_by : {Asks : Asking} → TicksBy calls old new → Reaches Asks new s (done_by calls old)
   ticks_by has =
       let t : TablesView = record v.tables { attachments = all_rested v.tables.attachments } in
       behind_calls calls old s there new
@@ -55,5 +55,5 @@ module _ (sessions : List ℕ) (old new : FrontView) (s : Scene) (there : At old
       (λ last here. tidies took.must reported (rested v) new last here (λ due. why (took.why due))
       (subst (λ b. TidiesIf b reported (rested v) new) (may_end_some sessions) has)))
 
-pub ticks : {Renews : Renewals} (old new : FrontView) (s : Scene) → At old s → Ticks old new → Reaches Renews new s (done_by (tick_calls (touched_ids old.tables.attachments)) old)
+pub ticks : {Asks : Asking} (old new : FrontView) (s : Scene) → At old s → Ticks old new → Reaches Asks new s (done_by (tick_calls (touched_ids old.tables.attachments)) old)
 ticks old new s there has = ticks_by (touched_ids old.tables.attachments) old new s there has

@@ -23,7 +23,7 @@ use Rattle.zconnections.specs.Sweeping.{forgotten, is_gone, made_one, some_made_
 use Rattle.zconnections.specs.Sweeping as tables
 use Rattle.zresponses.specs.effects.Looking.{seen}
 use Rattle.zfront.specs.Front.{FrontView, with_tables, gone_from, swept, takes_nodes, took_unnamed, looks, looked, LooksIf}
-use Rattle.zfront_laws.specs.watches.Watching.{Scene, Renewals, Fired, tree_of, May, IsUnchanged}
+use Rattle.zfront_laws.specs.watches.Watching.{Scene, Asking, Fired, tree_of, May, IsUnchanged}
 use Rattle.zfront_laws.proofs.watches_lemmas.Changing.{fired_at_path, gone_changed, reports_of}
 use Rattle.zfront_laws.proofs.watches_lemmas.Holding.{WentAway, look_holds, more_due}
 use Rattle.zfront_laws.proofs.watches_lemmas.Looking.{IsSeenIn, seen_caused, none_in_vain}
@@ -50,8 +50,8 @@ owned_there m id (inl nobody) = inl nobody
 owned_there m id (inr there) = inr there
 
 -- a session that is gone is forgotten
-forgets : {Renews : Renewals} (must : Bool) (id : ℕ) (v : FrontView) (s : Scene) → is_gone v.tree.sessions id ≡ true → AtIf must v s
-    → Arrives Renews must (with_tables (forgotten id v.tables) v) s []
+forgets : {Asks : Asking} (must : Bool) (id : ℕ) (v : FrontView) (s : Scene) → is_gone v.tree.sessions id ≡ true → AtIf must v s
+    → Arrives Asks must (with_tables (forgotten id v.tables) v) s []
 forgets must id v s gone there =
     moves_if must v s (forgotten id v.tables) there (attachments_move v.tables (finite.remove v.tables.attachments id))
     (λ all path n found. mark n.owner (owned_there v.tree.sessions n.owner (lawful.owners path n found)) (all path n found))
@@ -67,15 +67,15 @@ forgets must id v s gone there =
         inr (removed_mark v.tables.attachments id owner (apart_from v.tree.sessions owner id lives gone) ∙ made)
 
 -- its connection is closed
-pub moves_away : {Renews : Renewals} (must : Bool) (id : ℕ) (v : FrontView) (s : Scene) → AtIf must v s → Arrives Renews must (with_tables (moved id v.tables) v) s []
-moves_away {Renews} must id v s there =
-    elim (connection_of v.tables.attachments id) as (λ o. Arrives Renews must (with_tables (option_map_or (λ c. closed c v.tables) o v.tables) v) s []) [
+pub moves_away : {Asks : Asking} (must : Bool) (id : ℕ) (v : FrontView) (s : Scene) → AtIf must v s → Arrives Asks must (with_tables (moved id v.tables) v) s []
+moves_away {Asks} must id v s there =
+    elim (connection_of v.tables.attachments id) as (λ o. Arrives Asks must (with_tables (option_map_or (λ c. closed c v.tables) o v.tables) v) s []) [
       | None ↦ stays must v s there
       | Some c ↦ closes must v s c there
     ]
 
-sweeps : {Renews : Renewals} (must : Bool) (ids : List ℕ) (v : FrontView) (s : Scene) → AllByRecursion (λ id. is_gone v.tree.sessions id ≡ true) ids
-    → AtIf must v s → Arrives Renews must (with_tables (swept_all ids v.tables) v) s []
+sweeps : {Asks : Asking} (must : Bool) (ids : List ℕ) (v : FrontView) (s : Scene) → AllByRecursion (λ id. is_gone v.tree.sessions id ≡ true) ids
+    → AtIf must v s → Arrives Asks must (with_tables (swept_all ids v.tables) v) s []
 sweeps must [] v s all there = stays must v s there
 sweeps must (id ∷ ids) v s all there =
     let u = with_tables (moved id v.tables) v in
@@ -105,16 +105,16 @@ module _ (places : List Place) (v : FrontView) (s : Scene) (lists : Lists places
       (ap (finite.get (tree_of s).nodes) (sym at.0) ∙ none)
       (ap (reports_of w.kind) (sym deleted) ∙ at.1) unchanged
 
-  may : (Renews : Renewals) (e : Event) (t : TablesView) → Fewer s.tables t → IsSeenIn (tree_of s) e → May Renews (Fired e) (record s { tables = t })
-  may Renews e t fewer (inl (deleted, none)) =
+  may : (Asks : Asking) (e : Event) (t : TablesView) → Fewer s.tables t → IsSeenIn (tree_of s) e → May Asks (Fired e) (record s { tables = t })
+  may Asks e t fewer (inl (deleted, none)) =
       inl (inr (deleted, none), λ w stands fired. inl (λ unchanged. changed e w (fewer w stands) deleted none fired unchanged))
-  may Renews e t fewer (inr lost) = inr lost
+  may Asks e t fewer (inr lost) = inr lost
 
-  looks_by : {Renews : Renewals} → Reaches Renews (looked places v) s []
-  looks_by {Renews} = record {
+  looks_by : {Asks : Asking} → Reaches Asks (looked places v) s []
+  looks_by {Asks} = record {
     happenings = map (λ e. Fired e) es;
     scene = last;
-    happens = fired_happens Renews es s (λ e t among fewer. may Renews e t fewer (cause e among));
+    happens = fired_happens Asks es s (λ e t among fewer. may Asks e t fewer (cause e among));
     log = sym (append-nil s.log);
     there = record {
       tables = ap (reported_all es) there.tables;
@@ -127,7 +127,7 @@ module _ (places : List Place) (v : FrontView) (s : Scene) (lists : Lists places
     };
   }
 
-looks_if : {Renews : Renewals} (must due : Bool) (old new : FrontView) (s : Scene) → (must ≡ true → due ≡ true) → AtIf must old s → LooksIf due old new → Reaches Renews new s []
+looks_if : {Asks : Asking} (must due : Bool) (old new : FrontView) (s : Scene) → (must ≡ true → due ≡ true) → AtIf must old s → LooksIf due old new → Reaches Asks new s []
 looks_if false false old new s why there is = becomes new old s [] is (stays false old s there)
 looks_if true false old new s why there is = absurd (cc (why refl))
 looks_if must true old new s why there (places, lists, is) =
@@ -138,8 +138,8 @@ looks_if must true old new s why there (places, lists, is) =
     }))
 
 -- after calls that ended sessions
-pub tidies : {Renews : Renewals} (must : Bool) (reported : List Reply) (old new : FrontView) (s : Scene) → AtIf must old s
-    → (must ≡ true → (list_any takes_nodes reported ≡ true) ⊎ Gone old) → LooksIf (took_unnamed reported old) (swept old) new → Reaches Renews new s []
+pub tidies : {Asks : Asking} (must : Bool) (reported : List Reply) (old new : FrontView) (s : Scene) → AtIf must old s
+    → (must ≡ true → (list_any takes_nodes reported ≡ true) ⊎ Gone old) → LooksIf (took_unnamed reported old) (swept old) new → Reaches Asks new s []
 tidies must reported old new s there why has =
     still must false (swept old) new s [] (sweeps must (gone_from old) old s (all_gone old.tree.sessions old.tables.attachments) there)
     (λ next here. looks_if must (took_unnamed reported old) (swept old) new next (λ due. becomes_due reported old (why due)) here has)

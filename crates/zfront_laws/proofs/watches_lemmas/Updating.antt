@@ -33,7 +33,7 @@ use Rattle.zconnections.specs.Sweeping.{noted, made_one}
 use Rattle.zfront.specs.Front.{FrontView, with_tables, asked, replies_to, takes_nodes}
 use Rattle.zfront.specs.Ticking.{ping, tick_calls}
 use Rattle.zfront_laws.specs.Logs.{done_by}
-use Rattle.zfront_laws.specs.watches.Watching.{Scene, Renewals, Served, Fired, Moved, tree_of, after, HasChanged, IsSameAt}
+use Rattle.zfront_laws.specs.watches.Watching.{Scene, Asking, Served, Fired, Moved, tree_of, after, HasChanged, IsSameAt}
 use Rattle.zfront_laws.proofs.watches_lemmas.Changing.{OfMulti, fired_at_path, has_changed, reports_of}
 use Rattle.zfront_laws.proofs.watches_lemmas.Holding.{Holds, UpdateNames, absorbing, update_holds, lost_holds, still_holds, settled}
 use Rattle.zfront_laws.proofs.watches_lemmas.Marks.{Known, Marked}
@@ -86,16 +86,16 @@ module _ (v : FrontView) (s : Scene) (u : Act) (there : At v s) where
   abbrev last : Scene
   last = record (after (Served (Update u) reported) s) { tables = absorbing u reported s.tables }
 
-  pub absorbs : {Renews : Renewals} → takes_away u ≡ false → UpdateNames (Known s.tables.attachments) u
-      → Reaches Renews (with_tables (absorbing u reported v.tables) (asked (Update u ∷ []) v)) s (done_by (Update u ∷ []) v)
-  absorbs {Renews} stays names = record {
+  pub absorbs : {Asks : Asking} → takes_away u ≡ false → UpdateNames (Known s.tables.attachments) u
+      → Reaches Asks (with_tables (absorbing u reported v.tables) (asked (Update u ∷ []) v)) s (done_by (Update u ∷ []) v)
+  absorbs {Asks} stays names = record {
     happenings = Served (Update u) reported ∷ Moved middle ∷ map (λ e. Fired e) es;
     scene = last;
     happens = (
       right,
       (
         attachments_move s.tables (noted u reported s.tables.attachments),
-        fired_happens Renews es second
+        fired_happens Asks es second
             (λ e t among fewer. inl (inl (s.log, u, reported, refl, among), λ w stands fired. changed e t w among (fewer w stands) fired)),
       ),
     );
@@ -129,9 +129,9 @@ module _ (calls : List Call) (v : FrontView) (s : Scene) (there : At v s) where
   abbrev pub next : Scene
   next = logged s (done_by calls v)
 
-  pub behind_calls : {Renews : Renewals} (w : FrontView) → Reaches Renews w next [] → Reaches Renews w s (done_by calls v)
-  behind_calls {Renews} w =
-      called w s next (servings calls (replies_to calls v)) (done_by calls v) (served_happens Renews calls v.tree s there.tree) refl
+  pub behind_calls : {Asks : Asking} (w : FrontView) → Reaches Asks w next [] → Reaches Asks w s (done_by calls v)
+  behind_calls {Asks} w =
+      called w s next (servings calls (replies_to calls v)) (done_by calls v) (served_happens Asks calls v.tree s there.tree) refl
 
   goes_to : tree_of next ≡ tree_after v.tree calls
   goes_to = tree_logged calls v.tree s there.tree

@@ -15,6 +15,7 @@ ghost use Rattle.zjute.specs.declared.request.Asked.TheVariants as asked;
 ghost use Rattle.zrequests.specs.declared.limits.TheConstants.{NO_VERSION};
 ghost use Rattle.zrequests.specs.Requests.{calls_in};
 ghost use Rattle.zrequests.specs.support.Samples.{bad, unimplemented, invalid_acl, auth_failed, open_entry, text_a};
+ghost use Rattle.zrequests.specs.support.Samples.{marshalling};
 ghost use Rattle.zrequests.specs.support.Samples.{create_a, timed_a, at_version, set_a, look_a};
 
 /// Creates: an ephemeral of the session, and a node with a TTL.
@@ -42,6 +43,34 @@ pub fn calls_of_changes()
         (record { path = at_a; bytes = 7 ∷ []; version = Any })) ∷ []) }
     ensures check { calls_in 2000 9 (asked.Check at_version) ≡ Ok (Update (act.Multi (part.Check
         (record { path = at_a; version = Exactly NO_VERSION }) ∷ [])) ∷ []) }
+{}
+
+/// Requests on watches: each asks whether the node exists, once its number is known. Then comes the
+/// path. The five lists of a setWatches2 are asked for in order.
+#[tactic(auto, unfolding(zpath::specs::Faults::fault_of))]
+pub fn calls_of_watches()
+    ensures add { calls_in 2000 9 (asked.AddWatch (record { path = text_a; mode = pos 1 }))
+        ≡ Ok (Query (Exists at_a) ∷ []) }
+    ensures no_mode { calls_in 2000 9 (asked.AddWatch (record { path = text_a; mode = pos 2 }))
+        ≡ marshalling }
+    ensures remove { calls_in 2000 9 (asked.RemoveWatches (record { path = text_a; kind = pos 3 }))
+        ≡ Ok (Query (Exists at_a) ∷ []) }
+    ensures check { calls_in 2000 9 (asked.CheckWatches (record { path = text_a; kind = pos 1 }))
+        ≡ Ok (Query (Exists at_a) ∷ []) }
+    ensures no_type { calls_in 2000 9 (asked.RemoveWatches (record { path = None; kind = pos 4 }))
+        ≡ marshalling }
+    ensures no_path { calls_in 2000 9 (asked.AddWatch (record { path = None; mode = pos 0 }))
+        ≡ bad }
+    ensures all { calls_in 2000 9 (asked.SetWatches2 (record {
+      watches = record {
+        relative_zxid = pos 1;
+        data_watches = codes "/a" ∷ [];
+        exist_watches = [];
+        child_watches = [];
+      };
+      persistent_watches = [];
+      recursive_watches = codes "/a" ∷ [];
+    })) ≡ Ok (Query (Exists at_a) ∷ Query (Exists at_a) ∷ []) }
 {}
 
 /// Requests that read.
