@@ -8,6 +8,7 @@
 #include <unistd.h>
 #include "connections.h"
 #include "front.h"
+#include "notes.h"
 #include "start.h"
 
 enum {
@@ -32,6 +33,21 @@ bool is_there(const struct connection *it) {
 }
 
 size_t owed(const struct connection *it) { return it->count - it->sent; }
+
+size_t unread(void) { return held; }
+
+bool is_opened(int socket) {
+    uint32_t number = 1;
+    while (number <= MOST && all[number].state != FREE) number++;
+    struct epoll_event event = {.events = EPOLLIN, .data.u32 = number};
+    if (number > MOST) note(REFUSED, "a connection is refused: %d are served at once", MOST);
+    if (number > MOST || epoll_ctl(events, EPOLL_CTL_ADD, socket, &event)) return false;
+    all[number] = (struct connection){
+        .state = OPEN, .socket = socket, .events = EPOLLIN, .until = now() + PATIENCE};
+    front_opened(number);
+    counts.accepted++;
+    return true;
+}
 
 /* Makes room for this many more bytes. */
 static void make_room(struct connection *it, size_t more) {
@@ -70,7 +86,9 @@ static void bound_owed(void) {
             if (owed(&all[i]) > owed(&all[most])) most = i;
         }
         send_on(most);
-        if (held > HELD) shut(most);
+        if (held <= HELD) return;
+        note(UNREAD, "a connection is closed: clients leave %d MiB unread", HELD >> 20);
+        shut(most);
     }
 }
 
@@ -80,6 +98,8 @@ void bound_unfinished(void) {
         for (uint32_t i = 2; i <= MOST; i++) {
             if (all[i].part > all[most].part) most = i;
         }
+        note(LONG_REQUESTS, "a connection is closed: %d MiB of requests are unfinished",
+             UNFINISHED >> 20);
         shut(most);
     }
 }
@@ -90,10 +110,19 @@ static struct connection *connection_of(uint32_t number) {
     stop(1, "zk_serve sent a chunk of connection %u, which isn't there", number);
 }
 
+/* Counts a batch that took so long. */
+static void counted(uint64_t took) {
+    counts.batches++, counts.batch_ms += took, counts.requests += asked;
+    if (took > counts.longest_ms) counts.longest_ms = took;
+    if (took >= SLOW) note(SLOW_BATCH, "a batch took %llu ms", (unsigned long long)took);
+}
+
 void take(void) {
     uint32_t number;
     enum next next;
+    uint64_t began = now();
     front_keep();
+    if (asked) counted(now() - began);
     asked = 0;
     while ((next = front_next(&number)) != NOTHING) {
         struct connection *it = connection_of(number);
@@ -105,6 +134,7 @@ void take(void) {
         } while (count > it->room - it->count);
         if (it->state != OPEN) continue;
         it->count += count;
+        counts.chunks++;
         it->until = 0;
         if (!it->is_touched) touched[touched_count++] = number;
         it->is_touched = true;
@@ -135,7 +165,7 @@ void send_on(uint32_t number) {
             shut(number);
             return;
         }
-        it->sent += sent, held -= sent;
+        it->sent += sent, held -= sent, counts.sent += (uint64_t)sent;
     }
     if (!owed(it)) forget_sent(it);
     /* (its client closes it, or PATIENCE ends: so unread input doesn't lose what was sent) */

@@ -57,6 +57,12 @@ bool is_there(const struct connection *it);
 /* How many bytes are to be sent. */
 size_t owed(const struct connection *it);
 
+/* How many bytes are to be sent, on all connections together. */
+size_t unread(void);
+
+/* Serves a socket as a connection, if one is free and the socket can be waited for. */
+bool is_opened(int socket);
+
 /* Closes a connection at once. The front is notified later: its chunks may be half taken. */
 void shut(uint32_t number);
 

@@ -24,6 +24,8 @@
 #include "connections.h"
 #include "front.h"
 #include "jellqupas.h"
+#include "metrics.h"
+#include "notes.h"
 #include "start.h"
 
 enum {
@@ -51,7 +53,7 @@ static void keep_time(void) {
     bool is_stalled = at > ticks_at + tick;
     ticks_at = (is_stalled ? at : ticks_at) + tick;
     is_put_off = is_stalled && !is_put_off;
-    if (!is_put_off) front_tick();
+    if (!is_put_off) front_tick(), counts.ticks++;
 }
 
 /* How many requests begin in these bytes of a connection. */
@@ -81,6 +83,7 @@ static void read_from(uint32_t number) {
             shut(number);
             return;
         }
+        counts.received += (uint64_t)count;
         if (it->state == OPEN) {
             end_gone();
             unfinished -= it->part;
@@ -106,17 +109,13 @@ static bool is_welcomed(void) {
     if (socket < 0) {
         /* (if descriptors or memory are short, no connection is accepted for a second) */
         struct epoll_event none = {.data.u32 = LISTENER};
-        bool is_short = errno != EAGAIN && errno != EINTR && errno != ECONNABORTED;
-        if (is_short) epoll_ctl(events, EPOLL_CTL_MOD, listener, &none);
+        if (errno == EAGAIN || errno == EINTR || errno == ECONNABORTED) return false;
+        note(SHORT, "no connection is accepted for a second: %s", strerror(errno));
+        epoll_ctl(events, EPOLL_CTL_MOD, listener, &none);
         return false;
     }
-    uint32_t number = 1;
-    while (number <= MOST && all[number].state != FREE) number++;
-    if (number > MOST || !is_added(socket, number)) return close(socket), true;
+    if (!is_opened(socket)) return close(socket), true;
     setsockopt(socket, IPPROTO_TCP, TCP_NODELAY, &on, sizeof on);
-    all[number] = (struct connection){
-        .state = OPEN, .socket = socket, .events = EPOLLIN, .until = now() + PATIENCE};
-    front_opened(number);
     return true;
 }
 
@@ -127,6 +126,7 @@ static void pass(int milliseconds) {
     int count = epoll_wait(events, ready, MOST + 2, milliseconds), most = 0;
     for (int i = 0; i < count; i++) {
         uint32_t number = ready[i].data.u32, came = ready[i].events;
+        if (is_of_metrics(number)) continue;
         if (number == SIGNALS) is_over = true;
         else if (number == LISTENER) most = 64;
         else if (came & EPOLLOUT) send_on(number);
@@ -144,6 +144,7 @@ static void look(void) {
     for (uint32_t i = 1; i <= MOST; i++) {
         if (all[i].until && now() >= all[i].until) shut(i);
     }
+    metrics_look();
     finish();
 }
 
@@ -175,11 +176,17 @@ static void say(const struct words *words, unsigned port) {
     fputs(OPEN_TO_ALL, stderr);
 }
 
-/* Becomes the program that does a task with a folder. */
+static const char A_COPY[] = "zk: the folder is in use: this is of a copy of it, as it is now\n";
+
+/* Becomes the program that does a task with a folder. If a server uses the folder, a copy of it is
+   counted or exported. */
 static _Noreturn void become(const struct words *words) {
     char *folder = strcmp(words->data, "-") ? (char *)words->data : "./-", servers[24];
-    char *own[] = {(char *)words->program, folder, (char *)words->task, servers, NULL};
-    snprintf(servers, sizeof servers, "%d", servers_of(folder));
+    const char *copy = strcmp(words->task, "compact") ? copied(folder) : NULL;
+    char *of = copy ? (char *)copy : folder;
+    char *own[] = {(char *)words->program, of, (char *)words->task, servers, NULL};
+    snprintf(servers, sizeof servers, "%d", servers_of(of));
+    if (copy) fputs(A_COPY, stderr), end_after(own);
     execv(own[0], own);
     stop(3, "%s: %s", own[0], strerror(errno));
 }
@@ -201,6 +208,7 @@ int main(int count, char **given) {
     if (!is_added(signals, SIGNALS) || !is_added(listener, LISTENER)) {
         stop(3, "nothing can be waited for: %s", strerror(errno));
     }
+    if (words.metrics) metrics_open(words.metrics, words.data);
     tick = (uint64_t)words.tick;
     serve();
     for (uint32_t i = 1; i <= MOST; i++) shut(i);

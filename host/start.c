@@ -59,11 +59,18 @@ socklen_t read_address(const char *text, union address *to) {
     return inet_pton(AF_INET6, host + 1, &to->six.sin6_addr) == 1 ? sizeof to->six : 0;
 }
 
+bool is_loopback(const char *text) {
+    union address at;
+    if (!read_address(text, &at)) return true;
+    if (at.any.sa_family == AF_INET) return ntohl(at.four.sin_addr.s_addr) >> 24 == 127;
+    return IN6_IS_ADDR_LOOPBACK(&at.six.sin6_addr);
+}
+
 int listening_at(const char *text, unsigned *port) {
     int on = 1;
     union address at;
     socklen_t size = read_address(text, &at);
-    if (!size) stop(2, "--listen is ADDRESS:PORT, as 127.0.0.1:2181, not '%s'", text);
+    if (!size) stop(2, "an address is ADDRESS:PORT, as 127.0.0.1:2181, not '%s'", text);
     int found = socket(at.any.sa_family, SOCK_STREAM | SOCK_NONBLOCK | SOCK_CLOEXEC, 0);
     if (found >= 0) setsockopt(found, SOL_SOCKET, SO_REUSEADDR, &on, sizeof on);
     if (found < 0 || bind(found, &at.any, size) || listen(found, SOMAXCONN) ||
@@ -99,16 +106,22 @@ int ending_signals(void) {
 static const char USAGE[] =
     "Serves ZooKeeper's clients, until SIGINT or SIGTERM comes.\n\n"
     "  --listen ADDRESS:PORT    where it listens (127.0.0.1:2181); port 0 is any that is free\n"
+    "  --open                   lets it listen where other machines reach it\n"
     "  --tick MS                the milliseconds of a tick, 10 to 3600000 (2000)\n"
     "  --data DIR               stores its state in this folder\n"
     "  --sync batch|never       whether a reply waits for the disk (batch)\n"
     "  --journal MIB            compacts its journal from this size on, 1 to 1048576 (64)\n"
+    "  --metrics ADDRESS:PORT   where Prometheus reads what it counts (nowhere)\n"
     "  --program PROGRAM        the program that it starts: zk_serve\n"
     "  --version, --help\n\n"
     "Without --data all is in memory. Nothing reads standard input.\n\n"
-    "compact, export or stat before --data DIR: does that with the folder, and ends.\n";
+    "compact, export or stat before --data DIR: does that with the folder, and ends. Of a folder\n"
+    "in use, stat and export take a copy.\n";
 
 static const char NO_CHAIN[] = "--servers isn't taken: this is one server, without a chain";
+
+static const char CLOSED[] =
+    "--listen %s: other machines reach it, and anyone there may do everything; --open allows that";
 
 /* The program of an installed host, ../libexec/jellqupas/zk_serve from its own folder, or NULL. */
 static const char *installed(void) {
@@ -154,6 +167,7 @@ struct words understood(char **words) {
     const struct place places[] = {
         {.name = "--data", .text = &found.data}, {.name = "--program", .text = &found.program},
         {.name = "--listen", .text = &found.listen}, {.name = "--sync", .text = &found.sync},
+        {.name = "--metrics", .text = &found.metrics},
         {.name = "--journal", .number = &found.journal, .least = 1, .most = 1048576},
         {.name = "--tick", .number = &found.tick, .least = 10, .most = 3600000}};
     const struct place *const end = places + (found.task ? 2 : sizeof places / sizeof *places);
@@ -164,6 +178,10 @@ struct words understood(char **words) {
         if (!strcmp(word, "--help")) exit(fputs(USAGE, stdout) < 0);
         if (!strcmp(word, "--version")) exit(puts("jellqupas " JELLQUPAS_VERSION) < 0);
         if (!strcmp(word, "--") && !words[1]) break;
+        if (!strcmp(word, "--open") && !found.task) {
+            found.is_open = true;
+            continue;
+        }
         if (length == 9 && !memcmp(word, "--servers", 9)) stop(2, "%s", NO_CHAIN);
         const struct place *it = places;
         while (it < end && (strlen(it->name) != length || memcmp(word, it->name, length))) it++;
@@ -174,6 +192,7 @@ struct words understood(char **words) {
     if (strcmp(found.sync, "batch") && strcmp(found.sync, "never")) {
         stop(2, "--sync isn't '%s'", found.sync);
     }
+    if (!found.is_open && !is_loopback(found.listen)) stop(2, CLOSED, found.listen);
     if (found.task && !found.data) stop(2, "%s needs --data", found.task);
     if (!found.program) found.program = installed();
     if (!found.program) stop(2, "--program is missing");

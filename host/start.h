@@ -3,6 +3,7 @@
 #define START_H
 
 #include <netinet/in.h>
+#include <stdbool.h>
 #include <stdint.h>
 
 /* The bytes of the secret from which passwords of sessions are derived. */
@@ -27,12 +28,14 @@ union address {
 socklen_t read_address(const char *text, union address *to);
 
 /* What the words ask for. `program` is the one that serves. `data` is its folder, or NULL,
-   and `servers` the number in its journal's head. `task` is what is done with the folder in the
+   and `servers` the number in its journal's head. `metrics` is where its counts can be read, or
+   NULL. `is_open` allows addresses that others reach. `task` is what is done with the folder in the
    place of serving, or NULL. */
 struct words {
-    const char *listen, *data, *sync, *program, *task;
+    const char *listen, *metrics, *data, *sync, *program, *task;
     long tick, journal;
     int servers;
+    bool is_open;
 };
 
 /* Reads the words after the program's name. For `--help` and the like it prints, and ends. */
@@ -45,8 +48,17 @@ void take_secret(const char *folder, uint8_t secret[SECRET]);
 /* The number in the head of a folder's journal, or 1 if there is none. */
 int servers_of(const char *folder);
 
+/* A folder with a copy of the journal as it is now, if a server uses this folder, or NULL. */
+const char *copied(const char *folder);
+
+/* Runs a program that reads the copy, removes the copy, and ends with the program's status. */
+_Noreturn void end_after(char *const words[]);
+
 /* A socket that listens at ADDRESS:PORT, and the port. */
 int listening_at(const char *text, unsigned *port);
+
+/* Whether only this machine reaches the address. */
+bool is_loopback(const char *text);
 
 /* A descriptor on which SIGINT and SIGTERM come, or -1. */
 int ending_signals(void);

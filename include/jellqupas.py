@@ -366,10 +366,17 @@ class Create(Part):
     ephemeral: Union[None, Session, int] = None
     sequential: bool = False
     ttl: Optional[int] = None
+    container: bool = False
 
     def kind(self) -> bytes:
         if not isinstance(self.sequential, bool):
             raise TypeError("sequential is a bool")
+        if not isinstance(self.container, bool):
+            raise TypeError("container is a bool")
+        if self.container:
+            if self.sequential or self.ephemeral is not None or self.ttl is not None:
+                raise ValueError("a container has no number, no session and no time to live")
+            return b"c"
         mark = b"s" if self.sequential else b""
         if self.ephemeral is not None and self.ttl is not None:
             raise ValueError("a node has a session or a time to live, not both")
@@ -633,15 +640,17 @@ class Client(_Caller):
     and each that takes a path `BadPath`, besides what its own text says."""
 
     def create(self, path: str, data: bytes = b"", *, ephemeral: Union[None, Session, int] = None,
-               sequential: bool = False, ttl: Optional[int] = None) -> str:
+               sequential: bool = False, ttl: Optional[int] = None,
+               container: bool = False) -> str:
         """Makes a node, and returns its path.
 
         ephemeral: the session whose end deletes it. sequential: ten digits of the parent's counter
         are added to the name, so that no name comes twice. ttl: after that many ticks without a
-        set, 1 to 1,048,576, a childless node is deleted.
+        set, 1 to 1,048,576, a childless node is deleted. container: the node is deleted at a tick
+        once it has had children and has none.
         SessionGone, NodeExists, NoNode, NoChildrenForEphemerals, SequenceFull, PathLimit, Full,
         BadData."""
-        return self._do(Create(path, data, ephemeral, sequential, ttl))
+        return self._do(Create(path, data, ephemeral, sequential, ttl, container))
 
     def delete(self, path: str, version: Optional[int] = None) -> None:
         """Deletes a node without children. RootFixed, NoNode, BadVersion, NotEmpty."""

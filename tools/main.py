@@ -87,10 +87,10 @@ def node(mode, words):
     become(host, clusters.words_of(cluster, program))
 
 
-def at_rest(mode, command, _, given):
-    """Does with a server's folder, on which no server runs, what the command says."""
-    servers = serving.servers_of(given.data)
-    become(get(mode, "serve"), [given.data, command, str(servers)])
+def at_rest(mode, command, words, _):
+    """Does with a server's folder what the command says; with a copy, where a server uses it."""
+    host, program = hosted(serving.host, mode, "serve")
+    become(host, [command, f"--program={program}", *words])
 
 
 def install(mode, _, __, given):

@@ -83,6 +83,8 @@ def version(word):
 def kind(word):
     if word in ("p", "ps"):
         return bytes([len(word) - 1])
+    if word == "c":
+        return bytes([6])
     name, colon, value = word.partition(":")
     need(colon and name in KINDS)
     need(name in ("e", "es") or 0 < number(value) <= MAX_TTL)

@@ -18,11 +18,12 @@ from ending import Stopped
 PROGRAM, NODE_PROGRAM = "zk_serve", "zk_node"
 # What the hosts are compiled of.
 HOST = tuple(f"host/{it}.c" for it in (
-    "serve", "connections", "start", "piped", "folder", "child"))
+    "serve", "connections", "metrics", "notes", "start", "piped", "folder", "copy", "child"))
 NODE_HOST = tuple(f"host/{it}.c" for it in (
     "node", "seat", "log", "peers", "guests", "bytes", "child", "start"))
 HEADERS = (*(f"host/{it}.h" for it in (
-    "bytes", "child", "connections", "front", "node", "start")), "include/jellqupas.h")
+    "bytes", "child", "connections", "front", "metrics", "node", "notes", "start")),
+    "include/jellqupas.h")
 FLAGS = "-std=c11 -O2 -Wall -Wextra".split()
 COMPILERS = ("cc", "gcc", "clang")
 
@@ -54,13 +55,3 @@ def host(name="serve", program=PROGRAM, files=HOST):
 def node_host():
     """The host of a node."""
     return host("node", NODE_PROGRAM, NODE_HOST)
-
-
-def servers_of(folder):
-    """The number in the head of a folder's journal; 1 where it doesn't say."""
-    path = f"{folder}/journal"
-    if not os.path.isfile(path):
-        raise Stopped(f"data: {path}: there is no journal")
-    with open(path, "rb") as file:
-        head = file.read(21)
-    return head[20] if len(head) == 21 and 1 <= head[20] <= 16 else 1

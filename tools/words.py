@@ -69,6 +69,7 @@ OPTIONS = {
     },
     "serve": {
         "--data": folder, "--tick": number(10, 3600000), "--listen": address,
+        "--metrics": address,
         "--journal": number(1, 1048576), "--sync": str,
     },
     **dict.fromkeys(AT_REST, {"--data": folder}),
@@ -83,8 +84,8 @@ def read(command, words):
         choices = ("batch", "never") if name == "--sync" else None
         is_required = command in (*AT_REST, "install")
         parser.add_argument(name, type=kind, choices=choices, required=is_required)
-    if command == "install":
-        parser.add_argument("--unproved", action="store_true")
+    for name in {"install": ["--unproved"], "serve": ["--open"]}.get(command, ()):
+        parser.add_argument(name, action="store_true")
     if command == "serve" and any(it.startswith("--servers") for it in words):
         parser.error("--servers isn't taken: this is one server, without a chain")
     found = parser.parse_args(words)

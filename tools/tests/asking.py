@@ -21,9 +21,14 @@ REFUSED = (
     (VERSION, DELETE, at_version("/a/b", 1)), (VERSION, SET, set_body("/a", version=7)),
     (VERSION, SET, set_body("/a", version=-2)), (VERSION, CHECK, at_version("/a", 5)),
     *((ACL, CREATE, create_body("/x", acls=it)) for it in (acl(1), acl(name="me"), int4(0))),
-    *((UNIMPLEMENTED, op, text("/a") + int4(3)) for op in (16, 17, 18, 102, 106, 999, -77)),
+    *((UNIMPLEMENTED, op, text("/a") + int4(3)) for op in (16, 102, 999, -77)),
+    *((MARSHALLING, op, text("/a") + int4(it))
+      for op, it in ((ADD_WATCH, 2), (ADD_WATCH, -1), (CHECK_WATCHES, 0), (REMOVE_WATCHES, 4))),
+    *((NO_WATCHER, op, text("/a") + int4(it))
+      for op in (CHECK_WATCHES, REMOVE_WATCHES) for it in (1, 2, 3)),
+    (ARGUMENTS, ADD_WATCH, text(None) + int4(0)), (ARGUMENTS, REMOVE_WATCHES, text("a") + int4(3)),
     (UNIMPLEMENTED, SET_ACL, text("/a") + acl() + int4(-1)),
-    (UNIMPLEMENTED, CONTAINER, create_body("/x", kind=4)),
+    (NO_NODE, CONTAINER, create_body("/no/a", kind=OF_CHILDREN)),
     *((ARGUMENTS, CREATE, create_body("/x", kind=kind)) for kind in (7, -1, 5, 6)),
     *((ARGUMENTS, CREATE_TTL, create_body("/x", kind=TTL, ttl=it)) for it in (0, -1, 1 << 62)),
     (ARGUMENTS, CREATE, create_body("/x", b"x" * 65537)), (ARGUMENTS, DELETE, at_version("/")),
@@ -57,6 +62,9 @@ def requests(builds):
         body = create_body("/a/t-", kind=TTL_SEQUENTIAL, ttl=60000)
         made = it.call(CREATE_TTL, body, Reader.named)
         want_same(made, ("/a/t-0000000000", it.exists("/a/t-0000000000")), "one with a TTL")
+        made = it.call(CONTAINER, create_body("/c", kind=OF_CHILDREN), Reader.named)
+        want_same(made, ("/c", it.exists("/c")), "a container")
+        want_same(made[1].owner, -(1 << 63), "the owner of a container")
         new = it.set("/a", b"second", 0)
         want_same((new.version, new.length, new.mzxid), (1, 6, it.zxid), "the stat of a set")
         want_same((new.czxid, new.ctime, new.cversion), (stat.czxid, stat.ctime, 2), "what stays")
@@ -102,6 +110,14 @@ def watches(builds):
         it.call(CREATE_TTL, create_body("/t", kind=TTL, ttl=2000), Reader.named)
         it.exists("/t", True)
         want_same(it.next(), (DELETED, "/t"), "what a tick takes away")
+        for path in ("/c", "/empty"):
+            it.call(CONTAINER, create_body(path, kind=OF_CHILDREN), Reader.named)
+        it.create("/c/a")
+        other.exists("/empty", True)
+        it.exists("/c", True)
+        it.delete("/c/a")
+        want_same(it.next(), (DELETED, "/c"), "a container whose last child is gone")
+        want_same(other.events(), [], "a container that never had a child")
         with server.client(timeout=1000) as short:
             short.create("/e", kind=EPHEMERAL)
             it.exists("/e", True)
@@ -116,6 +132,56 @@ def watches(builds):
         want_same(it.events(), wanted, "what has changed since")
         other.set("/a"), other.create("/new"), other.set("/same")
         want_same(it.events(), [(CREATED, "/new"), (CHANGED, "/same")], "the rest waits")
+
+
+def added(it, path, mode):
+    """Adds a watch: 0 is a persistent one, 1 a recursive one. Its body has the code once more."""
+    want_same(it.call(ADD_WATCH, text(path) + int4(mode), lambda reader: reader.numbers(">i")),
+              (OK,), f"a watch of {path} in the mode {mode}")
+
+
+def persistent(builds):
+    """A watch that stays is told of each change, a recursive one of all below, until removed."""
+    with Server(builds, tick=500) as server, server.client() as it, server.client() as other:
+        it.create("/a"), it.create("/b"), added(it, "/a", 0), added(it, "/a/d", 1)
+        for number in range(3):
+            other.set("/a", b"%d" % number)
+            want_same(it.events(), [(CHANGED, "/a")], f"change {number}")
+        other.create("/a/c"), other.create("/a/d"), other.create("/a/d/e"), other.set("/a/d/e")
+        other.set("/b"), other.set("/a/c"), other.create("/a/de")
+        wanted = [(CREATED, "/a/d"), (CREATED, "/a/d/e"), (CHANGED, "/a/d/e"), *[(CHILD, "/a")] * 3]
+        want_same(it.events(), sorted(wanted), "each change, and no sibling's")
+        other.delete("/a/d/e"), other.delete("/a/d"), other.create("/a/d")
+        wanted = [(DELETED, "/a/d/e"), (DELETED, "/a/d"), (CREATED, "/a/d"), *[(CHILD, "/a")] * 2]
+        want_same(it.events(), sorted(wanted), "a node that is gone, and made again")
+        it.get("/a", True)
+        other.set("/a"), other.set("/a")
+        want_same(it.events(), [(CHANGED, "/a")] * 2, "one event beside a one-shot watch")
+        with server.client(timeout=1000) as short:
+            for path in ("/a/d/e", "/a/d/f"):
+                short.create(path, kind=EPHEMERAL)
+            it.events()
+            ended = sorted((DELETED, path) for path in ("/a/d/e", "/a/d/f"))
+            want_same(sorted((it.next(), it.next())), ended, "what a session's end takes away")
+        it.seen.clear()
+        other.create("/a/d/e")
+        want_same(it.events(), [(CREATED, "/a/d/e")], "no deletion once more")
+        code = refused(other.call, REMOVE_WATCHES, text("/a") + int4(3))
+        want_same(code, NO_WATCHER, "another's watches")
+        it.call(CHECK_WATCHES, text("/a") + int4(1))
+        it.call(REMOVE_WATCHES, text("/a") + int4(1))
+        other.create("/a/f"), other.set("/a")
+        want_same(it.events(), [(CHANGED, "/a")], "the rest of a watch")
+        for path in ("/a", "/a/d"):
+            it.call(REMOVE_WATCHES, text(path) + int4(3))
+        other.set("/a"), other.set("/a/d"), other.delete("/a/f")
+        want_same(it.events(), [], "none is left")
+        since = it.zxid
+        other.set("/a"), other.set("/b")
+        it.call(SET_WATCHES_2, watches_body(since, ["/b"], [], [], ["/a"], ["/a/d"]))
+        want_same(it.events(), [(CHANGED, "/b")], "a persistent watch missed none")
+        other.set("/a"), other.set("/a"), other.delete("/a/d/e"), other.set("/b")
+        want_same(it.events(), sorted([*[(CHANGED, "/a")] * 2, (DELETED, "/a/d/e")]), "and stays")
 
 
 def sessions(builds):

@@ -205,24 +205,45 @@ def export(builds):
         for made in ("/a", b"hi"), ("/a/e", b"mine", EPHEMERAL), ("/a-b", LARGE), ("/a/s-", b"", 2):
             it.create(*made)
         it.call(CREATE_TTL, create_body("/a/t", b"short", TTL, ttl=600000), Reader.named)
+        it.call(CONTAINER, create_body("/a/c", kind=OF_CHILDREN), Reader.named)
         it.set("/", b"root")
-    lines = [f"1 set / any {ROOT}", "1 create /a p aGk=", "1 create /a/s-0000000000 p -",
-             "1 create /a/t t:10 c2hvcnQ=", f"1 create /a-b p {large}"]
+    lines = [f"1 set / any {ROOT}", "1 create /a p aGk=", "1 create /a/c c -",
+             "1 create /a/s-0000000000 p -", "1 create /a/t t:10 c2hvcnQ=",
+             f"1 create /a-b p {large}"]
     for _ in range(2):
         status, out, said = at_rest(builds, folder, "export")
         want_same((status, out.splitlines()), (0, lines), "an export")
         want(f"(the last is {it.zxid})" in said and said.count("left out: 1\n") == 2, said)
         stat = dict(it.split(": ") for it in at_rest(builds, folder, "stat")[1].splitlines())
-        wanted = {"nodes": 6, "bytes of data": 15 + len(LARGE), "sessions": 1, "changes": it.zxid,
+        wanted = {"nodes": 7, "bytes of data": 15 + len(LARGE), "sessions": 1, "changes": it.zxid,
                   "bytes of the journal": os.path.getsize(f"{folder}/journal")}
         want_same({key: int(stat[key]) for key in wanted}, wanted, "stat")
         want_same(at_rest(builds, folder, "compact")[0], 0, "compact")
     lines += ["1 get /", "1 get /a-b", "1 ls /", "1 ls /a", "1 exists /a/e", ""]
     out = ended([builds.program("zk"), "script"], input="\n".join(lines))[1]
     want_same([it.split(" stat ")[0] for it in out.splitlines()][1:], [
-        "ok /a", "ok /a/s-0000000000", "ok /a/t", "ok /a-b", f"ok data {ROOT}",
-        f"ok data {large}", "ok 2 a a-b", "ok 2 s-0000000000 t", "no NoNode",
+        "ok /a", "ok /a/c", "ok /a/s-0000000000", "ok /a/t", "ok /a-b", f"ok data {ROOT}",
+        f"ok data {large}", "ok 2 a a-b", "ok 3 c s-0000000000 t", "no NoNode",
     ], "an export that is played")
+
+
+def copies(builds):
+    """While clients write, `stat` and `export` read a copy, which has all that was acknowledged."""
+    folder, spare, (host, of) = new_folder(builds), new_folder(builds), words_of(builds)[:2]
+    words = ["env", f"TMPDIR={spare}", host]
+    os.mkdir(spare)
+    with Server(builds, folder, SHORT, sync="batch") as server, server.client() as it:
+        it.create("/a", b"0")
+        writer = Writer(server.client(), "/a", 4, b" " * 3000)
+        for _ in range(20):
+            answered = writer.answered
+            status, out, said = ended([*words, "export", of, "--data", folder])
+            want((status, "of a copy" in said) == (0, True), f"{status} {out} {said}")
+            found = int(base64.b64decode(out.split()[-1]))
+            want(answered <= found, f"{found} copied, {answered} acknowledged")
+            want_same(ended([*words, "stat", of, "--data", folder])[0], 0, "stat")
+        until(lambda: writer.answered > answered)
+    want_same(os.listdir(spare), [], "what is left")
 
 
 def not_opened(builds):
@@ -304,7 +325,7 @@ def synced(builds):
 
 
 def tests(builds):
-    each = restart, secret, of_before, shortening, export, not_opened, full_disk, synced
+    each = (restart, secret, of_before, shortening, export, copies, not_opened, full_disk, synced)
     found = [Test(f"folder: {it.__name__}", 8, lambda _, it=it: it(builds)) for it in each]
     found += mending.tests(builds) + compactions.tests(builds)
     return found + [Test(f"folder: {LIVES} kills, {it}", 30, lambda _, it=it: kills(builds, it))

@@ -5,9 +5,11 @@ from collections import namedtuple
 CREATE, DELETE, EXISTS, GET, SET, GET_ACL, SET_ACL, LS, SYNC, _, PING, LS2 = range(1, 13)
 CHECK, MULTI, CREATE2, CONTAINER, CREATE_TTL, MULTI_READ = 13, 14, 15, 19, 21, 22
 AUTH, SET_WATCHES, CLOSE, EVENT_XID, PING_XID, AUTH_XID = 100, 101, -11, -1, -2, -4
+CHECK_WATCHES, REMOVE_WATCHES, SET_WATCHES_2, ADD_WATCH = 17, 18, 105, 106
 CREATED, DELETED, CHANGED, CHILD = 1, 2, 3, 4
-EPHEMERAL, SEQUENTIAL, TTL, TTL_SEQUENTIAL, MAX_FRAME = 1, 2, 5, 6, 0xfffff
-OK, SYSTEM, UNIMPLEMENTED, ARGUMENTS, NO_NODE, VERSION = 0, -1, -6, -8, -101, -103
+EPHEMERAL, SEQUENTIAL, OF_CHILDREN, TTL, TTL_SEQUENTIAL, MAX_FRAME = 1, 2, 4, 5, 6, 0xfffff
+OK, SYSTEM, MARSHALLING, UNIMPLEMENTED, ARGUMENTS = 0, -1, -5, -6, -8
+NO_NODE, VERSION, NO_WATCHER = -101, -103, -121
 NO_CHILDREN, EXISTS_ALREADY, NOT_EMPTY, ACL, AUTH_FAILED = -108, -110, -111, -114, -115
 
 int4, int8 = struct.Struct(">i").pack, struct.Struct(">q").pack
@@ -57,7 +59,7 @@ def multi_body(*parts):
 
 
 def watches_body(seen, *paths):
-    """The paths whose data, existence and children are watched."""
+    """The paths whose data, existence and children are watched; then, each time, and below."""
     return int8(seen) + b"".join(int4(len(some)) + b"".join(map(text, some)) for some in paths)
 
 

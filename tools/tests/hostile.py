@@ -42,6 +42,8 @@ def bodies(path, data=b"", version=-1, kind=0, acls=acl(), ttl=9000):
         (MULTI, multi_body((DELETE, check), (CREATE_TTL, timed))), (CHECK, check), (-1, b""),
         (MULTI_READ, multi_body((GET, look_body("/d")), (LS, look_body("/")))), (999, look),
         (SET_WATCHES, watches_body(version, some, some[:2], some[2:])), (CONTAINER, create),
+        (SET_WATCHES_2, watches_body(version, some, some[:2], some[2:], some[:1], some[1:])),
+        *((op, text(path) + int4(version)) for op in (ADD_WATCH, REMOVE_WATCHES, CHECK_WATCHES)),
         (AUTH, int4(0) + text("digest") + text(data)), (DELETE, check), (CLOSE, b""),
         (SET_ACL, text(path) + acls + int4(version)),
         (AUTH, int4(0) + text("ip") + text(b"")), (MULTI, multi_body((77, look))),

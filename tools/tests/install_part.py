@@ -16,7 +16,7 @@ import serving
 from frames import greeting
 from report import Skipped, Test, want, want_same
 from serve_part import with_kazoo
-from servers import Server, ended, new_folder, until
+from servers import Server, ended, free_port, new_folder, until
 from sources import ROOT
 from wire import Client, Ended, Wire
 
@@ -84,8 +84,10 @@ def alone(builds):
         with Server(builds, own=words) as server:
             status, out, said = ended([python, "-Bc", KAZOO, server.at])
             found.append((status, said, out))
-            said = ended([*bare, "stat", "--data", folder])
+            said = ended([*bare, "compact", "--data", folder])
             want_same(said, (3, "", "zk: data: the folder is in use\n"), "beside a server")
+            status, out, _ = ended([*bare, "export", "--data", folder])
+            want_same((status, out), (0, "1 create /a p aGk=\n"), "export of a copy")
     want_same(found[0][:2], (0, ""), "kazoo")
     want_same(found[1], found[0], "after a restart")
     status, out, _ = ended([*bare, "export", f"--data={folder}"])
@@ -105,11 +107,6 @@ def man(builds):
     words = [needed("groff"), "-man", "-ww", "-z", "-Tutf8"]
     said = ended([*words, f"{installed(builds)}/share/man/man8/jellqupas.8"])
     want_same(said, (0, "", ""), "the man page")
-
-
-def free_port():
-    with socket.create_server(("127.0.0.1", 0)) as it:
-        return it.getsockname()[1]
 
 
 @contextlib.contextmanager

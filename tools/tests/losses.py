@@ -16,7 +16,7 @@ import messages
 from chains import GO_ON, STOP, Chain, comes
 from report import want, want_same
 
-KEYS, CLIENTS, MEMBERS = 4, 31, 3
+KEYS, CLIENTS, MEMBERS, SPARE = 4, 31, 3, 2
 # The calls that are answered before a loss, and after it.
 CALLS = 200
 # What is lost in one cluster: it has sixteen numbers.
@@ -180,17 +180,23 @@ class Losing:
         self.load.answers(CALLS, f"after {loss}")
 
     def grow(self):
-        """A new node takes the place of the one that was lost."""
-        before = len(self.chain.view().nodes)
-        node = self.chain.start(next(self.nodes))
-        joined = lambda: len(self.chain.view().nodes) > before and not self.chain.view().joining
-        self.load.until(joined, "a new member")
-        want(node.ran.poll() is None, f"the new member: {node.said()}")
+        """A new node takes the place of the one that was lost.
+
+        (on a busy machine one may be suspected while it joins: then another takes it)
+        """
+        for _ in range(SPARE):
+            before = len(self.chain.view().nodes)
+            node = self.chain.start(next(self.nodes))
+            joined = lambda: len(self.chain.view().nodes) > before and not self.chain.view().joining
+            self.load.until(joined, "a new member")
+            if before + 1 in self.chain.view().chain:
+                return
+        want(False, f"the new member: {node.said()}")
 
 
 def lose(builds, seed):
     """Loses a node after another, under load. No answer is wrong."""
-    with Chain(builds, MEMBERS + len(LOSSES)) as chain:
+    with Chain(builds, MEMBERS + len(LOSSES) + SPARE) as chain:
         losing = Losing(chain, seed)
         load = losing.load
         try:

@@ -9,12 +9,14 @@ import subprocess
 import sys
 import tempfile
 import time
+import urllib.request
 
 import asking
+import curator_trials
 import hostile
 from frames import *
 from report import Skipped, Test, want, want_same
-from servers import Server, ended, program, until, words_of
+from servers import Server, ended, free_port, program, until, words_of
 from wire import NO_SESSION, Ended, Wire, greeted
 
 RECIPES = f"{os.path.dirname(os.path.abspath(__file__))}/recipes.py"
@@ -64,9 +66,10 @@ def words(builds):
 
 def addresses(builds):
     with Server(builds) as server, server.client() as it:
-        for at in (server.at, "203.0.113.7:0"):
-            status, _, said = ended([*words_of(builds), "--listen", at])
-            want((status, said.count("\n"), at in said) == (3, 1, True), f"{at}: {status} {said}")
+        for at, wanted in ((server.at, 3), ("203.0.113.7:0 --open", 3), ("0.0.0.0:0", 2)):
+            status, _, said = ended([*words_of(builds), "--listen", *at.split()])
+            is_so = (status, said.count("\n"), at.split()[0] in said) == (wanted, 1, True)
+            want(is_so, f"{at}: {status} {said}")
         server.stop()
         want(it.is_ended(), "its end closes the connections")
     with Server(builds, words=["--listen", server.at]) as again:
@@ -77,6 +80,27 @@ def addresses(builds):
         with socket.create_connection(server.address, timeout=30) as it:
             it.sendall(b"ruok")
             want_same(it.recv(9), b"imok", "over IPv6")
+
+
+def metrics(builds):
+    """What is counted, as Prometheus reads it: of the front and of the host."""
+    port = free_port()
+    given = ("--metrics", f"127.0.0.1:{port}")
+    with Server(builds, words=given) as server, server.client() as it:
+        it.create("/a")
+        it.exists("/a", True)
+        with urllib.request.urlopen(f"http://{given[1]}/metrics", timeout=30) as found:
+            kind, text = found.headers["Content-Type"], found.read().decode()
+        want_same(kind, "text/plain; version=0.0.4", "its type")
+        told = dict(line.split() for line in text.splitlines() if not line.startswith("#"))
+        for name, wanted in (("zk_watch_count", "1"), ("zk_num_alive_connections", "1"),
+                             ("jellqupas_connections_accepted", "2"),
+                             ("jellqupas_packets_received", "4")):
+            want_same(told[name], wanted, name)
+        with socket.create_connection(("127.0.0.1", port), timeout=30) as other:
+            other.sendall(b"GET / HTTP/1.1\r\n\r\n")
+            want(other.recv(99).startswith(b"HTTP/1.1 404"), "another path")
+        want(server.serves(), "it serves on")
 
 
 def four_letters(builds):
@@ -139,6 +163,7 @@ def many(builds):
         for _ in range(3):
             with Wire(server.address) as wire:
                 want(wire.is_ended(), "one more is closed at once")
+        want_same(server.said().count("is refused: 1000 are"), 1, "one line in a minute")
         for _ in range(20):
             clients.pop().drop()
             want(until(server.serves), "who ends leaves a place")
@@ -161,6 +186,7 @@ def readers(builds):
             # (who is closed is sent so in answer to a byte)
             push(it, b"\0")
         want(until(lambda: 0 < closed(slow) < 60), f"{closed(slow)} of 60 are closed")
+        want("clients leave 64 MiB unread" in server.said(), "why")
         want(server.memory("VmRSS") < 200, f"{server.memory('VmRSS')} MiB for who never reads")
         got = [late.next() for _ in range(100)]
         want_same([it.xid for it in got], list(range(1, 101)), "all that was asked for")
@@ -233,6 +259,7 @@ def unfinished(builds):
             it.send(half[9:])
             it.answer(1)
         want(until(lambda: closed(several) == 6), f"{closed(several)} of 20 are closed")
+        want("15 MiB of requests are unfinished" in server.said(), "why")
 
 
 def chunks(builds):
@@ -273,12 +300,15 @@ def drill(builds):
 
 EACH = (
     asking.limits, asking.sessions, clock, drill, many, readers, silence, words, asking.requests,
-    asking.watches, hostile.frames, addresses, ends, four_letters, secrets, late, unfinished, chunks
+    asking.watches, asking.persistent, hostile.frames, addresses, ends, four_letters, metrics,
+    secrets, late, unfinished, chunks
 )
 
 
 def tests(builds):
     found = [Test("serve: recipes of kazoo", 100, lambda tally: recipes(builds, tally))]
+    trials = lambda tally: curator_trials.curator(builds, tally)
+    found.append(Test("serve: recipes of Curator", 30, trials))
     found += [Test(f"serve: {it.__name__}", 10, lambda _, it=it: it(builds)) for it in EACH]
     body = lambda first: lambda _: hostile.pieces(builds, first)
     return found + [Test(f"serve: pieces from {it} on", 20, body(it)) for it in range(0, 1000, 250)]

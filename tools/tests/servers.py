@@ -1,6 +1,8 @@
 """Servers for tests: a host in C, and the program zk_serve that it starts."""
 import os
+import re
 import signal
+import socket
 import subprocess
 import tempfile
 
@@ -12,6 +14,12 @@ from wire import Client, Ended, until
 
 # The last line that a server says before it serves.
 LAST = "zk: anyone who can connect may do everything: clients aren't authenticated\n"
+NOTED = re.compile(r"zk: a (?:batch took|connection is) .*\n|zk: metrics at .*\n")
+
+
+def free_port():
+    with socket.create_server(("127.0.0.1", 0)) as it:
+        return it.getsockname()[1]
 
 
 def new_folder(builds):
@@ -95,9 +103,12 @@ class Server:
         return status
 
     def stop(self, sent=signal.SIGTERM, status=0, said=""):
-        """Ends it by a signal, if any, and wants this status and nothing more said than this."""
+        """Ends it by a signal, if any, and wants this status and nothing more said than this.
+
+        (lines on limits, and on batches that are slow on a busy machine, may have come before)
+        """
         if sent:
             self.ran.send_signal(sent)
         want(until(lambda: self.ran.poll() is not None, 60) or self.kill(), "it ends")
-        got = self.ran.returncode, self.said().partition(LAST)[2]
+        got = self.ran.returncode, NOTED.sub("", self.said().partition(LAST)[2])
         want_same(got, (status, said), "the server's end")

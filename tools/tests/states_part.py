@@ -13,7 +13,7 @@ from report import Test
 CRATE, SECONDS, PARTS = "zfolder_drill", 300, 2
 SAID = re.compile(rb"(\d+ changes), \d+ states of at most \d+ rows: all are read again\n")
 # All calls are changes, but for a TTL of 0 and for retries of a client that has called nothing.
-DRAWN = {b"drill 1\n": b"11995 changes", b"drill 2\n": b"11992 changes"}
+DRAWN = {b"drill 1\n": b"11993 changes", b"drill 2\n": b"11996 changes"}
 
 
 def scripts():

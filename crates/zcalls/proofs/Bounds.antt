@@ -8,6 +8,8 @@ use Rattle.std.specs.Option.{option_map_or}
 use Rattle.std.proofs.lemmas.Bool.Decides.{nat_tests}
 use Rattle.zpath.specs.Grammar.{path_cmp}
 use Rattle.zpath.proofs.First.{no_test_holds}
+use Rattle.ztree.specs.declared.term.Term.{Term}
+use Rattle.ztree.specs.declared.term.Term.TheVariants.{Unlimited}
 use Rattle.ztree.specs.declared.node.Node.{Node}
 use Rattle.ztree.specs.declared.session.Session.{Session}
 use Rattle.ztree.specs.Tree.{opening_tree, Tree, Nodes, Path, new_node, parent_of, with_change_at, with_child, without_child, with_data, with_node, without_node, with_data_at, with_next_zxid}
@@ -16,7 +18,7 @@ use Rattle.ztree.proofs.Sorted.{paths_total}
 use Rattle.zcalls.specs.declared.call.Part.{Part}
 use Rattle.zcalls.specs.declared.change.Change.{Change}
 use Rattle.zcalls.specs.declared.change.Change.TheVariants.{Create, Delete, SetData}
-use Rattle.zcalls.specs.Part.{change_step, part_step, create_refusals, made_path, owner_of, ttl_of, is_spent, node_has}
+use Rattle.zcalls.specs.Part.{change_step, part_step, create_refusals, made_path, owner_of, term_of, is_spent, node_has}
 use Rattle.ztree.specs.Lawful.{AllNodes, AllSessions}
 use Rattle.zcalls.specs.Bounds.{IsWithin, IsBounded, IsGranted}
 use Rattle.zcalls.specs.support.Alone.{ChangesNodesAlone}
@@ -64,8 +66,8 @@ with_child_within : (k z : ℕ) (sequential : Bool) (n : Node) → IsWithin k n 
 with_child_within k z true n h unspent = record { version = omega (arith, h.version); cversion = omega (arith, h.cversion); seq = let left = unspent refl in omega (arith, left) }
 with_child_within k z false n h unspent = record { version = omega (arith, h.version); cversion = omega (arith, h.cversion); seq = omega (arith, h.seq) }
 
-new_within : (k : ℕ) (bytes : List ℕ) (owner ttl z time : ℕ) → IsWithin k (new_node bytes owner ttl z time)
-new_within k bytes owner ttl z time = record { version = omega arith; cversion = omega arith; seq = omega arith }
+new_within : (k : ℕ) (bytes : List ℕ) (owner : ℕ) (term : Term) (z time : ℕ) → IsWithin k (new_node bytes owner term z time)
+new_within k bytes owner term z time = record { version = omega arith; cversion = omega arith; seq = omega arith }
 
 without_child_within : (k z : ℕ) (n : Node) → IsWithin k n → IsWithin (k + 1) (without_child z n)
 without_child_within k z n h = record { version = omega (arith, h.version); cversion = omega (arith, h.cversion); seq = h.seq }
@@ -82,17 +84,17 @@ unspent nodes path sequential none n e taken =
     let here : is_spent n ≡ false = sym (ap (λ o. option_map_or is_spent o false) e) ∙ sym (ap (λ b. b && node_has is_spent nodes path) taken) ∙ none in
     grind (arith, nat_tests)
 
-added_within : (k : ℕ) (t : Tree) (path : Path) (bytes : List ℕ) (owner ttl : ℕ) (sequential : Bool) → AllNodes (IsWithin k) t.nodes → IsUnspent t.nodes (parent_of path) sequential → AllNodes (IsWithin (k + 1)) (with_node t path bytes owner ttl sequential).nodes
-added_within k t path bytes owner ttl sequential all left =
+added_within : (k : ℕ) (t : Tree) (path : Path) (bytes : List ℕ) (owner : ℕ) (term : Term) (sequential : Bool) → AllNodes (IsWithin k) t.nodes → IsUnspent t.nodes (parent_of path) sequential → AllNodes (IsWithin (k + 1)) (with_node t path bytes owner term sequential).nodes
+added_within k t path bytes owner term sequential all left =
     all_changed (IsWithin k) (IsWithin (k + 1)) (finite.insert t.nodes path new) (parent_of path) (with_child (t.zxid + 1) sequential)
     more (later k)
     (λ n e. with_child_within k (t.zxid + 1) sequential n (more (parent_of path) n e) (λ taken. unspent_too n taken e))
   where
     new : Node
-    new = new_node bytes owner ttl (t.zxid + 1) t.time
+    new = new_node bytes owner term (t.zxid + 1) t.time
 
     more : AllNodes (IsWithin k) (finite.insert t.nodes path new)
-    more = all_insert (IsWithin k) t.nodes path new all (new_within k bytes owner ttl (t.zxid + 1) t.time)
+    more = all_insert (IsWithin k) t.nodes path new all (new_within k bytes owner term (t.zxid + 1) t.time)
 
     unspent_too : (n : Node) → sequential ≡ true → finite.get (finite.insert t.nodes path new) (parent_of path) ≡ Some n → n.seq ≤ 2147483647
     unspent_too n taken e =
@@ -120,7 +122,7 @@ change_roomy k t client (Create create) all =
     create_step-leaves (IsWithinAll (k + 1)) t client create
     (λ e. let tests = no_test_holds (create_refusals t client create) e in
     let left = unspent t.nodes (parent_of create.path) create.kind.is_sequential tests.1.1.1.1.0 in
-    added_within k t (made_path t.nodes create.kind create.path) create.bytes (owner_of create.kind.lifetime) (ttl_of create.kind.lifetime) create.kind.is_sequential all
+    added_within k t (made_path t.nodes create.kind create.path) create.bytes (owner_of create.kind.lifetime) (term_of create.kind.lifetime) create.kind.is_sequential all
     (subst (λ p. IsUnspent t.nodes p create.kind.is_sequential) (sym (parent_of-made t.nodes create.kind create.path)) left))
 change_roomy k t client (Delete delete) all = delete_step-leaves (IsWithinAll (k + 1)) t delete (λ e. dropped_within k t delete.path all)
 change_roomy k t client (SetData set) all = set_step-leaves (IsWithinAll (k + 1)) t set (written_within k t set.path set.bytes all)
@@ -160,4 +162,4 @@ pub no_sessions : AllSessions (IsGranted 0) finite.empty
 no_sessions id s e = let clash : None ≡ Some s = sym (get-empty nat_cmp id) ∙ e in cc
 
 pub opening_bounded : IsBounded opening_tree
-opening_bounded = record { zxid = lit< tt; time = lit< tt; sessions = no_sessions; counters = all_insert (IsWithin 0) finite.empty [] (new_node [] 0 0 0 0) (no_nodes (IsWithin 0)) (new_within 0 [] 0 0 0 0) }
+opening_bounded = record { zxid = lit< tt; time = lit< tt; sessions = no_sessions; counters = all_insert (IsWithin 0) finite.empty [] (new_node [] 0 Unlimited 0 0) (no_nodes (IsWithin 0)) (new_within 0 [] 0 Unlimited 0 0) }

@@ -25,7 +25,7 @@ use Rattle.zcalls.specs.declared.reply.PartReply.TheVariants.{Created, Deleted, 
 use Rattle.zcalls.specs.declared.reply.Reply.{Reply}
 use Rattle.zcalls.specs.declared.reply.Reply.TheVariants as reply
 use Rattle.zcalls.specs.Change.{part_reply_of}
-use Rattle.zcalls.specs.Part.{create_step, delete_step, set_step, check_step, part_step, reported_as_part, create_refusals, delete_refusals, made_path, owner_of, ttl_of, unless_refused, on_version, has_other_version, with_node_set, is_gone}
+use Rattle.zcalls.specs.Part.{create_step, delete_step, set_step, check_step, part_step, reported_as_part, create_refusals, delete_refusals, made_path, owner_of, term_of, unless_refused, on_version, has_other_version, with_node_set, is_gone}
 use Rattle.zcalls.specs.Multi.{Run, behind, and_then, run}
 use Rattle.zcalls.specs.Step.{step, update_result, change_result, multi_result, granted_timeout, tick_result, after_tick, is_busy, is_exhausted, stale_next}
 use Rattle.zcalls.proofs.Ticks.{counted-nodes}
@@ -46,12 +46,12 @@ module _ {S : Type 0} (next : S → Part → PartReply → S) (Inv : S → Nodes
 
   -- what a create, a delete, a set and a check leave
   pub create-leaves : (s : S) (t : Tree) (client : ℕ) (create : ToCreate) → let made = made_path t.nodes create.kind create.path in
-      (first_that_holds (create_refusals t client create) ≡ None → Inv (next s (part_of.Create create) (Created made)) (with_node t made create.bytes (owner_of create.kind.lifetime) (ttl_of create.kind.lifetime) create.kind.is_sequential).nodes)
+      (first_that_holds (create_refusals t client create) ≡ None → Inv (next s (part_of.Create create) (Created made)) (with_node t made create.bytes (owner_of create.kind.lifetime) (term_of create.kind.lifetime) create.kind.is_sequential).nodes)
       → LeavesDone s (part_of.Create create) (part_step t client (part_of.Create create))
   unfolding create_step
   create-leaves s t client create left =
       let made = made_path t.nodes create.kind create.path in
-      reported_unless s (part_of.Create create) (first_that_holds (create_refusals t client create)) (with_node t made create.bytes (owner_of create.kind.lifetime) (ttl_of create.kind.lifetime) create.kind.is_sequential, change_reply.Created made) left
+      reported_unless s (part_of.Create create) (first_that_holds (create_refusals t client create)) (with_node t made create.bytes (owner_of create.kind.lifetime) (term_of create.kind.lifetime) create.kind.is_sequential, change_reply.Created made) left
 
   pub delete-leaves : (s : S) (t : Tree) (client : ℕ) (delete : ToDelete)
       → Inv (next s (part_of.Delete delete) Deleted) (without_node t delete.path).nodes → LeavesDone s (part_of.Delete delete) (part_step t client (part_of.Delete delete))

@@ -7,6 +7,7 @@ use Rattle.std.specs.Option.{option_map_or}
 use Rattle.std.specs.FinMap as finite
 use Rattle.std.proofs.lemmas.Bool.Decides.{nat_tests}
 use Rattle.zpath.specs.Grammar.{path_cmp}
+use Rattle.ztree.specs.declared.term.Term.{Term}
 use Rattle.ztree.specs.declared.node.Node.{Node}
 use Rattle.ztree.specs.declared.limits.TheConstants.{MAX_SESSIONS}
 use Rattle.ztree.specs.Tree.{Tree, Nodes, Path, parent_of, has_node, new_node, with_child, with_node, without_node, with_data, with_next_zxid}
@@ -45,9 +46,9 @@ module _ (path : Path) where
       by true = refl
       by false = here
 
-  added-has : (t : Tree) (at : Path) (bytes : List ℕ) (owner ttl : ℕ) (sequential : Bool) → Has t → Has (with_node t at bytes owner ttl sequential)
-  added-has t at bytes owner ttl sequential here =
-      let new = new_node bytes owner ttl (t.zxid + 1) t.time in
+  added-has : (t : Tree) (at : Path) (bytes : List ℕ) (owner : ℕ) (term : Term) (sequential : Bool) → Has t → Has (with_node t at bytes owner term sequential)
+  added-has t at bytes owner term sequential here =
+      let new = new_node bytes owner term (t.zxid + 1) t.time in
       has_node-changed (finite.insert t.nodes at new) (parent_of at) (with_child (t.zxid + 1) sequential) path ∙ inserted-has t at new here
 
   dropped-has : (t : Tree) (at : Path) → eq_by_cmp path_cmp path at ≡ false → Has t → Has (without_node t at)

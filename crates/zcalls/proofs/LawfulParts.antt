@@ -8,7 +8,7 @@ use Rattle.ztree.specs.Tree.{Tree, parent_of, has_node, children}
 use Rattle.ztree.specs.Lawful.{IsLawful, IsPersistent, AllSessions}
 use Rattle.ztree.proofs.Lawful.{lawful_added, lawful_dropped, lawful_written}
 use Rattle.zcalls.specs.declared.call.Part.{Part}
-use Rattle.zcalls.specs.Part.{change_step, part_step, create_refusals, delete_refusals, made_path, owner_of, ttl_of}
+use Rattle.zcalls.specs.Part.{change_step, part_step, create_refusals, delete_refusals, made_path, owner_of, term_of}
 use Rattle.zcalls.specs.declared.change.Change.{Change}
 use Rattle.zcalls.specs.declared.change.Change.TheVariants as change
 use Rattle.zcalls.specs.Bounds.{IsGranted}
@@ -36,7 +36,7 @@ change-good t client (change.Create create) good =
     create_step-leaves IsGood t client create
     (λ e. let tests = no_test_holds (create_refusals t client create) e in
     let parent = persistent t.nodes (parent_of create.path) (is_there (has_node t.nodes (parent_of create.path)) tests.1.1.0) tests.1.1.1.0 in (
-      lawful_added t (made_path t.nodes create.kind create.path) create.bytes (owner_of create.kind.lifetime) (ttl_of create.kind.lifetime) create.kind.is_sequential good.0 tests.1.1.1.1.1.1.0
+      lawful_added t (made_path t.nodes create.kind create.path) create.bytes (owner_of create.kind.lifetime) (term_of create.kind.lifetime) create.kind.is_sequential good.0 tests.1.1.1.1.1.1.0
           (subst (λ p. IsPersistent (finite.get t.nodes p)) (sym (parent_of-made t.nodes create.kind create.path)) parent)
           (owner_lives t.sessions client create.kind.lifetime tests.0)
           (one_end create.kind.lifetime)

@@ -18,7 +18,7 @@ use Rattle.zcalls.specs.declared.refusal.Refusal.{Refusal}
 use Rattle.zcalls.specs.declared.refusal.Refusal.TheVariants.{BadVersion}
 use Rattle.zcalls.specs.declared.reply.PartReply.{PartReply}
 use Rattle.zcalls.specs.declared.reply.PartReply.TheVariants.{Checked}
-use Rattle.zcalls.specs.Part.{create_step, delete_step, set_step, check_step, reported_as_part, part_step, create_refusals, delete_refusals, made_path, owner_of, ttl_of, unless_refused, on_version, has_other_version, with_node_set}
+use Rattle.zcalls.specs.Part.{create_step, delete_step, set_step, check_step, reported_as_part, part_step, create_refusals, delete_refusals, made_path, owner_of, term_of, unless_refused, on_version, has_other_version, with_node_set}
 use Rattle.zcalls.specs.Multi.{Run, behind, and_then, run}
 
 -- the tree that was left has this, where the step was done
@@ -44,12 +44,12 @@ module _ (P : Tree → Type 0) where
   reported_as_part-leaves (Ok (t, reply)) left = left
 
   pub create_step-leaves : (t : Tree) (client : ℕ) (create : ToCreate)
-      → (first_that_holds (create_refusals t client create) ≡ None → P (with_node t (made_path t.nodes create.kind create.path) create.bytes (owner_of create.kind.lifetime) (ttl_of create.kind.lifetime) create.kind.is_sequential))
+      → (first_that_holds (create_refusals t client create) ≡ None → P (with_node t (made_path t.nodes create.kind create.path) create.bytes (owner_of create.kind.lifetime) (term_of create.kind.lifetime) create.kind.is_sequential))
       → Leaves P (create_step t client create)
   unfolding create_step
   create_step-leaves t client create left =
       let made = made_path t.nodes create.kind create.path in
-      unless_refused-leaves (first_that_holds (create_refusals t client create)) (with_node t made create.bytes (owner_of create.kind.lifetime) (ttl_of create.kind.lifetime) create.kind.is_sequential, Created made) left
+      unless_refused-leaves (first_that_holds (create_refusals t client create)) (with_node t made create.bytes (owner_of create.kind.lifetime) (term_of create.kind.lifetime) create.kind.is_sequential, Created made) left
 
   pub delete_step-leaves : (t : Tree) (delete : ToDelete)
       → (first_that_holds (delete_refusals t.nodes delete) ≡ None → P (without_node t delete.path)) → Leaves P (delete_step t delete)

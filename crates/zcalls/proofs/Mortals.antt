@@ -1,17 +1,18 @@
--- What the plain step does to nodes with a time to live.
-use Rattle.std.proofs.Common.{◌≡◌, ◌⊎◌, inl, inr, ℕ, ◌+◌, ◌<◌, Bool, true, false, cond, not, ◌&&◌, Option, Some, None, Err, Ok, if◌then◌else◌, refl, ap, ◌∙◌, arith}
-use Rattle.std.specs.Prelude.{nat_lt, nat_le}
+-- What the plain step does to nodes that a tick may remove.
+use Rattle.std.proofs.Common.{◌≡◌, ◌⊎◌, inl, inr, ℕ, ◌+◌, ◌<◌, Bool, true, false, cond, not, Option, Some, None, Err, Ok, if◌then◌else◌, refl, sym, ap, ◌∙◌, arith}
+use Rattle.std.specs.Prelude.{nat_le}
 use Rattle.std.specs.Ordering.{eq_by_cmp}
 use Rattle.std.specs.List.{list_any}
 use Rattle.std.specs.Option.{option_map_or}
 use Rattle.std.specs.FinMap as finite
 use Rattle.std.proofs.lemmas.Bool.Decides.{nat_tests}
 use Rattle.zpath.specs.Grammar.{path_cmp}
+use Rattle.ztree.specs.declared.term.Term.TheVariants.{Unlimited, Timed}
 use Rattle.ztree.specs.declared.node.Node.{Node}
 use Rattle.ztree.specs.declared.node.Stat.{Stat}
 use Rattle.ztree.specs.Tree.{Tree, has_node, with_data}
 use Rattle.ztree.specs.Sessions.{without_sessions}
-use Rattle.ztree.specs.Stale.{is_stale}
+use Rattle.ztree.specs.Stale.{may_end, is_over, is_due, is_stale}
 use Rattle.ztree.proofs.Sorted.{paths_total, same_path}
 use Rattle.ztree.proofs.Maps.{is_there, get-insert-here}
 use Rattle.ztree.proofs.Listed.{lists_stale}
@@ -31,9 +32,12 @@ use Rattle.zcalls.proofs.Ticks.{counted-nodes}
 use Rattle.zcalls.proofs.Taking.{changes_take_one_zxid}
 use Rattle.zcalls.proofs.LawfulCalls.{trees_are_lawful}
 
--- no one owns a node with a time to live
-nobodys : (n : Node) → (n.ttl ≡ 0) ⊎ (n.owner ≡ 0) → 0 < n.ttl → n.owner ≡ 0
-nobodys n (inl none) some = absurd (omega (arith, none, some))
+not_false : true ≡ false → ⊥
+not_false e = cc
+
+-- no one owns a node that a tick may remove
+nobodys : (n : Node) → (n.term ≡ Unlimited) ⊎ (n.owner ≡ 0) → may_end n.term ≡ true → n.owner ≡ 0
+nobodys n (inl none) some = absurd (not_false (sym some ∙ ap may_end none))
 nobodys n (inr nobody) some = nobody
 
 pub tick_removes_the_stale : TickRemovesTheStale
@@ -59,18 +63,14 @@ module _ (t : Tree) (set : ToSet) (stat : Stat) where
   abbrev written : Node → Node
   written n = with_data set.bytes (t.zxid + 1) t.time n
 
-  not_due : (ttl ticks : ℕ) → ticks < ttl → (nat_lt 0 ttl && nat_le (t.time + ttl) (t.time + ticks)) ≡ false
-  not_due ttl ticks few =
+  not_due : (n : Node) (ttl ticks : ℕ) → n.term ≡ Timed ttl → ticks < ttl → is_due (t.time + ticks) (written n) ≡ false
+  not_due n ttl ticks its few =
       let late : nat_le (t.time + ttl) (t.time + ticks) ≡ false = grind (arith, nat_tests) in
-      ap (λ b. nat_lt 0 ttl && b) late ∙ none (nat_lt 0 ttl)
-    where
-      none : (b : Bool) → (b && false) ≡ false
-      none true = refl
-      none false = refl
+      ap (is_over (t.time + ticks) (written n)) its ∙ late
 
   by_version : (n : Node) (b : Bool) → (change_result t (if b then Err BadVersion else Ok (with_node_set t set.path (written n)))).1 ≡ reply.Set stat → IsPutOff t.time set.path (change_result t (if b then Err BadVersion else Ok (with_node_set t set.path (written n)))).0
   by_version n true e = cc
-  by_version n false e = (written n, get-insert-here paths_total same_path t.nodes set.path (written n), λ ticks few. not_due n.ttl ticks few)
+  by_version n false e = (written n, get-insert-here paths_total same_path t.nodes set.path (written n), λ ttl ticks its few. not_due n ttl ticks its few)
 
   by_node : (o : Option Node) → (change_result t (on_version set.version o (λ n. with_node_set t set.path (written n)))).1 ≡ reply.Set stat → IsPutOff t.time set.path (change_result t (on_version set.version o (λ n. with_node_set t set.path (written n)))).0
   by_node None e = cc

@@ -13,7 +13,7 @@ use Rattle.ztree.proofs.Sorted.{paths_total}
 use Rattle.zcalls.specs.declared.call.Create.{Create as ToCreate}
 use Rattle.zcalls.specs.declared.call.Part.{Part}
 use Rattle.zcalls.specs.declared.call.Part.TheVariants.{Create, Delete, SetData, Check}
-use Rattle.zcalls.specs.Part.{part_step, create_refusals, made_path, counter_at, owner_of, ttl_of}
+use Rattle.zcalls.specs.Part.{part_step, create_refusals, made_path, counter_at, owner_of, term_of}
 use Rattle.zcalls.specs.CallRuns.{is_same, numbered_since, NumbersDiffer}
 use Rattle.zcalls.proofs.Bounds.{unspent}
 use Rattle.zcalls.proofs.Paths.{not_root, parent_of-made}
@@ -98,10 +98,10 @@ module _ (above : Path) where
     sequential = create.kind.is_sequential
 
     abbrev after : Tree
-    after = with_node t path create.bytes (owner_of create.kind.lifetime) (ttl_of create.kind.lifetime) sequential
+    after = with_node t path create.bytes (owner_of create.kind.lifetime) (term_of create.kind.lifetime) sequential
 
     abbrev new : Node
-    new = new_node create.bytes (owner_of create.kind.lifetime) (ttl_of create.kind.lifetime) (t.zxid + 1) t.time
+    new = new_node create.bytes (owner_of create.kind.lifetime) (term_of create.kind.lifetime) (t.zxid + 1) t.time
 
     stays : is_same above path ≡ false → HasNumbers made after.nodes
     stays other = (inv.0, each)

@@ -4,13 +4,14 @@ use Rattle.std.specs.Prelude.{not, is_some, ◌==◌}
 use Rattle.std.specs.Option.{option_map_or}
 use Rattle.std.specs.FinMap as finite
 use Rattle.std.proofs.lemmas.Bool.Decides.{nat_tests}
+use Rattle.ztree.specs.declared.term.Term.TheVariants.{Unlimited}
 use Rattle.ztree.specs.declared.node.Node.{Node}
 use Rattle.ztree.specs.declared.session.Session.{Session}
 use Rattle.ztree.specs.Tree.{Nodes, Sessions, Path, has_node}
 use Rattle.ztree.specs.Lawful.{IsPersistent, IsOwner}
 use Rattle.zcalls.specs.declared.call.Lifetime.{Lifetime}
-use Rattle.zcalls.specs.declared.call.Lifetime.TheVariants.{Persistent, WithTtl, Ephemeral}
-use Rattle.zcalls.specs.Part.{node_has, is_owned, is_gone, has_no_owner, owner_of, ttl_of}
+use Rattle.zcalls.specs.declared.call.Lifetime.TheVariants.{Persistent, WithTtl, Ephemeral, Container}
+use Rattle.zcalls.specs.Part.{node_has, is_owned, is_gone, has_no_owner, owner_of, term_of}
 
 -- who isn't owned by a session is owned by no one
 nobody : (owner : ℕ) → not (owner == 0) ≡ false → owner ≡ 0
@@ -49,9 +50,11 @@ pub owner_lives : (sessions : Sessions) (client : ℕ) (lifetime : Lifetime) →
 owner_lives sessions client Persistent here = inl refl
 owner_lives sessions client (WithTtl ttl) here = inl refl
 owner_lives sessions client (Ephemeral session) here = inr (session_there sessions client session here)
+owner_lives sessions client Container here = inl refl
 
--- no lifetime has both an owner and a time to live
-pub one_end : (lifetime : Lifetime) → (ttl_of lifetime ≡ 0) ⊎ (owner_of lifetime ≡ 0)
+-- no lifetime has both an owner and a term that a tick ends
+pub one_end : (lifetime : Lifetime) → (term_of lifetime ≡ Unlimited) ⊎ (owner_of lifetime ≡ 0)
 one_end Persistent = inl refl
 one_end (WithTtl ttl) = inr refl
 one_end (Ephemeral session) = inl refl
+one_end Container = inr refl

@@ -3,12 +3,14 @@ use Rattle.std.proofs.Common.{◌≡◌, ℕ, ◌+◌, Bool, true, false, cond, 
 use Rattle.std.specs.FinMap as finite
 use Rattle.std.specs.FinMap.{get-insert, get-empty}
 use Rattle.zpath.specs.Grammar.{path_cmp}
+use Rattle.ztree.specs.declared.term.Term.{Term}
+use Rattle.ztree.specs.declared.term.Term.TheVariants.{Unlimited}
 use Rattle.ztree.specs.declared.node.Node.{Node}
 use Rattle.ztree.specs.Tree.{Tree, Nodes, Path, opening_tree, new_node, parent_of, with_child, without_child, with_data, with_node, without_node, with_data_at}
 use Rattle.ztree.proofs.Sorted.{paths_total}
 use Rattle.zcalls.specs.declared.call.Part.{Part}
 use Rattle.zcalls.specs.declared.call.Part.TheVariants.{Create, Delete, SetData, Check}
-use Rattle.zcalls.specs.Part.{part_step, made_path, owner_of, ttl_of}
+use Rattle.zcalls.specs.Part.{part_step, made_path, owner_of, term_of}
 use Rattle.zcalls.specs.CallRuns.{is_same, sets_since, VersionCountsSets}
 use Rattle.zcalls.proofs.Folds.{LeavesDone, create-leaves, delete-leaves, set-leaves, check-leaves, kept_by_calls}
 use Rattle.zcalls.proofs.Traced.{traced, remained, same_of}
@@ -25,9 +27,9 @@ module _ (path : Path) where
       by true e = let is_new : new ≡ m = cc e in sym (ap (λ (n : Node). n.version) is_new) ∙ zero_sets
       by false e = inv m e
 
-  added-counts : (sets : ℕ) (t : Tree) (made : Path) (bytes : List ℕ) (owner ttl : ℕ) (sequential : Bool) → HasVersion sets t.nodes → HasVersion (if is_same path made then 0 else sets) (with_node t made bytes owner ttl sequential).nodes
-  added-counts sets t made bytes owner ttl sequential inv n e =
-      let new = new_node bytes owner ttl (t.zxid + 1) t.time in
+  added-counts : (sets : ℕ) (t : Tree) (made : Path) (bytes : List ℕ) (owner : ℕ) (term : Term) (sequential : Bool) → HasVersion sets t.nodes → HasVersion (if is_same path made then 0 else sets) (with_node t made bytes owner term sequential).nodes
+  added-counts sets t made bytes owner term sequential inv n e =
+      let new = new_node bytes owner term (t.zxid + 1) t.time in
       let f = with_child (t.zxid + 1) sequential in
       let from = traced (finite.insert t.nodes made new) (parent_of made) f path n e in
       same_of (λ (n : Node). n.version) f (λ m. refl) (is_same path (parent_of made)) n from.before from.is
@@ -53,16 +55,16 @@ module _ (path : Path) where
   part-counts : (sets : ℕ) (t : Tree) (client : ℕ) (part : Part) → HasVersion sets t.nodes → LeavesDone (sets_since path) HasVersion sets part (part_step t client part)
   part-counts sets t client (Create create) inv =
       create-leaves (sets_since path) HasVersion sets t client create
-      (λ e. added-counts sets t (made_path t.nodes create.kind create.path) create.bytes (owner_of create.kind.lifetime) (ttl_of create.kind.lifetime) create.kind.is_sequential inv)
+      (λ e. added-counts sets t (made_path t.nodes create.kind create.path) create.bytes (owner_of create.kind.lifetime) (term_of create.kind.lifetime) create.kind.is_sequential inv)
   part-counts sets t client (Delete delete) inv = delete-leaves (sets_since path) HasVersion sets t client delete (dropped-counts sets t delete.path inv)
   part-counts sets t client (SetData set) inv = set-leaves (sets_since path) HasVersion sets t client set (λ stat. written-counts sets t set.path set.bytes inv)
   part-counts sets t client (Check check) inv = check-leaves (sets_since path) HasVersion sets t client check inv
 
   opening-counts : HasVersion 0 opening_tree.nodes
-  opening-counts n e = by (is_same path []) (sym (get-insert paths_total finite.empty [] (new_node [] 0 0 0 0) path) ∙ e)
+  opening-counts n e = by (is_same path []) (sym (get-insert paths_total finite.empty [] (new_node [] 0 Unlimited 0 0) path) ∙ e)
     where
-      by : (b : Bool) → cond b (Some (new_node [] 0 0 0 0)) (finite.get {R = path_cmp} finite.empty path) ≡ Some n → n.version ≡ 0
-      by true e = let is_new : new_node [] 0 0 0 0 ≡ n = cc e in sym (ap (λ (n : Node). n.version) is_new)
+      by : (b : Bool) → cond b (Some (new_node [] 0 Unlimited 0 0)) (finite.get {R = path_cmp} finite.empty path) ≡ Some n → n.version ≡ 0
+      by true e = let is_new : new_node [] 0 Unlimited 0 0 ≡ n = cc e in sym (ap (λ (n : Node). n.version) is_new)
       by false e = let clash : None ≡ Some n = sym (get-empty path_cmp path) ∙ e in cc
 
 pub version_counts_sets : VersionCountsSets

@@ -4,6 +4,8 @@ use Rattle.std.specs.Prelude.{nat_le}
 use Rattle.std.specs.FinMap as finite
 use Rattle.ztree.specs.Lawful.{AllNodes}
 use Rattle.ztree.specs.Sessions.{with_session, with_renewed_session, without_nodes, without_session, without_sessions, due_sessions, with_next_tick}
+use Rattle.ztree.specs.declared.term.Term.{Term}
+use Rattle.ztree.specs.declared.term.Term.TheVariants.{Unlimited}
 use Rattle.ztree.specs.declared.node.Node.{Node}
 use Rattle.ztree.specs.Tree.{Tree, Path, ephemerals, opening_tree, new_node, parent_of, with_child, without_child, with_data, with_node, without_node, with_data_at, with_next_zxid}
 use Rattle.zcalls.specs.declared.call.Part.{Part}
@@ -13,7 +15,7 @@ use Rattle.zcalls.specs.declared.refusal.Refusal.{Refusal}
 use Rattle.zcalls.specs.declared.refusal.Refusal.TheVariants.{SessionGone, TooManySessions, Exhausted}
 use Rattle.zcalls.specs.declared.reply.Reply.{Reply}
 use Rattle.zcalls.specs.declared.reply.Reply.TheVariants as reply
-use Rattle.zcalls.specs.Part.{change_step, create_step, delete_step, set_step, part_step, made_path, owner_of, is_gone, ttl_of}
+use Rattle.zcalls.specs.Part.{change_step, create_step, delete_step, set_step, part_step, made_path, owner_of, is_gone, term_of}
 use Rattle.zcalls.specs.declared.change.Change.{Change}
 use Rattle.zcalls.specs.declared.change.Change.TheVariants as change
 use Rattle.zcalls.specs.declared.change.ChangeReply.{ChangeReply}
@@ -35,17 +37,17 @@ pub record IsPast (zxid time : ℕ) (n : Node) : Type 0 where
 abbrev IsDated : ℕ → ℕ → Tree → Type 0
 IsDated zxid time t = (t.zxid ≡ zxid) × ((t.time ≡ time) × AllNodes (IsPast (zxid + 2) time) t.nodes)
 
-added-dated : (zxid time : ℕ) (t : Tree) (path : Path) (bytes : List ℕ) (owner ttl : ℕ) (sequential : Bool) → IsDated zxid time t → IsDated zxid time (with_node t path bytes owner ttl sequential)
-added-dated zxid time t path bytes owner ttl sequential dated =
+added-dated : (zxid time : ℕ) (t : Tree) (path : Path) (bytes : List ℕ) (owner : ℕ) (term : Term) (sequential : Bool) → IsDated zxid time t → IsDated zxid time (with_node t path bytes owner term sequential)
+added-dated zxid time t path bytes owner term sequential dated =
     let Past = IsPast (zxid + 2) time in
     let same = dated.0 in
     let tick = dated.1.0 in
-    let now : Past (new_node bytes owner ttl (t.zxid + 1) t.time) = record {
+    let now : Past (new_node bytes owner term (t.zxid + 1) t.time) = record {
       older = record { czxid = omega (arith, same); mzxid = omega (arith, same); pzxid = omega (arith, same) };
       ctime = omega (arith, tick);
       mtime = omega (arith, tick);
     } in
-    let more = all_insert Past t.nodes path (new_node bytes owner ttl (t.zxid + 1) t.time) dated.1.1 now in (
+    let more = all_insert Past t.nodes path (new_node bytes owner term (t.zxid + 1) t.time) dated.1.1 now in (
       same,
       (
         tick,
@@ -86,7 +88,7 @@ written-dated zxid time t path bytes dated =
 change-dated : (zxid time : ℕ) (t : Tree) (client : ℕ) (change : Change) → IsDated zxid time t → Leaves (IsDated zxid time) (change_step t client change)
 change-dated zxid time t client (change.Create create) dated =
     create_step-leaves (IsDated zxid time) t client create
-    (λ e. added-dated zxid time t (made_path t.nodes create.kind create.path) create.bytes (owner_of create.kind.lifetime) (ttl_of create.kind.lifetime) create.kind.is_sequential dated)
+    (λ e. added-dated zxid time t (made_path t.nodes create.kind create.path) create.bytes (owner_of create.kind.lifetime) (term_of create.kind.lifetime) create.kind.is_sequential dated)
 change-dated zxid time t client (change.Delete delete) dated = delete_step-leaves (IsDated zxid time) t delete (λ e. dropped-dated zxid time t delete.path dated)
 change-dated zxid time t client (change.SetData set) dated = set_step-leaves (IsDated zxid time) t set (written-dated zxid time t set.path set.bytes dated)
 
@@ -193,7 +195,7 @@ step-settled t client update is = either t (reply.Refused Exhausted) (update_res
 
 pub opening-settled : IsSettled opening_tree
 opening-settled =
-    all_insert (IsPast 1 0) finite.empty [] (new_node [] 0 0 0 0) (no_nodes (IsPast 1 0))
+    all_insert (IsPast 1 0) finite.empty [] (new_node [] 0 Unlimited 0 0) (no_nodes (IsPast 1 0))
     (record { older = record { czxid = lit< tt; mzxid = lit< tt; pzxid = lit< tt }; ctime = omega arith; mtime = omega arith })
 
 calls-settled : (calls : List (ℕ × Update)) (t : Tree) → IsSettled t → IsSettled (after_calls t calls)

@@ -7,13 +7,15 @@ use Rattle.std.specs.FinMap as finite
 use Rattle.zpath.specs.First.{first_that_holds}
 use Rattle.zpath.specs.Numbered.{numbered_path, is_over}
 use Rattle.ztree.specs.Tree.{Tree, Nodes, Sessions, Path, parent_of, has_node, children, stat_of, with_node, without_node, with_data}
+use Rattle.ztree.specs.declared.term.Term.{Term}
+use Rattle.ztree.specs.declared.term.Term.TheVariants.{Unlimited, Timed, Container as AsContainer}
 use Rattle.ztree.specs.declared.node.Node.{Node}
 use Rattle.ztree.specs.declared.session.Session.{Session}
 use Rattle.ztree.specs.declared.limits.TheConstants.{MAX_NODES}
 use Rattle.zcalls.specs.declared.limits.TheConstants.{MAX_COUNTER}
 use Rattle.zcalls.specs.declared.call.Kind.{Kind}
 use Rattle.zcalls.specs.declared.call.Lifetime.{Lifetime}
-use Rattle.zcalls.specs.declared.call.Lifetime.TheVariants.{Persistent, WithTtl, Ephemeral}
+use Rattle.zcalls.specs.declared.call.Lifetime.TheVariants.{Persistent, WithTtl, Ephemeral, Container}
 use Rattle.zcalls.specs.declared.call.Expected.{Expected}
 use Rattle.zcalls.specs.declared.call.Expected.TheVariants.{Any, Exactly}
 use Rattle.zcalls.specs.declared.call.Create.{Create}
@@ -67,12 +69,14 @@ abbrev pub owner_of : Lifetime → ℕ
 owner_of Persistent = 0
 owner_of (WithTtl ttl) = 0
 owner_of (Ephemeral session) = session
+owner_of Container = 0
 
--- the TTL of the node in ticks, or 0 for none
-abbrev pub ttl_of : Lifetime → ℕ
-ttl_of Persistent = 0
-ttl_of (WithTtl ttl) = ttl
-ttl_of (Ephemeral session) = 0
+-- the term of the node: what a tick may remove it for
+abbrev pub term_of : Lifetime → Term
+term_of Persistent = Unlimited
+term_of (WithTtl ttl) = Timed ttl
+term_of (Ephemeral session) = Unlimited
+term_of Container = AsContainer
 
 -- the session is gone for this client: it doesn't exist, or belongs to another client
 abbrev pub is_gone : Sessions → ℕ → ℕ → Bool
@@ -83,6 +87,7 @@ abbrev pub has_no_owner : Sessions → ℕ → Lifetime → Bool
 has_no_owner sessions client Persistent = false
 has_no_owner sessions client (WithTtl ttl) = false
 has_no_owner sessions client (Ephemeral session) = is_gone sessions client session
+has_no_owner sessions client Container = false
 
 -- the counter of the node at the path, or 0 if there is no node
 abbrev pub counter_at : Nodes → Path → ℕ
@@ -135,7 +140,7 @@ unfoldable pub create_step : Tree → ℕ → Create → Result (Tree × ChangeR
 create_step t client create =
     let made = made_path t.nodes create.kind create.path in
     unless_refused (first_that_holds (create_refusals t client create))
-    (with_node t made create.bytes (owner_of create.kind.lifetime) (ttl_of create.kind.lifetime) create.kind.is_sequential, Created made)
+    (with_node t made create.bytes (owner_of create.kind.lifetime) (term_of create.kind.lifetime) create.kind.is_sequential, Created made)
 
 -- a delete removes one node that has no children
 unfoldable pub delete_step : Tree → Delete → Result (Tree × ChangeReply) Refusal

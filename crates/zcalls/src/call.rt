@@ -3,7 +3,7 @@
 use crate::call_number::CallNumber;
 use crate::multi::Multi;
 use zpath::Path;
-use ztree::{ClientId, Data, SessionId, Ttl};
+use ztree::{ClientId, Data, SessionId, Term, Ttl};
 
 /// The lifetime of a created node.
 #[derive(Clone, Copy, Debug, PartialEq, Eq)]
@@ -15,29 +15,32 @@ pub enum Lifetime {
     WithTtl(Ttl),
     /// Ephemeral: the session with this id owns the node, which is removed when the session ends.
     Ephemeral(SessionId),
+    /// Persistent, as a container. A tick removes the node once it has had children and has none.
+    Container,
 }
 
 impl Lifetime {
     ghost use Rattle.std.specs.Prelude.{◌≡◌};
-    ghost use Rattle.zcalls.specs.Part.{owner_of, ttl_of};
+    ghost use Rattle.zcalls.specs.Part.{owner_of, term_of};
 
     /// Returns the id of the session that will own the node, or 0 for none.
     pub fn owner(self) -> u64
         ensures { result ≡ owner_of self }
     {
         match self {
-            Lifetime::Persistent | Lifetime::WithTtl(_) => 0,
+            Lifetime::Persistent | Lifetime::WithTtl(_) | Lifetime::Container => 0,
             Lifetime::Ephemeral(session) => session.number(),
         }
     }
 
-    /// Returns the TTL in ticks, or 0 for none.
-    pub fn ttl(self) -> u64
-        ensures { result ≡ ttl_of self }
+    /// Returns the term of the node: what a tick may remove it for.
+    pub fn term(self) -> Term
+        ensures { result ≡ term_of self }
     {
         match self {
-            Lifetime::Persistent | Lifetime::Ephemeral(_) => 0,
-            Lifetime::WithTtl(ttl) => ttl.ticks(),
+            Lifetime::Persistent | Lifetime::Ephemeral(_) => Term::Unlimited,
+            Lifetime::WithTtl(ttl) => Term::Timed(ttl),
+            Lifetime::Container => Term::Container,
         }
     }
 }
@@ -156,7 +159,8 @@ pub enum Update {
     /// Ends the client's session with this id.
     Close(SessionId),
     /// Advances the clock by one tick. It ends each session whose deadline is reached. Then it
-    /// removes each node whose TTL has expired and that had no children before the tick.
+    /// removes each node that had no children before the tick, if its TTL has expired, or if it is
+    /// a container that has had children.
     Tick,
 }
 

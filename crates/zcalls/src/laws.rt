@@ -82,8 +82,9 @@ pub fn sessions_live_their_timeout()
     ensures { LivesItsTimeout }
 {}
 
-/// A tick that isn't refused removes a node with a TTL exactly when the TTL has expired and the
-/// node had no children before the tick. So it never removes one early, or one with children.
+/// A tick that isn't refused removes a node with a TTL exactly when the TTL has expired, and a
+/// container exactly when it has had children. Either goes only if it had no children before the
+/// tick. So none goes early or with children, nor a container that never had any.
 pub fn a_tick_removes_the_stale()
     ensures { TickRemovesTheStale }
 {}
@@ -93,12 +94,13 @@ pub fn a_set_puts_off()
     ensures { SetPutsOff }
 {}
 
-/// After any calls from the initial tree, a node with a TTL is not an ephemeral.
+/// After any calls from the initial tree, a node with a TTL or a container is not an ephemeral.
 pub fn nobody_owns_the_timed()
     ensures { NobodyOwnsTheTimed }
 {}
 
-/// A node without an owner, such as one with a TTL, disappears only by a delete of it or a tick.
+/// A node without an owner, such as one with a TTL or a container, disappears only by a delete of it
+/// or a tick.
 pub fn the_unowned_last()
     ensures { LastsUntilRemoved }
 {}

@@ -36,4 +36,4 @@ pub use multi::Multi;
 pub use refusal::Refusal;
 pub use reply::{PartReply, Reply};
 pub use shared_entry::SharedEntry;
-pub use ztree::{ClientId, Data, DataFault, SessionId, Stat, Ttl};
+pub use ztree::{ClientId, Data, DataFault, SessionId, Stat, Term, Ttl};

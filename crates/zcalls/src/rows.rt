@@ -3,9 +3,10 @@
 ghost use Rattle.std.specs.Prelude.{◌≡◌, ℕ, [], ◌∷◌, true, false, None, Ok, Err};
 ghost use Rattle.std.specs.FinMap.{get};
 ghost use Rattle.ztree.specs.support.Samples.{at_a, some_node};
+ghost use Rattle.ztree.specs.declared.term.Term.TheVariants.{Unlimited, Timed, Container as AsContainer};
 ghost use Rattle.ztree.specs.Tree.{Tree, opening_tree};
 ghost use Rattle.ztree.specs.Sessions.{with_next_tick};
-ghost use Rattle.zcalls.specs.declared.call.Lifetime.TheVariants.{Persistent, WithTtl, Ephemeral};
+ghost use Rattle.zcalls.specs.declared.call.Lifetime.TheVariants.{Persistent, WithTtl, Ephemeral, Container};
 ghost use Rattle.zcalls.specs.declared.limits.TheConstants.{MAX_PARTS, MAX_COUNTER, MIN_TIMEOUT, MAX_TIMEOUT};
 ghost use Rattle.zcalls.specs.declared.limits.TheConstants.{MAX_CALL_NUMBER, MAX_RAISES};
 ghost use Rattle.zcalls.specs.declared.call.Expected.TheVariants.{Any, Exactly};
@@ -19,7 +20,7 @@ ghost use Rattle.zcalls.specs.declared.reply.Reply.TheVariants.{Refused, MultiRe
 ghost use Rattle.zcalls.specs.CallRuns.{is_success, is_change};
 ghost use Rattle.zcalls.specs.PlainTree.{plain_tree};
 ghost use Rattle.zcalls.specs.Part.{has_other_version, is_spent};
-ghost use Rattle.zcalls.specs.Part.{named, sequential, owner_of, ttl_of};
+ghost use Rattle.zcalls.specs.Part.{named, sequential, owner_of, term_of};
 ghost use Rattle.zcalls.specs.Multi.{run};
 ghost use Rattle.zcalls.specs.Step.{step, query_reply, is_exhausted, multi_result, tick_result};
 ghost use Rattle.zcalls.specs.support.Counting.{after, creates, deletes, reported, reported_no, seven, third_kept};
@@ -135,10 +136,12 @@ pub fn ticks_are_one_change()
 
 /// The lifetimes of nodes, and the names of both kinds.
 pub fn lifetimes_and_kinds()
-    ensures ttl { ttl_of (WithTtl 5) ≡ 5 }
-    ensures none { ttl_of Persistent ≡ 0 }
-    ensures ephemeral { ttl_of (Ephemeral 7) ≡ 0 }
+    ensures ttl { term_of (WithTtl 5) ≡ Timed 5 }
+    ensures none { term_of Persistent ≡ Unlimited }
+    ensures ephemeral { term_of (Ephemeral 7) ≡ Unlimited }
+    ensures container { term_of Container ≡ AsContainer }
     ensures nobodys { owner_of (WithTtl 5) ≡ 0 }
+    ensures of_a_container { owner_of Container ≡ 0 }
     ensures free { owner_of Persistent ≡ 0 }
     ensures owned { owner_of (Ephemeral 7) ≡ 7 }
     ensures name_as_asked { (named (WithTtl 5)).is_sequential ≡ false }

@@ -27,7 +27,7 @@ abbrev pub sent_on : List ℕ → List ℕ → TablesView → TablesView
 sent_on [] bytes t = t
 sent_on (c ∷ cs) bytes t = sent_on cs bytes (sent c bytes t)
 
--- the watches that an event fires are removed
+-- the watches that an event fires are removed, except those that stay
 abbrev pub unwatched : Event → TablesView → TablesView
 unwatched e t = record t { watches = watch.unfired t.watches e.kind e.path }
 

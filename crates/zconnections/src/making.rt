@@ -38,7 +38,7 @@ impl Tables {
     {
         match lifetime {
             Lifetime::Ephemeral(session) => self.attachments.note_ephemeral(session),
-            Lifetime::Persistent | Lifetime::WithTtl(_) => {}
+            Lifetime::Persistent | Lifetime::WithTtl(_) | Lifetime::Container => {}
         }
     }
 }

@@ -13,7 +13,7 @@ use zwatches::changes::Event;
 
 impl Tables {
     /// Sends events, in order, to the connections whose watches they fire. These watches are
-    /// removed.
+    /// removed, except persistent ones.
     pub fn report_all(&mut self, events: &[Event]) -> Result<(), Memory>
         ensures { OnOk result (self.new ≡ reported_all events.now self.old) }
     {
@@ -39,7 +39,7 @@ impl Tables {
         self.send_on(&connections, event)
     }
 
-    // Removes the watches that an event fires, and returns their connections.
+    // Fires the watches of an event, and returns their connections.
     fn fire(&mut self, event: &Event) -> Result<Vec<u32>, Memory>
         ensures connections { IfOk result (λ connections. connections.items
             ≡ in_order (watch.reported self.old.watches event.now.kind event.now.path)) }

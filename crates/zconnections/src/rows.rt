@@ -68,6 +68,7 @@ pub fn ephemerals()
         → made_by (lifetime.Ephemeral 7) m ≡ with_changed with_ephemeral m 7 }
     ensures with_ttl { (m : AttachmentsView) → made_by (lifetime.WithTtl 7) m ≡ m }
     ensures persistent { (m : AttachmentsView) → made_by lifetime.Persistent m ≡ m }
+    ensures container { (m : AttachmentsView) → made_by lifetime.Container m ≡ m }
     ensures created { (c : Create) (path : Path) (m : AttachmentsView)
         → noted (act.Create c) (reply.Created path) m ≡ made_by c.kind.lifetime m }
     ensures refused { (c : Create) (why : Refusal) (m : AttachmentsView)

@@ -1,15 +1,16 @@
 //! Watches.
 
-ghost use Rattle.std.specs.Prelude.{◌≡◌, true, false, IfErr, IfOk, IsOk, OnErr, OnOk};
+ghost use Rattle.std.specs.Prelude.{◌≡◌, true, false, IfErr, IsOk, OnErr, OnOk};
 ghost use Rattle.std.specs.FinSet.{contains, insert};
-ghost use Rattle.zwatches.specs.Events.{Lists};
-ghost use Rattle.zwatches.specs.Places.{node_places};
+ghost use Rattle.zjute.specs.declared.event.EventKind.TheVariants.{NodeDeleted};
+ghost use Rattle.zwatches.specs.Events.{is_awaited};
+ghost use Rattle.zwatches.specs.Removal.{has_meant, without_meant};
 ghost use Rattle.zwatches.specs.Watches.{watch, is_full, IsSetFault};
 
 use crate::tables::Tables;
-use zalloc::Memory;
+use zjute::WatchType;
 use zpath::Path;
-use zwatches::{Kind, Place, WatchFault};
+use zwatches::{Kind, WatchFault};
 
 impl Tables {
     /// Sets a watch. Setting one again does nothing and allocates nothing. After a fault nothing
@@ -29,10 +30,26 @@ impl Tables {
         self.watches.set(connection, kind, path)
     }
 
-    /// Returns the positions at which a watch waits for an existing node.
-    pub fn watched(&self) -> Result<Vec<Place>, Memory>
-        ensures { IfOk result (λ places. Lists places.items (node_places self.now.watches)) }
+    /// Returns whether a watch waits for the deletion of the node at a path.
+    pub fn awaits_end(&self, path: &Path) -> bool
+        ensures { result ≡ is_awaited self.now.watches NodeDeleted path.now }
     {
-        self.watches.places()
+        self.watches.awaits_end(path)
+    }
+
+    /// Returns whether a connection has a watch of this type at a path.
+    pub fn has_watch(&self, connection: u32, type_of: WatchType, path: &Path) -> bool
+        ensures { result ≡ has_meant self.now.watches connection type_of path.now }
+    {
+        self.watches.has(connection, type_of, path)
+    }
+
+    /// Removes the watches of this type that a connection has at a path. Allocates nothing.
+    pub fn unwatch(&mut self, connection: u32, type_of: WatchType, path: &Path)
+        ensures { self.new ≡ record self.old {
+          watches = without_meant self.old.watches connection type_of path.now;
+        } }
+    {
+        self.watches.remove(connection, type_of, path);
     }
 }

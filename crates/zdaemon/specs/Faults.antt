@@ -14,7 +14,7 @@ use Rattle.zdurable.specs.declared.fault.OpenFault.TheVariants as opening
 use Rattle.zdaemon.specs.declared.pipe.fault.ServeFault.{ServeFault}
 use Rattle.zdaemon.specs.declared.pipe.fault.ServeFault.TheVariants as serving
 use Rattle.zdaemon.specs.declared.fault.HostedFault.{HostedFault}
-use Rattle.zdaemon.specs.declared.fault.HostedFault.TheVariants.{Words, Folder, Service, Serve, Missing, Script, Ttl}
+use Rattle.zdaemon.specs.declared.fault.HostedFault.TheVariants.{Words, Folder, Service, Serve, Missing, Script}
 
 -- a folder that isn't opened is 3; a disk that failed is 4
 abbrev pub folder_status : FileFault → ℕ
@@ -45,7 +45,6 @@ hosted_fault_status (Service fault) = service_status fault
 hosted_fault_status (Serve fault) = serve_status fault
 hosted_fault_status Missing = 3
 hosted_fault_status Script = 3
-hosted_fault_status Ttl = 3
 
 -- ---- lines
 
@@ -76,7 +75,6 @@ other_line_of (Service fault) = None
 other_line_of (Serve fault) = Some (codes "zk: " ++ serve_fault_text fault)
 other_line_of Missing = Some (codes "zk: data: there is no journal")
 other_line_of Script = Some (codes "zk: data: a script's folder, and no server's: its file is its script")
-other_line_of Ttl = Some (codes "zk: data: a node has a TTL that no line says")
 
 abbrev pub line_of : HostedFault → Option (List ℕ)
 line_of fault = if is_of_memory fault then Some memory_line else other_line_of fault

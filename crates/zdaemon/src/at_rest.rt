@@ -82,7 +82,6 @@ pub(crate) fn export<D: Device, K: Sink, F: Sink>(
         Ok(()) => Ok(()),
         Err(ExportFault::Memory) => Err(HostedFault::Serve(ServeFault::Memory)),
         Err(ExportFault::Write) => Err(HostedFault::Serve(ServeFault::Write)),
-        Err(ExportFault::Ttl) => Err(HostedFault::Ttl),
     }
 }
 

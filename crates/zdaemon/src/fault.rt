@@ -25,16 +25,14 @@ pub enum HostedFault {
     Missing,
     /// The folder is a script's: its file is its script.
     Script,
-    /// A node has a TTL that no line can say.
-    Ttl,
 }
 
 impl HostedFault {
     ghost use Rattle.zdaemon.specs.Faults.{hosted_fault_status, is_of_memory};
 
     /// Returns the exit status that a program ends with. 1: memory ran out, or the input or the
-    /// output failed. 2: its words. 3: a folder that isn't opened, has no journal, is a script's or
-    /// can't be exported. 4: a disk that failed, or a journal that is full.
+    /// output failed. 2: its words. 3: a folder that isn't opened, has no journal, or is a
+    /// script's. 4: a disk that failed, or a journal that is full.
     pub fn status(self) -> u8
         ensures { result ≡ hosted_fault_status self }
     {
@@ -49,7 +47,7 @@ impl HostedFault {
             HostedFault::Service(_) => 3,
             HostedFault::Serve(ServeFault::Disk | ServeFault::Full | ServeFault::Ended) => 4,
             HostedFault::Serve(_) => 1,
-            HostedFault::Missing | HostedFault::Script | HostedFault::Ttl => 3,
+            HostedFault::Missing | HostedFault::Script => 3,
         }
     }
 
@@ -80,7 +78,6 @@ impl fmt::Display for HostedFault {
             HostedFault::Service(fault) => write!(f, "zk: data: {fault}"),
             HostedFault::Serve(fault) => write!(f, "zk: {fault}"),
             HostedFault::Missing => f.write_str("zk: data: there is no journal"),
-            HostedFault::Ttl => f.write_str("zk: data: a node has a TTL that no line says"),
             HostedFault::Script => {
                 f.write_str("zk: data: a script's folder, and no server's: its file is its script")
             }

@@ -9,12 +9,13 @@ use std::alloc::Global;
 pub(crate) const CALLS: usize = 12_000;
 
 // The calls. A number from 1 to 31 replaces each @, one below 64 each #, and data each *.
-const KINDS: [&str; 24] = [
+const KINDS: [&str; 25] = [
     "@ create /d# p -",
     "@ create /d#/n# p *",
     "@ create /d#/n# p *",
     "@ create /d#/n# p *",
     "@ create /d#/n# p -",
+    "@ create /d#/n# c -",
     "@ create /d#/n# p *",
     "@ create /d#/n# t:# *",
     "@ create /d#/n#/below p *",
@@ -68,7 +69,7 @@ impl Chance {
 
 /// Draws a line.
 pub(crate) fn draw_line(alloc: Global, chance: &mut Chance) -> Result<String, Trouble> {
-    let kind = KINDS[chance.below(24) as usize];
+    let kind = KINDS[chance.below(25) as usize];
     let mut line = String::new(alloc);
     for letter in kind.chars() {
         match letter {

@@ -1,9 +1,10 @@
 -- The state of a front end for ZooKeeper's clients, and the effect of its calls: one tree, and the
 -- tables of its connections. The sources are the ZooKeeper Programmer's Guide, "ZooKeeper Sessions"
 -- and "ZooKeeper Watches".
-use Rattle.std.specs.Prelude.{◌≡◌, ℕ, Bool, true, false, ◌||◌, nat_lt, List, [], ◌∷◌, ◌++◌, map, if◌then◌else◌}
-use Rattle.std.specs.List.{list_any}
-use Rattle.ztree.specs.Tree.{Tree}
+use Rattle.std.specs.Prelude.{ℕ, Bool, true, false, ◌||◌, nat_lt, List, [], ◌∷◌, ◌++◌, map, if◌then◌else◌}
+use Rattle.std.specs.FinMap.{keys}
+use Rattle.std.specs.List.{filter, list_any}
+use Rattle.ztree.specs.Tree.{Path, Tree}
 use Rattle.zcalls.specs.declared.call.Call.{Call}
 use Rattle.zcalls.specs.declared.call.Call.TheVariants as call
 use Rattle.zcalls.specs.declared.call.Query.TheVariants.{Exists}
@@ -14,9 +15,8 @@ use Rattle.zcalls.specs.declared.reply.Reply.TheVariants as reply
 use Rattle.zcalls.specs.Step.{query_reply}
 use Rattle.zresponses.specs.declared.clock.Clock.{Clock}
 use Rattle.ztree_service.specs.log.Logs.{served, tree_after}
-use Rattle.zwatches.specs.declared.place.Place.{Place}
-use Rattle.zwatches.specs.Places.{node_places}
-use Rattle.zwatches.specs.Events.{Lists}
+use Rattle.zjute.specs.declared.event.EventKind.TheVariants.{NodeDeleted}
+use Rattle.zwatches.specs.Events.{is_awaited}
 use Rattle.zconnections.specs.Tables.{TablesView}
 use Rattle.zconnections.specs.Reporting.{reported_all}
 use Rattle.zconnections.specs.Sweeping.{gone, swept_all, some_made_one}
@@ -82,27 +82,28 @@ takes_nodes reported = false
 abbrev pub took_unnamed : List Reply → FrontView → Bool
 took_unnamed replies v = list_any takes_nodes replies || some_made_one v.tables.attachments (gone_from v)
 
--- the reply to an exists query at each position
-abbrev pub looks : Tree → List Place → List Reply
-looks t places = map (λ (p : Place). query_reply t (Exists p.path)) places
+-- the paths of the nodes whose deletion some watch waits for, in order
+abbrev pub watched : FrontView → List Path
+watched v = filter (is_awaited v.tables.watches NodeDeleted) (keys v.tree.nodes)
 
--- these positions are checked: events are sent for nodes that are gone or lost a child
-abbrev pub looked : List Place → FrontView → FrontView
-looked places v = with_tables (reported_all (seen v.tree.zxid places (looks v.tree places)) v.tables) v
+-- the reply to an exists query at each path
+abbrev pub looks : Tree → List Path → List Reply
+looks t paths = map (λ path. query_reply t (Exists path)) paths
 
--- all watched positions are checked
-abbrev pub Looks : FrontView → FrontView → Type 0
-Looks old new = (places : List Place) × Lists places (node_places old.tables.watches) × (new ≡ looked places old)
+-- these nodes existed before, and are checked: events are sent for those that are gone or lost a
+-- child
+abbrev pub looked : List Path → FrontView → FrontView
+looked paths v = with_tables (reported_all (seen v.tree.zxid paths (looks v.tree paths)) v.tables) v
 
-abbrev pub LooksIf : Bool → FrontView → FrontView → Type 0
-LooksIf false old new = new ≡ old
-LooksIf true old new = Looks old new
+abbrev pub looked_if : Bool → List Path → FrontView → FrontView
+looked_if false paths v = v
+looked_if true paths v = looked paths v
 
 -- after calls, if they may have ended sessions
-abbrev pub TidiesIf : Bool → List Reply → FrontView → FrontView → Type 0
-TidiesIf false replies old new = new ≡ old
-TidiesIf true replies old new = LooksIf (took_unnamed replies old) (swept old) new
+abbrev pub tidied_if : Bool → List Reply → List Path → FrontView → FrontView
+tidied_if false replies paths v = v
+tidied_if true replies paths v = looked_if (took_unnamed replies v) paths (swept v)
 
--- after calls with these replies
-abbrev pub Tidies : List Call → List Reply → FrontView → FrontView → Type 0
-Tidies calls replies old new = TidiesIf (list_any may_end calls) replies old new
+-- after calls with these replies, where these nodes were watched before
+abbrev pub tidied : List Call → List Reply → List Path → FrontView → FrontView
+tidied calls replies paths v = tidied_if (list_any may_end calls) replies paths v

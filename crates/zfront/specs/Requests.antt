@@ -13,7 +13,7 @@ use Rattle.zconnections.specs.attachments.Attachments.{touched, with_changed}
 use Rattle.zconnections.specs.Tables.{closed}
 use Rattle.zresponses.specs.effects.Answering.{answered, now_of}
 use Rattle.zresponses.specs.effects.Replying.{replied}
-use Rattle.zfront.specs.Front.{FrontView, with_tables, asked, replies_to, Tidies}
+use Rattle.zfront.specs.Front.{FrontView, with_tables, asked, replies_to, tidied, watched}
 
 -- the flag of the request's session is set
 abbrev pub touched_by : ℕ → FrontView → FrontView
@@ -28,7 +28,7 @@ with_answer calls c r v =
 
 -- the same, and ended sessions are removed
 abbrev pub Makes : List Call → ℕ → Request → FrontView → FrontView → Type 0
-Makes calls c r old new = Tidies calls (replies_to calls old) (with_answer calls c r old) new
+Makes calls c r old new = new ≡ tidied calls (replies_to calls old) (watched old) (with_answer calls c r old)
 
 -- a request, from its calls or its refusal
 abbrev pub Acts : Meaning (List Call) → ℕ → Request → FrontView → FrontView → Type 0

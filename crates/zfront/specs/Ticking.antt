@@ -1,11 +1,11 @@
 -- The effect of a tick: sessions that sent a request are renewed, then time advances. The source is
 -- the ZooKeeper Programmer's Guide, "ZooKeeper Sessions".
-use Rattle.std.specs.Prelude.{ℕ, List, [], ◌∷◌, ◌++◌, map}
+use Rattle.std.specs.Prelude.{◌≡◌, ℕ, List, [], ◌∷◌, ◌++◌, map}
 use Rattle.zcalls.specs.declared.call.Call.{Call}
 use Rattle.zcalls.specs.declared.call.Call.TheVariants.{Update}
 use Rattle.zcalls.specs.declared.call.Update.TheVariants.{Ping, Tick}
 use Rattle.zconnections.specs.attachments.Attachments.{all_rested, touched_ids}
-use Rattle.zfront.specs.Front.{FrontView, with_tables, asked, replies_to, Tidies}
+use Rattle.zfront.specs.Front.{FrontView, with_tables, asked, replies_to, tidied, watched}
 
 -- the call that renews a session
 abbrev pub ping : ℕ → Call
@@ -21,7 +21,7 @@ rested v = with_tables (record v.tables { attachments = all_rested v.tables.atta
 
 -- a tick that makes these calls
 abbrev pub TicksBy : List Call → FrontView → FrontView → Type 0
-TicksBy calls old new = Tidies calls (replies_to calls old) (rested (asked calls old)) new
+TicksBy calls old new = new ≡ tidied calls (replies_to calls old) (watched old) (rested (asked calls old))
 
 -- a tick
 abbrev pub Ticks : FrontView → FrontView → Type 0

@@ -3,48 +3,84 @@
 //! # Why
 //!
 //! No reply names what a tick or the end of a session deletes. A mirror of all ephemeral nodes,
-//! parents and TTLs would be a second tree to prove. So the front checks each watched position, at
-//! most 10,000, and only when nodes may be gone.
+//! parents and TTLs would be a second tree to prove. So before such a call the front notes which
+//! nodes are watched, of at most 4,096. It checks them after it, and only when nodes may be gone.
 //!
 //! The check is made in the same input, so no flag says that one is due. Its queries are outside
 //! the log: they change nothing, and no client gets their replies.
 //!
-//! Only a close or a tick ends sessions (`may_end`). So after other calls nothing is checked.
+//! Only a close or a tick ends sessions (`may_end`). So around other calls nothing is checked.
 
-ghost use Rattle.std.specs.Prelude.{◌≡◌, IfOk, OnOk};
+ghost use Rattle.std.specs.Prelude.{◌≡◌, true, IfOk, OnOk};
 ghost use Rattle.std.specs.List.{filter, list_any};
+ghost use Rattle.zjute.specs.declared.event.EventKind.TheVariants.{NodeDeleted};
+ghost use Rattle.zwatches.specs.Events.{is_awaited};
 ghost use Rattle.zconnections.specs.Sweeping.{is_gone};
-ghost use Rattle.zfront.specs.Front.{gone_from, LooksIf, looked, Looks, looks, may_end, swept, took_unnamed};
-ghost use Rattle.zfront.specs.Front.{takes_nodes, Tidies, TidiesIf};
+ghost use Rattle.zfront.specs.Front.{gone_from, looked, looked_if, looks, may_end, swept, took_unnamed};
+ghost use Rattle.zfront.specs.Front.{takes_nodes, tidied, watched};
 
 use crate::inner::Inner;
 use zalloc::Memory;
 use zcalls::{Call, Query, Reply, Update};
+use zpath::Path;
 use zresponses::effects::look;
 use ztree::SessionId;
 use ztree_service::TreeService;
-use zwatches::Place;
 
 impl<T: TreeService> Inner<T> {
-    // Removes the sessions that these calls ended. Checks watched nodes if some may be gone.
-    pub(crate) fn tidy(&mut self, calls: &[Call], replies: &[Reply]) -> Result<(), Memory>
-        ensures { OnOk result (Tidies calls.now replies.now self.old self.new) }
+    // Returns the paths of the watched nodes, if these calls may end sessions.
+    pub(crate) fn watched_before(&self, calls: &[Call]) -> Result<Vec<Path>, Memory>
+        ensures { IfOk result (λ paths. list_any may_end calls.now ≡ true
+            → paths.items ≡ watched self.now) }
     {
         if one_may_end(calls) {
-            return self.sweep_and_look(replies);
+            return self.watched();
+        }
+        Ok(Vec::new(self.alloc))
+    }
+
+    // Returns the paths of the watched nodes.
+    fn watched(&self) -> Result<Vec<Path>, Memory>
+        ensures { IfOk result (λ paths. paths.items ≡ watched self.now) }
+    {
+        let mut paths = self.service.paths()?;
+        self.keep_watched(&mut paths);
+        Ok(paths)
+    }
+
+    // Retains the paths whose deletion some watch waits for.
+    fn keep_watched(&self, paths: &mut Vec<Path>)
+        ensures { paths.new.items
+            ≡ filter (is_awaited self.now.tables.watches NodeDeleted) paths.old.items }
+    {
+        paths.retain(|path| self.tables.awaits_end(path));
+    }
+
+    // Removes the sessions that these calls ended. Checks the nodes that were watched before, if
+    // some may be gone.
+    pub(crate) fn tidy(
+        &mut self,
+        calls: &[Call],
+        replies: &[Reply],
+        paths: &[Path],
+    ) -> Result<(), Memory>
+        ensures { OnOk result (self.new ≡ tidied calls.now replies.now paths.now self.old) }
+    {
+        if one_may_end(calls) {
+            return self.sweep_and_look(replies, paths);
         }
         Ok(())
     }
 
-    // Removes the ended sessions. Checks watched nodes if some may be gone.
-    fn sweep_and_look(&mut self, replies: &[Reply]) -> Result<(), Memory>
-        ensures { OnOk result
-            (LooksIf (took_unnamed replies.now self.old) (swept self.old) self.new) }
+    // Removes the ended sessions. Checks these nodes if some may be gone.
+    fn sweep_and_look(&mut self, replies: &[Reply], paths: &[Path]) -> Result<(), Memory>
+        ensures { OnOk result (self.new
+            ≡ looked_if (took_unnamed replies.now self.old) paths.now (swept self.old)) }
     {
         let gone = self.gone()?;
         let made = self.tables.sweep(&gone)?;
         if one_takes_nodes(replies) || made {
-            return self.look();
+            return self.look_at(paths);
         }
         Ok(())
     }
@@ -71,31 +107,23 @@ impl<T: TreeService> Inner<T> {
         Ok(gone)
     }
 
-    // Checks all watched nodes.
-    fn look(&mut self) -> Result<(), Memory>
-        ensures { OnOk result (Looks self.old self.new) }
+    // Checks nodes.
+    fn look_at(&mut self, paths: &[Path]) -> Result<(), Memory>
+        ensures { OnOk result (self.new ≡ looked paths.now self.old) }
     {
-        let places = self.tables.watched()?;
-        self.look_at(&places)
-    }
-
-    // Checks positions.
-    fn look_at(&mut self, places: &[Place]) -> Result<(), Memory>
-        ensures { OnOk result (self.new ≡ looked places.now self.old) }
-    {
-        let replies = self.seen_at(places)?;
+        let replies = self.seen_at(paths)?;
         let zxid = self.last_change()?;
-        look(self.alloc, &mut self.tables, zxid, places, &replies)
+        look(self.alloc, &mut self.tables, zxid, paths, &replies)
     }
 
-    // Returns the reply to an exists query at each position.
-    fn seen_at(&self, places: &[Place]) -> Result<Vec<Reply>, Memory>
+    // Returns the reply to an exists query at each path.
+    fn seen_at(&self, paths: &[Path]) -> Result<Vec<Reply>, Memory>
         ensures { IfOk result
-            (λ replies. replies.items ≡ looks self.now.tree places.now) }
+            (λ replies. replies.items ≡ looks self.now.tree paths.now) }
     {
         let mut replies = Vec::new(self.alloc);
-        for place in places {
-            let path = place.path.clone()?;
+        for path in paths {
+            let path = path.clone()?;
             let reply = self.service.ask(&Query::Exists(path))?;
             replies.push(reply)?;
         }

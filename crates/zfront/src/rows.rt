@@ -2,7 +2,7 @@
 
 ghost use Rattle.std.specs.Prelude.{◌≡◌, ℕ, pos, negsuc, true, false, List, [], ◌∷◌, codes, None, Some};
 ghost use Rattle.std.specs.FinMap.{empty, get, insert};
-ghost use Rattle.ztree.specs.Tree.{opening_tree};
+ghost use Rattle.ztree.specs.Tree.{Path, opening_tree};
 ghost use Rattle.ztree.specs.declared.session.Session.{Session};
 ghost use Rattle.zcalls.specs.declared.call.Call.{Call};
 ghost use Rattle.zcalls.specs.declared.call.Call.TheVariants.{Query, Update};
@@ -21,7 +21,7 @@ ghost use Rattle.zconnections.specs.Tables.{TablesView, closed, is_open};
 ghost use Rattle.zresponses.specs.effects.Greeting.{came_back, turned_away, welcomed};
 ghost use Rattle.zresponses.specs.effects.support.Samples.{greeting};
 ghost use Rattle.zfront.specs.declared.word.Word.TheVariants as word;
-ghost use Rattle.zfront.specs.Front.{FrontView, asked, left_of, may_end, replies_to, takes_nodes, Tidies};
+ghost use Rattle.zfront.specs.Front.{FrontView, asked, left_of, may_end, replies_to, takes_nodes, tidied};
 ghost use Rattle.zfront.specs.Greeting.{opened, opening, returned};
 ghost use Rattle.zfront.specs.Reading.{is_too_long, keeps, word_asked};
 ghost use Rattle.zfront.specs.Restoring.{all_taken, beginning, no_tables, tables_of};
@@ -98,7 +98,8 @@ pub fn ends_of_sessions()
     ensures tick { may_end (Update Tick) ≡ true }
     ensures ping { may_end (Update (Ping 7)) ≡ false }
     ensures query { may_end (Query (Exists [])) ≡ false }
-    ensures not_swept { (rs : List Reply) (v : FrontView) → Tidies (Update (Ping 7) ∷ []) rs v v }
+    ensures not_swept { (rs : List Reply) (paths : List Path) (v : FrontView)
+        → tidied (Update (Ping 7) ∷ []) rs paths v ≡ v }
 {}
 
 /// A length that no frame has, and the rest of the bytes of a connection.

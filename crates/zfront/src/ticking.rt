@@ -29,9 +29,10 @@ impl<T: TreeService> Inner<T> {
     fn make_tick(&mut self, calls: &[Call]) -> Result<(), Memory>
         ensures { OnOk result (TicksBy calls.now self.old self.new) }
     {
+        let paths = self.watched_before(calls)?;
         let replies = self.ask(calls)?;
         self.tables.rest();
-        self.tidy(calls, &replies)
+        self.tidy(calls, &replies, &paths)
     }
 }
 

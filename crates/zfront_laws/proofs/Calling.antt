@@ -2,6 +2,7 @@
 use Rattle.std.proofs.Common.{◌≡◌, ◌∙◌, ℕ, ◌≤◌, Bool, true, false, List, [], ◌++◌, refl, sym, ap, subst, arith}
 use Rattle.std.specs.FinMap.{contains_key}
 use Rattle.std.specs.List.{list_any}
+use Rattle.ztree.specs.Tree.{Path}
 use Rattle.zcalls.specs.declared.call.Call.{Call}
 use Rattle.zcalls.specs.declared.reply.Reply.{Reply}
 use Rattle.zconnections.specs.buffers.Streams.{held_of}
@@ -10,7 +11,7 @@ use Rattle.ztree_service.proofs.log_lemmas.Incarnations.{calls_zipped, leads_by,
 use Rattle.zconnections.specs.Tables.{TablesView}
 use Rattle.zresponses.specs.effects.Looking.{seen}
 use Rattle.zfront.specs.Front.{FrontView, with_tables, asked, replies_to, updates_among, left_of, gone_from, swept, may_end, took_unnamed}
-use Rattle.zfront.specs.Front.{looks, looked, LooksIf, TidiesIf, Tidies}
+use Rattle.zfront.specs.Front.{looks, looked, looked_if, tidied_if, tidied}
 use Rattle.zfront_laws.specs.Logs.{done_by}
 use Rattle.zfront_laws.specs.Making.{updates_in}
 use Rattle.zfront_laws.proofs.Changes.{sweeps_all, reports_all}
@@ -43,35 +44,37 @@ record Tidied (ends : Bool) (old new : FrontView) : Type 0 where
   light : Lighter old.tables rows
   lives : ends ≡ true → (id : ℕ) → Has rows.attachments id → contains_key old.tree.sessions id ≡ true
 
-looks_if : (must : Bool) (old new : FrontView) → LooksIf must (swept old) new → Tidied true old new
-looks_if false old new is = record {
-  rows = (swept old).tables;
-  becomes = is;
-  light = sweeps_all Lighter carries_lighter (gone_from old) old.tables;
-  lives = λ ends. swept_lives old.tree.sessions old.tables;
+looks_if : (must : Bool) (paths : List Path) (v : FrontView) → Tidied true v (looked_if must paths (swept v))
+looks_if false paths v = record {
+  rows = (swept v).tables;
+  becomes = refl;
+  light = sweeps_all Lighter carries_lighter (gone_from v) v.tables;
+  lives = λ ends. swept_lives v.tree.sessions v.tables;
 }
-looks_if true old new has =
-    let middle = swept old in
-    let reports = reports_all Lighter carries_lighter (seen middle.tree.zxid has.0 (looks middle.tree has.0)) middle.tables in
+looks_if true paths v =
+    let middle = swept v in
+    let reports = reports_all Lighter carries_lighter (seen middle.tree.zxid paths (looks middle.tree paths)) middle.tables in
     record {
-      rows = (looked has.0 middle).tables;
-      becomes = has.2;
-      light = lighter old.tables middle.tables (looked has.0 middle).tables (sweeps_all Lighter carries_lighter (gone_from old) old.tables) reports;
-      lives = λ ends id sits. swept_lives old.tree.sessions old.tables id (reports.1.1 id sits);
+      rows = (looked paths middle).tables;
+      becomes = refl;
+      light = lighter v.tables middle.tables (looked paths middle).tables (sweeps_all Lighter carries_lighter (gone_from v) v.tables) reports;
+      lives = λ ends id sits. swept_lives v.tree.sessions v.tables id (reports.1.1 id sits);
     }
 
-tidies_if : (ends : Bool) (replies : List Reply) (old new : FrontView) → TidiesIf ends replies old new → Tidied ends old new
-tidies_if false replies old new is =
-    record { rows = old.tables; becomes = is; light = unmoved old.tables; lives = λ ends. absurd (cc ends) }
-tidies_if true replies old new has = looks_if (took_unnamed replies old) old new has
+tidies_if : (ends : Bool) (replies : List Reply) (paths : List Path) (v : FrontView) → Tidied ends v (tidied_if ends replies paths v)
+tidies_if false replies paths v =
+    record { rows = v.tables; becomes = refl; light = unmoved v.tables; lives = λ ends. absurd (cc ends) }
+tidies_if true replies paths v = looks_if (took_unnamed replies v) paths v
 
 -- so it is after any calls
 pub makes : (calls : List Call) (t : TablesView) (old new : FrontView) → Lighter old.tables t
-    → Tidies calls (replies_to calls old) (with_tables t (asked calls old)) new → Goes [] (done_by calls old) old new
-makes calls t old new light has = subst (Goes [] (done_by calls old) old) (sym done.becomes) (made calls done.rows old all.0 seats)
+    → (paths : List Path) → new ≡ tidied calls (replies_to calls old) paths (with_tables t (asked calls old)) → Goes [] (done_by calls old) old new
+makes calls t old new light paths has = subst (Goes [] (done_by calls old) old) (sym done.becomes) (made calls done.rows old all.0 seats)
   where
     done : Tidied (list_any may_end calls) (with_tables t (asked calls old)) new
-    done = tidies_if (list_any may_end calls) (replies_to calls old) (with_tables t (asked calls old)) new has
+    done =
+        subst (Tidied (list_any may_end calls) (with_tables t (asked calls old))) (sym has)
+        (tidies_if (list_any may_end calls) (replies_to calls old) paths (with_tables t (asked calls old)))
 
     all : Lighter old.tables done.rows
     all = lighter old.tables t done.rows light done.light

@@ -9,7 +9,7 @@ use Rattle.zconnections.specs.attachments.Attachments.{touched_ids}
 use Rattle.ztree_service.proofs.log_lemmas.Incarnations.{leads_more}
 use Rattle.zconnections.specs.Tables as tables
 use Rattle.ztree.specs.Tree.{opening_tree}
-use Rattle.zfront.specs.Front.{FrontView, asked}
+use Rattle.zfront.specs.Front.{FrontView, asked, watched}
 use Rattle.zfront.specs.Inputs as inputs
 use Rattle.zfront.specs.Inputs.{without_first}
 use Rattle.zfront.specs.Restoring.{beginning}
@@ -32,7 +32,7 @@ use Rattle.zfront_laws.proofs.Steps.{Goes, both, retabled, same, takes}
 ticks : (old new : FrontView) → Ticks old new → Goes [] (done_by (tick_calls (touched_ids old.tables.attachments)) old) old new
 ticks old new has =
     let calls = tick_calls (touched_ids old.tables.attachments) in
-    makes calls (rested (asked calls old)).tables old new (as_many (held_of old.tables.streams), rests_kept old.tables) has
+    makes calls (rested (asked calls old)).tables old new (as_many (held_of old.tables.streams), rests_kept old.tables) (watched old) has
 
 takes_input : (input : InputView) (old new : FrontView) → KeepsFew old → (does : inputs.Does input old new)
     → Goes [] (input_log input old new does) old new

@@ -36,7 +36,7 @@ use Rattle.zconnections.specs.Tables.{TablesView, closed, connection_of, moved, 
 use Rattle.zresponses.specs.effects.Frames.{response_frame}
 use Rattle.zresponses.specs.effects.Greeting.{came_back, given, is_ahead, session_reported, turned_away}
 use Rattle.zresponses.specs.effects.Replying.{replied}
-use Rattle.zfront.specs.Front.{FrontView, with_tables, asked}
+use Rattle.zfront.specs.Front.{FrontView, with_tables, asked, watched}
 use Rattle.zfront.specs.Greeting.{opening, opened, with_session, returned, greeted_by, greeted}
 use Rattle.zfront.specs.Requests.{touched_by, with_answer, Acts, Requests, Serves}
 use Rattle.zfront_laws.specs.Logs.{done_by, greeting_calls, meant, request_calls}
@@ -60,7 +60,7 @@ acts (Err (Refused code)) c r old new is =
     (replies_to Lighter carries_lighter old.tree.zxid c r.xid (failed code) old.tables)
 acts (Err Memory) c r old new is = absurd is
 acts (Ok calls) c r old new has =
-    makes calls (with_answer calls c r old).tables old new (working.answered_by Lighter carries_lighter calls c r old) has
+    makes calls (with_answer calls c r old).tables old new (working.answered_by Lighter carries_lighter calls c r old) (watched old) has
 
 requests : (read : Result Request Fault) (session c : ℕ) (old new : FrontView) → Requests read session c old new
     → Goes [] (done_by (request_calls read session old) old) old new

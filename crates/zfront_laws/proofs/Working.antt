@@ -3,6 +3,7 @@ use Rattle.std.proofs.Common.{◌≡◌, ℕ, Bool, true, false, List, Result, O
 use Rattle.std.specs.List.{list_any}
 use Rattle.zcodec.specs.Readers.{whole}
 use Rattle.zcodec.specs.declared.fault.Fault.{Fault}
+use Rattle.ztree.specs.Tree.{Path}
 use Rattle.zcalls.specs.declared.call.Call.{Call}
 use Rattle.zcalls.specs.declared.reply.Reply.{Reply}
 use Rattle.zjute.specs.Asking.{request}
@@ -16,8 +17,8 @@ use Rattle.zconnections.specs.Tables.{TablesView, closed}
 use Rattle.zresponses.specs.effects.Answering.{now_of}
 use Rattle.zresponses.specs.effects.Looking.{seen}
 use Rattle.zresponses.specs.effects.Replying.{replied}
-use Rattle.zfront.specs.Front.{FrontView, with_tables, asked, replies_to, gone_from, swept, may_end, took_unnamed, looks, looked, LooksIf}
-use Rattle.zfront.specs.Front.{TidiesIf, Tidies}
+use Rattle.zfront.specs.Front.{FrontView, with_tables, asked, replies_to, gone_from, swept, may_end, took_unnamed, looks, looked_if, watched}
+use Rattle.zfront.specs.Front.{tidied_if, tidied}
 use Rattle.zfront.specs.Requests.{touched_by, with_answer, Acts, Requests, Serves}
 use Rattle.zfront.specs.Ticking.{rested, tick_calls, Ticks}
 use Rattle.zfront_laws.proofs.Changes.{Carries, replies_to as reported, sweeps_all, reports_all}
@@ -37,18 +38,17 @@ module _ (R : TablesView → TablesView → Type 0) (carry : Carries R) where
   joins : (old middle new : FrontView) → From old middle → From middle new → From old new
   joins old middle new one two = carry.both old.tables middle.tables new.tables one two
 
-  looks_if : (must : Bool) (old new : FrontView) → LooksIf must old new → From old new
-  looks_if false old new is = same old new is
-  looks_if true old new has =
-      becomes old (looked has.0 old) new has.2 (reports_all R carry (seen old.tree.zxid has.0 (looks old.tree has.0)) old.tables)
+  looks_if : (must : Bool) (paths : List Path) (v : FrontView) → From v (looked_if must paths v)
+  looks_if false paths v = carry.none v.tables
+  looks_if true paths v = reports_all R carry (seen v.tree.zxid paths (looks v.tree paths)) v.tables
 
-  tidies_if : (ends : Bool) (replies : List Reply) (old new : FrontView) → TidiesIf ends replies old new → From old new
-  tidies_if false replies old new is = same old new is
-  tidies_if true replies old new has =
-      joins old (swept old) new (sweeps_all R carry (gone_from old) old.tables) (looks_if (took_unnamed replies old) (swept old) new has)
+  tidies_if : (ends : Bool) (replies : List Reply) (paths : List Path) (v : FrontView) → From v (tidied_if ends replies paths v)
+  tidies_if false replies paths v = carry.none v.tables
+  tidies_if true replies paths v =
+      joins v (swept v) (looked_if (took_unnamed replies v) paths (swept v)) (sweeps_all R carry (gone_from v) v.tables) (looks_if (took_unnamed replies v) paths (swept v))
 
-  pub tidies : (calls : List Call) (replies : List Reply) (old new : FrontView) → Tidies calls replies old new → From old new
-  tidies calls replies old new has = tidies_if (list_any may_end calls) replies old new has
+  pub tidies : (calls : List Call) (replies : List Reply) (paths : List Path) (old new : FrontView) → new ≡ tidied calls replies paths old → From old new
+  tidies calls replies paths old new is = becomes old (tidied calls replies paths old) new is (tidies_if (list_any may_end calls) replies paths old)
 
   -- requests
   pub answered_by : (calls : List Call) (c : ℕ) (r : Request) (v : FrontView) → From v (with_answer calls c r v)
@@ -60,7 +60,7 @@ module _ (R : TablesView → TablesView → Type 0) (carry : Carries R) where
       (reported R carry old.tree.zxid c r.xid (failed code) old.tables)
   acts (Err Memory) c r old new is = absurd is
   acts (Ok calls) c r old new has =
-      joins old (with_answer calls c r old) new (answered_by calls c r old) (tidies calls (replies_to calls old) (with_answer calls c r old) new has)
+      joins old (with_answer calls c r old) new (answered_by calls c r old) (tidies calls (replies_to calls old) (watched old) (with_answer calls c r old) new has)
 
   requests : (read : Result Request Fault) (session c : ℕ) (old new : FrontView) → Requests read session c old new → From old new
   requests (Err fault) session c old new is = becomes old (with_tables (closed c old.tables) old) new is (carry.closes c old.tables)
@@ -75,4 +75,4 @@ module _ (R : TablesView → TablesView → Type 0) (carry : Carries R) where
   pub ticks : (old new : FrontView) → Ticks old new → From old new
   ticks old new has =
       let calls = tick_calls (touched_ids old.tables.attachments) in
-      joins old (rested (asked calls old)) new (carry.rests old.tables) (tidies calls (replies_to calls old) (rested (asked calls old)) new has)
+      joins old (rested (asked calls old)) new (carry.rests old.tables) (tidies calls (replies_to calls old) (watched old) (rested (asked calls old)) new has)

@@ -31,6 +31,7 @@ op_number op.Multi = pos 14
 op_number op.Create2 = pos 15
 op_number op.CheckWatches = pos 17
 op_number op.RemoveWatches = pos 18
+op_number op.CreateContainer = pos 19
 op_number op.CreateTtl = pos 21
 op_number op.MultiRead = pos 22
 op_number op.Auth = pos 100
@@ -40,11 +41,11 @@ op_number op.AddWatch = pos 106
 op_number op.CloseSession = neg 11
 op_number (op.Other n) = n
 
--- the kinds from 21 on, and below 0
+-- the kinds from 19 on, and below 0
 unfoldable pub late_ops : List Op
 late_ops =
-    op.CreateTtl ∷ op.MultiRead ∷ op.Auth ∷ op.SetWatches ∷ op.SetWatches2 ∷ op.AddWatch ∷
-    op.CloseSession ∷ []
+    op.CreateContainer ∷ op.CreateTtl ∷ op.MultiRead ∷ op.Auth ∷ op.SetWatches ∷
+    op.SetWatches2 ∷ op.AddWatch ∷ op.CloseSession ∷ []
 
 unfoldable pub middle_ops : List Op
 middle_ops =
@@ -89,6 +90,7 @@ asked_at op.Multi = read_as parts (λ x. asks.Multi x)
 asked_at op.Create2 = read_as create (λ x. asks.Create2 x)
 asked_at op.CheckWatches = read_as watches_at (λ x. asks.CheckWatches x)
 asked_at op.RemoveWatches = read_as watches_at (λ x. asks.RemoveWatches x)
+asked_at op.CreateContainer = read_as create (λ x. asks.CreateContainer x)
 asked_at op.CreateTtl = read_as create_ttl (λ x. asks.CreateTtl x)
 asked_at op.MultiRead = read_as looks (λ x. asks.MultiRead x)
 asked_at op.Auth = read_as auth (λ x. asks.Auth x)
@@ -115,6 +117,7 @@ asked_spelled (asks.Multi x) = behind op.Multi parts x
 asked_spelled (asks.Create2 x) = behind op.Create2 create x
 asked_spelled (asks.CheckWatches x) = behind op.CheckWatches watches_at x
 asked_spelled (asks.RemoveWatches x) = behind op.RemoveWatches watches_at x
+asked_spelled (asks.CreateContainer x) = behind op.CreateContainer create x
 asked_spelled (asks.CreateTtl x) = behind op.CreateTtl create_ttl x
 asked_spelled (asks.MultiRead x) = behind op.MultiRead looks x
 asked_spelled (asks.Auth x) = behind op.Auth auth x

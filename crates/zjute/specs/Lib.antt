@@ -9,5 +9,6 @@ pub mod Parts
 pub mod Asking
 pub mod Replies
 pub mod Events
+pub mod WatchNumbers
 pub mod support
 pub mod Laws

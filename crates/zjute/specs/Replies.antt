@@ -73,6 +73,7 @@ results_text results = flat_map result_text results ++ header_fields.spell end_h
 -- the record after the header
 abbrev pub body_text : Body → List ℕ
 body_text body.Nothing = []
+body_text (body.Error c) = code_text c
 body_text (body.Path path) = text.spell path
 body_text (body.PathStat path s) = text.spell path ++ stat.spell s
 body_text (body.Stat s) = stat.spell s

@@ -35,6 +35,8 @@ mod request;
 mod result_writing;
 mod rows;
 mod stat;
+mod watch_numbers;
+mod watch_type;
 mod writing;
 
 pub use acl::{Acl, Acls};
@@ -54,5 +56,6 @@ pub use request::{
     SetDataRequest, SetWatches, SetWatches2, WatchesAt,
 };
 pub use stat::StatRecord;
+pub use watch_type::{AddMode, WatchType};
 pub use writing::{write_connect_response, write_event, write_reply};
 pub use zcodec::{Fault, ReadError};

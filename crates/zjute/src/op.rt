@@ -38,6 +38,8 @@ pub(crate) enum Op {
     CheckWatches,
     /// 18
     RemoveWatches,
+    /// 19
+    CreateContainer,
     /// 21
     CreateTtl,
     /// 22
@@ -93,12 +95,13 @@ impl Op {
         }
     }
 
-    // The kinds from 21 on, and below 0.
+    // The kinds from 19 on, and below 0.
     #[tactic(auto, unfolding(crate::specs::Asking::late_ops))]
     fn among_late(number: i32) -> Op
         ensures { result ≡ op_among late_ops number }
     {
         match number {
+            19 => Op::CreateContainer,
             21 => Op::CreateTtl,
             22 => Op::MultiRead,
             100 => Op::Auth,

@@ -91,6 +91,7 @@ fn case_of(alloc: Global, op: Op, bytes: &[u8]) -> Result<(Asked, &[u8]), ReadEr
         Op::Create2 => asks!(Create2, create_of(alloc, bytes)),
         Op::CheckWatches => asks!(CheckWatches, watches_at_of(alloc, bytes)),
         Op::RemoveWatches => asks!(RemoveWatches, watches_at_of(alloc, bytes)),
+        Op::CreateContainer => asks!(CreateContainer, create_of(alloc, bytes)),
         Op::CreateTtl => asks!(CreateTtl, create_ttl_of(alloc, bytes)),
         Op::MultiRead => asks!(MultiRead, looks_of(alloc, bytes)),
         Op::Auth => asks!(Auth, auth_of(alloc, bytes)),

@@ -70,6 +70,8 @@ impl Results {
 pub enum Body {
     /// No record: an error, or a request whose success has no result.
     Nothing,
+    /// A code (`ErrorResponse`).
+    Error(Code),
     /// A path (`CreateResponse`, `SyncResponse`).
     Path(Bytes),
     /// A path and a stat (`Create2Response`).

@@ -156,6 +156,8 @@ pub enum Asked {
     CheckWatches(WatchesAt),
     /// 18: remove watches.
     RemoveWatches(WatchesAt),
+    /// 19: create a container, and return its path and stat.
+    CreateContainer(CreateRequest),
     /// 21: create a node with a TTL.
     CreateTtl(CreateTtl),
     /// 22: read several nodes.

@@ -12,6 +12,9 @@ ghost use Rattle.zjute.specs.Asking.{request};
 ghost use Rattle.zjute.specs.Stats.{stat};
 ghost use Rattle.zjute.specs.Codes.{code_number, codes, code_of, EachHasItsNumber};
 ghost use Rattle.zjute.specs.Replies.{reply_text};
+ghost use Rattle.zjute.specs.WatchNumbers.{mode_of, type_of};
+ghost use Rattle.zjute.specs.declared.watch_type.AddMode.TheVariants as mode;
+ghost use Rattle.zjute.specs.declared.watch_type.WatchType.TheVariants as typed;
 ghost use Rattle.zjute.specs.Events.{event_number, state_number, event_text};
 ghost use Rattle.zjute.specs.support.Kazoo.{create_bytes, delete_bytes, exists_bytes};
 ghost use Rattle.zjute.specs.support.Kazoo.{get_data_bytes, set_data_bytes, get_acl_bytes};
@@ -29,15 +32,16 @@ ghost use Rattle.zjute.specs.support.Sent.{created, refused, reported_data, repo
 ghost use Rattle.zjute.specs.support.Sent.{reported_acl, multi_done, multi_refused, multi_kinds};
 ghost use Rattle.zjute.specs.support.Sent.{created_bytes, refused_bytes, reported_data_bytes};
 ghost use Rattle.zjute.specs.support.Sent.{reported_null_bytes, reported_names_bytes, reported_acl_bytes};
+ghost use Rattle.zjute.specs.support.Sent.{watched, watched_bytes};
 ghost use Rattle.zjute.specs.support.Sent.{multi_done_bytes, multi_refused_bytes};
 ghost use Rattle.zjute.specs.support.Sent.{multi_kinds_bytes, event_bytes, data_changed};
 ghost use Rattle.zjute.specs.support.Sent.{some_stat, stat_bytes, connected_front, connected};
 ghost use Rattle.zjute.specs.support.Rarer.{check_bytes, check_watches_bytes};
-ghost use Rattle.zjute.specs.support.Rarer.{remove_watches_bytes, create_ttl_bytes};
+ghost use Rattle.zjute.specs.support.Rarer.{remove_watches_bytes, create_ttl_bytes, create_container_bytes};
 ghost use Rattle.zjute.specs.support.Rarer.{multi_read_bytes, set_watches_bytes};
 ghost use Rattle.zjute.specs.support.Rarer.{set_watches_2_bytes, add_watch_bytes};
 ghost use Rattle.zjute.specs.support.Rarer.{container_bytes, check_asked, check_watches_asked};
-ghost use Rattle.zjute.specs.support.Rarer.{remove_watches_asked, create_ttl_asked};
+ghost use Rattle.zjute.specs.support.Rarer.{remove_watches_asked, create_ttl_asked, create_container_asked};
 ghost use Rattle.zjute.specs.support.Rarer.{multi_read_asked, set_watches_asked};
 ghost use Rattle.zjute.specs.support.Rarer.{set_watches_2_asked, add_watch_asked};
 ghost use Rattle.zjute.specs.support.Rarer.{container_asked};
@@ -94,6 +98,7 @@ pub fn rarer_requests_are_read()
     ensures check_watches { whole request check_watches_bytes ≡ Ok check_watches_asked }
     ensures remove_watches { whole request remove_watches_bytes ≡ Ok remove_watches_asked }
     ensures create_ttl { whole request create_ttl_bytes ≡ Ok create_ttl_asked }
+    ensures create_container { whole request create_container_bytes ≡ Ok create_container_asked }
     ensures multi_read { whole request multi_read_bytes ≡ Ok multi_read_asked }
     ensures set_watches { whole request set_watches_bytes ≡ Ok set_watches_asked }
     ensures set_watches_2 { whole request set_watches_2_bytes ≡ Ok set_watches_2_asked }
@@ -136,6 +141,7 @@ pub fn replies_are_spelled()
     ensures reported_null { reply_text reported_null ≡ reported_null_bytes }
     ensures reported_names { reply_text reported_names ≡ reported_names_bytes }
     ensures reported_acl { reply_text reported_acl ≡ reported_acl_bytes }
+    ensures watched { reply_text watched ≡ watched_bytes }
     ensures multi_done { reply_text multi_done ≡ multi_done_bytes }
     ensures multi_refused { reply_text multi_refused ≡ multi_refused_bytes }
     ensures multi_kinds { reply_text multi_kinds ≡ multi_kinds_bytes }
@@ -149,6 +155,19 @@ pub fn codes_are_numbers()
     ensures numbers { map code_number codes ≡ code_numbers }
     ensures none { code_of (neg 126) ≡ None }
     ensures unknown { code_of (pos 1) ≡ None }
+{}
+
+/// The numbers of the types of watches, and of the modes of added ones. Others have none.
+pub fn watches_are_numbers()
+    ensures children { type_of (pos 1) ≡ Some typed.Children }
+    ensures of_data { type_of (pos 2) ≡ Some typed.Data }
+    ensures any { type_of (pos 3) ≡ Some typed.Any }
+    ensures no_type { type_of (pos 4) ≡ None }
+    ensures zero_type { type_of (pos 0) ≡ None }
+    ensures persistent { mode_of (pos 0) ≡ Some mode.Persistent }
+    ensures recursive { mode_of (pos 1) ≡ Some mode.Recursive }
+    ensures no_mode { mode_of (pos 2) ≡ None }
+    ensures below { mode_of (neg 1) ≡ None }
 {}
 
 /// The numbers of the types of events, and of the states.

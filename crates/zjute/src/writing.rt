@@ -100,6 +100,7 @@ fn put_body(out: &mut Vec<u8>, body: &Body) -> Result<(), AllocError>
 {
     match body {
         Body::Nothing => Ok(()),
+        Body::Error(code) => put_int(out, &code.number()),
         Body::Path(path) => put_text(out, path),
         Body::PathStat(path, stat) => {
             put_text(out, path)?;

@@ -1,11 +1,9 @@
--- The list of the nodes with a time to live: what each call leaves of it, and that no other list is changed with it.
+-- The list of the nodes that ticks may remove: what each call leaves of it, and that no other list is changed with it.
 use Rattle.std.proofs.Common.{◌≡◌, ◌≢◌, ◌⊎◌, inl, inr, ℕ, ◌<◌, ◌≤◌, Bool, true, false, cond, Option, Some, None, IsSome, refl, sym, ap, ◌∙◌, arith}
 use mathlib.Core.Path.{subst}
-use Rattle.std.specs.Prelude.{◌==◌}
 use Rattle.std.specs.Option.{option_map, option_map_or, option_and_then}
 use Rattle.std.specs.FinMap as finite
 use Rattle.std.specs.FinMap.{get, same_map}
-use Rattle.std.proofs.lemmas.Bool.{eqb-true, false_from_ne_true}
 use Rattle.zslots.specs.declared.id.Id.{Id}
 use Rattle.zslots.specs.declared.linked.Links.{Links}
 use Rattle.zslots.specs.declared.list.List.{List as IdList}
@@ -17,8 +15,10 @@ use Rattle.zslots.proofs.Maps.{id_cmp_total, id_cmp_same, same_or_other}
 use Rattle.zslots.proofs.ListMoves.{parts-kept}
 use Rattle.zslots.proofs.Families.{families-kept, families-pushed, families-unlinked, family-room}
 use Rattle.znodes.specs.index.IndexView.{IdsByPath}
+use Rattle.ztree.specs.declared.term.Term.{Term}
 use Rattle.ztree.specs.declared.node.Node.{Node}
 use Rattle.ztree.specs.Tree.{Path, parent_of}
+use Rattle.ztree.specs.Stale.{may_end}
 use Rattle.ztree.proofs.Maps.{none_some}
 use Rattle.ztree.proofs.Sorted.{paths_total, same_path}
 use Rattle.znodes.specs.declared.row.Row.{Row}
@@ -92,35 +92,32 @@ module _ (m n : Items Row) (ids : IdsByPath) (faces : (q : Id) → option_map fa
 
 -- a part that the links of this list are not of
 module _ {X : Type 0} (part : Row → X) (leaves : (r : Row) (to : Links) → part (with_timed_links r to) ≡ part r) where
-  pub timed-kept : (m : Items Row) (list : IdList 2) (ttl : ℕ) (id q : Id) → option_map part (get (with_timed m list ttl id) q) ≡ option_map part (get m q)
-  timed-kept m list ttl id q = by (ttl == 0)
+  pub timed-kept : (m : Items Row) (list : IdList 2) (ends : Bool) (id q : Id) → option_map part (get (with_timed m list ends id) q) ≡ option_map part (get m q)
+  timed-kept m list ends id q = by ends
     where
-      by : (b : Bool) → option_map part (get (cond b m (with_front timed_links with_timed_links m (first_id list) id)) q) ≡ option_map part (get m q)
-      by true = refl
-      by false = (parts-kept timed_links with_timed_links (λ _ _. refl) part leaves m (first_id list) id q).0
+      by : (b : Bool) → option_map part (get (cond b (with_front timed_links with_timed_links m (first_id list) id) m) q) ≡ option_map part (get m q)
+      by false = refl
+      by true = (parts-kept timed_links with_timed_links (λ _ _. refl) part leaves m (first_id list) id q).0
 
-  pub untimed-kept : (m : Items Row) (ttl : ℕ) (id q : Id) → option_map part (get (without_timed m ttl id) q) ≡ option_map part (get m q)
-  untimed-kept m ttl id q = by (ttl == 0)
+  pub untimed-kept : (m : Items Row) (ends : Bool) (id q : Id) → option_map part (get (without_timed m ends id) q) ≡ option_map part (get m q)
+  untimed-kept m ends id q = by ends
     where
-      by : (b : Bool) → option_map part (get (cond b m (without timed_links with_timed_links m id)) q) ≡ option_map part (get m q)
-      by true = refl
-      by false = (parts-kept timed_links with_timed_links (λ _ _. refl) part leaves m None id q).1
+      by : (b : Bool) → option_map part (get (cond b (without timed_links with_timed_links m id) m) q) ≡ option_map part (get m q)
+      by false = refl
+      by true = (parts-kept timed_links with_timed_links (λ _ _. refl) part leaves m None id q).1
 
 -- the list's key, as faces report it
 abbrev pub timed_face : Face → Option (Unit {0})
-timed_face f = cond (option_map_or (λ (_ : Key). false) f.1.1 true) (timed_by f.1.0.ttl) None
+timed_face f = cond (option_map_or (λ (_ : Key). false) f.1.1 true) (timed_by (may_end f.1.0.term)) None
 
 one_list : (list to : IdList 2) → ChangesHead {K = Unit {0}} (λ _. list) (λ _. to) tt to
 one_list list to q = inl (refl, refl)
 
-pub no_end : (ttl : ℕ) → (ttl == 0) ≡ true → timed_by ttl ≡ None
-no_end ttl e = ap (λ b. cond b None (Some tt)) e
+pub no_end : (ends : Bool) → ends ≡ false → timed_by ends ≡ None
+no_end ends e = ap timed_by e
 
-pub an_end : (ttl : ℕ) → (ttl == 0) ≡ false → timed_by ttl ≡ Some tt
-an_end ttl e = ap (λ b. cond b None (Some tt)) e
-
-pub not_zero : (ttl : ℕ) → ttl ≢ 0 → (ttl == 0) ≡ false
-not_zero ttl some = false_from_ne_true _ (λ e. some (eqb-true ttl 0 e))
+pub an_end : (ends : Bool) → ends ≡ true → timed_by ends ≡ Some tt
+an_end ends e = ap timed_by e
 
 -- a live row is taken away
 module _ (m : Items Row) (ids : IdsByPath) (owners : OwnerLists) (timed : IdList 2) (id : Id) (r : Row) (key : Key) (kept : HasTimed m timed) (there : get m id ≡ Some r) (live : r.key ≡ None) where
@@ -136,8 +133,8 @@ module _ (m : Items Row) (ids : IdsByPath) (owners : OwnerLists) (timed : IdList
       ∙ unowned-kept timed_links (λ _ _. refl) (out.cut m ids owners id r key) list id q
       ∙ unchild-kept timed_links (λ _ _. refl) (λ _ _. refl) m (get ids (parent_of r.path)) id q
 
-  its : key_at timed_key m id ≡ timed_by r.node.ttl
-  its = ap (option_and_then timed_key) there ∙ ap (λ (k : Option Key). cond (option_map_or (λ (_ : Key). false) k true) (timed_by r.node.ttl) None) live
+  its : key_at timed_key m id ≡ timed_by (may_end r.node.term)
+  its = ap (option_and_then timed_key) there ∙ ap (λ (k : Option Key). cond (option_map_or (λ (_ : Key). false) k true) (timed_by (may_end r.node.term)) None) live
 
   gone-none : key_at timed_key gone id ≡ None
   gone-none = face-at timed_face (get gone id) (out.after m ids owners id r key) (out.face-here m ids owners id r key there list)
@@ -151,25 +148,25 @@ module _ (m : Items Row) (ids : IdsByPath) (owners : OwnerLists) (timed : IdList
   unlisted-keys : (q : Id) → key_at timed_key unlisted q ≡ key_at timed_key gone q
   unlisted-keys q = by-face timed_face (get unlisted q) (get gone q) (parts-kept timed_links with_timed_links (λ _ _. refl) face (λ _ _. refl) gone None id q).1
 
-  away-by : (b : Bool) → (r.node.ttl == 0) ≡ b → HasTimed (cond b gone unlisted) (cond b timed (list_without timed_links gone timed id))
-  away-by true none =
+  away-by : (b : Bool) → may_end r.node.term ≡ b → HasTimed (cond b unlisted gone) (cond b (list_without timed_links gone timed id) timed)
+  away-by false none =
       families-kept {L = 2} timed_links m gone (key_at timed_key m) (key_at timed_key gone) (λ _. timed) (λ _. timed) (λ q k e. gone-links q) (λ q. same q (same_or_other q id)) (λ k. refl) kept
     where
       same : (q : Id) → (q ≡ id) ⊎ (q ≢ id) → key_at timed_key gone q ≡ key_at timed_key m q
-      same q (inl is) = ap (key_at timed_key gone) is ∙ gone-none ∙ sym (its ∙ no_end r.node.ttl none) ∙ ap (key_at timed_key m) (sym is)
+      same q (inl is) = ap (key_at timed_key gone) is ∙ gone-none ∙ sym (its ∙ no_end (may_end r.node.term) none) ∙ ap (key_at timed_key m) (sym is)
       same q (inr other) = gone-others q other
-  away-by false some =
+  away-by true some =
       let between =
       families-kept {L = 2} timed_links m gone (key_at timed_key m) (key_at timed_key m) (λ _. timed) (λ _. timed) (λ q k e. gone-links q) (λ q. refl) (λ k. refl) kept in
       families-unlinked {L = 2} timed_links with_timed_links (λ _ _. refl) gone unlisted (key_at timed_key m) (key_at timed_key unlisted) (λ _. timed) (λ _. list_without timed_links gone timed id) tt id
-      (its ∙ an_end r.node.ttl some) (unlisted-keys id ∙ gone-none) (λ q other. unlisted-keys q ∙ gone-others q other) (λ q. refl) (one_list timed (list_without timed_links gone timed id)) between
+      (its ∙ an_end (may_end r.node.term) some) (unlisted-keys id ∙ gone-none) (λ q other. unlisted-keys q ∙ gone-others q other) (λ q. refl) (one_list timed (list_without timed_links gone timed id)) between
 
-  pub mortal-away : HasTimed (without_timed gone r.node.ttl id) (timed_without gone timed r.node.ttl id)
-  mortal-away = away-by (r.node.ttl == 0) refl
+  pub mortal-away : HasTimed (without_timed gone (may_end r.node.term) id) (timed_without gone timed (may_end r.node.term) id)
+  mortal-away = away-by (may_end r.node.term) refl
 
   -- it is in the list
-  pub timed-counted : r.node.ttl ≢ 0 → 0 < timed.len
-  timed-counted some = family-filled {L = 2} timed_links m (key_at timed_key m) timed tt (kept tt) id (its ∙ an_end r.node.ttl (not_zero r.node.ttl some))
+  pub timed-counted : may_end r.node.term ≡ true → 0 < timed.len
+  timed-counted some = family-filled {L = 2} timed_links m (key_at timed_key m) timed tt (kept tt) id (its ∙ an_end (may_end r.node.term) some)
 
 -- a row that was taken away comes back
 module _ (m : Items Row) (ids : IdsByPath) (owners : OwnerLists) (timed : IdList 2) (id : Id) (r : Row) (key : Key) (kept : HasTimed m timed) (there : get m id ≡ Some r) (taken : r.key ≡ Some key) where
@@ -186,9 +183,9 @@ module _ (m : Items Row) (ids : IdsByPath) (owners : OwnerLists) (timed : IdList
       ∙ child-kept timed_links (λ _ _. refl) (λ _ _. refl) m (get ids (parent_of r.path)) id q
 
   none-yet : key_at timed_key m id ≡ None
-  none-yet = ap (option_and_then timed_key) there ∙ ap (λ (k : Option Key). cond (option_map_or (λ (_ : Key). false) k true) (timed_by r.node.ttl) None) taken
+  none-yet = ap (option_and_then timed_key) there ∙ ap (λ (k : Option Key). cond (option_map_or (λ (_ : Key). false) k true) (timed_by (may_end r.node.term)) None) taken
 
-  here-its : key_at timed_key here id ≡ timed_by r.node.ttl
+  here-its : key_at timed_key here id ≡ timed_by (may_end r.node.term)
   here-its = face-at timed_face (get here id) (back.after m ids owners id r) (back.face-here m ids owners id r there its_list)
 
   here-others : (q : Id) → q ≢ id → key_at timed_key here q ≡ key_at timed_key m q
@@ -205,21 +202,21 @@ module _ (m : Items Row) (ids : IdsByPath) (owners : OwnerLists) (timed : IdList
   listed-keys : (q : Id) → key_at timed_key listed q ≡ key_at timed_key here q
   listed-keys q = by-face timed_face (get listed q) (get here q) (parts-kept timed_links with_timed_links (λ _ _. refl) face (λ _ _. refl) here (first_id timed) id q).0
 
-  back-by : (b : Bool) → (r.node.ttl == 0) ≡ b → HasTimed (cond b here listed) (cond b timed (list_with_front timed id))
-  back-by true none =
+  back-by : (b : Bool) → may_end r.node.term ≡ b → HasTimed (cond b listed here) (cond b (list_with_front timed id) timed)
+  back-by false none =
       families-kept {L = 2} timed_links m here (key_at timed_key m) (key_at timed_key here) (λ _. timed) (λ _. timed) (λ q k e. here-links q) (λ q. same q (same_or_other q id)) (λ k. refl) kept
     where
       same : (q : Id) → (q ≡ id) ⊎ (q ≢ id) → key_at timed_key here q ≡ key_at timed_key m q
-      same q (inl is) = ap (key_at timed_key here) is ∙ here-its ∙ no_end r.node.ttl none ∙ sym none-yet ∙ ap (key_at timed_key m) (sym is)
+      same q (inl is) = ap (key_at timed_key here) is ∙ here-its ∙ no_end (may_end r.node.term) none ∙ sym none-yet ∙ ap (key_at timed_key m) (sym is)
       same q (inr other) = here-others q other
-  back-by false some =
+  back-by true some =
       let between =
       families-kept {L = 2} timed_links m here (key_at timed_key m) (key_at timed_key m) (λ _. timed) (λ _. timed) (λ q k e. here-links q) (λ q. refl) (λ k. refl) kept in
       families-pushed {L = 2} timed_links with_timed_links (λ _ _. refl) here listed (key_at timed_key m) (key_at timed_key listed) (λ _. timed) (λ _. list_with_front timed id) tt id
-      here-there none-yet (listed-keys id ∙ here-its ∙ an_end r.node.ttl some) (λ q other. listed-keys q ∙ here-others q other) (λ q. refl) (one_list timed (list_with_front timed id)) between
+      here-there none-yet (listed-keys id ∙ here-its ∙ an_end (may_end r.node.term) some) (λ q other. listed-keys q ∙ here-others q other) (λ q. refl) (one_list timed (list_with_front timed id)) between
 
-  pub mortal-back : HasTimed (with_timed here timed r.node.ttl id) (timed_with timed r.node.ttl id)
-  mortal-back = back-by (r.node.ttl == 0) refl
+  pub mortal-back : HasTimed (with_timed here timed (may_end r.node.term) id) (timed_with timed (may_end r.node.term) id)
+  mortal-back = back-by (may_end r.node.term) refl
 
   -- the list has room for it
   pub timed-room : (bound : ℕ) → finite.len m ≤ bound → timed.len < bound
@@ -227,8 +224,8 @@ module _ (m : Items Row) (ids : IdsByPath) (owners : OwnerLists) (timed : IdList
       let room = family-room {L = 2} timed_links m (key_at timed_key m) timed tt (kept tt) id (subst IsSome (sym there) refl) (λ mine. none_some tt (sym none-yet ∙ mine)) in
       omega (arith, room, few)
 
--- a node is written, but for its time to live
-module _ (m : Items Row) (timed : IdList 2) (id : Id) (f : Node → Node) (ttl : (n : Node) → (f n).ttl ≡ n.ttl) (kept : HasTimed m timed) where
+-- a node is written, but for its term
+module _ (m : Items Row) (timed : IdList 2) (id : Id) (f : Node → Node) (same : (n : Node) → (f n).term ≡ n.term) (kept : HasTimed m timed) where
   pub mortal-written : HasTimed (with_node_at m id f) timed
   mortal-written =
       families-kept {L = 2} timed_links m (with_node_at m id f) (key_at timed_key m) (key_at timed_key (with_node_at m id f)) (λ _. timed) (λ _. timed)
@@ -236,8 +233,8 @@ module _ (m : Items Row) (timed : IdList 2) (id : Id) (f : Node → Node) (ttl :
     where
       keys : (q : Id) → key_at timed_key (with_node_at m id f) q ≡ key_at timed_key m q
       keys q =
-          by-part (λ (r : Row). (r.node.ttl, r.key)) (λ (s : ℕ × Option Key). cond (option_map_or (λ (_ : Key). false) s.1 true) (timed_by s.0) None) (get (with_node_at m id f) q) (get m q)
-          (at-kept m id (λ x. record x { node = f x.node }) (λ (r : Row). (r.node.ttl, r.key)) (λ x i. (ttl x.node i, x.key)) q)
+          by-part (λ (r : Row). (r.node.term, r.key)) (λ (s : Term × Option Key). cond (option_map_or (λ (_ : Key). false) s.1 true) (timed_by (may_end s.0)) None) (get (with_node_at m id f) q) (get m q)
+          (at-kept m id (λ x. record x { node = f x.node }) (λ (r : Row). (r.node.term, r.key)) (λ x i. (same x.node i, x.key)) q)
 
 -- a row that is in no list comes or goes
 module _ (m n : Items Row) (ids : IdsByPath) (owners : OwnerLists) (timed : IdList 2) (id : Id) (linked : IsLinked m ids owners) (elsewhere : (q : Id) → q ≢ id → get n q ≡ get m q)
@@ -245,25 +242,25 @@ module _ (m n : Items Row) (ids : IdsByPath) (owners : OwnerLists) (timed : IdLi
   pub mortal-aside : HasTimed n timed
   mortal-aside =
       families-kept {L = 2} timed_links m n (key_at timed_key m) (key_at timed_key n) (λ _. timed) (λ _. timed)
-      (λ q k e. ap (option_map timed_links) (elsewhere q (has_key_other m n ids owners id linked elsewhere away still (λ r. timed_by r.node.ttl) q k e)))
-      (alike m n ids owners id linked elsewhere away still (λ r. timed_by r.node.ttl)) (λ k. refl) kept
+      (λ q k e. ap (option_map timed_links) (elsewhere q (has_key_other m n ids owners id linked elsewhere away still (λ r. timed_by (may_end r.node.term)) q k e)))
+      (alike m n ids owners id linked elsewhere away still (λ r. timed_by (may_end r.node.term))) (λ k. refl) kept
 
 -- the other lists and what is shown, where a row goes into this list
-module _ (m : Items Row) (ids : IdsByPath) (owners : OwnerLists) (list : IdList 2) (ttl : ℕ) (id : Id) where
-  pub listed-faces : (q : Id) → option_map face (get (with_timed m list ttl id) q) ≡ option_map face (get m q)
-  listed-faces = timed-kept face (λ _ _. refl) m list ttl id
+module _ (m : Items Row) (ids : IdsByPath) (owners : OwnerLists) (list : IdList 2) (ends : Bool) (id : Id) where
+  pub listed-faces : (q : Id) → option_map face (get (with_timed m list ends id) q) ≡ option_map face (get m q)
+  listed-faces = timed-kept face (λ _ _. refl) m list ends id
 
-  pub linked-listed : IsLinked m ids owners → IsLinked (with_timed m list ttl id) ids owners
+  pub linked-listed : IsLinked m ids owners → IsLinked (with_timed m list ends id) ids owners
   linked-listed kept =
-      linked-same m (with_timed m list ttl id) ids listed-faces owners kept (timed-kept (λ (x : Row). x.children) (λ _ _. refl) m list ttl id)
-      (timed-kept sibling_links (λ _ _. refl) m list ttl id) (timed-kept fellow_links (λ _ _. refl) m list ttl id)
+      linked-same m (with_timed m list ends id) ids listed-faces owners kept (timed-kept (λ (x : Row). x.children) (λ _ _. refl) m list ends id)
+      (timed-kept sibling_links (λ _ _. refl) m list ends id) (timed-kept fellow_links (λ _ _. refl) m list ends id)
 
 -- and out of it
-module _ (m : Items Row) (ids : IdsByPath) (owners : OwnerLists) (ttl : ℕ) (id : Id) where
-  pub unlisted-faces : (q : Id) → option_map face (get (without_timed m ttl id) q) ≡ option_map face (get m q)
-  unlisted-faces = untimed-kept face (λ _ _. refl) m ttl id
+module _ (m : Items Row) (ids : IdsByPath) (owners : OwnerLists) (ends : Bool) (id : Id) where
+  pub unlisted-faces : (q : Id) → option_map face (get (without_timed m ends id) q) ≡ option_map face (get m q)
+  unlisted-faces = untimed-kept face (λ _ _. refl) m ends id
 
-  pub linked-unlisted : IsLinked m ids owners → IsLinked (without_timed m ttl id) ids owners
+  pub linked-unlisted : IsLinked m ids owners → IsLinked (without_timed m ends id) ids owners
   linked-unlisted kept =
-      linked-same m (without_timed m ttl id) ids unlisted-faces owners kept (untimed-kept (λ (x : Row). x.children) (λ _ _. refl) m ttl id)
-      (untimed-kept sibling_links (λ _ _. refl) m ttl id) (untimed-kept fellow_links (λ _ _. refl) m ttl id)
+      linked-same m (without_timed m ends id) ids unlisted-faces owners kept (untimed-kept (λ (x : Row). x.children) (λ _ _. refl) m ends id)
+      (untimed-kept sibling_links (λ _ _. refl) m ends id) (untimed-kept fellow_links (λ _ _. refl) m ends id)

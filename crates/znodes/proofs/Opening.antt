@@ -18,6 +18,8 @@ use Rattle.zslots.proofs.Maps.{id_cmp_total, id_cmp_same}
 use Rattle.znodes.specs.index.IndexView.{IdsByPath}
 use Rattle.ztree.specs.declared.node.Node.{Node}
 use Rattle.ztree.specs.Tree.{Path}
+use Rattle.ztree.specs.Stale.{may_end}
+use Rattle.ztree.specs.declared.term.Term.TheVariants.{Unlimited}
 use Rattle.ztree.proofs.Maps as maps
 use Rattle.ztree.proofs.Sorted.{paths_total, same_path}
 use Rattle.znodes.specs.declared.row.Row.{Row}
@@ -103,8 +105,8 @@ module _ (alloc : Global) (root : Node) (id : Id) where
     owned = families-none {L = 1} fellow_links rows (key_at owner_key rows) (owned_by no_owners) (unreported owner_key (ap somebody nobody)) (λ k. ap (λ o. option_map_or (λ (l : IdList 1). l) o empty_list) (get-empty nat_cmp k));
   }
 
-  pub mortal-alone : root.ttl ≡ 0 → HasTimed rows empty_list
-  mortal-alone stays = families-none {L = 2} timed_links rows (key_at timed_key rows) (λ _. empty_list) (unreported timed_key (ap timed_by stays)) (λ k. refl)
+  pub mortal-alone : root.term ≡ Unlimited → HasTimed rows empty_list
+  mortal-alone stays = families-none {L = 2} timed_links rows (key_at timed_key rows) (λ _. empty_list) (unreported timed_key (ap (λ term. timed_by (may_end term)) stays)) (λ k. refl)
 
   pub parents-alone : NamesParents rows ids
   parents-alone i x e live =

@@ -11,6 +11,7 @@ use Rattle.zslots.proofs.Maps.{same_or_other}
 use Rattle.znodes.specs.index.IndexView.{IdsByPath}
 use Rattle.ztree.specs.declared.node.Node.{Node}
 use Rattle.ztree.specs.Tree.{Path, parent_of, children}
+use Rattle.ztree.specs.Stale.{may_end}
 use Rattle.ztree.proofs.Maps as maps
 use Rattle.ztree.proofs.Sorted.{paths_total, same_path}
 use Rattle.ztree.proofs.Nodes.{parent_is_other}
@@ -68,18 +69,18 @@ parent-of-live m ids named id r e live below = named id r e live ∙ ap (option_
 module _ (m : Items Row) (ids : IdsByPath) (owners : OwnerLists) (id : Id) (r : Row) (key : Key) (kept : IsLinked m ids owners)
     (there : get m id ≡ Some r) (below : r.path ≢ []) (leaf : children (nodes_of m ids) r.path ≡ []) (named : NamesParents m ids) where
   abbrev gone : Items Row
-  gone = without_timed (out.away m ids owners id r key) r.node.ttl id
+  gone = without_timed (out.away m ids owners id r key) (may_end r.node.term) id
 
   gone-elsewhere : (q : Id) → q ≢ id → option_map kin (get gone q) ≡ option_map kin (get m q)
   gone-elsewhere q other =
-      untimed-kept kin (λ _ _. refl) (out.away m ids owners id r key) r.node.ttl id q
+      untimed-kept kin (λ _ _. refl) (out.away m ids owners id r key) (may_end r.node.term) id q
       ∙ ap (option_map kin) (at-elsewhere _ id (λ x. record x { key = Some key }) q other)
       ∙ unowned-kept kin (λ _ _. refl) (out.cut m ids owners id r key) (list_of owners r.node.owner) id q
       ∙ unchild-kept kin (λ _ _. refl) (λ _ _. refl) m (get ids (parent_of r.path)) id q
 
   gone-here : option_map face (get gone id) ≡ Some (out.after m ids owners id r key)
   gone-here =
-      untimed-kept face (λ _ _. refl) (out.away m ids owners id r key) r.node.ttl id id
+      untimed-kept face (λ _ _. refl) (out.away m ids owners id r key) (may_end r.node.term) id id
       ∙ out.face-here m ids owners id r key there (list_of owners r.node.owner)
 
   pub parents-away : NamesParents gone (out.fewer m ids owners id r key)
@@ -101,7 +102,7 @@ module _ (m : Items Row) (ids : IdsByPath) (owners : OwnerLists) (id : Id) (r : 
 module _ (m : Items Row) (ids : IdsByPath) (owners : OwnerLists) (timed : IdList 2) (id : Id) (r : Row) (kept : IsLinked m ids owners)
     (there : get m id ≡ Some r) (below : r.path ≢ []) (free : get ids r.path ≡ None) (p : Id) (over : get ids (parent_of r.path) ≡ Some p) (named : NamesParents m ids) where
   abbrev listed : Items Row
-  listed = with_timed (back.back m ids owners id r) timed r.node.ttl id
+  listed = with_timed (back.back m ids owners id r) timed (may_end r.node.term) id
 
   abbrev here : Items Row
   here = with_parent listed id p
@@ -109,7 +110,7 @@ module _ (m : Items Row) (ids : IdsByPath) (owners : OwnerLists) (timed : IdList
   here-elsewhere : (q : Id) → q ≢ id → option_map kin (get here q) ≡ option_map kin (get m q)
   here-elsewhere q other =
       ap (option_map kin) (at-elsewhere listed id (λ x. record x { parent = Some p }) q other)
-      ∙ timed-kept kin (λ _ _. refl) (back.back m ids owners id r) timed r.node.ttl id q
+      ∙ timed-kept kin (λ _ _. refl) (back.back m ids owners id r) timed (may_end r.node.term) id q
       ∙ ap (option_map kin) (at-elsewhere _ id (λ x. record x { key = None }) q other)
       ∙ owned-kept kin (λ _ _. refl) (back.put m ids owners id r) (list_of owners r.node.owner) id q
       ∙ child-kept kin (λ _ _. refl) (λ _ _. refl) m (get ids (parent_of r.path)) id q
@@ -117,7 +118,7 @@ module _ (m : Items Row) (ids : IdsByPath) (owners : OwnerLists) (timed : IdList
   here-face : option_map face (get here id) ≡ Some (back.after m ids owners id r)
   here-face =
       at-kept listed id (λ x. record x { parent = Some p }) face (λ _. refl) id
-      ∙ timed-kept face (λ _ _. refl) (back.back m ids owners id r) timed r.node.ttl id id
+      ∙ timed-kept face (λ _ _. refl) (back.back m ids owners id r) timed (may_end r.node.term) id id
       ∙ back.face-here m ids owners id r there (list_of owners r.node.owner)
 
   its_parent : (o : Option Row) (x : Row) → option_map (λ (y : Row). record y { parent = Some p }) o ≡ Some x → x.parent ≡ Some p

@@ -1,7 +1,7 @@
--- Which Ids name the nodes that a tick removes, from the list of the nodes with a time to live.
-use Rattle.std.proofs.Common.{◌≡◌, ◌≢◌, inl, inr, ℕ, Bool, true, false, ◌&&◌, ◌||◌, cond, List, [], ◌∷◌, length, Option, Some, None, ◌+◌, refl, sym, ap, ◌∙◌}
+-- Which Ids name the nodes that a tick removes, from the list of the nodes that ticks may remove.
+use Rattle.std.proofs.Common.{◌≡◌, ◌≢◌, inl, inr, ℕ, Bool, true, false, ◌&&◌, ◌||◌, cond, List, [], ◌∷◌, length, Option, Some, None, refl, sym, ap, ◌∙◌}
 use mathlib.Core.Path.{subst}
-use Rattle.std.specs.Prelude.{◌==◌, ◌↔◌, nat_lt, nat_le}
+use Rattle.std.specs.Prelude.{◌==◌, ◌↔◌}
 use mathlib.Core.Bool.{true≢false}
 use Rattle.std.specs.Option.{option_map_or, option_and_then}
 use Rattle.std.specs.List.{cons_option}
@@ -14,7 +14,9 @@ use Rattle.zslots.specs.Lists.{IsList}
 use Rattle.zslots.specs.Families.{key_at}
 use Rattle.ztree.specs.declared.node.Node.{Node}
 use Rattle.ztree.specs.Tree.{Path, children}
-use Rattle.ztree.specs.Stale.{is_due, is_stale, is_stale_at}
+use Rattle.ztree.specs.Stale.{may_end, is_over, is_due, is_stale, is_stale_at}
+use Rattle.ztree.specs.declared.term.Term.{Term}
+use Rattle.ztree.specs.declared.term.Term.TheVariants.{Unlimited, Timed, Container}
 use Rattle.zpath.specs.Grammar.{path_cmp}
 use Rattle.std.specs.Ordering.{eq_by_cmp}
 use Rattle.zslots.proofs.Members.{never_both}
@@ -32,7 +34,7 @@ use Rattle.znodes.proofs.Found.{live_node, found_row}
 use Rattle.znodes.proofs.Linked.{live_key, and-then, parent-named}
 use Rattle.znodes.proofs.Siblings.{children-count, both_ways}
 use Rattle.znodes.proofs.Shown.{live_parts, path_of-live, path-same, no_path, own_list}
-use Rattle.znodes.proofs.Mortal.{not_zero, an_end}
+use Rattle.znodes.proofs.Mortal.{an_end}
 
 module _ (m : Items Row) (tick : ℕ) where
   first_or_later : (id i : Id) (ids : Ids) (b : Bool) → is_stale_row m tick i ≡ b → (IsIn id (stale_of m tick ids) → IsIn id ids × (is_stale_row m tick id ≡ true)) → IsIn id (cons_option (cond b (Some i) None) (stale_of m tick ids)) → IsIn id (i ∷ ids) × (is_stale_row m tick id ≡ true)
@@ -76,15 +78,14 @@ module _ (m : Items Row) (tick : ℕ) where
 timed-row : (m : Items Row) (id : Id) → key_at timed_key m id ≡ Some tt → (r : Row) × (get m id ≡ Some r) × (r.key ≡ None)
 timed-row m id e =
     let found = and-then timed_key (get m id) tt e in
-    let parts = live_key found.0.key (timed_by found.0.node.ttl) tt found.2 in
+    let parts = live_key found.0.key (timed_by (may_end found.0.node.term)) tt found.2 in
     (found.0, found.1, parts.0)
 
--- a node that is due has a time to live
-has-ttl : (tick : ℕ) (n : Node) → is_due tick n ≡ true → n.ttl ≢ 0
-has-ttl tick n due none =
-    let some : nat_lt 0 n.ttl ≡ true = (both (nat_lt 0 n.ttl) (nat_le (n.mtime + n.ttl) tick) due).0 in
-    let not : nat_lt 0 n.ttl ≡ false = ap (nat_lt 0) none in
-    true≢false (sym some ∙ not)
+-- a tick may remove a node that is due
+ends-due : (tick : ℕ) (n : Node) (term : Term) → is_over tick n term ≡ true → may_end term ≡ true
+ends-due tick n Unlimited due = absurd (true≢false (sym due))
+ends-due tick n (Timed ttl) due = refl
+ends-due tick n Container due = refl
 
 module _ (s : Inside) (linked : IsLinked s.slots.items s.index.ids s.owners) (v : NodesView) (shown : view_of s ≡ v) (tick : ℕ) where
   -- of a live row the tree decides it
@@ -125,8 +126,8 @@ module _ (s : Inside) (linked : IsLinked s.slots.items s.index.ids s.owners) (v 
                     let reported : is_stale_row s.slots.items tick id ≡ true = sym (row-stale id r live) ∙ ap (is_stale_at v.nodes tick) (sym same) ∙ stale in
                     let parts = live_parts s.slots.items id r live in
                     let due = (both (is_due tick r.node) (r.children.len == 0) (sym (ap (λ (o : Option Row). option_map_or (λ (x : Row). is_due tick x.node && (x.children.len == 0)) o false) parts.0) ∙ reported)).0 in
-                    let key = ap (option_and_then timed_key) parts.0 ∙ ap (λ (k : Option Key). cond (option_map_or (λ (_ : Key). false) k true) (timed_by r.node.ttl) None) parts.1
-                    ∙ an_end r.node.ttl (not_zero r.node.ttl (has-ttl tick r.node due)) in
+                    let key = ap (option_and_then timed_key) parts.0 ∙ ap (λ (k : Option Key). cond (option_map_or (λ (_ : Key). false) k true) (timed_by (may_end r.node.term)) None) parts.1
+                    ∙ an_end (may_end r.node.term) (ends-due tick r.node r.node.term due) in
                     in_stale s.slots.items tick id all ((members id).1 key) reported
 
             each : (id : Id) → IsIn id (stale_of s.slots.items tick all) ↔ IsStale v tick id

@@ -15,7 +15,9 @@ ghost use Rattle.ztree.specs.Tree.{parent_of, has_node, children};
 ghost use Rattle.znodes.specs.NodesView.{path_of, AtPath, AtNode, AtTaken, IsKnownOwner, SameButRoom};
 ghost use Rattle.znodes.specs.NodesView.{Adds, Takes, CanReturn, Returns};
 
-use crate::linking::{cut_child, cut_owned, cut_timed, put_child, put_owned, set_key, take_key};
+use crate::linking::{
+    cut_child, cut_owned, cut_timed, put_child, put_owned, put_timed, set_key, take_key,
+};
 use crate::nodes::Nodes;
 use crate::row::Row;
 use zalloc::Memory;
@@ -80,13 +82,13 @@ impl Nodes {
             unreachable!()
         };
         let owner = row.node.owner;
-        let ttl = row.node.ttl;
+        let term = row.node.term;
         let parent = row.parent;
         let key = self.index.remove(&row.path);
         cut_child(&mut self.slots, parent, id);
         cut_owned(&mut self.slots, &mut self.owners, owner, id);
         set_key(&mut self.slots, id, key);
-        cut_timed(&mut self.slots, &mut self.timed, ttl, id);
+        cut_timed(&mut self.slots, &mut self.timed, term, id);
     }
 
     /// Brings a removed node back under its Id and its current parent. Allocates nothing.
@@ -103,7 +105,7 @@ impl Nodes {
             unreachable!()
         };
         let owner = row.node.owner;
-        let ttl = row.node.ttl;
+        let term = row.node.term;
         // No list has all rows, so each can grow.
         self.slots.keeps_countable();
         put_child(&mut self.slots, Some(parent), id);
@@ -112,9 +114,7 @@ impl Nodes {
             Some(key) => self.index.insert(key, id),
             None => unreachable!(),
         }
-        if ttl != 0 {
-            self.timed.push_front(&mut self.slots, id);
-        }
+        put_timed(&mut self.slots, &mut self.timed, term, id);
         if let Some(row) = self.slots.get_mut(id) {
             row.parent = Some(parent);
         }

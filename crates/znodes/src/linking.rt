@@ -1,17 +1,19 @@
 //! Inserting a row into its lists, and unlinking it.
 
-ghost use Rattle.std.specs.Prelude.{◌≡◌, ◌≢◌, ◌<◌, None, IfSome};
+ghost use Rattle.std.specs.Prelude.{◌≡◌, ◌<◌, true, None, IfSome};
 ghost use Rattle.zslots.specs.declared.limits.TheConstants.{MAX_LENGTH};
 ghost use Rattle.zslots.specs.SlotsView.{with_items};
 ghost use Rattle.zslots.specs.Lists.{length_of};
 ghost use Rattle.znodes.specs.support.OwnerLists.{list_of};
 ghost use Rattle.znodes.specs.support.Linking.{with_key, kept_key, AtChildren, with_child, without_child, owners_with, owners_left, slots_with_owned, slots_without_owned};
-ghost use Rattle.znodes.specs.support.Linking.{without_timed, timed_without};
+ghost use Rattle.znodes.specs.support.Linking.{with_timed, timed_with, without_timed, timed_without};
+ghost use Rattle.ztree.specs.Stale.{may_end};
 
 use crate::owners::Owners;
 use crate::row::Row;
 use zpath::Path;
 use zslots::{Id, List, Slots};
+use ztree::Term;
 
 // Inserts a row at the front of its parent's children.
 pub(crate) fn put_child(slots: &mut Slots<Row>, parent: Option<Id>, id: Id)
@@ -71,13 +73,27 @@ pub(crate) fn cut_owned(slots: &mut Slots<Row>, owners: &mut Owners, owner: u64,
     }
 }
 
-// Unlinks a row from the list of nodes with a TTL, if its node has one.
-pub(crate) fn cut_timed(slots: &mut Slots<Row>, timed: &mut List<2>, ttl: u64, id: Id)
-    requires { ttl ≢ 0 → 0 < length_of timed.old }
-    ensures rows { slots.new ≡ with_items slots.old (without_timed slots.old.items ttl id) }
-    ensures timed { timed.new ≡ timed_without slots.old.items timed.old ttl id }
+// Inserts a row at the front of the list of nodes that ticks may remove, if its node has such a
+// term.
+pub(crate) fn put_timed(slots: &mut Slots<Row>, timed: &mut List<2>, term: Term, id: Id)
+    requires { length_of timed.old < MAX_LENGTH }
+    ensures rows { slots.new
+        ≡ with_items slots.old (with_timed slots.old.items timed.old (may_end term) id) }
+    ensures timed { timed.new ≡ timed_with timed.old (may_end term) id }
 {
-    if ttl != 0 {
+    if term.may_end() {
+        timed.push_front(slots, id);
+    }
+}
+
+// Unlinks a row from the list of nodes that ticks may remove, if its node has such a term.
+pub(crate) fn cut_timed(slots: &mut Slots<Row>, timed: &mut List<2>, term: Term, id: Id)
+    requires { may_end term ≡ true → 0 < length_of timed.old }
+    ensures rows { slots.new
+        ≡ with_items slots.old (without_timed slots.old.items (may_end term) id) }
+    ensures timed { timed.new ≡ timed_without slots.old.items timed.old (may_end term) id }
+{
+    if term.may_end() {
         timed.unlink(slots, id);
     }
 }

@@ -40,11 +40,13 @@ impl Model for Nodes {
 
 impl Nodes {
     ghost use Rattle.znodes.specs.NodesView.{IsOpening, SameButRoom};
+    ghost use Rattle.ztree.specs.declared.term.Term.TheVariants.{Unlimited};
 
-    /// Makes nodes with the root alone, or returns `Memory`. The root has no owner and no TTL.
+    /// Makes nodes with the root alone, or returns `Memory`. The root has no owner, and its
+    /// term is unlimited.
     pub fn new(alloc: Global, root: Node) -> Result<Nodes, Memory>
         requires nobodys { root.owner ≡ 0 }
-        requires stays { root.ttl ≡ 0 }
+        requires stays { root.term ≡ Unlimited }
         ensures { IfOk result (IsOpening root) }
     {
         let mut index = Index::new(alloc);

@@ -14,7 +14,7 @@ use zslots::{Copied, Id, Linked, Links, List, Slots};
 use ztree::Node;
 
 /// A node with its path, its parent and its children; and its links among its siblings, among its
-/// owner's nodes, and among the nodes with a TTL.
+/// owner's nodes, and among the nodes that ticks may remove.
 #[derive(Drop)]
 pub(crate) struct Row {
     pub(crate) path: Path,

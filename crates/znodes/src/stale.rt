@@ -14,8 +14,8 @@ use zalloc::Memory;
 use zslots::{Id, List, Slots};
 
 impl Nodes {
-    /// Returns the Ids of the nodes that a tick removes, each once; or `Memory`. Their TTL has
-    /// expired, and they have no children. The cost depends on the number of nodes with a TTL.
+    /// Returns the Ids of the nodes that a tick removes, each once; or `Memory`. They are due, and
+    /// have no children. The cost depends on the number of containers and nodes with a TTL.
     pub fn stale(&self, tick: u64) -> Result<Vec<Id>, Memory>
         ensures { IfOk result (λ ids.
             AreStale self.now.nodes self.now.places tick ids.items) }

@@ -10,7 +10,7 @@ use Rattle.zcalls.specs.declared.refusal.Refusal.TheVariants.{NodeExists, Full}
 use Rattle.zcalls.specs.declared.change.ChangeReply.TheVariants.{Created}
 use Rattle.zops.specs.declared.stop.Stop.{Stop}
 use Rattle.zops.specs.declared.stop.Stop.TheVariants.{Refused, Memory}
-use Rattle.zcalls.specs.Part.{create_step, create_refusals, made_path, unless_refused, is_root, is_owned, owner_of, ttl_of, has_no_owner, node_has}
+use Rattle.zcalls.specs.Part.{create_step, create_refusals, made_path, unless_refused, is_root, is_owned, owner_of, term_of, has_no_owner, node_has}
 use Rattle.zops.specs.support.Stops.{IsStop, IsFirst}
 use Rattle.zops.specs.support.Names.{name_refusals}
 use Rattle.zcalls.proofs.Tables.{first_of_both, second_of_both}
@@ -19,14 +19,14 @@ pub created-refused : (t : Tree) (client : ℕ) (create : Create) (refusal : Ref
 unfolding create_step
 created-refused t client create refusal e =
     let made = made_path t.nodes create.kind create.path in
-    ap (λ o. unless_refused o (with_node t made create.bytes (owner_of create.kind.lifetime) (ttl_of create.kind.lifetime) create.kind.is_sequential, Created made)) e
+    ap (λ o. unless_refused o (with_node t made create.bytes (owner_of create.kind.lifetime) (term_of create.kind.lifetime) create.kind.is_sequential, Created made)) e
 
 pub created-done : (t : Tree) (client : ℕ) (create : Create) → first_that_holds (create_refusals t client create) ≡ None
-    → create_step t client create ≡ Ok (with_node t (made_path t.nodes create.kind create.path) create.bytes (owner_of create.kind.lifetime) (ttl_of create.kind.lifetime) create.kind.is_sequential, Created (made_path t.nodes create.kind create.path))
+    → create_step t client create ≡ Ok (with_node t (made_path t.nodes create.kind create.path) create.bytes (owner_of create.kind.lifetime) (term_of create.kind.lifetime) create.kind.is_sequential, Created (made_path t.nodes create.kind create.path))
 unfolding create_step
 created-done t client create e =
     let made = made_path t.nodes create.kind create.path in
-    ap (λ o. unless_refused o (with_node t made create.bytes (owner_of create.kind.lifetime) (ttl_of create.kind.lifetime) create.kind.is_sequential, Created made)) e
+    ap (λ o. unless_refused o (with_node t made create.bytes (owner_of create.kind.lifetime) (term_of create.kind.lifetime) create.kind.is_sequential, Created made)) e
 
 -- the tests of the position of a made path
 abbrev place_refusals : Nodes → Create → List (Bool × Refusal)

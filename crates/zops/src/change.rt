@@ -26,7 +26,7 @@ fn has_no_owner(store: &Store, client: ClientId, lifetime: Lifetime) -> bool
     ensures { result ≡ has_no_owner store.now.tree.sessions client lifetime }
 {
     match lifetime {
-        Lifetime::Persistent | Lifetime::WithTtl(_) => false,
+        Lifetime::Persistent | Lifetime::WithTtl(_) | Lifetime::Container => false,
         Lifetime::Ephemeral(session) => { is_gone(store, client, session) }
     }
 }
@@ -128,8 +128,8 @@ pub(crate) fn create(
         return Err(Stop::Memory);
     };
     let owner = create.kind.lifetime.owner();
-    let ttl = create.kind.lifetime.ttl();
-    store.add(parent, made, bytes, owner, ttl, create.kind.is_sequential)?;
+    let term = create.kind.lifetime.term();
+    store.add(parent, made, bytes, owner, term, create.kind.is_sequential)?;
     Ok(ChangeReply::Created(path))
 }
 

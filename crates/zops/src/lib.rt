@@ -30,4 +30,4 @@ pub use zcalls::{
     Multi, Names, Part, PartReply, Query, Refusal, Replies, Reply, SetData, SharedEntry, Update,
 };
 pub use zstore::RestoreFault;
-pub use ztree::{ClientId, Data, DataFault, Node, Session, SessionId, Stat, Ttl, Zxid};
+pub use ztree::{ClientId, Data, DataFault, Node, Session, SessionId, Stat, Term, Ttl, Zxid};

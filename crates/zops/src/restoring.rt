@@ -192,7 +192,10 @@ fn can_begin(root: &Node, time: u64, zxid: Zxid, applied: u64) -> bool
     ensures yes { IsTrue result → CanBegin root.now time zxid applied }
     ensures no { IsFalse result → CanBegin root.now time zxid applied → ⊥ }
 {
-    if root.owner != 0 || root.ttl != 0 {
+    if root.owner != 0 {
+        return false;
+    }
+    if !root.term.is_unlimited() {
         return false;
     }
     if zxid.number() >= ZXID_BOUND || time >= TICK_BOUND || applied > MAX_APPLIED {

@@ -127,7 +127,7 @@ fn remove_all(store: &mut Store, ids: Vec<Id>)
 }
 
 /// Advances the clock by one tick. It ends the sessions whose deadline is reached. Then it removes
-/// the nodes whose TTL has expired and that had no children before the tick.
+/// the nodes that are due and had no children before the tick.
 ///
 /// Only finding these allocates, and that comes first.
 pub(crate) fn tick(store: &mut Store) -> Result<Reply, Memory>

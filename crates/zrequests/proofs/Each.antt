@@ -31,7 +31,7 @@ each_in-length {A} {B} means (x ∷ xs) ys read = at (means x) (each_in means xs
     at (Ok y) (Ok more) counts read = let all : y ∷ more ≡ ys = cc in ap length (sym all) ∙ ap suc (counts more refl)
 
 -- with nothing known
-behind_nothing : {A B : Type 0} (means : A → Meaning B) (xs : List A) → each_behind [] means xs ≡ each_in means xs
+pub behind_nothing : {A B : Type 0} (means : A → Meaning B) (xs : List A) → each_behind [] means xs ≡ each_in means xs
 behind_nothing {A} {B} means xs = at (each_in means xs)
   where
     at : (rest : Meaning (List B)) → then_means rest (λ more. Ok ([] ++ more)) ≡ rest

@@ -6,7 +6,7 @@ use Rattle.std.specs.Ordering.{int_eq}
 use Rattle.ztree.specs.Tree.{Path}
 use Rattle.zcalls.specs.declared.limits.TheConstants.{MAX_PARTS}
 use Rattle.zcalls.specs.declared.call.Kind.{Kind}
-use Rattle.zcalls.specs.declared.call.Lifetime.TheVariants.{Persistent, WithTtl, Ephemeral}
+use Rattle.zcalls.specs.declared.call.Lifetime.TheVariants.{Persistent, WithTtl, Ephemeral, Container}
 use Rattle.zcalls.specs.Part.{named, sequential}
 use Rattle.zcalls.specs.declared.call.Create.{Create}
 use Rattle.zcalls.specs.declared.call.Part.{Part}
@@ -16,7 +16,7 @@ use Rattle.zcalls.specs.declared.call.Query.{Query as Question}
 use Rattle.zcalls.specs.declared.call.Query.TheVariants.{GetData, Exists, GetChildren}
 use Rattle.zcalls.specs.declared.call.Call.{Call}
 use Rattle.zcalls.specs.declared.call.Call.TheVariants.{Update, Query}
-use Rattle.zjute.specs.declared.code.Code.TheVariants.{BadArguments, InvalidAcl, Unimplemented, AuthFailed}
+use Rattle.zjute.specs.declared.code.Code.TheVariants.{BadArguments, InvalidAcl, MarshallingError, Unimplemented, AuthFailed}
 use Rattle.zjute.specs.declared.request.Asked.TheVariants as asked
 use Rattle.zjute.specs.declared.request.CreateRequest.{CreateRequest as AskedCreate}
 use Rattle.zjute.specs.declared.request.CreateTtl.{CreateTtl}
@@ -24,10 +24,11 @@ use Rattle.zjute.specs.declared.part.PartRequest.{PartRequest as AskedPart}
 use Rattle.zjute.specs.declared.part.PartRequest.TheVariants as of_multi
 use Rattle.zjute.specs.declared.part.LookPart.{LookPart}
 use Rattle.zjute.specs.declared.part.LookPart.TheVariants as of_look
+use Rattle.zjute.specs.WatchNumbers.{mode_of, type_of}
 use Rattle.zrequests.specs.declared.fault.Unasked.TheVariants.{Refused}
 use Rattle.zrequests.specs.declared.limits.TheConstants.{MAX_PATHS}
 use Rattle.zrequests.specs.Asking.{Meaning, then_means, each_in, path_in, data_in, has_open_acl, kind_in, ttl_in, timed_kind_in}
-use Rattle.zrequests.specs.Requests.{node_in, create_in, timed_create_in, delete_in, check_in, set_in, part_in, one, one_of_parts, multi_in, query_in, look_in, looks_in, watch_in, watched_in, look_alone, create_alone}
+use Rattle.zrequests.specs.Requests.{node_in, create_in, timed_create_in, delete_in, check_in, set_in, part_in, one, one_of_parts, multi_in, query_in, look_in, looks_in, watch_in, watched_in, all_watched_in, numbered_in, look_alone, create_alone}
 use Rattle.zrequests.proofs.Meanings.{choice, done, each_for, never, behind, through}
 use Rattle.zrequests.specs.Laws.{IsForSession, PartIsFor, CallIsFor, CallsAreForTheirSession}
 
@@ -45,7 +46,7 @@ module _ (session : ℕ) where
       (choice P (int_eq flags (pos 1)) (Ok (named (Ephemeral session))) _ (done P (named (Ephemeral session)) refl)
       (choice P (int_eq flags (pos 2)) (Ok (sequential Persistent)) _ (done P (sequential Persistent) tt)
       (choice P (int_eq flags (pos 3)) (Ok (sequential (Ephemeral session))) _ (done P (sequential (Ephemeral session)) refl)
-      (choice P (int_eq flags (pos 4)) (Err (Refused Unimplemented)) (Err (Refused BadArguments)) (never P (Refused Unimplemented)) (never P (Refused BadArguments))))))
+      (choice P (int_eq flags (pos 4)) (Ok (named Container)) (Err (Refused BadArguments)) (done P (named Container) tt) (never P (Refused BadArguments))))))
 
   timed_for : (ticks : ℕ) (flags : ℤ) (kind : Kind) → timed_kind_in ticks flags ≡ Ok kind → IsForSession session kind.lifetime
   timed_for ticks flags =
@@ -75,7 +76,7 @@ module _ (session : ℕ) where
   part_for tick (of_multi.Create create) = made_part (create_in session create) (create_for create)
   part_for tick (of_multi.Create2 create) = made_part (create_in session create) (create_for create)
   part_for tick (of_multi.CreateTtl timed) = made_part (timed_create_in tick timed) (timed_create_for tick timed)
-  part_for tick (of_multi.CreateContainer create) = never (PartIsFor session) (Refused Unimplemented)
+  part_for tick (of_multi.CreateContainer create) = made_part (create_in session create) (create_for create)
   part_for tick (of_multi.Delete at) = behind (PartIsFor session) (delete_in at) (λ delete. Ok (part.Delete delete)) (λ delete. done (PartIsFor session) (part.Delete delete) tt)
   part_for tick (of_multi.SetData set) = behind (PartIsFor session) (set_in set) (λ set. Ok (part.SetData set)) (λ set. done (PartIsFor session) (part.SetData set) tt)
   part_for tick (of_multi.Check at) = behind (PartIsFor session) (check_in at) (λ check. Ok (part.Check check)) (λ check. done (PartIsFor session) (part.Check check) tt)
@@ -110,9 +111,14 @@ module _ (session : ℕ) where
       choice Calls (nat_lt MAX_PARTS (length looks)) (Err (Refused BadArguments)) (each_in look_in looks) (never Calls (Refused BadArguments))
       (each_for (CallIsFor session) look_in look_for looks)
 
+numbered_for : {A : Type 0} (session : ℕ) (known : Option A) (path : Option (List ℕ)) (calls : List Call) → numbered_in known path ≡ Ok calls → Calls session calls
+numbered_for session None path = never (Calls session) (Refused MarshallingError)
+numbered_for session (Some known) path = alone_for session Exists path
+
 pub calls_are_for_their_session : CallsAreForTheirSession
 calls_are_for_their_session tick session (asked.Create create) = made_for session (create_in session create) (create_for session create)
 calls_are_for_their_session tick session (asked.Create2 create) = made_for session (create_in session create) (create_for session create)
+calls_are_for_their_session tick session (asked.CreateContainer create) = made_for session (create_in session create) (create_for session create)
 calls_are_for_their_session tick session (asked.CreateTtl timed) = made_for session (timed_create_in tick timed) (timed_create_for session tick timed)
 calls_are_for_their_session tick session (asked.Delete at) = behind (Calls session) (delete_in at) (λ delete. one (Update (act.Delete delete))) (λ delete. one_for session (Update (act.Delete delete)) tt)
 calls_are_for_their_session tick session (asked.SetData set) = behind (Calls session) (set_in set) (λ set. one (Update (act.SetData set))) (λ set. one_for session (Update (act.SetData set)) tt)
@@ -136,8 +142,10 @@ calls_are_for_their_session tick session (asked.Auth auth) =
 calls_are_for_their_session tick session asked.Ping = done (Calls session) [] tt
 calls_are_for_their_session tick session asked.CloseSession = one_for session (Update (act.Close session)) refl
 calls_are_for_their_session tick session (asked.SetAcl set) = never (Calls session) (Refused Unimplemented)
-calls_are_for_their_session tick session (asked.CheckWatches watches) = never (Calls session) (Refused Unimplemented)
-calls_are_for_their_session tick session (asked.RemoveWatches watches) = never (Calls session) (Refused Unimplemented)
-calls_are_for_their_session tick session (asked.SetWatches2 set) = never (Calls session) (Refused Unimplemented)
-calls_are_for_their_session tick session (asked.AddWatch watch) = never (Calls session) (Refused Unimplemented)
+calls_are_for_their_session tick session (asked.CheckWatches at) = numbered_for session (type_of at.kind) at.path
+calls_are_for_their_session tick session (asked.RemoveWatches at) = numbered_for session (type_of at.kind) at.path
+calls_are_for_their_session tick session (asked.SetWatches2 set) =
+    choice (Calls session) (nat_lt MAX_PATHS (length (all_watched_in set))) (Err (Refused BadArguments)) (each_in watch_in (all_watched_in set)) (never (Calls session) (Refused BadArguments))
+    (each_for (CallIsFor session) watch_in (λ path. query_for session Exists (Some path)) (all_watched_in set))
+calls_are_for_their_session tick session (asked.AddWatch add) = numbered_for session (mode_of add.mode) add.path
 calls_are_for_their_session tick session (asked.Other kind bytes) = never (Calls session) (Refused Unimplemented)

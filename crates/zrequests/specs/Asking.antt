@@ -1,7 +1,7 @@
 -- What the fields of a request mean: paths, data, versions, node kinds, ACLs. The sources are the
 -- ZooKeeper Programmer's Guide ("The ZooKeeper Data Model", "ZooKeeper access control using ACLs",
--- "TTL Nodes"), and ZooKeeper's `CreateMode` and `ZooDefs.Ids`. The limits, TTLs in ticks, and
--- accepting only the open ACL are this project's profile.
+-- "TTL Nodes", "Container Nodes"), and ZooKeeper's `CreateMode` and `ZooDefs.Ids`. The limits, TTLs
+-- in ticks, and accepting only the open ACL are this project's profile.
 use Rattle.std.specs.Prelude.{◌≡◌, ◌⊎◌, ℕ, zero, suc, ℤ, pos, negsuc, Bool, false, ◌&&◌, nat_lt, nat_le, List, [], ◌∷◌, ◌++◌, length, codes, Option, None, Some, is_some, Result, Ok, Err, if◌then◌else◌}
 use Rattle.std.specs.Int.{div_ceil}
 use Rattle.std.specs.Ordering.{int_eq}
@@ -10,12 +10,12 @@ use Rattle.zpath.specs.Faults.{fault_of, names_of}
 use Rattle.ztree.specs.Tree.{Path}
 use Rattle.ztree.specs.declared.limits.TheConstants.{MAX_DATA, MAX_TTL}
 use Rattle.zcalls.specs.declared.call.Kind.{Kind}
-use Rattle.zcalls.specs.declared.call.Lifetime.TheVariants.{Persistent, WithTtl, Ephemeral}
+use Rattle.zcalls.specs.declared.call.Lifetime.TheVariants.{Persistent, WithTtl, Ephemeral, Container}
 use Rattle.zcalls.specs.Part.{named, sequential}
 use Rattle.zcalls.specs.declared.call.Expected.{Expected}
 use Rattle.zcalls.specs.declared.call.Expected.TheVariants.{Any, Exactly}
 use Rattle.zjute.specs.declared.acl.Acl.{Acl}
-use Rattle.zjute.specs.declared.code.Code.TheVariants.{BadArguments, Unimplemented}
+use Rattle.zjute.specs.declared.code.Code.TheVariants.{BadArguments}
 use Rattle.zrequests.specs.declared.limits.TheConstants.{NO_VERSION, ALL_PERMISSIONS}
 use Rattle.zrequests.specs.declared.fault.Unasked.{Unasked}
 use Rattle.zrequests.specs.declared.fault.Unasked.TheVariants.{Refused, Memory}
@@ -79,7 +79,7 @@ kind_in session flags =
     if int_eq flags (pos 1) then Ok (named (Ephemeral session)) else
     if int_eq flags (pos 2) then Ok (sequential Persistent) else
     if int_eq flags (pos 3) then Ok (sequential (Ephemeral session)) else
-    if int_eq flags (pos 4) then Err (Refused Unimplemented) else
+    if int_eq flags (pos 4) then Ok (named Container) else
     Err (Refused BadArguments)
 
 -- a TTL in ticks, from the milliseconds of a tick and of the TTL; a fraction of a tick is rounded

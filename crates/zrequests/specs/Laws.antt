@@ -6,7 +6,7 @@ use Rattle.ztree.specs.Tree.{Tree, Path}
 use Rattle.ztree.specs.declared.node.Node.{Node}
 use Rattle.zcalls.specs.Bounds.{IsBounded}
 use Rattle.zcalls.specs.declared.call.Lifetime.{Lifetime}
-use Rattle.zcalls.specs.declared.call.Lifetime.TheVariants.{Persistent, WithTtl, Ephemeral}
+use Rattle.zcalls.specs.declared.call.Lifetime.TheVariants.{Persistent, WithTtl, Ephemeral, Container}
 use Rattle.zcalls.specs.declared.call.Part.{Part as OfMulti}
 use Rattle.zcalls.specs.declared.call.Part.TheVariants as part
 use Rattle.zcalls.specs.declared.call.Update.{Update as Act}
@@ -22,6 +22,7 @@ abbrev pub IsForSession : ℕ → Lifetime → Type 0
 IsForSession session (Ephemeral owner) = owner ≡ session
 IsForSession session Persistent = Unit {0}
 IsForSession session (WithTtl ttl) = Unit {0}
+IsForSession session Container = Unit {0}
 
 -- a part of a multi acts for the session
 abbrev pub PartIsFor : ℕ → OfMulti → Type 0

@@ -15,7 +15,7 @@ use Rattle.zcalls.specs.declared.call.Query.{Query as Question}
 use Rattle.zcalls.specs.declared.call.Query.TheVariants.{GetData, Exists, GetChildren}
 use Rattle.zcalls.specs.declared.call.Call.{Call}
 use Rattle.zcalls.specs.declared.call.Call.TheVariants.{Update, Query}
-use Rattle.zjute.specs.declared.code.Code.TheVariants.{BadArguments, InvalidAcl, Unimplemented, AuthFailed}
+use Rattle.zjute.specs.declared.code.Code.TheVariants.{BadArguments, InvalidAcl, MarshallingError, Unimplemented, AuthFailed}
 use Rattle.zjute.specs.declared.request.Asked.{Asked}
 use Rattle.zjute.specs.declared.request.Asked.TheVariants as asked
 use Rattle.zjute.specs.declared.request.CreateRequest.{CreateRequest as AskedCreate}
@@ -23,11 +23,13 @@ use Rattle.zjute.specs.declared.request.CreateTtl.{CreateTtl}
 use Rattle.zjute.specs.declared.request.AtVersion.{AtVersion}
 use Rattle.zjute.specs.declared.request.SetDataRequest.{SetDataRequest as AskedSet}
 use Rattle.zjute.specs.declared.request.SetWatches.{SetWatches}
+use Rattle.zjute.specs.declared.request.SetWatches2.{SetWatches2}
 use Rattle.zjute.specs.declared.request.Auth.{Auth}
 use Rattle.zjute.specs.declared.part.PartRequest.{PartRequest as AskedPart}
 use Rattle.zjute.specs.declared.part.PartRequest.TheVariants as of_multi
 use Rattle.zjute.specs.declared.part.LookPart.{LookPart}
 use Rattle.zjute.specs.declared.part.LookPart.TheVariants as look
+use Rattle.zjute.specs.WatchNumbers.{mode_of, type_of}
 use Rattle.zrequests.specs.declared.limits.TheConstants.{MAX_PATHS}
 use Rattle.zrequests.specs.declared.fault.Unasked.TheVariants.{Refused}
 use Rattle.zrequests.specs.Asking.{Meaning, then_means, each_in, path_in, data_in, version_in, is_text, has_open_acl, kind_in, ttl_in, timed_kind_in}
@@ -86,7 +88,7 @@ abbrev pub part_in : ℕ → ℕ → AskedPart → Meaning Part
 part_in tick session (of_multi.Create create) = part_of_create (create_in session create)
 part_in tick session (of_multi.Create2 create) = part_of_create (create_in session create)
 part_in tick session (of_multi.CreateTtl timed) = part_of_create (timed_create_in tick timed)
-part_in tick session (of_multi.CreateContainer create) = Err (Refused Unimplemented)
+part_in tick session (of_multi.CreateContainer create) = part_of_create (create_in session create)
 part_in tick session (of_multi.Delete at) = part_of_delete at
 part_in tick session (of_multi.SetData set) = part_of_set set
 part_in tick session (of_multi.Check at) = part_of_check at
@@ -133,6 +135,25 @@ abbrev pub watches_in : SetWatches → Meaning (List Call)
 watches_in set =
     if nat_lt MAX_PATHS (length (watched_in set)) then Err (Refused BadArguments) else each_in watch_in (watched_in set)
 
+-- all paths of re-registered watches, with persistent ones and recursive ones
+abbrev pub all_watched_in : SetWatches2 → List (List ℕ)
+all_watched_in set = watched_in set.watches ++ set.persistent_watches ++ set.recursive_watches
+
+-- the same of all five lists
+abbrev pub all_watches_in : SetWatches2 → Meaning (List Call)
+all_watches_in set =
+    if nat_lt MAX_PATHS (length (all_watched_in set)) then Err (Refused BadArguments) else each_in watch_in (all_watched_in set)
+
+-- a query on its own
+abbrev pub look_alone : (Path → Question) → Option (List ℕ) → Meaning (List Call)
+look_alone query path = then_means (query_in query path) one
+
+-- the path of watches to check, to remove or to add; an unknown number of a type or of a mode is
+-- refused first
+abbrev pub numbered_in : {A : Type 0} → Option A → Option (List ℕ) → Meaning (List Call)
+numbered_in None path = Err (Refused MarshallingError)
+numbered_in (Some known) path = look_alone Exists path
+
 -- the names of the children, then the stat
 abbrev pub children_in : Option (List ℕ) → Meaning (List Call)
 children_in path = then_means (path_in path) (λ path. Ok (Query (GetChildren path) ∷ Query (Exists path) ∷ []))
@@ -145,10 +166,6 @@ auth_in auth = if is_text (codes "digest") auth.scheme then Ok [] else Err (Refu
 abbrev pub sync_in : Option (List ℕ) → Meaning (List Call)
 sync_in None = Err (Refused BadArguments)
 sync_in (Some path) = Ok []
-
--- a query on its own
-abbrev pub look_alone : (Path → Question) → Option (List ℕ) → Meaning (List Call)
-look_alone query path = then_means (query_in query path) one
 
 -- a create on its own
 abbrev pub create_alone : Meaning Create → Meaning (List Call)
@@ -166,8 +183,8 @@ set_alone set = then_means (set_in set) (λ set. one (Update (act.SetData set)))
 abbrev pub check_alone : AtVersion → Meaning (List Call)
 check_alone at = then_means (check_in at) (λ check. one_of_parts (part.Check check ∷ []))
 
--- the calls of a request that changes nothing; the rest is Unimplemented: writes of ACLs, other
--- watches, and requests unknown to ZooKeeper
+-- the calls of a request that changes no node; the rest is Unimplemented: writes of ACLs, and
+-- requests unknown to ZooKeeper
 abbrev pub reads_in : Asked → Meaning (List Call)
 reads_in (asked.Exists look) = look_alone Exists look.path
 reads_in (asked.GetData look) = look_alone GetData look.path
@@ -176,6 +193,10 @@ reads_in (asked.GetChildren2 look) = children_in look.path
 reads_in (asked.GetAcl path) = look_alone Exists path
 reads_in (asked.MultiRead looks) = looks_in looks
 reads_in (asked.SetWatches set) = watches_in set
+reads_in (asked.SetWatches2 set) = all_watches_in set
+reads_in (asked.CheckWatches at) = numbered_in (type_of at.kind) at.path
+reads_in (asked.RemoveWatches at) = numbered_in (type_of at.kind) at.path
+reads_in (asked.AddWatch add) = numbered_in (mode_of add.mode) add.path
 reads_in (asked.Sync path) = sync_in path
 reads_in (asked.Auth auth) = auth_in auth
 reads_in asked.Ping = Ok []
@@ -185,6 +206,7 @@ reads_in other = Err (Refused Unimplemented)
 abbrev pub calls_in : ℕ → ℕ → Asked → Meaning (List Call)
 calls_in tick session (asked.Create create) = create_alone (create_in session create)
 calls_in tick session (asked.Create2 create) = create_alone (create_in session create)
+calls_in tick session (asked.CreateContainer create) = create_alone (create_in session create)
 calls_in tick session (asked.CreateTtl timed) = create_alone (timed_create_in tick timed)
 calls_in tick session (asked.Delete at) = delete_alone at
 calls_in tick session (asked.SetData set) = set_alone set

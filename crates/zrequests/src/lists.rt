@@ -3,6 +3,7 @@
 ghost use Rattle.std.specs.Prelude.{◌≡◌, length, nat_lt, Ok, IfOk, IfErr, OnOk};
 ghost use Rattle.zrequests.specs.Asking.{IsUnasked, each_in, each_behind};
 ghost use Rattle.zrequests.specs.Requests.{part_in, look_in, watch_in, watched_in, watches_in};
+ghost use Rattle.zrequests.specs.Requests.{all_watched_in, all_watches_in};
 
 use crate::fault::Unasked;
 use crate::limits::MAX_PATHS;
@@ -11,7 +12,7 @@ use crate::tick::TickLength;
 use crate::words::{path_in_bytes, path_of};
 use std::alloc::Global;
 use zcalls::{Call, Part, Query, SessionId};
-use zjute::{Bytes, Code, LookPart, SetWatches};
+use zjute::{Bytes, Code, LookPart, SetWatches, SetWatches2};
 
 /// Reads the parts of a multi, from the left.
 pub(crate) fn parts_of(
@@ -78,6 +79,41 @@ fn has_many(set: &SetWatches) -> bool
     let missing = set.exist_watches.as_slice().len();
     let parents = set.child_watches.as_slice().len();
     watched + missing + parents > MAX_PATHS
+}
+
+/// Reads the paths of re-registered watches, with persistent and recursive ones, from the left.
+pub(crate) fn all_watches_of(alloc: Global, set: &SetWatches2) -> Result<Vec<Call>, Unasked>
+    ensures found { IfOk result (λ calls. all_watches_in set.now ≡ Ok calls.items) }
+    ensures fault { IfErr result (IsUnasked (all_watches_in set.now)) }
+{
+    if has_too_many(set) {
+        return Err(Unasked::Refused(Code::BadArguments));
+    }
+    each_watch(alloc, set)
+}
+
+// Returns whether there are too many paths in all five lists.
+fn has_too_many(set: &SetWatches2) -> bool
+    ensures { result ≡ nat_lt MAX_PATHS (length (all_watched_in set.now)) }
+{
+    let watched = set.watches.data_watches.as_slice().len();
+    let missing = set.watches.exist_watches.as_slice().len();
+    let parents = set.watches.child_watches.as_slice().len();
+    let persistent = set.persistent_watches.as_slice().len();
+    let recursive = set.recursive_watches.as_slice().len();
+    watched + missing + parents + persistent + recursive > MAX_PATHS
+}
+
+// Reads all paths of the five lists.
+fn each_watch(alloc: Global, set: &SetWatches2) -> Result<Vec<Call>, Unasked>
+    ensures found { IfOk result
+        (λ calls. each_in watch_in (all_watched_in set.now) ≡ Ok calls.items) }
+    ensures fault { IfErr result (IsUnasked (each_in watch_in (all_watched_in set.now))) }
+{
+    let mut calls = all_watches(alloc, &set.watches)?;
+    add_watches(alloc, set.persistent_watches.as_slice(), &mut calls)?;
+    add_watches(alloc, set.recursive_watches.as_slice(), &mut calls)?;
+    Ok(calls)
 }
 
 // Reads all paths of the watches.

@@ -105,11 +105,10 @@ pub(crate) fn part_of(
     ensures fault { IfErr result (IsUnasked (part_in tick session part.now)) }
 {
     match part {
-        zjute::PartRequest::Create(create) | zjute::PartRequest::Create2(create) => {
-            create_part(alloc, session, create)
-        }
+        zjute::PartRequest::Create(create)
+        | zjute::PartRequest::Create2(create)
+        | zjute::PartRequest::CreateContainer(create) => create_part(alloc, session, create),
         zjute::PartRequest::CreateTtl(timed) => timed_part(alloc, tick, timed),
-        zjute::PartRequest::CreateContainer(_) => Err(Unasked::Refused(Code::Unimplemented)),
         zjute::PartRequest::Delete(at) => delete_part(alloc, at),
         zjute::PartRequest::SetData(set) => set_part(alloc, set),
         zjute::PartRequest::Check(at) => check_part(alloc, at),

@@ -5,21 +5,23 @@ ghost use Rattle.zrequests.specs.Asking.{IsUnasked};
 ghost use Rattle.zrequests.specs.Requests.{calls_in, reads_in, create_in, timed_create_in, create_alone};
 ghost use Rattle.zrequests.specs.Requests.{delete_alone, set_alone, check_alone, one_of_parts};
 ghost use Rattle.zrequests.specs.Requests.{multi_in, look_alone, children_in, looks_in};
-ghost use Rattle.zrequests.specs.Requests.{watches_in, auth_in, sync_in};
+ghost use Rattle.zrequests.specs.Requests.{all_watches_in, numbered_in, watches_in, auth_in, sync_in};
+ghost use Rattle.zjute.specs.WatchNumbers.{mode_of, type_of};
 ghost use Rattle.zcalls.specs.declared.call.Call.TheVariants.{Update as UpdateOf, Query as QueryOf};
 ghost use Rattle.zcalls.specs.declared.call.Update.TheVariants.{Close};
 ghost use Rattle.zcalls.specs.declared.call.Query.TheVariants.{GetData, Exists, GetChildren};
 
 use crate::calls::Calls;
 use crate::fault::Unasked;
-use crate::lists::{looks_of, parts_of, watches_of};
+use crate::lists::{all_watches_of, looks_of, parts_of, watches_of};
 use crate::nodes::{check_of, create_of, delete_of, set_of, timed_create_of};
 use crate::tick::TickLength;
 use crate::words::{is_text_of, path_of};
 use std::alloc::Global;
 use zcalls::{Call, MAX_PARTS, Multi, Part, Query, SessionId, Update};
 use zjute::{
-    Asked, AtVersion, Auth, Bytes, Code, CreateTtl, Looks, Parts, SetDataRequest, SetWatches,
+    AddMode, AddWatch, Asked, AtVersion, Auth, Bytes, Code, CreateTtl, Looks, Parts,
+    SetDataRequest, SetWatches, SetWatches2, WatchType, WatchesAt,
 };
 use zpath::Path;
 
@@ -37,7 +39,9 @@ pub fn calls_of(
     ensures fault { IfErr result (IsUnasked (calls_in tick session asked.now)) }
 {
     match asked {
-        Asked::Create(create) | Asked::Create2(create) => one_create(alloc, session, create),
+        Asked::Create(create) | Asked::Create2(create) | Asked::CreateContainer(create) => {
+            one_create(alloc, session, create)
+        }
         Asked::CreateTtl(timed) => one_timed_create(alloc, tick, timed),
         Asked::Delete(at) => delete(alloc, at),
         Asked::SetData(set) => set_data(alloc, set),
@@ -61,6 +65,9 @@ fn reads(alloc: Global, asked: &Asked) -> Result<Calls, Unasked>
         Asked::GetAcl(path) => exists(alloc, path),
         Asked::MultiRead(looks) => multi_read(alloc, looks),
         Asked::SetWatches(set) => set_watches(alloc, set),
+        Asked::SetWatches2(set) => set_watches_2(alloc, set),
+        Asked::CheckWatches(at) | Asked::RemoveWatches(at) => watches_at(alloc, at),
+        Asked::AddWatch(add) => add_watch(alloc, add),
         Asked::Sync(path) => sync(alloc, path),
         Asked::Auth(auth) => say_who(alloc, auth),
         Asked::Ping => Ok(Calls::none(alloc)),
@@ -228,6 +235,38 @@ fn set_watches(alloc: Global, set: &SetWatches) -> Result<Calls, Unasked>
     ensures fault { IfErr result (IsUnasked (watches_in set.now)) }
 {
     Ok(Calls::new(watches_of(alloc, set)?))
+}
+
+// Reads the paths of re-registered watches, with persistent ones.
+fn set_watches_2(alloc: Global, set: &SetWatches2) -> Result<Calls, Unasked>
+    ensures found { IfOk result (λ calls. all_watches_in set.now ≡ Ok calls) }
+    ensures fault { IfErr result (IsUnasked (all_watches_in set.now)) }
+{
+    Ok(Calls::new(all_watches_of(alloc, set)?))
+}
+
+// Reads the path of watches to check or to remove.
+fn watches_at(alloc: Global, at: &WatchesAt) -> Result<Calls, Unasked>
+    ensures found { IfOk result
+        (λ calls. numbered_in (type_of at.now.kind) at.now.path ≡ Ok calls) }
+    ensures fault { IfErr result (IsUnasked (numbered_in (type_of at.now.kind) at.now.path)) }
+{
+    match WatchType::of(at.kind) {
+        Some(_) => exists(alloc, &at.path),
+        None => Err(Unasked::Refused(Code::MarshallingError)),
+    }
+}
+
+// Reads the path of a watch to add.
+fn add_watch(alloc: Global, add: &AddWatch) -> Result<Calls, Unasked>
+    ensures found { IfOk result
+        (λ calls. numbered_in (mode_of add.now.mode) add.now.path ≡ Ok calls) }
+    ensures fault { IfErr result (IsUnasked (numbered_in (mode_of add.now.mode) add.now.path)) }
+{
+    match AddMode::of(add.mode) {
+        Some(_) => exists(alloc, &add.path),
+        None => Err(Unasked::Refused(Code::MarshallingError)),
+    }
 }
 
 // Returns the close of the session.

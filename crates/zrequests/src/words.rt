@@ -105,7 +105,7 @@ pub(crate) fn kind_of(session: SessionId, flags: i32) -> Result<Kind, Unasked>
         1 => Ok(Kind::named(Lifetime::Ephemeral(session))),
         2 => Ok(Kind::sequential(Lifetime::Persistent)),
         3 => Ok(Kind::sequential(Lifetime::Ephemeral(session))),
-        4 => Err(Unasked::Refused(Code::Unimplemented)),
+        4 => Ok(Kind::named(Lifetime::Container)),
         _ => Err(Unasked::Refused(Code::BadArguments)),
     }
 }

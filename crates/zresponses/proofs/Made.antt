@@ -18,7 +18,7 @@ use Rattle.zcalls.specs.declared.call.Update.TheVariants as act
 use Rattle.zcalls.specs.declared.change.ChangeReply.TheVariants as did
 use Rattle.zcalls.specs.declared.reply.Reply.{Reply}
 use Rattle.zcalls.specs.declared.reply.Reply.TheVariants as reply
-use Rattle.zcalls.specs.Part.{create_step, create_refusals, made_path, owner_of, ttl_of, counter_at, unless_refused}
+use Rattle.zcalls.specs.Part.{create_step, create_refusals, made_path, owner_of, term_of, counter_at, unless_refused}
 use Rattle.zcalls.specs.Step.{step, is_exhausted, change_result}
 use Rattle.zcalls.proofs.Paths.{not_root, made-below_root}
 use Rattle.zresponses.specs.Stats.{made_stat}
@@ -82,14 +82,14 @@ created : (t : Tree) (client : ℕ) (create : Create) (path : Path) → IsLawful
     → (exhausted : Bool) (refused : Option Refusal) → first_that_holds (create_refusals t client create) ≡ refused
     → Reports create path (if exhausted then (t, reply.Refused Exhausted) else
     change_result t (unless_refused refused (
-      with_node t (made_path t.nodes create.kind create.path) create.bytes (owner_of create.kind.lifetime) (ttl_of create.kind.lifetime) create.kind.is_sequential,
+      with_node t (made_path t.nodes create.kind create.path) create.bytes (owner_of create.kind.lifetime) (term_of create.kind.lifetime) create.kind.is_sequential,
       did.Created (made_path t.nodes create.kind create.path),
     )))
 created t client create path lawful true refused e reported = cc
 created t client create path lawful false (Some refusal) e reported = cc
 created t client create path lawful false None e reported =
     let made = made_path t.nodes create.kind create.path in
-    let new = new_node create.bytes (owner_of create.kind.lifetime) (ttl_of create.kind.lifetime) (t.zxid + 1) t.time in
+    let new = new_node create.bytes (owner_of create.kind.lifetime) (term_of create.kind.lifetime) (t.zxid + 1) t.time in
     let tests = no_test_holds (create_refusals t client create) e in
     let below = made-below_root t.nodes create.kind create.path (not_root create.path tests.1.0) in
     let same : made ≡ path = cc in

@@ -20,6 +20,10 @@ use Rattle.zresponses.specs.Results.{multi_answer, looks_answer}
 abbrev pub was_done : Answer
 was_done = done body.Nothing
 
+-- the answer to a request that added a watch: ZooKeeper sends an `ErrorResponse` of 0
+abbrev pub was_added : Answer
+was_added = done (body.Error code.Ok)
+
 -- the answer where a call has no reply; it isn't sent, since its connection is closed
 abbrev pub was_lost : Answer
 was_lost = failed code.SystemError
@@ -51,6 +55,7 @@ sync_by path = option_map_or (λ text. done (body.Path text)) path was_done
 -- the answer to a request, with the zxid and the tick after its calls
 abbrev pub answer_in : Clock → Now → Asked → List Call → List Reply → Answer
 answer_in clock now (asked.Create2 create) calls replies = made_by clock now calls replies
+answer_in clock now (asked.CreateContainer create) calls replies = made_by clock now calls replies
 answer_in clock now (asked.CreateTtl timed) calls replies = made_by clock now calls replies
 answer_in clock now (asked.Multi parts) calls replies = multi_by clock now parts calls replies
 answer_in clock now (asked.MultiRead looks) calls replies = looks_answer clock replies
@@ -58,6 +63,10 @@ answer_in clock now (asked.GetChildren2 look) calls replies = by_two (children_a
 answer_in clock now (asked.GetAcl path) calls replies = by_first (acl_answer clock) replies
 answer_in clock now (asked.Sync path) calls replies = sync_by path
 answer_in clock now (asked.SetWatches set) calls replies = was_done
+answer_in clock now (asked.SetWatches2 set) calls replies = was_done
+answer_in clock now (asked.CheckWatches at) calls replies = was_done
+answer_in clock now (asked.RemoveWatches at) calls replies = was_done
+answer_in clock now (asked.AddWatch add) calls replies = was_added
 answer_in clock now (asked.Auth auth) calls replies = was_done
 answer_in clock now asked.Ping calls replies = was_done
 answer_in clock now other calls replies = by_first (answer_of clock) replies

@@ -33,10 +33,12 @@ refused_results count number why =
     replicate (number - 1) (result_of.Error code.Ok)
     ++ result_of.Error why ∷ replicate (count - number) (result_of.Error code.RuntimeInconsistency)
 
--- a node that a part created; with its stat, if the part asked for it or has a TTL
+-- a node that a part created; with its stat, if the part asked for it, has a TTL, or creates a
+-- container
 abbrev pub made_result : Clock → Now → AskedPart → Create → List ℕ → PartResult
 made_result clock now (asked.Create2 create) made path = result_of.Create2 path (stat_reported clock (made_stat now made))
 made_result clock now (asked.CreateTtl timed) made path = result_of.Create2 path (stat_reported clock (made_stat now made))
+made_result clock now (asked.CreateContainer create) made path = result_of.Create2 path (stat_reported clock (made_stat now made))
 made_result clock now other made path = result_of.Create path
 
 -- the result of a part that was done, from the request's part, the call's part and its reply

@@ -6,7 +6,7 @@ use Rattle.std.specs.Int.{w32, w64, cast_signed}
 use Rattle.ztree.specs.Tree.{new_node, stat_with}
 use Rattle.ztree.specs.declared.node.Stat.{Stat}
 use Rattle.zcalls.specs.declared.call.Create.{Create}
-use Rattle.zcalls.specs.Part.{owner_of, ttl_of}
+use Rattle.zcalls.specs.Part.{owner_of, term_of}
 use Rattle.zjute.specs.declared.stat.StatRecord.{StatRecord as ReportedStat}
 use Rattle.zresponses.specs.declared.clock.Clock.{Clock}
 use Rattle.zresponses.specs.declared.clock.Now.{Now}
@@ -41,4 +41,4 @@ stat_reported clock s = record {
 
 -- the stat of a node that a create has just made
 abbrev pub made_stat : Now → Create → Stat
-made_stat now create = stat_with (new_node create.bytes (owner_of create.kind.lifetime) (ttl_of create.kind.lifetime) now.zxid now.time) 0
+made_stat now create = stat_with (new_node create.bytes (owner_of create.kind.lifetime) (term_of create.kind.lifetime) now.zxid now.time) 0

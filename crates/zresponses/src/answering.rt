@@ -29,13 +29,21 @@ pub fn answer_to(
         ≡ answer_in clock.now at.now asked.now calls.now replies.now) }
 {
     match asked {
-        Asked::Create2(_) | Asked::CreateTtl(_) => made(alloc, clock, at, calls, replies),
+        Asked::Create2(_) | Asked::CreateContainer(_) | Asked::CreateTtl(_) => {
+            made(alloc, clock, at, calls, replies)
+        }
         Asked::Multi(parts) => multi(alloc, clock, at, parts, calls, replies),
         Asked::MultiRead(_) => looks_answer(alloc, clock, replies),
         Asked::GetChildren2(_) => children(alloc, clock, replies),
         Asked::GetAcl(_) => acl(alloc, clock, replies),
         Asked::Sync(path) => sync(alloc, path),
-        Asked::SetWatches(_) | Asked::Auth(_) | Asked::Ping => Ok(Answer::done(Body::Nothing)),
+        Asked::SetWatches(_)
+        | Asked::SetWatches2(_)
+        | Asked::CheckWatches(_)
+        | Asked::RemoveWatches(_)
+        | Asked::Auth(_)
+        | Asked::Ping => Ok(Answer::done(Body::Nothing)),
+        Asked::AddWatch(_) => Ok(Answer::done(Body::Error(Code::Ok))),
         _ => first(alloc, clock, replies),
     }
 }

@@ -2,7 +2,8 @@
 //!
 //! # Why
 //!
-//! A create2 in a multi returns its stat, as in zookeeper.jute, and so does a create with a TTL.
+//! A create2 in a multi returns its stat, as in zookeeper.jute, and so does a create with a TTL
+//! or of a container.
 //! ZooKeeper 3.8 returns the path only, as for a plain create. Clients go by the kind that precedes
 //! each result.
 
@@ -60,7 +61,9 @@ fn made_result(
 {
     let path = path_reported(alloc, path)?;
     match asked {
-        zjute::PartRequest::Create2(_) | zjute::PartRequest::CreateTtl(_) => {
+        zjute::PartRequest::Create2(_)
+        | zjute::PartRequest::CreateTtl(_)
+        | zjute::PartRequest::CreateContainer(_) => {
             let stat = stat_reported(clock, &made_stat(at, create));
             Ok(PartResult::Create2(path, stat))
         }

@@ -12,6 +12,7 @@ use ztree::Stat;
 pub fn made_stat(at: &Now, create: &Create) -> Stat
     ensures { result ≡ reported.made_stat at.now create.now }
 {
+    let term = create.kind.lifetime.term();
     Stat {
         czxid: at.zxid,
         mzxid: at.zxid,
@@ -20,7 +21,7 @@ pub fn made_stat(at: &Now, create: &Create) -> Stat
         mtime: at.time,
         version: 0,
         cversion: 0,
-        owner: create.kind.lifetime.owner(),
+        owner: term.shown_owner(create.kind.lifetime.owner()),
         length: create.bytes.as_slice().len() as u64,
         children: 0,
     }

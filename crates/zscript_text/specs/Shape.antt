@@ -6,7 +6,7 @@ use Rattle.std.specs.List.{starts_with}
 use Rattle.std.specs.Str.{bytes_eq}
 use Rattle.ztree.specs.declared.limits.TheConstants.{MAX_TTL}
 use Rattle.zcalls.specs.declared.call.Kind.{Kind}
-use Rattle.zcalls.specs.declared.call.Lifetime.TheVariants.{Persistent, WithTtl, Ephemeral}
+use Rattle.zcalls.specs.declared.call.Lifetime.TheVariants.{Persistent, WithTtl, Ephemeral, Container}
 use Rattle.zcalls.specs.Part.{named, sequential}
 use Rattle.zcalls.specs.declared.call.Expected.{Expected}
 use Rattle.zcalls.specs.declared.call.Expected.TheVariants.{Any, Exactly}
@@ -43,6 +43,7 @@ unfoldable pub kind_of : Word → Option Kind
 kind_of word =
     if bytes_eq word (codes "p") then Some (named Persistent) else
     if bytes_eq word (codes "ps") then Some (sequential Persistent) else
+    if bytes_eq word (codes "c") then Some (named Container) else
     owned_kind_of word
 
 -- the expected version that a word names

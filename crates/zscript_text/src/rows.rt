@@ -3,7 +3,7 @@
 ghost use Rattle.std.specs.Prelude.{◌≡◌, [], ◌∷◌, Some, None, Ok, Err, codes};
 ghost use Rattle.zpath.specs.declared.fault.PathFault.TheVariants.{NotAbsolute};
 ghost use Rattle.zcalls.specs.Part.{named, sequential};
-ghost use Rattle.zcalls.specs.declared.call.Lifetime.TheVariants.{Persistent, WithTtl, Ephemeral};
+ghost use Rattle.zcalls.specs.declared.call.Lifetime.TheVariants.{Persistent, WithTtl, Ephemeral, Container};
 ghost use Rattle.zcalls.specs.declared.call.Update.TheVariants.{Create, Open, Ping, Close, Tick};
 ghost use Rattle.zcalls.specs.declared.call.Query.TheVariants.{GetData};
 ghost use Rattle.zcalls.specs.declared.call.Call.TheVariants.{Update, Query};
@@ -43,6 +43,8 @@ pub fn words()
     ensures no_session { kind_of (codes "e:") ≡ None }
     ensures loose_session { kind_of (codes "e:01") ≡ None }
     ensures other_kind { kind_of (codes "e") ≡ None }
+    ensures container { kind_of (codes "c") ≡ Some (named Container) }
+    ensures no_sequential_container { kind_of (codes "cs") ≡ None }
     ensures least_ttl { kind_of (codes "t:1") ≡ Some (named (WithTtl 1)) }
     ensures no_ttl { kind_of (codes "t:0") ≡ None }
     ensures most_ttl { kind_of (codes "t:1048576") ≡ Some (named (WithTtl 1048576)) }

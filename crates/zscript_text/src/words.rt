@@ -67,6 +67,7 @@ pub(crate) fn kind_in(word: &str) -> Option<Kind>
     match word {
         "p" => Some(Kind::named(Lifetime::Persistent)),
         "ps" => Some(Kind::sequential(Lifetime::Persistent)),
+        "c" => Some(Kind::named(Lifetime::Container)),
         _ => owned_kind_in(word),
     }
 }

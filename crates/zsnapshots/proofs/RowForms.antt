@@ -1,11 +1,14 @@
 -- Rows are forms.
-use Rattle.std.proofs.Common.{◌≡◌, ℕ, List, Result, refl, arith}
-use Rattle.std.specs.Prelude.{Ok, Err, IfOk, IfErr, OnOk}
+use Rattle.std.proofs.Common.{◌≡◌, ℕ, Bool, true, false, cond, List, Result, refl, subst, arith}
+use Rattle.std.specs.Prelude.{◌==◌, nat_le, Ok, Err, IfOk, IfErr, OnOk}
+use Rattle.std.proofs.lemmas.Bool.Decides.{nat_tests}
 use Rattle.std.specs.Int.{w32}
+use Rattle.zcodec.specs.declared.fault.Fault.TheVariants.{Invalid}
 use Rattle.zcodec.specs.Forms.{Form, number, both}
 use Rattle.zcodec.specs.Laws.{IsBytes, IsForm}
 use Rattle.zcodec.proofs.Numbers.{is_u32, is_u64}
-use Rattle.zcodec.proofs.Parts.{is_both, is_record}
+use Rattle.zcodec.proofs.Bytes.{ok_is}
+use Rattle.zcodec.proofs.Parts.{is_both, is_made, is_record}
 use Rattle.zwire.specs.records.Fields.{path, content, long}
 use Rattle.zwire.proofs.records_lemmas.Fields.{is_path, is_content}
 use Rattle.zwire.specs.declared.limits.TheConstants.{MAX_FRAME}
@@ -16,7 +19,11 @@ use Rattle.zwire.specs.Frames.{IsFaultOf}
 use Rattle.zwire.proofs.Fields.{is_call_number, is_log_number, is_client, is_three, is_four}
 use Rattle.zwire.proofs.Replies.{is_reply}
 use Rattle.zwire.proofs.Frames.{is_framed, found_in, only_in, faults_stay, beginning_is_cut}
-use Rattle.zsnapshots.specs.Rows.{clocks, totals, header_text, node, node_text, session, session_text, kept, reply_text, row, IsReadAs}
+use Rattle.ztree.specs.declared.limits.TheConstants.{MAX_TTL}
+use Rattle.ztree.specs.declared.term.Term.{Term}
+use Rattle.ztree.specs.declared.term.Term.TheVariants.{Unlimited, Timed, Container}
+use Rattle.zsnapshots.specs.declared.limits.TheConstants.{CONTAINER}
+use Rattle.zsnapshots.specs.Rows.{clocks, totals, header_text, HasValidTtl, term_number, term_from, term, node, node_text, session, session_text, kept, reply_text, row, IsReadAs}
 use Rattle.zsnapshots.specs.Laws.{AreRows}
 
 is_clocks : IsForm clocks
@@ -29,9 +36,38 @@ pub is_header : IsForm header_text
 unfolding header_text
 is_header = is_record _ _ _ (is_both clocks totals is_clocks is_totals) (λ f. refl) (λ h. refl)
 
+-- ---- terms
+
+term-known : (t : Term) → HasValidTtl t → term_from (term_number t) ≡ Ok t
+term-known Unlimited is = refl
+term-known (Timed ttl) is =
+    let some : (ttl == 0) ≡ false = grind (arith, nat_tests, is) in
+    let few : nat_le ttl MAX_TTL ≡ true = grind (arith, nat_tests, is) in
+    rw (some, few) refl
+term-known Container is = refl
+
+term-only : (n : ℕ) (t : Term) → term_from n ≡ Ok t → (term_number t ≡ n) × HasValidTtl t
+term-only n t = by (n == 0) (nat_le n MAX_TTL) (n == CONTAINER) refl refl refl
+  where
+    by : (a b c : Bool) → (n == 0) ≡ a → nat_le n MAX_TTL ≡ b → (n == CONTAINER) ≡ c
+        → cond a (Ok Unlimited) (cond b (Ok (Timed n)) (cond c (Ok Container) (Err Invalid))) ≡ Ok t → (term_number t ≡ n) × HasValidTtl t
+    by true b c is_zero few whole e = subst (λ (x : Term). (term_number x ≡ n) × HasValidTtl x) (ok_is Unlimited t e) (grind (arith, nat_tests), tt)
+    by false true c some few whole e = subst (λ (x : Term). (term_number x ≡ n) × HasValidTtl x) (ok_is (Timed n) t e) (refl, (grind (arith, nat_tests), grind (arith, nat_tests)))
+    by false false true some many whole e = subst (λ (x : Term). (term_number x ≡ n) × HasValidTtl x) (ok_is Container t e) (grind (arith, nat_tests), tt)
+    by false false false some many other e = absurd cc
+
+term-small : (t : Term) → HasValidTtl t → long.Fits (term_number t)
+term-small Unlimited is = omega arith
+term-small (Timed ttl) is = omega (arith, is.1)
+term-small Container is = omega arith
+
+is_term : IsForm term
+unfolding term
+is_term = is_made long term_number term_from HasValidTtl is_u64 (λ n t fits e. term-only n t e) (λ t is. (term-known t is, term-small t is))
+
 is_node : IsForm node
 unfolding node
-is_node = is_record _ _ _ (is_both three _ is_three (is_both four _ is_four (is_both three content is_three is_content))) (λ f. refl) (λ n. refl)
+is_node = is_record _ _ _ (is_both three _ is_three (is_both four _ is_four (is_both (both long long) (both term content) (is_both long long is_u64 is_u64) (is_both term content is_term is_content)))) (λ f. refl) (λ n. refl)
 
 pub is_node_text : IsForm node_text
 unfolding node_text

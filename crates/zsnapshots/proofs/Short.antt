@@ -20,7 +20,7 @@ use Rattle.zwire.specs.Fields.{call_number, log_number, client, stat, refusal}
 use Rattle.zwire.specs.Replies.{part_reply, replies, reply}
 use Rattle.zsnapshots.specs.declared.header.Header.{Header}
 use Rattle.zsnapshots.specs.declared.limits.TheConstants.{MAX_ROW}
-use Rattle.zsnapshots.specs.Rows.{header_text, session, session_text, node, node_text, kept, reply_text}
+use Rattle.zsnapshots.specs.Rows.{header_text, session, session_text, term, node, node_text, kept, reply_text}
 use Rattle.zsnapshots.specs.Laws.{RowsAreShort}
 use Rattle.zsnapshots.specs.States.StateRow.{OfHeader, OfSession, OfNode, OfReply}
 
@@ -41,11 +41,11 @@ unfolding stat
 stat-short s = omega arith
 
 pub node-short : (e : Path × Node) → node_text.Fits e → length (node_text.spell e) ≤ MAX_ROW
-unfolding node_text node content
+unfolding node_text node term content
 node-short e fits =
     let front = path-short e.0 fits.0 in
     let both = length-append (path.spell e.0) (node.spell e.1) in
-    let few = fits.1.1.1.1.0 in
+    let few = fits.1.1.1.1.1.0 in
     omega (arith, front, both, few)
 
 part-short : (p : PartReply) → part_reply.Fits p → length (part_reply.spell p) ≤ 1029

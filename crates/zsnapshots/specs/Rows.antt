@@ -1,9 +1,15 @@
 -- The rows of a snapshot: a header, and then a row for each session, node and cached reply. Each
 -- row is a frame of its own, so that a state is written and read row by row.
-use Rattle.std.specs.Prelude.{◌≡◌, ℕ, List, ◌++◌, Result, IfOk, IfErr}
+use Rattle.std.specs.Prelude.{◌≡◌, ◌==◌, ℕ, List, ◌++◌, Result, Ok, Err, IfOk, IfErr, if◌then◌else◌, nat_le}
 use Rattle.std.specs.Int.{w32}
-use Rattle.zcodec.specs.Forms.{Form, number, both}
+use Rattle.zcodec.specs.declared.fault.Fault.{Fault}
+use Rattle.zcodec.specs.declared.fault.Fault.TheVariants.{Invalid}
+use Rattle.zcodec.specs.Forms.{Form, number, made, both}
 use Rattle.zjute.specs.Shapes.{fields}
+use Rattle.ztree.specs.declared.limits.TheConstants.{MAX_TTL}
+use Rattle.ztree.specs.declared.term.Term.{Term}
+use Rattle.ztree.specs.declared.term.Term.TheVariants.{Unlimited, Timed, Container}
+use Rattle.ztree.specs.Ttls.{IsTtl}
 use Rattle.ztree.specs.declared.node.Node.{Node}
 use Rattle.ztree.specs.declared.session.Session.{Session}
 use Rattle.ztree.specs.Tree.{Path}
@@ -16,6 +22,7 @@ use Rattle.zwire.specs.declared.fault.FrameFault.TheVariants.{Memory}
 use Rattle.zwire.specs.Fields.{call_number, log_number, client, three, four}
 use Rattle.zwire.specs.Replies.{reply}
 use Rattle.zwire.specs.Frames.{framed, IsFaultOf}
+use Rattle.zsnapshots.specs.declared.limits.TheConstants.{CONTAINER}
 use Rattle.zsnapshots.specs.declared.header.Header.{Header}
 
 -- ---- the header
@@ -57,11 +64,34 @@ zxids_of n = (n.czxid, (n.mzxid, n.pzxid))
 abbrev pub counts_of : Node → ℕ × (ℕ × (ℕ × ℕ))
 counts_of n = (n.ctime, (n.mtime, (n.version, n.cversion)))
 
--- owner, seq, ttl
-abbrev pub marks_of : Node → ℕ × (ℕ × ℕ)
-marks_of n = (n.owner, (n.seq, n.ttl))
+-- owner, seq
+abbrev pub marks_of : Node → ℕ × ℕ
+marks_of n = (n.owner, n.seq)
 
-abbrev pub node_of : (ℕ × (ℕ × ℕ)) × ((ℕ × (ℕ × (ℕ × ℕ))) × ((ℕ × (ℕ × ℕ)) × List ℕ)) → Node
+-- the number of a term: 0 for an unlimited one, the ticks of a TTL, and one number for containers
+abbrev pub term_number : Term → ℕ
+term_number Unlimited = 0
+term_number (Timed ttl) = ttl
+term_number Container = CONTAINER
+
+-- the term that has this number
+abbrev pub term_from : ℕ → Result Term Fault
+term_from n =
+    if n == 0 then Ok Unlimited else
+    if nat_le n MAX_TTL then Ok (Timed n) else
+    if n == CONTAINER then Ok Container else
+    Err Invalid
+
+-- the term's TTL, if it has one, is valid
+abbrev pub HasValidTtl : Term → Type 0
+HasValidTtl Unlimited = Unit {0}
+HasValidTtl (Timed ttl) = IsTtl ttl
+HasValidTtl Container = Unit {0}
+
+unfoldable pub term : Form Term
+term = made long term_number term_from HasValidTtl
+
+abbrev pub node_of : (ℕ × (ℕ × ℕ)) × ((ℕ × (ℕ × (ℕ × ℕ))) × ((ℕ × ℕ) × (Term × List ℕ))) → Node
 node_of f = record {
   czxid = f.0.0;
   mzxid = f.0.1.0;
@@ -71,14 +101,14 @@ node_of f = record {
   version = f.1.0.1.1.0;
   cversion = f.1.0.1.1.1;
   owner = f.1.1.0.0;
-  seq = f.1.1.0.1.0;
-  ttl = f.1.1.0.1.1;
-  bytes = f.1.1.1;
+  seq = f.1.1.0.1;
+  term = f.1.1.1.0;
+  bytes = f.1.1.1.1;
 }
 
 unfoldable pub node : Form Node
-node = fields (both three (both four (both three content)))
-    (λ n. (zxids_of n, (counts_of n, (marks_of n, n.bytes)))) node_of
+node = fields (both three (both four (both (both long long) (both term content))))
+    (λ n. (zxids_of n, (counts_of n, (marks_of n, (n.term, n.bytes))))) node_of
 
 -- a node with its path
 unfoldable pub node_text : Form (Path × Node)

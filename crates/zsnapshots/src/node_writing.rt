@@ -1,14 +1,17 @@
 //! Nodes, written at the end of bytes. Each function says too that what it writes fits.
 
 ghost use Rattle.std.specs.Prelude.{◌≡◌, ◌++◌, OnOk};
+ghost use Rattle.zcodec.specs.Forms.{both};
 ghost use Rattle.zwire.specs.Fields.{three, four};
-ghost use Rattle.zsnapshots.specs.Rows.{zxids_of, counts_of, marks_of, node as node_form};
+ghost use Rattle.zwire.specs.records.Fields.{long};
+ghost use Rattle.zsnapshots.specs.Rows.{zxids_of, counts_of, marks_of, term as term_form, node as node_form};
 ghost use Rattle.zsnapshots.specs.Rows.{node_text};
 
+use crate::limits::CONTAINER;
 use std::alloc::{AllocError, Global};
 use zcodec::put_u64;
 use zpath::Path;
-use ztree::Node;
+use ztree::{Node, Term};
 use zwire::records::{put_content, put_path};
 
 /// Writes a node with its path.
@@ -36,6 +39,7 @@ fn put_node(out: &mut Vec<u8>, node: &Node) -> Result<(), AllocError>
     put_zxids(out, node)?;
     put_counts(out, node)?;
     put_marks(out, node)?;
+    put_term(out, node.term)?;
     put_content(out, &node.bytes)
 }
 
@@ -60,12 +64,25 @@ fn put_counts(out: &mut Vec<u8>, node: &Node) -> Result<(), AllocError>
     put_u64(out, node.cversion)
 }
 
-// Writes its owner, its counter and its TTL.
+// Writes its owner and its counter.
 fn put_marks(out: &mut Vec<u8>, node: &Node) -> Result<(), AllocError>
-    ensures text { OnOk result (out.new.items ≡ out.old.items ++ three.spell (marks_of node.now)) }
-    ensures fits { OnOk result (three.Fits (marks_of node.now)) }
+    ensures text { OnOk result
+        (out.new.items ≡ out.old.items ++ (both long long).spell (marks_of node.now)) }
+    ensures fits { OnOk result ((both long long).Fits (marks_of node.now)) }
 {
     put_u64(out, node.owner)?;
-    put_u64(out, node.seq)?;
-    put_u64(out, node.ttl)
+    put_u64(out, node.seq)
+}
+
+// Writes its term.
+#[tactic(auto, unfolding(crate::specs::Rows::term))]
+fn put_term(out: &mut Vec<u8>, term: Term) -> Result<(), AllocError>
+    ensures text { OnOk result (out.new.items ≡ out.old.items ++ term_form.spell term) }
+    ensures fits { OnOk result (term_form.Fits term) }
+{
+    match term {
+        Term::Unlimited => put_u64(out, 0),
+        Term::Timed(ttl) => put_u64(out, ttl.ticks()),
+        Term::Container => put_u64(out, CONTAINER),
+    }
 }

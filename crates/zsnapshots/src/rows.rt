@@ -1,10 +1,11 @@
 //! Worked examples of the definitions. Each function's contract has some; its body is empty.
 
-ghost use Rattle.std.specs.Prelude.{◌≡◌, [], ◌∷◌, Some, Ok};
+ghost use Rattle.std.specs.Prelude.{◌≡◌, [], ◌∷◌, Some, Ok, Err};
 ghost use Rattle.zcodec.specs.declared.fault.Fault.TheVariants.{Short, Invalid, Trailing};
 ghost use Rattle.zwire.specs.declared.fault.FrameFault.TheVariants.{Cut, TooLong, Contents};
 ghost use Rattle.zwire.specs.Frames.{IsFaultOf};
-ghost use Rattle.zsnapshots.specs.Rows.{header_text, session_text, node_text, reply_text, row};
+ghost use Rattle.zsnapshots.specs.Rows.{header_text, session_text, node_text, reply_text, row, term_number, term_from};
+ghost use Rattle.ztree.specs.declared.term.Term.TheVariants.{Unlimited, Timed, Container};
 ghost use Rattle.zcalls.specs.declared.reply.Reply.TheVariants.{Deleted};
 ghost use Rattle.zops.specs.Machine.{opening_machine};
 ghost use Rattle.zops.specs.Restored.{with_reply};
@@ -29,6 +30,17 @@ pub fn rows_have_bytes()
         ∷ 0 ∷ 0 ∷ 10 ∷ 0 ∷ 0 ∷ 0 ∷ 2 ∷ 104 ∷ 105 ∷ [] }
     ensures reply { (row reply_text).spell reply
         ≡ 0 ∷ 0 ∷ 0 ∷ 10 ∷ 2 ∷ 0 ∷ 0 ∷ 0 ∷ 0 ∷ 0 ∷ 0 ∷ 0 ∷ 7 ∷ 1 ∷ [] }
+{}
+
+/// The numbers of terms, and the terms that they are read as.
+pub fn terms_have_numbers()
+    ensures unlimited { term_number Unlimited ≡ 0 }
+    ensures timed { term_number (Timed 10) ≡ 10 }
+    ensures container { term_number Container ≡ 9223372036854775808 }
+    ensures read_unlimited { term_from 0 ≡ Ok Unlimited }
+    ensures read_timed { term_from 10 ≡ Ok (Timed 10) }
+    ensures read_container { term_from 9223372036854775808 ≡ Ok Container }
+    ensures too_long { term_from 1048577 ≡ Err Invalid }
 {}
 
 /// A row is read, and what follows it is left.

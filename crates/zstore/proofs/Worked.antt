@@ -5,6 +5,7 @@ use Rattle.std.specs.Cmp.{nat_cmp_total}
 use Rattle.std.specs.FinMap as finite
 use Rattle.std.specs.FinMap.{nat_cmp-IsAntisymmetric, get-empty, len-empty}
 use Rattle.zpath.specs.Grammar.{path_cmp}
+use Rattle.ztree.specs.declared.term.Term.TheVariants.{Unlimited, Timed, Container}
 use Rattle.ztree.specs.declared.node.Node.{Node}
 use Rattle.ztree.specs.declared.session.Session.{Session}
 use Rattle.ztree.specs.support.Samples.{at_a, some_node, some_session}
@@ -12,7 +13,7 @@ use Rattle.ztree.specs.Tree.{Path}
 use Rattle.ztree.specs.Lawful.{IsOwner, HasOneEnd, IsPersistent}
 use Rattle.ztree.proofs.Sorted.{paths_total, same_path}
 use Rattle.ztree.proofs.Maps.{same_some, not_none, get-insert-here, get-insert-elsewhere, len-insert-most}
-use Rattle.zstore.specs.support.Samples.{plain, ephemeral, rooted, with_ephemeral}
+use Rattle.zstore.specs.support.Samples.{plain, ephemeral, rooted, with_ephemeral, owned_container}
 
 root_is_above : ◌≢◌ {A = Path} [] at_a
 root_is_above e = cc
@@ -53,9 +54,19 @@ pub not_owner : IsOwner rooted.sessions 8 → ⊥
 not_owner (inl nobody) = absurd (omega (arith, nobody))
 not_owner (inr lives) = not_none _ lives (no_session 8 (λ e. absurd (omega (arith, e))))
 
+pub timed_ends : (ttl : ℕ) → Timed ttl ≡ Unlimited → ⊥
+timed_ends ttl e = cc
+
+pub container_ends : Container ≡ Unlimited → ⊥
+container_ends e = cc
+
 pub two_ends : HasOneEnd some_node → ⊥
-two_ends (inl stays) = absurd (omega (arith, stays))
+two_ends (inl stays) = absurd (timed_ends 12 stays)
 two_ends (inr nobodys) = absurd (omega (arith, nobodys))
+
+pub owned_container_ends : HasOneEnd owned_container → ⊥
+owned_container_ends (inl stays) = absurd (container_ends stays)
+owned_container_ends (inr nobodys) = absurd (omega (arith, nobodys))
 
 pub ephemeral_there : finite.get with_ephemeral.nodes at_a ≡ Some ephemeral
 ephemeral_there = get-insert-here paths_total same_path rooted.nodes at_a ephemeral

@@ -5,6 +5,7 @@ use Rattle.std.specs.Prelude.{◌≡◌, ℕ, ◌<◌, false, List, [], ◌∷�
 use Rattle.std.specs.FinMap as finite
 use Rattle.std.specs.FinMap.{get, insert}
 use Rattle.ztree.specs.declared.limits.TheConstants.{MAX_NODES, MAX_SESSIONS}
+use Rattle.ztree.specs.declared.term.Term.TheVariants.{Unlimited}
 use Rattle.ztree.specs.declared.node.Node.{Node}
 use Rattle.ztree.specs.declared.session.Session.{Session}
 use Rattle.ztree.specs.Tree.{Tree, Path, parent_of, has_node}
@@ -23,10 +24,10 @@ with_row t path n = record t { nodes = insert t.nodes path n }
 abbrev pub with_session_row : Tree → ℕ → Session → Tree
 with_session_row t id s = record t { sessions = insert t.sessions id s }
 
--- the node can be the root: it has no owner and no TTL
+-- the node can be the root: it has no owner, and its term is unlimited
 pub record CanBeRoot (root : Node) : Type 0 where
   pub nobodys : root.owner ≡ 0
-  pub stays : root.ttl ≡ 0
+  pub stays : root.term ≡ Unlimited
 
 -- the session can be put: its id is free and not 0, and it has not expired
 pub record CanPutSession (t : Tree) (id : ℕ) (s : Session) : Type 0 where
@@ -36,7 +37,7 @@ pub record CanPutSession (t : Tree) (id : ℕ) (s : Session) : Type 0 where
   pub few : finite.len t.sessions < MAX_SESSIONS
 
 -- the node can be put: its path is free, its parent exists and is persistent, its owner is live,
--- and it doesn't have both an owner and a TTL
+-- and it has an unlimited term or no owner
 pub record CanPut (t : Tree) (path : Path) (n : Node) : Type 0 where
   pub free : has_node t.nodes path ≡ false
   pub parent : IsPersistent (get t.nodes (parent_of path))

@@ -9,6 +9,7 @@ pub use Rattle.zslots.specs.Ids.{Ids}
 use Rattle.zslots.specs.Generations.{generation_number}
 use Rattle.zslots.specs.Ids.{id_cmp, coded_id}
 pub use Rattle.znodes.specs.NodesView.{AreAt, AreStale}
+use Rattle.ztree.specs.declared.term.Term.{Term}
 use Rattle.ztree.specs.declared.node.Node.{Node}
 use Rattle.ztree.specs.declared.node.Stat.{Stat}
 use Rattle.ztree.specs.declared.session.Session.{Session}
@@ -66,9 +67,9 @@ data_of h id = option_map (λ (n : Node). n.bytes) (node_of h id)
 abbrev pub seq_of : StoreView → Id → Option ℕ
 seq_of h id = option_map (λ (n : Node). n.seq) (node_of h id)
 
--- the TTL of the node with this Id
-abbrev pub ttl_of : StoreView → Id → Option ℕ
-ttl_of h id = option_map (λ (n : Node). n.ttl) (node_of h id)
+-- the term of the node with this Id
+abbrev pub term_of : StoreView → Id → Option Term
+term_of h id = option_map (λ (n : Node). n.term) (node_of h id)
 
 -- this is the stat of the node with this Id
 abbrev pub IsStatOf : StoreView → Id → Stat → Type 0
@@ -107,9 +108,9 @@ ForgetsGone old new = (id : Id) →
     path_of new id ≡ option_and_then (while_there new.tree.nodes) (path_of old id)
 
 -- the next change creates a node at the path
-abbrev pub MakesNode : StoreView → StoreView → Path → List ℕ → ℕ → ℕ → Bool → Type 0
-MakesNode old new path bytes owner ttl sequential =
-    new.tree ≡ with_node old.tree path bytes owner ttl sequential
+abbrev pub MakesNode : StoreView → StoreView → Path → List ℕ → ℕ → Term → Bool → Type 0
+MakesNode old new path bytes owner term sequential =
+    new.tree ≡ with_node old.tree path bytes owner term sequential
 
 -- the next change writes the data of the node with this Id
 abbrev pub WritesData : StoreView → StoreView → Id → List ℕ → Type 0

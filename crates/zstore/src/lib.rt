@@ -27,4 +27,4 @@ pub use restore_fault::RestoreFault;
 pub use store::Store;
 pub use znodes::Id;
 pub use ztree::limits::{MAX_DATA, MAX_NODES, MAX_SESSIONS};
-pub use ztree::{ClientId, Data, Node, Session, SessionId, Stat, Ttl, Zxid};
+pub use ztree::{ClientId, Data, Node, Session, SessionId, Stat, Term, Ttl, Zxid};

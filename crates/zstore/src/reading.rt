@@ -7,7 +7,7 @@
 ghost use Rattle.std.specs.Prelude.{◌≡◌, ◌+◌, Some, None, IfOk, IfSome, IfNone, OnSome, is_some, IsSome};
 ghost use Rattle.std.specs.FinMap.{keys};
 ghost use Rattle.ztree.specs.Tree.{has_node};
-ghost use Rattle.zstore.specs.StoreView.{path_of, node_of, data_of, seq_of, ttl_of, AreStale, IsStatOf, AreChildrenOf, without_mark};
+ghost use Rattle.zstore.specs.StoreView.{path_of, node_of, data_of, seq_of, term_of, AreStale, IsStatOf, AreChildrenOf, without_mark};
 
 use crate::log::Log;
 use crate::store::Store;
@@ -15,7 +15,7 @@ use crate::undoing::free_all;
 use zalloc::Memory;
 use znodes::Id;
 use zpath::{Name, Path};
-use ztree::{Node, SessionId, Stat};
+use ztree::{Node, SessionId, Stat, Term};
 
 impl Store {
     /// Returns the Id of the node at a path, or `None` if there is no such node. One lookup.
@@ -62,17 +62,17 @@ impl Store {
         Some(self.node(id)?.seq)
     }
 
-    /// Returns the TTL of the node with this Id, 0 for no TTL; or `None` if there is no such node.
-    pub fn ttl(&self, id: Id) -> Option<u64>
-        ensures ttl { IfSome result (λ ttl. ttl_of self.now id ≡ Some ttl) }
+    /// Returns the term of the node with this Id, or `None` if there is no such node.
+    pub fn term(&self, id: Id) -> Option<Term>
+        ensures term { IfSome result (λ term. term_of self.now id ≡ Some term) }
         ensures gone { IfNone result (path_of self.now id ≡ None) }
     {
-        Some(self.node(id)?.ttl)
+        Some(self.node(id)?.term)
     }
 
-    /// Returns the Ids of the nodes that the next tick removes, each once; or `Memory`. Their TTL
-    /// expires by that tick, and they have no children. The cost depends on the number of nodes
-    /// with a TTL.
+    /// Returns the Ids of the nodes that the next tick removes, each once; or `Memory`. They are
+    /// due at that tick, and have no children. The cost depends on the number of containers and
+    /// nodes with a TTL.
     pub fn stale(&self, tick: u64) -> Result<Vec<Id>, Memory>
         requires next { tick ≡ self.now.tree.time + 1 }
         ensures { IfOk result (λ ids.

@@ -20,7 +20,7 @@ use ztree::{Node, Session, SessionId, Zxid};
 
 impl Store {
     /// Makes a store of the root alone, at this tick and after this change. Refuses a root with an
-    /// owner or a TTL.
+    /// owner, or with a term that isn't unlimited.
     pub fn restored(alloc: Global, root: Node, time: u64, zxid: Zxid) -> Result<Store, RestoreFault>
         ensures tree { IfOk result (λ s. s.tree ≡ rooted_tree root time zxid) }
         ensures given { IfOk result (λ s. s.given ≤ 1) }
@@ -32,7 +32,7 @@ impl Store {
             drop(root);
             return Err(RestoreFault::Unlawful);
         }
-        if root.ttl != 0 {
+        if !root.term.is_unlimited() {
             drop(root);
             return Err(RestoreFault::Unlawful);
         }
@@ -176,12 +176,12 @@ impl Store {
     }
 }
 
-// Returns whether the node doesn't have both an owner and a TTL.
+// Returns whether the node has an unlimited term or no owner.
 fn has_one_end(node: &Node) -> bool
     ensures yes { IsTrue result → HasOneEnd node.now }
     ensures no { IsFalse result → HasOneEnd node.now → ⊥ }
 {
-    if node.ttl == 0 {
+    if node.term.is_unlimited() {
         return true;
     }
     node.owner == 0

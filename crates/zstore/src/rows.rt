@@ -2,9 +2,9 @@
 
 ghost use Rattle.std.specs.Prelude.{◌≡◌, [], Some};
 ghost use Rattle.std.specs.FinMap.{get};
-ghost use Rattle.ztree.specs.support.Samples.{at_a, at_a_b, some_node, some_session};
+ghost use Rattle.ztree.specs.support.Samples.{at_a, at_a_b, some_node, container, some_session};
 ghost use Rattle.zstore.specs.Restored.{CanBeRoot, CanPut, CanPutSession};
-ghost use Rattle.zstore.specs.support.Samples.{plain, ephemeral, timed, rooted, with_ephemeral};
+ghost use Rattle.zstore.specs.support.Samples.{plain, ephemeral, timed, owned_container, rooted, with_ephemeral};
 
 /// A tree restored from rows has them unchanged: a new child leaves its parent as it was.
 pub fn rows_make_a_tree()
@@ -15,11 +15,12 @@ pub fn rows_make_a_tree()
     ensures root { get with_ephemeral.nodes [] ≡ Some plain }
 {}
 
-/// A root has no owner and no TTL.
+/// A root has no owner and no TTL, and is no container.
 pub fn roots()
     ensures yes { CanBeRoot plain }
     ensures owned { CanBeRoot ephemeral → ⊥ }
     ensures timed { CanBeRoot timed → ⊥ }
+    ensures container { CanBeRoot container → ⊥ }
 {}
 
 /// Which sessions can be put beside session 9, at tick 8. The deadline of `some_session` is 9.
@@ -38,4 +39,5 @@ pub fn nodes_that_can_be_put()
     ensures of_an_ephemeral { CanPut with_ephemeral at_a_b plain → ⊥ }
     ensures of_no_session { CanPut rooted at_a (record plain { owner = 8 }) → ⊥ }
     ensures two_ends { CanPut rooted at_a some_node → ⊥ }
+    ensures owned_container { CanPut rooted at_a owned_container → ⊥ }
 {}

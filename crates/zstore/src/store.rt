@@ -9,7 +9,7 @@ use std::marker::Model;
 use zalloc::Memory;
 use znodes::Nodes;
 use zsessions::Sessions;
-use ztree::{Data, Node, Zxid};
+use ztree::{Data, Node, Term, Zxid};
 
 /// The znodes and sessions of one machine, its clock and the zxid of its last change.
 #[derive(Drop)]
@@ -49,7 +49,7 @@ impl Store {
         ensures unmarked { IfOk result (λ s. s.marked ≡ None) }
     {
         let zxid = Zxid::new(0);
-        let root = Node::new(Data::empty(), 0, 0, zxid, 0);
+        let root = Node::new(Data::empty(), 0, Term::Unlimited, zxid, 0);
         Store::rooted(alloc, root, 0, zxid)
     }
 

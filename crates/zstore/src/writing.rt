@@ -14,13 +14,14 @@ ghost use Rattle.zstore.specs.StoreView.{path_of, node_of, AtNode};
 ghost use Rattle.zstore.specs.StoreView.{KeepsIds, GivesAtMostOne, NamesNew, MakesNode, WritesData, mark_left};
 ghost use Rattle.zstore.specs.support.Parts.{WritesContent};
 ghost use Rattle.ztree.specs.Lawful.{IsPersistent, IsOwner};
+ghost use Rattle.ztree.specs.declared.term.Term.TheVariants.{Unlimited};
 
 use crate::store::Store;
 use crate::undo::Undo;
 use zalloc::Memory;
 use znodes::{Content, Id, Marks};
 use zpath::Path;
-use ztree::{Data, Node};
+use ztree::{Data, Node, Term};
 
 impl Store {
     /// Raises the zxid by one. The changes since a savepoint stay. No other call changes the zxid.
@@ -35,15 +36,15 @@ impl Store {
     }
 
     /// Adds a node beneath an existing parent, at a free path, by the next change; returns its Id.
-    /// Owner 0 means none, and TTL 0 means none. The caller has validated the request. After
-    /// `Memory` nothing has changed.
+    /// Owner 0 means none. The caller has validated the request. After `Memory` nothing has
+    /// changed.
     pub fn add(
         &mut self,
         parent: Id,
         path: Path,
         bytes: Data,
         owner: u64,
-        ttl: u64,
+        term: Term,
         sequential: bool,
     ) -> Result<Id, Memory>
         requires below_root { path ≢ [] }
@@ -51,20 +52,20 @@ impl Store {
         requires free { has_node self.old.tree.nodes path ≡ false }
         requires persistent { IsPersistent (node_of self.old parent) }
         requires owner { IsOwner self.old.tree.sessions owner }
-        requires one_end { (ttl ≡ 0) ⊎ (owner ≡ 0) }
+        requires one_end { (term ≡ Unlimited) ⊎ (owner ≡ 0) }
         requires counters { AtNode self.old parent (HasRoomForChild sequential) }
         requires few { finite.len self.old.tree.nodes < MAX_NODES }
         requires zxid { self.old.tree.zxid + 1 < ZXID_BOUND }
         requires given { self.old.given < ID_BOUND }
         ensures added { OnOk result
-            (MakesNode self.old self.new path bytes owner ttl sequential) }
+            (MakesNode self.old self.new path bytes owner term sequential) }
         ensures named { IfOk result (λ id. NamesNew self.old self.new id path) }
         ensures given { GivesAtMostOne self.old self.new }
         ensures marked { OnOk result (self.new.marked ≡ mark_left 2 self.old.marked) }
         ensures err { OnErr result (self.new ≡ self.old) }
     {
         path.keeps_its_form();
-        let node = Node::new(bytes, owner, ttl, self.zxid.next(), self.time);
+        let node = Node::new(bytes, owner, term, self.zxid.next(), self.time);
         let id = self.nodes.add(parent, path, node)?;
         self.log.note(&mut self.nodes, Undo::Added(id));
         let Some(above) = self.nodes.node(parent) else {

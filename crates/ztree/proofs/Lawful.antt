@@ -8,6 +8,8 @@ use Rattle.std.specs.FinMap as finite
 use Rattle.std.specs.FinMap.{nat_cmp-IsAntisymmetric, get-empty, len-empty}
 use Rattle.std.proofs.lemmas.Bool.Decides.{nat_tests}
 use Rattle.zpath.specs.Grammar.{path_cmp}
+use Rattle.ztree.specs.declared.term.Term.{Term}
+use Rattle.ztree.specs.declared.term.Term.TheVariants.{Unlimited}
 use Rattle.ztree.specs.declared.node.Node.{Node}
 use Rattle.ztree.specs.declared.session.Session.{Session}
 use Rattle.ztree.specs.Tree.{Tree, Path, Nodes, Sessions, opening_tree, new_node, parent_of, has_node, children, with_change_at, with_child, with_node, without_child, without_node, with_data, with_data_at, with_next_zxid}
@@ -24,10 +26,10 @@ not_true e = cc
 there : (o : Option Node) → IsPersistent o → is_some o ≡ true
 there o p = is_there o p.0 p.1
 
--- the same owner and time to live
-same_ends : (n m : Node) → n.owner ≡ m.owner → n.ttl ≡ m.ttl → HasOneEnd m → HasOneEnd n
-same_ends n m owner ttl (inl none) = inl (ttl ∙ none)
-same_ends n m owner ttl (inr nobody) = inr (owner ∙ nobody)
+-- the same owner and term
+same_ends : (n m : Node) → n.owner ≡ m.owner → n.term ≡ m.term → HasOneEnd m → HasOneEnd n
+same_ends n m owner term (inl none) = inl (term ∙ none)
+same_ends n m owner term (inr nobody) = inr (owner ∙ nobody)
 
 module _ (t : Tree) (path : Path) (new : Node) (lawful : IsLawful t) where
   -- one more node, where its parent is persistent, its owner no one or a session, and its end one
@@ -64,11 +66,11 @@ module _ (t : Tree) (path : Path) (new : Node) (lawful : IsLawful t) where
       end_of n (inl is) = subst HasOneEnd is.1 one
       end_of n {q} (inr old) = lawful.ends q n old.1
 
-      still : (n : Node) → (([] ≡ path) × (new ≡ n)) ⊎ (([] ≢ path) × (finite.get t.nodes [] ≡ Some n)) → n.ttl ≡ 0
+      still : (n : Node) → (([] ≡ path) × (new ≡ n)) ⊎ (([] ≢ path) × (finite.get t.nodes [] ≡ Some n)) → n.term ≡ Unlimited
       still n (inl is) = absurd (not_true (sym (there _ lawful.root) ∙ ap (has_node t.nodes) is.0 ∙ free))
       still n (inr old) = lawful.root_stays n old.1
 
-module _ (t : Tree) (path : Path) (f : Node → Node) (keeps : (n : Node) → ((f n).owner ≡ n.owner) × ((f n).ttl ≡ n.ttl)) (lawful : IsLawful t) where
+module _ (t : Tree) (path : Path) (f : Node → Node) (keeps : (n : Node) → ((f n).owner ≡ n.owner) × ((f n).term ≡ n.term)) (lawful : IsLawful t) where
   module _ (old : Node) (found : finite.get t.nodes path ≡ Some old) where
     abbrev written_nodes : Nodes
     written_nodes = finite.insert t.nodes path (f old)
@@ -82,11 +84,11 @@ module _ (t : Tree) (path : Path) (f : Node → Node) (keeps : (n : Node) → ((
             (f old, ap (finite.get written_nodes) is ∙ get-insert-here paths_total same_path t.nodes path (f old), (keeps old).0 ∙ ap (λ (n : Node). n.owner) here ∙ p.2)
         by (inr other) = subst IsPersistent (sym (get-insert-elsewhere paths_total same_path t.nodes path (f old) q other)) p
 
-    before : (q : Path) (n : Node) → finite.get written_nodes q ≡ Some n → (m : Node) × (finite.get t.nodes q ≡ Some m) × (n.owner ≡ m.owner) × (n.ttl ≡ m.ttl)
+    before : (q : Path) (n : Node) → finite.get written_nodes q ≡ Some n → (m : Node) × (finite.get t.nodes q ≡ Some m) × (n.owner ≡ m.owner) × (n.term ≡ m.term)
     before q n e = by (get-inserted paths_total same_path t.nodes path (f old) q n e)
       where
-        by : ((q ≡ path) × (f old ≡ n)) ⊎ ((q ≢ path) × (finite.get t.nodes q ≡ Some n)) → (m : Node) × (finite.get t.nodes q ≡ Some m) × (n.owner ≡ m.owner) × (n.ttl ≡ m.ttl)
-        by (inl is) = (old, ap (finite.get t.nodes) is.0 ∙ found, ap (λ (m : Node). m.owner) (sym is.1) ∙ (keeps old).0, ap (λ (m : Node). m.ttl) (sym is.1) ∙ (keeps old).1)
+        by : ((q ≡ path) × (f old ≡ n)) ⊎ ((q ≢ path) × (finite.get t.nodes q ≡ Some n)) → (m : Node) × (finite.get t.nodes q ≡ Some m) × (n.owner ≡ m.owner) × (n.term ≡ m.term)
+        by (inl is) = (old, ap (finite.get t.nodes) is.0 ∙ found, ap (λ (m : Node). m.owner) (sym is.1) ∙ (keeps old).0, ap (λ (m : Node). m.term) (sym is.1) ∙ (keeps old).1)
         by (inr other) = (n, other.1, refl, refl)
 
     lawful_there : IsLawful (record t { nodes = written_nodes })
@@ -140,7 +142,7 @@ lawful_opening =
     lawful_root
   where
     root : Node
-    root = new_node [] 0 0 0 0
+    root = new_node [] 0 Unlimited 0 0
 
     found : finite.get opening_tree.nodes [] ≡ Some root
     found = get-insert-here paths_total same_path finite.empty [] root
@@ -159,21 +161,21 @@ lawful_opening =
     lawful_root =
         record {
           root = (root, found, refl);
-          root_stays = λ n e. ap (λ (m : Node). m.ttl) (sym (only [] n e).1);
+          root_stays = λ n e. ap (λ (m : Node). m.term) (sym (only [] n e).1);
           parents = λ q is. let n = has_some _ is in subst (λ p. IsPersistent (finite.get opening_tree.nodes (parent_of p))) (sym (only q n.0 n.1).0) (root, found, refl);
           owners = λ q n e. inl (ap (λ (m : Node). m.owner) (sym (only q n e).1));
-          ends = λ q n e. inl (ap (λ (m : Node). m.ttl) (sym (only q n e).1));
+          ends = λ q n e. inl (ap (λ (m : Node). m.term) (sym (only q n e).1));
           ids = λ id s e. absurd (none id s e);
           deadlines = λ id s e. absurd (none id s e);
           few_nodes = len-insert-most paths_total same_path finite.empty [] root 4096 (rw (len-empty path_cmp Node) (omega arith));
           few_sessions = rw (len-empty nat_cmp Session) (omega arith);
         }
 
--- a new node beneath a persistent one, of no one or of a session, where a session's has no time to
--- live
-pub lawful_added : (t : Tree) (path : Path) (bytes : List ℕ) (owner ttl : ℕ) (sequential : Bool) → IsLawful t → has_node t.nodes path ≡ false → IsPersistent (finite.get t.nodes (parent_of path)) → IsOwner t.sessions owner → (ttl ≡ 0) ⊎ (owner ≡ 0) → finite.len t.nodes < 4096 → IsLawful (with_node t path bytes owner ttl sequential)
-lawful_added t path bytes owner ttl sequential lawful free parent is_owner one few =
-    let new = new_node bytes owner ttl (t.zxid + 1) t.time in
+-- a new node beneath a persistent one, of no one or of a session, where a session's has an unlimited
+-- term
+pub lawful_added : (t : Tree) (path : Path) (bytes : List ℕ) (owner : ℕ) (term : Term) (sequential : Bool) → IsLawful t → has_node t.nodes path ≡ false → IsPersistent (finite.get t.nodes (parent_of path)) → IsOwner t.sessions owner → (term ≡ Unlimited) ⊎ (owner ≡ 0) → finite.len t.nodes < 4096 → IsLawful (with_node t path bytes owner term sequential)
+lawful_added t path bytes owner term sequential lawful free parent is_owner one few =
+    let new = new_node bytes owner term (t.zxid + 1) t.time in
     lawful_changed (record t { nodes = finite.insert t.nodes path new }) (parent_of path) (with_child (t.zxid + 1) sequential) (λ n. (refl, refl)) (lawful_inserted t path new lawful free parent is_owner one few)
 
 -- a leaf below the root taken away

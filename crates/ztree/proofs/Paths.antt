@@ -4,6 +4,8 @@ use Rattle.std.specs.Option.{option_map_or}
 use Rattle.std.specs.FinMap as finite
 use Rattle.std.specs.FinMap.{get-empty}
 use Rattle.zpath.specs.Grammar.{IsPath, path_cmp}
+use Rattle.ztree.specs.declared.term.Term.{Term}
+use Rattle.ztree.specs.declared.term.Term.TheVariants.{Unlimited}
 use Rattle.ztree.specs.declared.node.Node.{Node}
 use Rattle.ztree.specs.Tree.{Tree, Path, Nodes, opening_tree, new_node, parent_of, with_change_at, with_child, with_node, without_child, without_node, with_data, with_data_at}
 use Rattle.ztree.specs.Lawful.{HasPaths}
@@ -40,12 +42,12 @@ paths_changed nodes path f all = by (finite.get nodes path) refl
 
 -- the opening has the root alone
 pub paths_opening : HasPaths opening_tree.nodes
-paths_opening = paths_inserted finite.empty [] (new_node [] 0 0 0 0) paths_empty root_is_path
+paths_opening = paths_inserted finite.empty [] (new_node [] 0 Unlimited 0 0) paths_empty root_is_path
 
 -- and each change of a tree preserves it
-pub paths_with_node : (t : Tree) (path : Path) (bytes : List ℕ) (owner ttl : ℕ) (sequential : Bool) → HasPaths t.nodes → IsPath path → HasPaths (with_node t path bytes owner ttl sequential).nodes
-paths_with_node t path bytes owner ttl sequential all here =
-    let new = new_node bytes owner ttl (t.zxid + 1) t.time in
+pub paths_with_node : (t : Tree) (path : Path) (bytes : List ℕ) (owner : ℕ) (term : Term) (sequential : Bool) → HasPaths t.nodes → IsPath path → HasPaths (with_node t path bytes owner term sequential).nodes
+paths_with_node t path bytes owner term sequential all here =
+    let new = new_node bytes owner term (t.zxid + 1) t.time in
     paths_changed (finite.insert t.nodes path new) (parent_of path) (with_child (t.zxid + 1) sequential) (paths_inserted t.nodes path new all here)
 
 pub paths_without_node : (t : Tree) (path : Path) → HasPaths t.nodes → HasPaths (without_node t path).nodes

@@ -1,7 +1,7 @@
 -- The nodes that a tick removes. They are leaves below the root, while the sessions end and while
 -- they are removed one after the other. So the tick leaves a lawful tree lawful.
 use Rattle.std.proofs.Common.{◌≡◌, ◌≢◌, ℕ, ◌+◌, Bool, true, false, ◌&&◌, ◌||◌, not, cond, List, [], ◌∷◌, length, Some, ◌⊎◌, inl, inr, ◌<◌, refl, sym, ap, ◌∙◌, arith}
-use Rattle.std.specs.Prelude.{nat_lt, ◌==◌}
+use Rattle.std.specs.Prelude.{◌==◌}
 use Rattle.std.specs.Ordering.{eq_by_cmp}
 use Rattle.std.specs.Option.{option_map_or}
 use Rattle.std.specs.List.{AllByRecursion, list_any}
@@ -9,10 +9,11 @@ use Rattle.std.specs.Cmp.{unsigned_Decides, eq_by_cmp_equiv}
 use Rattle.std.proofs.lemmas.Bool.Decides.{nat_tests}
 use Rattle.zpath.specs.Grammar.{path_cmp}
 use Rattle.std.specs.FinMap as finite
+use Rattle.ztree.specs.declared.term.Term.TheVariants.{Unlimited}
 use Rattle.ztree.specs.declared.node.Node.{Node}
 use Rattle.ztree.specs.Tree.{Tree, Path, Nodes, child_name, children, has_node, without_node}
 use Rattle.ztree.specs.Sessions.{without_nodes, without_session, without_sessions, due_sessions, with_next_tick}
-use Rattle.ztree.specs.Stale.{is_due, is_leaf, is_stale, stale_nodes}
+use Rattle.ztree.specs.Stale.{is_due, is_over, is_leaf, is_stale, stale_nodes}
 use Rattle.ztree.specs.Lawful.{IsPersistent, IsLawful}
 use Rattle.ztree.proofs.Sorted.{paths_total, same_path}
 use Rattle.ztree.proofs.Maps.{same_some, has_some, is_there, none_of_map, none_of_entries}
@@ -111,7 +112,7 @@ stale-leaf t tick lawful q n found stale =
     let parts = both (is_due tick n) (is_leaf t.nodes q) stale in (
       λ root.
           let stays = lawful.root_stays n (sym (ap (finite.get t.nodes) root) ∙ found) in
-          not_true (nat_lt 0 n.ttl) (ap (nat_lt 0) stays) (both _ _ parts.0).0,
+          not_true (is_due tick n) (ap (is_over tick n) stays) parts.0,
       no_length (children t.nodes q) parts.1,
     )
 
@@ -144,8 +145,8 @@ persistent-all_ended t (id ∷ ids) q above is = persistent-all_ended (without_s
 pub due-nobodys : (t : Tree) (tick : ℕ) → IsLawful t → (q : Path) (n : Node) → finite.get t.nodes q ≡ Some n → is_due tick n ≡ true → n.owner ≡ 0
 due-nobodys t tick lawful q n found due = by (lawful.ends q n found)
   where
-    by : (n.ttl ≡ 0) ⊎ (n.owner ≡ 0) → n.owner ≡ 0
-    by (inl none) = absurd (not_true (nat_lt 0 n.ttl) (ap (nat_lt 0) none) (both _ _ due).0)
+    by : (n.term ≡ Unlimited) ⊎ (n.owner ≡ 0) → n.owner ≡ 0
+    by (inl none) = absurd (not_true (is_due tick n) (ap (is_over tick n) none) due)
     by (inr nobody) = nobody
 
 -- so once sessions have ended, the nodes that the tick removes can all go

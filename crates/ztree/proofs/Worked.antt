@@ -67,8 +67,14 @@ pub second_is_below : (x : Name) → ◌≢◌ {A = Path} (x ∷ []) []
 second_is_below x e = cc
 
 -- the entries of the two nodes
+abbrev pub nodes_with : Node → Node → Nodes
+nodes_with x y = finite.insert (finite.insert finite.empty [] x) (a ∷ []) y
+
+pub both_entries : (x y : Node) → finite.entries (nodes_with x y) ≡ ([], x) ∷ ((a ∷ []), y) ∷ []
+both_entries x y =
+    entries-insert paths_total (finite.insert finite.empty [] x) (a ∷ []) y
+    ∙ ap (put path_cmp (a ∷ []) y) (entries-insert paths_total finite.empty [] x
+    ∙ ap (put path_cmp [] x) (ap finite.entries (sym (no_entries path_cmp)) ∙ entries-from_sorted path_cmp [] tt))
+
 pub two_entries : finite.entries two_nodes.nodes ≡ ([], some_node) ∷ ((a ∷ []), some_node) ∷ []
-two_entries =
-    entries-insert paths_total (finite.insert finite.empty [] some_node) (a ∷ []) some_node
-    ∙ ap (put path_cmp (a ∷ []) some_node) (entries-insert paths_total finite.empty [] some_node
-    ∙ ap (put path_cmp [] some_node) (ap finite.entries (sym (no_entries path_cmp)) ∙ entries-from_sorted path_cmp [] tt))
+two_entries = both_entries some_node some_node

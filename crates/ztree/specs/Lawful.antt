@@ -6,6 +6,7 @@ use Rattle.std.specs.FinMap as finite
 use Rattle.std.specs.FinMap.{get}
 use Rattle.zpath.specs.Grammar.{IsPath}
 use Rattle.ztree.specs.declared.limits.TheConstants.{MAX_NODES, MAX_SESSIONS}
+use Rattle.ztree.specs.declared.term.Term.TheVariants.{Unlimited}
 use Rattle.ztree.specs.declared.node.Node.{Node}
 use Rattle.ztree.specs.declared.session.Session.{Session}
 use Rattle.ztree.specs.Tree.{Tree, Path, Nodes, Sessions, parent_of, has_node}
@@ -26,13 +27,13 @@ IsPersistent found = (n : Node) × (found ≡ Some n) × (n.owner ≡ 0)
 abbrev pub IsOwner : Sessions → ℕ → Type 0
 IsOwner sessions owner = (owner ≡ 0) ⊎ IsSome (get sessions owner)
 
--- the node doesn't have both an owner and a TTL
+-- the node has an unlimited term or no owner: a session's end and a tick don't both remove it
 abbrev pub HasOneEnd : Node → Type 0
-HasOneEnd n = (n.ttl ≡ 0) ⊎ (n.owner ≡ 0)
+HasOneEnd n = (n.term ≡ Unlimited) ⊎ (n.owner ≡ 0)
 
--- the node, if it exists, has no TTL
+-- the node, if it exists, has an unlimited term
 abbrev pub Stays : Option Node → Type 0
-Stays found = (n : Node) → found ≡ Some n → n.ttl ≡ 0
+Stays found = (n : Node) → found ≡ Some n → n.term ≡ Unlimited
 
 -- The lawful tree. Here the root is its own parent, and owner 0 means no owner: it is no session's
 -- id.

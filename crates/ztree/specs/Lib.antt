@@ -1,3 +1,4 @@
+pub mod Ttls
 pub mod Tree
 pub mod Sessions
 pub mod Stale

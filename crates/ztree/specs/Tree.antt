@@ -10,6 +10,9 @@ use Rattle.std.specs.FinMap.{FinMap, get, insert, remove, keys, entries}
 use Rattle.std.specs.List.{filter_map}
 use Rattle.std.specs.Str.{bytes_eq}
 use Rattle.zpath.specs.Grammar.{path_cmp}
+use Rattle.ztree.specs.declared.limits.TheConstants.{CONTAINER_OWNER}
+use Rattle.ztree.specs.declared.term.Term.{Term}
+use Rattle.ztree.specs.declared.term.Term.TheVariants.{Unlimited, Timed, Container}
 use Rattle.ztree.specs.declared.node.Node.{Node}
 use Rattle.ztree.specs.declared.node.Stat.{Stat}
 use Rattle.ztree.specs.declared.session.Session.{Session}
@@ -37,10 +40,9 @@ pub record Tree : Type 0 where
   pub time : ℕ
   pub zxid : ℕ
 
--- a new node: its data, its owner (0: none), its TTL in ticks (0: none), the zxid and the tick of
--- its creation
-abbrev pub new_node : List ℕ → ℕ → ℕ → ℕ → ℕ → Node
-new_node bytes owner ttl z time =
+-- a new node: its data, its owner (0: none), its term, the zxid and the tick of its creation
+abbrev pub new_node : List ℕ → ℕ → Term → ℕ → ℕ → Node
+new_node bytes owner term z time =
     record {
       bytes = bytes;
       czxid = z;
@@ -52,12 +54,12 @@ new_node bytes owner ttl z time =
       cversion = 0;
       owner = owner;
       seq = 0;
-      ttl = ttl;
+      term = term;
     }
 
 -- the initial state: only the root, with no data and all zeros, and no session
 abbrev pub opening_tree : Tree
-opening_tree = record { nodes = insert finite.empty [] (new_node [] 0 0 0 0); sessions = finite.empty; time = 0; zxid = 0 }
+opening_tree = record { nodes = insert finite.empty [] (new_node [] 0 Unlimited 0 0); sessions = finite.empty; time = 0; zxid = 0 }
 
 -- the path without its last name; the root is its own parent
 abbrev pub parent_of : Path → Path
@@ -85,6 +87,13 @@ children nodes p = filter_map (child_name p) (keys nodes)
 abbrev pub ephemerals : Nodes → ℕ → List Path
 ephemerals nodes session = filter_map (λ e. if e.1.owner == session then Some e.0 else None) (entries nodes)
 
+-- the owner that a stat shows, for a node of this owner and this term: a container shows a number
+-- of its own
+abbrev pub shown_by : ℕ → Term → ℕ
+shown_by owner Unlimited = owner
+shown_by owner (Timed ttl) = owner
+shown_by owner Container = CONTAINER_OWNER
+
 -- the stat of a node that has this many children
 abbrev pub stat_with : Node → ℕ → Stat
 stat_with n children =
@@ -96,7 +105,7 @@ stat_with n children =
       mtime = n.mtime;
       version = n.version;
       cversion = n.cversion;
-      owner = n.owner;
+      owner = shown_by n.owner n.term;
       length = length n.bytes;
       children = children;
     }
@@ -120,11 +129,11 @@ with_change_at nodes p f = option_map_or (λ n. insert nodes p (f n)) (get nodes
 
 -- the tree after the next change creates a node: the node is added, and its parent's fields for its
 -- children are updated
-abbrev pub with_node : Tree → Path → List ℕ → ℕ → ℕ → Bool → Tree
-with_node t path bytes owner ttl sequential =
+abbrev pub with_node : Tree → Path → List ℕ → ℕ → Term → Bool → Tree
+with_node t path bytes owner term sequential =
     record t {
       nodes =
-          with_change_at (insert t.nodes path (new_node bytes owner ttl (t.zxid + 1) t.time)) (parent_of path)
+          with_change_at (insert t.nodes path (new_node bytes owner term (t.zxid + 1) t.time)) (parent_of path)
           (with_child (t.zxid + 1) sequential);
     }
 

@@ -16,7 +16,7 @@
 //!
 //! Numbers that could be swapped have types of their own, such as `Zxid`, `SessionId` and
 //! `ClientId`. Ticks and versions are `u64`, by the names of their fields. So is a node's owner: 0
-//! means no owner, and the stat shows a number.
+//! means no owner, and the stat shows a number: for a container the one that ZooKeeper shows.
 #![tactic(auto)]
 
 mod client;
@@ -27,14 +27,16 @@ mod node_data;
 mod rows;
 mod session;
 mod session_id;
+mod term;
 mod ttl;
 mod zxid;
 
 pub use client::ClientId;
-pub use limits::{MAX_DATA, MAX_NODES, MAX_SESSIONS, MAX_TTL};
+pub use limits::{CONTAINER_OWNER, MAX_DATA, MAX_NODES, MAX_SESSIONS, MAX_TTL};
 pub use node::{Node, Stat};
 pub use node_data::{Data, DataFault};
 pub use session::Session;
 pub use session_id::SessionId;
+pub use term::Term;
 pub use ttl::Ttl;
 pub use zxid::Zxid;

@@ -15,6 +15,9 @@ pub const MAX_CLIENTS: u8 = 32;
 /// The greatest TTL, in ticks.
 pub const MAX_TTL: u64 = 1 << 20;
 
+/// The owner that the stat of a container shows: the bits of ZooKeeper's `Long.MIN_VALUE`.
+pub const CONTAINER_OWNER: u64 = 1 << 63;
+
 /// The bound on zxids: each is below it.
 pub const ZXID_BOUND: u64 = 1 << 40;
 

@@ -1,11 +1,12 @@
 //! A znode and its stat.
 
 use crate::node_data::Data;
+use crate::term::Term;
 use crate::zxid::Zxid;
 use zalloc::Memory;
 
 /// A znode: the fields of the stat structure (ZooKeeper Programmer's Guide, "ZooKeeper Stat
-/// Structure"), its data, its TTL, and the counter that this project's profile gives each node.
+/// Structure"), its data, its term, and the counter that this project's profile gives each node.
 #[derive(Drop)]
 pub struct Node {
     /// The data.
@@ -28,9 +29,8 @@ pub struct Node {
     pub owner: u64,
     /// The number that the next sequential create beneath it appends to the name.
     pub seq: u64,
-    /// The TTL in ticks, counted from the last change of its data; a tick removes it then, if it
-    /// has no children. 0 means no TTL.
-    pub ttl: u64,
+    /// What a tick may remove it for.
+    pub term: Term,
 }
 
 /// A node's stat: the stat structure of the ZooKeeper Programmer's Guide, in the guide's order.
@@ -51,7 +51,7 @@ pub struct Stat {
     pub version: u64,
     /// The number of times a child was created or removed.
     pub cversion: u64,
-    /// The id of the session that owns it, or 0 for a persistent node.
+    /// The id of the session that owns it; 2^63 for a container, or 0 for any other node.
     pub owner: u64,
     /// The size of its data, in bytes.
     pub length: u64,
@@ -65,9 +65,9 @@ impl Node {
     ghost use Rattle.ztree.specs.Stale.{is_due};
 
     /// Makes a node created by change `zxid` at tick `time`. The owner is a session's id, or 0 for
-    /// none. The TTL is in ticks, or 0 for none.
-    pub fn new(bytes: Data, owner: u64, ttl: u64, zxid: Zxid, time: u64) -> Node
-        ensures { result ≡ new_node bytes owner ttl zxid time }
+    /// none.
+    pub fn new(bytes: Data, owner: u64, term: Term, zxid: Zxid, time: u64) -> Node
+        ensures { result ≡ new_node bytes owner term zxid time }
     {
         Node {
             bytes,
@@ -80,7 +80,7 @@ impl Node {
             cversion: 0,
             owner,
             seq: 0,
-            ttl,
+            term,
         }
     }
 
@@ -96,17 +96,22 @@ impl Node {
             mtime: self.mtime,
             version: self.version,
             cversion: self.cversion,
-            owner: self.owner,
+            owner: self.term.shown_owner(self.owner),
             length: self.bytes.as_slice().len() as u64,
             children,
         }
     }
 
-    /// Returns whether the TTL has expired at the tick; false for a node without a TTL.
+    /// Returns whether a tick removes the node if it has no children: its TTL has expired at the
+    /// tick, or it is a container that has had children.
     pub fn is_due(&self, tick: u64) -> bool
         ensures { result ≡ is_due tick self.now }
     {
-        self.ttl != 0 && tick.saturating_sub(self.mtime) >= self.ttl
+        match self.term {
+            Term::Unlimited => false,
+            Term::Timed(ttl) => tick.saturating_sub(self.mtime) >= ttl.ticks(),
+            Term::Container => self.cversion > 0,
+        }
     }
 
     /// Returns a copy of the node, or `Memory`.
@@ -124,7 +129,7 @@ impl Node {
             cversion: self.cversion,
             owner: self.owner,
             seq: self.seq,
-            ttl: self.ttl,
+            term: self.term,
         })
     }
 }

@@ -9,7 +9,7 @@
 //! has no TTL, or a tick could remove it.
 
 ghost use Rattle.std.specs.Prelude.{◌≡◌, IfNone, IfSome};
-ghost use Rattle.ztree.specs.Stale.{IsTtl};
+ghost use Rattle.ztree.specs.Ttls.{IsTtl};
 
 use crate::limits::MAX_TTL;
 use std::marker::Model;
@@ -23,7 +23,7 @@ pub struct Ttl {
 
 impl Model for Ttl {
     ghost use Rattle.std.specs.Prelude.{ℕ};
-    ghost use Rattle.ztree.specs.Stale.{IsTtl};
+    ghost use Rattle.ztree.specs.Ttls.{IsTtl};
 
     ghost Value = { ℕ };
 

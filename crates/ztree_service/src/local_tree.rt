@@ -19,6 +19,7 @@ use std::marker::Model;
 use zalloc::Memory;
 use zcalls::{Query, Reply, Update};
 use zops::Machine;
+use zpath::Path;
 use ztree::{Session, SessionId, Zxid};
 
 /// A tree in memory, which serves calls.
@@ -123,6 +124,10 @@ impl TreeService for LocalTree {
     fn clock(&self) -> Result<(Zxid, u64), Memory> {
         let machine = self.machine()?;
         Ok((machine.zxid(), machine.time()))
+    }
+
+    fn paths(&self) -> Result<Vec<Path>, Memory> {
+        self.machine()?.paths()
     }
 
     fn session(&self, id: SessionId) -> Result<Option<Session>, Memory> {

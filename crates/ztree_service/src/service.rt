@@ -14,6 +14,7 @@ ghost use Rattle.zprotocol.specs.world.PlainTree.{serve};
 
 use zalloc::Memory;
 use zcalls::{Query, Reply, Update};
+use zpath::Path;
 use ztree::{Session, SessionId, Zxid};
 
 /// A service of one tree. Calls are served one after the other. Once a call has run out of memory,
@@ -36,6 +37,10 @@ pub trait TreeService {
     fn clock(&self) -> Result<(Zxid, u64), Memory>
         ensures zxid { IfOk result (λ clock. clock.0 ≡ (tree self.now).zxid) }
         ensures time { IfOk result (λ clock. clock.1 ≡ (tree self.now).time) };
+
+    /// Returns the paths of all nodes, in order.
+    fn paths(&self) -> Result<Vec<Path>, Memory>
+        ensures { IfOk result (λ paths. paths.items ≡ keys (tree self.now).nodes) };
 
     /// Returns the session with this id, if it exists.
     fn session(&self, id: SessionId) -> Result<Option<Session>, Memory>

@@ -4,5 +4,6 @@ pub mod Sets
 pub mod Places
 pub mod Insertion
 pub mod Reporting
-pub mod Listing
+pub mod Above
+pub mod Covering
 pub mod Worked

@@ -11,8 +11,8 @@ use Rattle.std.proofs.lemmas.Cmp.{then_total, on_total, nat_cmp_total}
 use Rattle.std.proofs.lemmas.List.Elements.{All-from_recursion}
 use Rattle.zpath.specs.Grammar.{path_cmp}
 use Rattle.zwatches.specs.declared.kind.Kind.{Kind}
-use Rattle.zwatches.specs.declared.kind.Kind.TheVariants.{Data, Missing, Children}
-use Rattle.zwatches.specs.declared.place.Place.{Place}
+use Rattle.zwatches.specs.declared.kind.Kind.TheVariants.{Data, Missing, Children, EachData, EachChildren, Recursive}
+use Rattle.zwatches.specs.Watches.{Place}
 use Rattle.zwatches.specs.declared.watch.Watch.{Watch}
 use Rattle.zwatches.specs.Watches.{place_cmp, place_of, watch_cmp, kind_number}
 
@@ -37,12 +37,39 @@ kind_same : (a b : Kind) → kind_number a ≡ kind_number b → a ≡ b
 kind_same Data Data e = refl
 kind_same Missing Missing e = refl
 kind_same Children Children e = refl
+kind_same EachData EachData e = refl
+kind_same EachChildren EachChildren e = refl
+kind_same Recursive Recursive e = refl
 kind_same Data Missing e = absurd (omega (arith, e))
 kind_same Data Children e = absurd (omega (arith, e))
+kind_same Data EachData e = absurd (omega (arith, e))
+kind_same Data EachChildren e = absurd (omega (arith, e))
+kind_same Data Recursive e = absurd (omega (arith, e))
 kind_same Missing Data e = absurd (omega (arith, e))
 kind_same Missing Children e = absurd (omega (arith, e))
+kind_same Missing EachData e = absurd (omega (arith, e))
+kind_same Missing EachChildren e = absurd (omega (arith, e))
+kind_same Missing Recursive e = absurd (omega (arith, e))
 kind_same Children Data e = absurd (omega (arith, e))
 kind_same Children Missing e = absurd (omega (arith, e))
+kind_same Children EachData e = absurd (omega (arith, e))
+kind_same Children EachChildren e = absurd (omega (arith, e))
+kind_same Children Recursive e = absurd (omega (arith, e))
+kind_same EachData Data e = absurd (omega (arith, e))
+kind_same EachData Missing e = absurd (omega (arith, e))
+kind_same EachData Children e = absurd (omega (arith, e))
+kind_same EachData EachChildren e = absurd (omega (arith, e))
+kind_same EachData Recursive e = absurd (omega (arith, e))
+kind_same EachChildren Data e = absurd (omega (arith, e))
+kind_same EachChildren Missing e = absurd (omega (arith, e))
+kind_same EachChildren Children e = absurd (omega (arith, e))
+kind_same EachChildren EachData e = absurd (omega (arith, e))
+kind_same EachChildren Recursive e = absurd (omega (arith, e))
+kind_same Recursive Data e = absurd (omega (arith, e))
+kind_same Recursive Missing e = absurd (omega (arith, e))
+kind_same Recursive Children e = absurd (omega (arith, e))
+kind_same Recursive EachData e = absurd (omega (arith, e))
+kind_same Recursive EachChildren e = absurd (omega (arith, e))
 
 pub same_place : IsAntisymmetric place_cmp
 same_place a b e =

@@ -3,14 +3,15 @@ use Rattle.std.proofs.Common.{◌≡◌, ℕ, ◌+◌, ◌-◌, ◌<◌, ◌≤�
 use Rattle.std.specs.declared.cmp.Ordering.{Ordering}
 use Rattle.std.specs.declared.cmp.Ordering.TheVariants.{Less, Equal, Greater}
 use Rattle.std.specs.Ordering.{is_lt, is_le, is_eq}
-use Rattle.std.specs.List.{AllWithin, AllByRecursion, filter, slice_range, remove_range}
+use Rattle.std.specs.Prelude.{nat_lt}
+use Rattle.std.specs.List.{AllWithin, AllByRecursion, filter, list_any, slice_range, remove_range}
 use Rattle.std.specs.List.Sorted.{IsPartitionPoint}
-use Rattle.std.proofs.lemmas.Bool.{cases_lt}
+use Rattle.std.proofs.lemmas.Bool.{cases_lt, lt-ltb, le-ltb}
 use Rattle.std.proofs.lemmas.List.{get_or-take, get_or-drop, length-take, length-drop, take-append-drop, append-nil}
 use Rattle.std.proofs.lemmas.List.Elements.{recursion_from_All, All-from_all_within, filter-append}
-use Rattle.std.proofs.lemmas.List.Folds.{drop_split}
+use Rattle.std.proofs.lemmas.List.Folds.{drop_split, list_any_at, list_any_none}
 use Rattle.zwatches.specs.declared.kind.Kind.TheVariants.{Data}
-use Rattle.zwatches.specs.declared.place.Place.{Place}
+use Rattle.zwatches.specs.Watches.{Place}
 use Rattle.zwatches.specs.declared.watch.Watch.{Watch}
 use Rattle.zwatches.specs.Watches.{place_cmp, place_of, watch}
 use Rattle.zwatches.specs.support.Groups.{IsGroup}
@@ -110,3 +111,15 @@ filter_others test rows first end group =
       filter_none (λ w. not (test w)) (slice_range rows first end) (turned test true (slice_range rows first end) (slice_all (λ w. test w ≡ true) rows first end group.bound group.inside)),
       filter_all (λ w. not (test w)) (drop end rows) (turned test false (drop end rows) (back_all (λ w. test w ≡ false) rows end group.after)),
     ) refl)
+
+-- a group that has a row, and only then
+pub some_group : (test : Watch → Bool) (rows : List Watch) (first end : ℕ) → IsGroup test rows first end → nat_lt first end ≡ list_any test rows
+some_group test rows first end group = elim (cases_lt first end) [
+  | inl some ↦ lt-ltb first end some
+      ∙ sym (list_any_at test rows first (watch [] Data 0) (omega (arith, some, group.bound)) (group.inside first (watch [] Data 0) (omega arith) some))
+  | inr none ↦ le-ltb first end none
+      ∙ sym (list_any_none test rows (All-from_all_within (λ w. test w ≡ false) rows (λ k d from lt. elim (cases_lt k first) [
+        | inl before ↦ group.before k d from before
+        | inr after ↦ group.after k d (omega (arith, after, none)) lt
+      ])))
+]

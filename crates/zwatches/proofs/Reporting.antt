@@ -13,12 +13,17 @@ use Rattle.std.proofs.lemmas.List.Sorted.{list_any-IsPermutation}
 use Rattle.std.proofs.lemmas.Map.Keys.{IsStrictlyIncreasing-dedup, sorted_from_strictly_increasing}
 use Rattle.std.proofs.lemmas.Map.Views.{Contains-from_any, list_any-from_Contains}
 use Rattle.zjute.specs.declared.event.EventKind.{EventKind}
-use Rattle.zwatches.specs.declared.place.Place.{Place}
+use Rattle.zjute.specs.declared.event.EventKind.TheVariants as event
+use Rattle.zjute.specs.declared.watch_type.WatchType.{WatchType}
+use Rattle.zwatches.specs.declared.kind.Kind.{Kind}
+use Rattle.zwatches.specs.declared.kind.Kind.TheVariants.{Data, Missing, Children, EachData, EachChildren, Recursive}
+use Rattle.zwatches.specs.Watches.{Place}
 use Rattle.zwatches.specs.declared.watch.Watch.{Watch}
-use Rattle.zwatches.specs.Watches.{Path, watch_cmp}
-use Rattle.zwatches.specs.Events.{is_at, fired_at, fires, reported, unfired, without, Lists}
-use Rattle.zwatches.specs.support.Groups.{reported_by, kept}
-use Rattle.zwatches.proofs.Order.{watches_total, same_watch}
+use Rattle.zwatches.specs.Watches.{Path, fires_once, place, place_of, watch_cmp}
+use Rattle.zwatches.specs.Events.{is_at, is_awaited, ends, fired_at, fires, from_root, reported, unfired, without, Lists}
+use Rattle.zwatches.specs.Removal.{has_meant, is_meant, without_meant}
+use Rattle.zwatches.specs.support.Groups.{reported_by, found_by, kept, once_at}
+use Rattle.zwatches.proofs.Order.{watches_total, same_place, same_watch}
 use Rattle.zwatches.proofs.Sets.{from_list-filter, any-items, same_list}
 
 -- ---- the rows that stay
@@ -113,15 +118,65 @@ reported_is rows event path =
     ∙ sym (any_map (eq_by_cmp nat_cmp q) (λ (w : Watch). w.connection) (items (retain (from_list rows) (fires event path)))
     ∙ any_retained rows (fires event path) (λ (w : Watch). eq_by_cmp nat_cmp q w.connection)))
 
-pub unfired_is : (rows : List Watch) (event : EventKind) (path : Path) → from_list {R = watch_cmp} (kept rows (fired_at event path)) ≡ unfired (from_list rows) event path
+-- ---- the rows that an event ends
+
+module _ (path : Path) (kind : Kind) (w : Watch) where
+  kind_at : is_at (place path kind) w ≡ true → w.kind ≡ kind
+  kind_at e = ap (λ p. p.kind) (same_place (place_of w) (place path kind) ((Equal-is _).0 e))
+
+  at_once : fires_once kind ≡ true → (is_at (place path kind) w && fires_once w.kind) ≡ is_at (place path kind) w
+  at_once once = by (is_at (place path kind) w) refl
+    where
+      by : (b : Bool) → is_at (place path kind) w ≡ b → (b && fires_once w.kind) ≡ b
+      by true e = ap fires_once (kind_at e) ∙ once
+      by false e = refl
+
+  at_each : fires_once kind ≡ false → (is_at (place path kind) w && fires_once w.kind) ≡ false
+  at_each each = by (is_at (place path kind) w) refl
+    where
+      by : (b : Bool) → is_at (place path kind) w ≡ b → (b && fires_once w.kind) ≡ false
+      by true e = ap fires_once (kind_at e) ∙ each
+      by false e = refl
+
+or_and : (a b c : Bool) → ((a || b) && c) ≡ ((a && c) || (b && c))
+or_and true true true = refl
+or_and true true false = refl
+or_and true false true = refl
+or_and true false false = refl
+or_and false b c = refl
+
+any_and : {X : Type 0} (p : X → Bool) (c : Bool) (xs : List X) → (list_any p xs && c) ≡ list_any (λ x. p x && c) xs
+any_and p c [] = refl
+any_and p c (x ∷ xs) = or_and (p x) (list_any p xs) c ∙ ap (λ b. (p x && c) || b) (any_and p c xs)
+
+above_each : (w : Watch) (paths : List Path) → list_any (λ at. is_at at w && fires_once w.kind) (map (λ p. place p Recursive) paths) ≡ false
+above_each w [] = refl
+above_each w (path ∷ paths) = rw (at_each path Recursive w refl, above_each w paths) refl
+
+pub ends_is : (event : EventKind) (path : Path) (w : Watch) → ends event path w ≡ list_any (λ at. is_at at w) (once_at event path)
+ends_is e path w = any_and (λ at. is_at at w) (fires_once w.kind) (fired_at e path) ∙ by e
+  where
+    by : (e : EventKind) → list_any (λ at. is_at at w && fires_once w.kind) (fired_at e path) ≡ list_any (λ at. is_at at w) (once_at e path)
+    by event.None = refl
+    by event.NodeCreated = rw (at_once path Data w refl, at_once path Missing w refl, at_each path EachData w refl, above_each w (from_root path)) refl
+    by event.NodeDeleted =
+        rw (at_once path Data w refl, at_once path Children w refl, at_each path EachData w refl, at_each path EachChildren w refl, above_each w (from_root path)) refl
+    by event.NodeDataChanged = rw (at_once path Data w refl, at_each path EachData w refl, above_each w (from_root path)) refl
+    by event.NodeChildrenChanged = rw (at_once path Children w refl, at_each path EachChildren w refl) refl
+    by event.DataWatchRemoved = refl
+    by event.ChildWatchRemoved = refl
+    by event.PersistentWatchRemoved = refl
+
+pub unfired_is : (rows : List Watch) (event : EventKind) (path : Path) → from_list {R = watch_cmp} (kept rows (once_at event path)) ≡ unfired (from_list rows) event path
 unfired_is rows event path =
-    ap from_list (kept_is rows (fired_at event path)) ∙ from_list-filter watches_total same_watch (λ w. not (fires event path w)) rows
+    ap from_list (kept_is rows (once_at event path) ∙ filter_same _ _ (λ w. ap not (sym (ends_is event path w))) rows)
+    ∙ from_list-filter watches_total same_watch (λ w. not (ends event path w)) rows
 
 pub reported_lists : (rows : List Watch) (event : EventKind) (path : Path) (all numbers : List ℕ) → all ≡ reported_by rows (fired_at event path)
     → Lists numbers (from_list {R = nat_cmp} all) → Lists numbers (reported (from_list {R = watch_cmp} rows) event path)
 reported_lists rows event path all numbers is lists = subst (λ s. Lists numbers s) (ap from_list is ∙ reported_is rows event path) lists
 
-pub unfired_rows : (rows new : List Watch) (event : EventKind) (path : Path) → new ≡ kept rows (fired_at event path)
+pub unfired_rows : (rows new : List Watch) (event : EventKind) (path : Path) → new ≡ kept rows (once_at event path)
     → from_list {R = watch_cmp} new ≡ unfired (from_list rows) event path
 unfired_rows rows new event path is = ap from_list is ∙ unfired_is rows event path
 
@@ -132,6 +187,38 @@ kept_all_sorted rows (at ∷ places) sorted = kept_all_sorted (filter (λ w. not
 pub others_rows : (rows new : List Watch) (connection : ℕ) → new ≡ filter (λ w. not (eqb w.connection connection)) rows
     → from_list {R = watch_cmp} new ≡ without (from_list rows) connection
 others_rows rows new connection is = ap from_list is ∙ from_list-filter watches_total same_watch (λ w. not (eqb w.connection connection)) rows
+
+pub rest_rows : (rows new : List Watch) (connection : ℕ) (type : WatchType) (path : Path) → new ≡ filter (λ w. not (is_meant connection type path w)) rows
+    → from_list {R = watch_cmp} new ≡ without_meant (from_list rows) connection type path
+rest_rows rows new connection type path is = ap from_list is ∙ from_list-filter watches_total same_watch (λ w. not (is_meant connection type path w)) rows
+
+pub meant_rows : (rows : List Watch) (connection : ℕ) (type : WatchType) (path : Path) → list_any (is_meant connection type path) rows ≡ has_meant (from_list {R = watch_cmp} rows) connection type path
+meant_rows rows connection type path = sym (any-items watches_total same_watch (is_meant connection type path) rows)
+
+-- ---- rows at one of several positions
+
+any_or : {X : Type 0} (p q : X → Bool) (xs : List X) → list_any (λ x. p x || q x) xs ≡ (list_any p xs || list_any q xs)
+any_or p q [] = refl
+any_or p q (x ∷ xs) = rw (any_or p q xs) (swapped (p x) (q x) (list_any p xs) (list_any q xs))
+  where
+    swapped : (a b c d : Bool) → ((a || b) || (c || d)) ≡ ((a || c) || (b || d))
+    swapped true b c d = refl
+    swapped false true true d = refl
+    swapped false true false d = refl
+    swapped false false c d = refl
+
+any_false : {X : Type 0} (xs : List X) → list_any (λ _. false) xs ≡ false
+any_false [] = refl
+any_false (x ∷ xs) = any_false xs
+
+found_is : (rows : List Watch) (places : List Place) → found_by rows places ≡ list_any (λ w. list_any (λ at. is_at at w) places) rows
+found_is rows [] = sym (any_false rows)
+found_is rows (at ∷ places) =
+    ap (λ b. list_any (is_at at) rows || b) (found_is rows places)
+    ∙ sym (any_or (is_at at) (λ w. list_any (λ at. is_at at w) places) rows)
+
+pub awaited_is : (rows : List Watch) (event : EventKind) (path : Path) → found_by rows (fired_at event path) ≡ is_awaited (from_list {R = watch_cmp} rows) event path
+awaited_is rows event path = found_is rows (fired_at event path) ∙ sym (any-items watches_total same_watch (fires event path) rows)
 
 -- ---- sorted, and each once
 

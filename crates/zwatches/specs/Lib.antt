@@ -1,7 +1,7 @@
 pub mod changes
 pub mod Watches
 pub mod Events
-pub mod Places
+pub mod Removal
 pub mod Laws
 pub mod Samples
 pub mod support

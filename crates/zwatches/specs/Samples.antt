@@ -1,7 +1,7 @@
 -- The paths and watches of the worked examples.
 use Rattle.std.specs.Prelude.{List, [], ◌∷◌}
 use Rattle.std.specs.FinSet.{from_list}
-use Rattle.zwatches.specs.declared.kind.Kind.TheVariants.{Data, Missing, Children}
+use Rattle.zwatches.specs.declared.kind.Kind.TheVariants.{Data, Missing, Children, EachData, EachChildren, Recursive}
 use Rattle.zwatches.specs.declared.watch.Watch.{Watch}
 use Rattle.zwatches.specs.Watches.{Path, Watches, watch}
 
@@ -22,3 +22,23 @@ some_rows =
 
 abbrev pub some_table : Watches
 some_table = from_list some_rows
+
+-- `/a/b/c`, `/ab` and `/b`
+abbrev pub at_a_b_c : Path
+at_a_b_c = (97 ∷ []) ∷ (98 ∷ []) ∷ (99 ∷ []) ∷ []
+
+abbrev pub at_ab : Path
+at_ab = (97 ∷ 98 ∷ []) ∷ []
+
+abbrev pub at_b : Path
+at_b = (98 ∷ []) ∷ []
+
+-- connection 1 has a persistent watch of `/a` and waits for its data, 2 has a persistent watch and a
+-- recursive one of `/a`
+abbrev pub lasting_rows : List Watch
+lasting_rows =
+    watch at_a Data 1 ∷ watch at_a EachData 1 ∷ watch at_a EachData 2
+    ∷ watch at_a EachChildren 1 ∷ watch at_a EachChildren 2 ∷ watch at_a Recursive 2 ∷ []
+
+abbrev pub lasting_table : Watches
+lasting_table = from_list lasting_rows

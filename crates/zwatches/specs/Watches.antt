@@ -9,14 +9,22 @@ use Rattle.zpath.specs.Grammar.{path_cmp}
 use Rattle.zwatches.specs.declared.fault.WatchFault.{WatchFault}
 use Rattle.zwatches.specs.declared.fault.WatchFault.TheVariants.{Full, Memory}
 use Rattle.zwatches.specs.declared.kind.Kind.{Kind}
-use Rattle.zwatches.specs.declared.kind.Kind.TheVariants.{Data, Missing, Children}
+use Rattle.zwatches.specs.declared.kind.Kind.TheVariants.{Data, Missing, Children, EachData, EachChildren, Recursive}
 use Rattle.zwatches.specs.declared.limits.TheConstants.{MAX_WATCHES}
-use Rattle.zwatches.specs.declared.place.Place.{Place}
 use Rattle.zwatches.specs.declared.watch.Watch.{Watch}
 
 -- a path: its names from the root down
 abbrev pub Path : Type 0
 Path = List (List ℕ)
+
+-- a watch of this kind is removed when it fires; any other stays (`WatcherMode.isPersistent`)
+abbrev pub fires_once : Kind → Bool
+fires_once Data = true
+fires_once Missing = true
+fires_once Children = true
+fires_once EachData = false
+fires_once EachChildren = false
+fires_once Recursive = false
 
 -- a watch from its parts
 abbrev pub watch : Path → Kind → ℕ → Watch
@@ -27,6 +35,14 @@ abbrev pub kind_number : Kind → ℕ
 kind_number Data = 0
 kind_number Missing = 1
 kind_number Children = 2
+kind_number EachData = 3
+kind_number EachChildren = 4
+kind_number Recursive = 5
+
+-- a position of watches
+pub record Place : Type 0 where
+  pub path : Path
+  pub kind : Kind
 
 -- a position from its parts
 abbrev pub place : Path → Kind → Place

@@ -1,4 +1,3 @@
 -- For proofs and worked examples only.
 pub mod Codes
 pub mod Groups
-pub mod Listing

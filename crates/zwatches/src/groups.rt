@@ -1,12 +1,15 @@
 //! The rows that an event fires: their connections, and the table without them.
 
-ghost use Rattle.std.specs.Prelude.{◌≡◌, ◌≤◌, ◌++◌, not, map, IfOk, OnOk, ◌==◌, vec_len};
-ghost use Rattle.std.specs.List.{filter, remove_range};
+ghost use Rattle.std.specs.Prelude.{◌≡◌, ◌≤◌, ◌++◌, ◌∷◌, not, map, IfOk, OnOk, ◌==◌, vec_len};
+ghost use Rattle.std.specs.List.{filter, list_any, remove_range};
 ghost use Rattle.std.specs.FinSet.{from_list};
 ghost use Rattle.std.specs.Ordering.{nat_cmp};
 ghost use Rattle.zwatches.specs.Watches.{place};
-ghost use Rattle.zwatches.specs.Events.{is_at, fired_at, reported, unfired, without, Lists};
-ghost use Rattle.zwatches.specs.support.Groups.{AreRows, set_of, reported_by, kept};
+ghost use Rattle.zwatches.specs.declared.kind.Kind.TheVariants.{EachData};
+ghost use Rattle.zjute.specs.declared.event.EventKind.TheVariants.{NodeDeleted};
+ghost use Rattle.zwatches.specs.Events.{above, is_at, is_awaited, fired_at, reported, unfired};
+ghost use Rattle.zwatches.specs.Events.{without, Lists};
+ghost use Rattle.zwatches.specs.support.Groups.{AreRows, set_of, reported_by, found_by, kept, once_at};
 
 use crate::kind::Kind;
 use crate::search::rows_at;
@@ -34,6 +37,29 @@ fn report_at(
     Ok(())
 }
 
+// Adds the connections of the recursive watches of a path and of those above it.
+fn report_above(rows: &[Watch], reported: &mut Vec<u32>, names: &[Name]) -> Result<(), Memory>
+    requires { AreRows rows.now }
+    ensures { OnOk result (reported.new.items ≡ reported.old.items
+        ++ reported_by rows.now (above names.now)) }
+{
+    for depth in 0..names.len() {
+        report_at(rows, reported, &names[..depth], Kind::Recursive)?;
+    }
+    report_at(rows, reported, names, Kind::Recursive)
+}
+
+// Adds the connections of the watches that wait for each change of a node, but of its children.
+#[tactic(auto, using(std::proofs::Common::append_assoc))]
+fn report_each(rows: &[Watch], reported: &mut Vec<u32>, names: &[Name]) -> Result<(), Memory>
+    requires { AreRows rows.now }
+    ensures { OnOk result (reported.new.items ≡ reported.old.items
+        ++ reported_by rows.now (place names.now EachData ∷ above names.now)) }
+{
+    report_at(rows, reported, names, Kind::EachData)?;
+    report_above(rows, reported, names)
+}
+
 // Adds the connections of the rows that an event fires.
 #[tactic(auto, using(std::proofs::Common::append_assoc))]
 fn tell(
@@ -49,14 +75,24 @@ fn tell(
     match event {
         EventKind::NodeCreated => {
             report_at(rows, reported, names, Kind::Data)?;
-            report_at(rows, reported, names, Kind::Missing)
+            report_at(rows, reported, names, Kind::Missing)?;
+            report_each(rows, reported, names)
         }
-        EventKind::NodeDataChanged => report_at(rows, reported, names, Kind::Data),
+        EventKind::NodeDataChanged => {
+            report_at(rows, reported, names, Kind::Data)?;
+            report_each(rows, reported, names)
+        }
         EventKind::NodeDeleted => {
             report_at(rows, reported, names, Kind::Data)?;
-            report_at(rows, reported, names, Kind::Children)
+            report_at(rows, reported, names, Kind::Children)?;
+            report_at(rows, reported, names, Kind::EachData)?;
+            report_at(rows, reported, names, Kind::EachChildren)?;
+            report_above(rows, reported, names)
         }
-        EventKind::NodeChildrenChanged => report_at(rows, reported, names, Kind::Children),
+        EventKind::NodeChildrenChanged => {
+            report_at(rows, reported, names, Kind::Children)?;
+            report_at(rows, reported, names, Kind::EachChildren)
+        }
         _ => Ok(()),
     }
 }
@@ -86,6 +122,48 @@ pub(crate) fn reported_of(
     Ok(reported)
 }
 
+// Returns whether there is a row at a position.
+fn has_at(rows: &[Watch], names: &[Name], kind: Kind) -> bool
+    requires { AreRows rows.now }
+    ensures { result ≡ list_any (is_at (place names.now kind)) rows.now }
+{
+    let (first, end) = rows_at(rows, names, kind);
+    first < end
+}
+
+// Returns whether there is a recursive watch of a path, or of one above it.
+fn has_above(rows: &[Watch], names: &[Name]) -> bool
+    requires { AreRows rows.now }
+    ensures { result ≡ found_by rows.now (above names.now) }
+{
+    for depth in 0..names.len() {
+        if has_at(rows, &names[..depth], Kind::Recursive) {
+            return true;
+        }
+    }
+    has_at(rows, names, Kind::Recursive)
+}
+
+// Returns whether there is a row at a position of a deletion.
+fn has_end(rows: &[Watch], names: &[Name]) -> bool
+    requires { AreRows rows.now }
+    ensures { result ≡ found_by rows.now (fired_at NodeDeleted names.now) }
+{
+    has_at(rows, names, Kind::Data)
+        || has_at(rows, names, Kind::Children)
+        || has_at(rows, names, Kind::EachData)
+        || has_at(rows, names, Kind::EachChildren)
+        || has_above(rows, names)
+}
+
+// Returns whether the deletion of a node is awaited.
+pub(crate) fn awaits_end(rows: &[Watch], names: &[Name]) -> bool
+    requires { AreRows rows.now }
+    ensures { result ≡ is_awaited (set_of rows.now) NodeDeleted names.now }
+{
+    has_end(rows, names)
+}
+
 // Removes the rows from the first index up to the second.
 fn remove_between(rows: &mut Vec<Watch>, first: usize, end: usize)
     requires order { first ≤ end }
@@ -105,10 +183,10 @@ fn remove_at(rows: &mut Vec<Watch>, names: &[Name], kind: Kind)
     remove_between(rows, first, end);
 }
 
-// Removes the rows at the positions of an event.
+// Removes the rows at the positions of an event that wait for one change.
 fn remove_each(rows: &mut Vec<Watch>, event: EventKind, names: &[Name])
     requires { AreRows rows.old.items }
-    ensures { rows.new.items ≡ kept rows.old.items (fired_at event names.now) }
+    ensures { rows.new.items ≡ kept rows.old.items (once_at event names.now) }
 {
     match event {
         EventKind::NodeCreated => {
@@ -125,7 +203,7 @@ fn remove_each(rows: &mut Vec<Watch>, event: EventKind, names: &[Name])
     }
 }
 
-// Removes the rows that an event fires.
+// Removes the rows that an event fires, except those that stay.
 pub(crate) fn remove_fired(rows: &mut Vec<Watch>, event: EventKind, names: &[Name])
     requires { AreRows rows.old.items }
     ensures rows { AreRows rows.new.items }

@@ -1,18 +1,30 @@
 //! Laws of the definitions. Each function's contract is a law; its body does nothing.
 
-ghost use Rattle.zwatches.specs.Laws.{ReportsWhoWaits, FiresOnce, HasEachNode};
+ghost use Rattle.zwatches.specs.Laws.{ReportsWhoWaits, FiresOnce, FiresEachTime, CoversBelow};
+ghost use Rattle.zwatches.specs.Laws.{RemovesOwn};
 
 /// An event notifies exactly the connections of the watches that it fires.
 pub fn who_waits_is_reported()
     ensures { ReportsWhoWaits }
 {}
 
-/// An event leaves exactly the watches that it doesn't fire. So a watch fires once.
+/// Of the watches that wait for one change, an event leaves exactly those that it doesn't fire.
 pub fn watches_fire_once()
     ensures { FiresOnce }
 {}
 
-/// The positions of nodes are exactly those of the watches that were set where the node existed.
-pub fn each_node_has_a_place()
-    ensures { HasEachNode }
+/// An event leaves each watch that waits for every change.
+pub fn persistent_watches_stay()
+    ensures { FiresEachTime }
+{}
+
+/// A recursive watch waits exactly for the events of its node and of those below it, except changes
+/// of their children.
+pub fn recursive_watches_cover_what_is_below()
+    ensures { CoversBelow }
+{}
+
+/// A request removes exactly the watches that it means, all of its own connection.
+pub fn requests_remove_their_own()
+    ensures { RemovesOwn }
 {}

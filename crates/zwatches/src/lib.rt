@@ -1,19 +1,19 @@
 //! A table of watches, for a front end that serves ZooKeeper's clients.
 //!
-//! A watch belongs to a connection, and waits for the next change of one kind at one path. An event
-//! at a path fires the watches that wait for it there. Their connections are notified, each once,
-//! and the watches are removed. The parent of the node has an event of its own.
+//! A watch belongs to a connection, and waits for changes of one kind at one path: for the next, or
+//! for each. A recursive watch waits for those below its path, too. An event at a path fires the
+//! watches that wait for it. Their connections are notified, each once, and those that wait for one
+//! change are removed. The parent of the node has an event of its own.
 //!
-//! The end of a session deletes nodes, and its reply doesn't name them. So a front asks for the
-//! positions of nodes, and checks which nodes are gone. A watch for the creation of a node has its
-//! own kind, so it isn't among these.
+//! The end of a session deletes nodes, and its reply doesn't name them. So a front asks of each node
+//! that existed before whether its deletion is awaited, and checks which of those are gone.
 //!
 //! The rows of the table are sorted by path, kind and connection. A call finds its rows by binary
 //! search, and moves the rows after them.
 //!
 //! Contracts see a table as a set of watches (`specs/Watches.antt`). `specs/Events.antt` defines
-//! which watches an event fires and whom it notifies, and `specs/Places.antt` the positions of
-//! nodes.
+//! which watches an event fires and whom it notifies, and `specs/Removal.antt` which watches a
+//! request removes.
 #![tactic(auto)]
 
 pub mod changes;
@@ -22,8 +22,7 @@ mod groups;
 mod kind;
 pub mod laws;
 mod limits;
-mod nodes;
-mod place;
+mod removal;
 mod rows;
 mod search;
 mod setting;
@@ -33,6 +32,5 @@ mod watches;
 pub use fault::WatchFault;
 pub use kind::Kind;
 pub use limits::MAX_WATCHES;
-pub use place::Place;
 pub use watch::Watch;
 pub use watches::Watches;

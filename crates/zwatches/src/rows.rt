@@ -7,12 +7,15 @@ ghost use Rattle.std.specs.Ordering.{nat_cmp};
 ghost use Rattle.zwatches.specs.declared.fault.WatchFault.TheVariants.{Full, Memory};
 ghost use Rattle.zjute.specs.declared.event.EventKind.TheVariants as event;
 ghost use Rattle.zjute.specs.declared.event.EventKind.TheVariants.{NodeCreated, NodeDeleted, NodeDataChanged, NodeChildrenChanged};
-ghost use Rattle.zwatches.specs.declared.kind.Kind.TheVariants.{Data, Missing, Children};
+ghost use Rattle.zwatches.specs.declared.kind.Kind.TheVariants.{Data, Missing, Children, EachData, EachChildren, Recursive};
 ghost use Rattle.zwatches.specs.declared.limits.TheConstants.{MAX_WATCHES};
-ghost use Rattle.zwatches.specs.Watches.{place, watch, watch_cmp, IsSetFault};
-ghost use Rattle.zwatches.specs.Events.{fired_at, fires, reported, unfired, without, Lists};
-ghost use Rattle.zwatches.specs.Places.{node_places};
-ghost use Rattle.zwatches.specs.Samples.{at_a, at_a_b, some_table};
+ghost use Rattle.zjute.specs.declared.watch_type.WatchType.TheVariants as typed;
+ghost use Rattle.zwatches.specs.Watches.{fires_once, place, watch, watch_cmp, IsSetFault};
+ghost use Rattle.zwatches.specs.Events.{above, fired_at, fires, is_awaited, reported, unfired};
+ghost use Rattle.zwatches.specs.Events.{without, Lists};
+ghost use Rattle.zwatches.specs.Removal.{has_meant, has_type, is_meant, without_meant};
+ghost use Rattle.zwatches.specs.Samples.{at_a, at_a_b, at_a_b_c, at_ab, at_b, some_table};
+ghost use Rattle.zwatches.specs.Samples.{lasting_table};
 
 /// Watches differ by path, by kind and by connection.
 pub fn watches_differ()
@@ -76,11 +79,74 @@ pub fn one_event()
         ≡ true }
 {}
 
-/// The positions of nodes: each once, and none where only a creation is awaited.
-pub fn places_of_nodes()
-    ensures listed { Lists (place [] Children ∷ place at_a Data ∷ place at_a Children ∷ [])
-        (node_places some_table) }
-    ensures missing { contains (node_places some_table) (place at_a_b Missing) ≡ false }
+/// A persistent watch is of the data and of the children of its node, and of no other.
+pub fn persistent()
+    ensures created { fires NodeCreated at_a (watch at_a EachData 1) ≡ true }
+    ensures changed { fires NodeDataChanged at_a (watch at_a EachData 1) ≡ true }
+    ensures deleted { fires NodeDeleted at_a (watch at_a EachData 1) ≡ true }
+    ensures not_children { fires NodeChildrenChanged at_a (watch at_a EachData 1) ≡ false }
+    ensures children { fires NodeChildrenChanged at_a (watch at_a EachChildren 1) ≡ true }
+    ensures gone { fires NodeDeleted at_a (watch at_a EachChildren 1) ≡ true }
+    ensures not_data { fires NodeDataChanged at_a (watch at_a EachChildren 1) ≡ false }
+    ensures below { fires NodeDataChanged at_a_b (watch at_a EachData 1) ≡ false }
+    ensures above { fires NodeDeleted [] (watch at_a EachChildren 1) ≡ false }
+{}
+
+/// A recursive watch is of its node and of all below it, and not of a sibling. A change of children
+/// fires none.
+pub fn recursive()
+    ensures positions { above at_a ≡ place [] Recursive ∷ place at_a Recursive ∷ [] }
+    ensures own { fires NodeDataChanged at_a (watch at_a Recursive 1) ≡ true }
+    ensures child { fires NodeCreated at_a_b (watch at_a Recursive 1) ≡ true }
+    ensures below { fires NodeDeleted at_a_b_c (watch at_a Recursive 1) ≡ true }
+    ensures root { fires NodeDataChanged at_a_b (watch [] Recursive 1) ≡ true }
+    ensures sibling { fires NodeDataChanged at_b (watch at_a Recursive 1) ≡ false }
+    ensures name { fires NodeDataChanged at_ab (watch at_a Recursive 1) ≡ false }
+    ensures parent { fires NodeDataChanged at_a (watch at_a_b Recursive 1) ≡ false }
+    ensures children { fires NodeChildrenChanged at_a (watch at_a Recursive 1) ≡ false }
+{}
+
+/// Which watches stay when they fire, and whom an event of /a notifies, each once.
+pub fn who_stays()
+    ensures once { fires_once Data ≡ true }
+    ensures persistent { fires_once EachData ≡ false }
+    ensures children { fires_once EachChildren ≡ false }
+    ensures recursive { fires_once Recursive ≡ false }
+    ensures gone { contains (unfired lasting_table NodeDataChanged at_a) (watch at_a Data 1)
+        ≡ false }
+    ensures stays { contains (unfired lasting_table NodeDataChanged at_a) (watch at_a EachData 1)
+        ≡ true }
+    ensures reported { contains (reported lasting_table NodeDeleted at_a) 1 ≡ true }
+    ensures below { contains (reported lasting_table NodeDeleted at_a_b) 2 ≡ true }
+    ensures other { contains (reported lasting_table NodeDeleted at_a_b) 1 ≡ false }
+{}
+
+/// Whether a deletion is awaited. A watch for a creation doesn't wait for it.
+pub fn what_is_awaited()
+    ensures node { is_awaited some_table NodeDeleted at_a ≡ true }
+    ensures missing { is_awaited some_table NodeDeleted at_a_b ≡ false }
+    ensures below { is_awaited lasting_table NodeDeleted at_a_b_c ≡ true }
+    ensures sibling { is_awaited lasting_table NodeDeleted at_b ≡ false }
+{}
+
+/// The watches that a request removes: those of its own connection, of the type, at the path.
+pub fn what_is_removed()
+    ensures children { has_type typed.Children EachChildren ≡ true }
+    ensures not_data { has_type typed.Children EachData ≡ false }
+    ensures of_data { has_type typed.Data Missing ≡ true }
+    ensures recursive { has_type typed.Data Recursive ≡ true }
+    ensures any { has_type typed.Any Recursive ≡ true }
+    ensures own { is_meant 1 typed.Any at_a (watch at_a Data 1) ≡ true }
+    ensures other { is_meant 1 typed.Any at_a (watch at_a Data 2) ≡ false }
+    ensures below { is_meant 1 typed.Any at_a (watch at_a_b Data 1) ≡ false }
+    ensures found { has_meant lasting_table 2 typed.Data at_a ≡ true }
+    ensures none { has_meant lasting_table 3 typed.Any at_a ≡ false }
+    ensures gone { contains (without_meant lasting_table 2 typed.Any at_a) (watch at_a Recursive 2)
+        ≡ false }
+    ensures half { contains (without_meant lasting_table 1 typed.Data at_a)
+        (watch at_a EachChildren 1) ≡ true }
+    ensures stays { contains (without_meant lasting_table 2 typed.Any at_a) (watch at_a EachData 1)
+        ≡ true }
 {}
 
 /// What remains after a connection is forgotten.

@@ -19,6 +19,9 @@ fn kind_number(kind: Kind) -> u8
         Kind::Data => 0,
         Kind::Missing => 1,
         Kind::Children => 2,
+        Kind::EachData => 3,
+        Kind::EachChildren => 4,
+        Kind::Recursive => 5,
     }
 }
 

@@ -4,21 +4,21 @@ ghost use Rattle.std.specs.Prelude.{◌≡◌, true, false, IsOk, IfOk, OnOk, On
 ghost use Rattle.std.specs.FinSet as sets;
 ghost use Rattle.std.specs.FinSet.{contains, insert, len};
 ghost use Rattle.zwatches.specs.Watches.{watch, is_full, IsSetFault};
-ghost use Rattle.zwatches.specs.Events.{reported, unfired, without, Lists};
-ghost use Rattle.zwatches.specs.Places.{node_places};
+ghost use Rattle.zjute.specs.declared.event.EventKind.TheVariants.{NodeDeleted};
+ghost use Rattle.zwatches.specs.Events.{is_awaited, reported, unfired, without, Lists};
+ghost use Rattle.zwatches.specs.Removal.{has_meant, without_meant};
 
 use crate::fault::WatchFault;
-use crate::groups::{remove_all, remove_fired, reported_of};
+use crate::groups::{awaits_end, remove_all, remove_fired, reported_of};
 use crate::kind::Kind;
-use crate::nodes::places_in;
-use crate::place::Place;
+use crate::removal::{has_meant, remove_meant};
 use crate::search::count_of;
 use crate::setting::set_in;
 use crate::watch::Watch;
 use std::alloc::Global;
 use std::marker::Model;
 use zalloc::Memory;
-use zjute::EventKind;
+use zjute::{EventKind, WatchType};
 use zpath::Path;
 
 /// A set of watches, at most `MAX_WATCHES`.
@@ -74,9 +74,9 @@ impl Watches {
         set_in(&mut self.rows, path, kind, connection)
     }
 
-    /// Removes the watches that an event at a path fires. Returns the connections to notify, each
-    /// once, in rising order. The parent's event is a separate call. After `Memory` nothing has
-    /// changed.
+    /// Fires the watches of an event at a path. Removes those that wait for one change. Returns the
+    /// connections to notify, each once, in rising order. The parent's event is a separate call.
+    /// After `Memory` nothing has changed.
     pub fn changed(&mut self, event: EventKind, path: &Path) -> Result<Vec<u32>, Memory>
         ensures reported { IfOk result (λ connections. Lists connections.items
             (reported self.old event path.now)) }
@@ -88,12 +88,25 @@ impl Watches {
         Ok(connections)
     }
 
-    /// Returns the positions of nodes, each once, by path and kind: those with watches of data or
-    /// of children.
-    pub fn places(&self) -> Result<Vec<Place>, Memory>
-        ensures { IfOk result (λ places. Lists places.items (node_places self.now)) }
+    /// Returns whether a watch waits for the deletion of the node at a path.
+    pub fn awaits_end(&self, path: &Path) -> bool
+        ensures { result ≡ is_awaited self.now NodeDeleted path.now }
     {
-        places_in(self.alloc, &self.rows)
+        awaits_end(&self.rows, path.names())
+    }
+
+    /// Returns whether a connection has a watch of this type at a path.
+    pub fn has(&self, connection: u32, type_of: WatchType, path: &Path) -> bool
+        ensures { result ≡ has_meant self.now connection type_of path.now }
+    {
+        has_meant(&self.rows, connection, type_of, path.names())
+    }
+
+    /// Removes the watches of this type that a connection has at a path. Allocates nothing.
+    pub fn remove(&mut self, connection: u32, type_of: WatchType, path: &Path)
+        ensures { self.new ≡ without_meant self.old connection type_of path.now }
+    {
+        remove_meant(&mut self.rows, connection, type_of, path.names());
     }
 
     /// Removes all watches of a connection. Allocates nothing.

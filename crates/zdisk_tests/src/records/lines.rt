@@ -56,6 +56,8 @@ fn kinds(alloc: Global, records: &mut Vec<Record>) -> Option<()> {
         Kind::sequential(Lifetime::WithTtl(ttl)),
         Kind::named(Lifetime::Ephemeral(session)),
         Kind::sequential(Lifetime::Ephemeral(session)),
+        Kind::named(Lifetime::Container),
+        Kind::sequential(Lifetime::Container),
     ];
     for kind in kinds {
         let made = create(alloc, "/a", kind, 2)?;

@@ -29,15 +29,16 @@ use Rattle.zconnections.specs.Tables.{TablesView, is_open, chunk, with_chunk, se
 use Rattle.zconnections.specs.Reporting.{event_frame, sent_on, unwatched, in_order, reported, reported_all}
 use Rattle.zconnections.specs.Sweeping.{noted, swept, swept_all}
 use Rattle.zresponses.specs.effects.Replying.{absorbed, absorbed_all}
-use Rattle.zresponses.specs.effects.Watching.{waiting, granted_all}
+use Rattle.zresponses.specs.effects.Watching.{granted_all, waiting}
+use Rattle.zresponses.specs.effects.Watching.{unwatched as dropped}
 use Rattle.zresponses.specs.effects.Wishes.{wishes}
 use Rattle.zfront_laws.proofs.Seated.{same_number}
 use Rattle.zfront_laws.proofs.Cached.{noted_alike}
-use Rattle.zfront_laws.proofs.Wishes.{wished}
+use Rattle.zresponses.proofs.effects_lemmas.Granting.{grants_all}
 use Rattle.zfront_laws.specs.frames.Talk.{Talk, Quiet, Reports, Answers, Closes, is_closed}
 use Rattle.zfront_laws.proofs.frames_lemmas.Views.{View, view, phase_in, run, followed, run_then, run_stream, view-sent}
 use Rattle.zfront_laws.proofs.frames_lemmas.Views.{view-sent-elsewhere, view-closed, view-closed-elsewhere}
-use Rattle.zfront_laws.proofs.frames_lemmas.Free.{speaks, Free, free-unwatched, free-waiting, free-closed, free-sent, free-attachments, free-forgotten}
+use Rattle.zfront_laws.proofs.frames_lemmas.Free.{speaks, Free, free-unwatched, free-dropped, free-waiting, free-closed, free-sent, free-attachments, free-forgotten}
 
 -- no answer; and events, if it speaks
 abbrev pub IsCalm : Bool → Talk → Type 0
@@ -276,6 +277,7 @@ module _ (c : ℕ) where
   pub grants : (d : ℕ) (asks : Asked) (calls : List Call) (replies : List Reply) (t : TablesView) → (d ≡ c → speaks (phase_of t.streams c) ≡ true)
       → Calm c t (granted_all d (wishes asks calls replies) t)
   grants d asks calls replies t own =
-      (wished (Granting d) (λ u none. (same u, refl)) (granting_both d) d (waits d)
-      (λ e u mine. (event_sent e d u mine, sent_streams d (event_frame e) u)) asks
-      calls replies t own).0
+      (grants_all (Granting d) (λ u none. (same u, refl)) (granting_both d) d (waits d)
+      (λ e u mine. (event_sent e d u mine, sent_streams d (event_frame e) u))
+      (λ type path u mine. (alike u (dropped d type path u) refl (free-dropped c d type path u), refl))
+      (wishes asks calls replies) t own).0

@@ -19,6 +19,9 @@ use Rattle.zconnections.specs.declared.attachments.attachment.Attachment.{Attach
 use Rattle.zconnections.specs.attachments.Attachments.{AttachmentsView, left, new_attachment, restored_attachment, with_changed}
 use Rattle.zconnections.specs.attachments.Attachments as seats
 use Rattle.zwatches.specs.declared.changes.event.Event.{Event}
+use Rattle.zjute.specs.declared.watch_type.WatchType.{WatchType}
+use Rattle.zwatches.specs.Removal.{is_meant}
+use Rattle.zresponses.specs.effects.Watching.{unwatched as dropped}
 use Rattle.zwatches.specs.declared.kind.Kind.{Kind}
 use Rattle.zwatches.specs.declared.watch.Watch.{Watch}
 use Rattle.zwatches.specs.Watches.{Path, Watches, watch, watch_cmp}
@@ -61,7 +64,11 @@ retained ws p w is = both_true (contains ws w) (p w) (sym (contains-retain ws p 
 
 pub free-unwatched : (c : ℕ) (e : Event) (t : TablesView) → Free c t → Free c (unwatched e t)
 free-unwatched c e t free =
-    free_by c t (unwatched e t) refl (λ session is. is) (λ w is own. (retained t.watches (λ w. not (watches.fires e.kind e.path w)) w is).0) free
+    free_by c t (unwatched e t) refl (λ session is. is) (λ w is own. (retained t.watches (λ w. not (watches.ends e.kind e.path w)) w is).0) free
+
+pub free-dropped : (c d : ℕ) (type : WatchType) (path : Path) (t : TablesView) → Free c t → Free c (dropped d type path t)
+free-dropped c d type path t free =
+    free_by c t (dropped d type path t) refl (λ session is. is) (λ w is own. (retained t.watches (λ w. not (is_meant d type path w)) w is).0) free
 
 not_own : (c : ℕ) (w : Watch) → w.connection ≡ c → not (eqb w.connection c) ≡ true → ⊥
 not_own c w own is =

@@ -1,12 +1,12 @@
 -- What a server does on one connection where it tidies: it is calm.
 use Rattle.std.proofs.Common.{◌≡◌, ℕ, Bool, true, false, List, sym, subst}
 use Rattle.std.specs.List.{list_any}
+use Rattle.ztree.specs.Tree.{Path}
 use Rattle.zcalls.specs.declared.call.Call.{Call}
 use Rattle.zcalls.specs.declared.reply.Reply.{Reply}
 use Rattle.zconnections.specs.Tables.{TablesView}
-use Rattle.zconnections.specs.Reporting.{reported_all}
 use Rattle.zresponses.specs.effects.Looking.{seen}
-use Rattle.zfront.specs.Front.{FrontView, with_tables, may_end, gone_from, swept, took_unnamed, looks, LooksIf, TidiesIf, Tidies}
+use Rattle.zfront.specs.Front.{FrontView, with_tables, may_end, gone_from, swept, took_unnamed, looks, looked_if, tidied_if, tidied}
 use Rattle.zfront_laws.proofs.frames_lemmas.Calm as table
 use Rattle.zfront_laws.proofs.frames_lemmas.Calm.{Calm}
 
@@ -24,16 +24,14 @@ module _ (c : ℕ) where
   pub both : (old middle new : FrontView) → Calm c old.tables middle.tables → Calm c middle.tables new.tables → Calm c old.tables new.tables
   both old middle new one two = table.both c old.tables middle.tables new.tables one two
 
-  looks_if : (took : Bool) (old new : FrontView) → LooksIf took old new → Calm c old.tables new.tables
-  looks_if false old new is = same old new is
-  looks_if true old new has =
-      let events = seen old.tree.zxid has.0 (looks old.tree has.0) in
-      retabled (reported_all events old.tables) old new has.2 (table.reports_all c events old.tables)
+  looks_if : (took : Bool) (paths : List Path) (v : FrontView) → Calm c v.tables (looked_if took paths v).tables
+  looks_if false paths v = table.same c v.tables
+  looks_if true paths v = table.reports_all c (seen v.tree.zxid paths (looks v.tree paths)) v.tables
 
-  tidies_if : (may : Bool) (replies : List Reply) (old new : FrontView) → TidiesIf may replies old new → Calm c old.tables new.tables
-  tidies_if false replies old new is = same old new is
-  tidies_if true replies old new has =
-      both old (swept old) new (table.sweeps_all c (gone_from old) old.tables) (looks_if (took_unnamed replies old) (swept old) new has)
+  tidies_if : (may : Bool) (replies : List Reply) (paths : List Path) (v : FrontView) → Calm c v.tables (tidied_if may replies paths v).tables
+  tidies_if false replies paths v = table.same c v.tables
+  tidies_if true replies paths v =
+      both v (swept v) (looked_if (took_unnamed replies v) paths (swept v)) (table.sweeps_all c (gone_from v) v.tables) (looks_if (took_unnamed replies v) paths (swept v))
 
-  pub tidies : (calls : List Call) (replies : List Reply) (old new : FrontView) → Tidies calls replies old new → Calm c old.tables new.tables
-  tidies calls replies old new has = tidies_if (list_any may_end calls) replies old new has
+  pub tidies : (calls : List Call) (replies : List Reply) (paths : List Path) (old new : FrontView) → new ≡ tidied calls replies paths old → Calm c old.tables new.tables
+  tidies calls replies paths old new is = becomes old new (tidied calls replies paths old) is (tidies_if (list_any may_end calls) replies paths old)

@@ -43,10 +43,10 @@ use Rattle.zresponses.specs.effects.Answering.{answered, answer_unless, now_of}
 use Rattle.zresponses.specs.effects.Frames.{answer_frame, response_frame, ends_connection}
 use Rattle.zresponses.specs.effects.Greeting.{session_reported, welcomed, turned_away, given, came_back, is_ahead}
 use Rattle.zresponses.specs.effects.Replying.{absorbed_all, replied}
-use Rattle.zresponses.specs.effects.Watching.{granted_all, some_lacked}
+use Rattle.zresponses.specs.effects.Watching.{granted_all, first_fault}
 use Rattle.zresponses.specs.effects.Wishes.{wishes}
 use Rattle.zfront.specs.declared.limits.TheConstants.{MAX_KEPT}
-use Rattle.zfront.specs.Front.{FrontView, with_tables, asked, replies_to}
+use Rattle.zfront.specs.Front.{FrontView, with_tables, asked, replies_to, watched}
 use Rattle.zfront.specs.Greeting.{opening, opened, with_session, returned, greeted_by, greeted}
 use Rattle.zfront.specs.Inputs as inputs
 use Rattle.zfront.specs.Reading.{HandlesIn, Handles, HandlesAll, Reads, is_too_long, kept, keeps, Keeps}
@@ -99,7 +99,7 @@ module _ (c d : ℕ) (other : d ≢ c) where
       let u = absorbed_all calls replies t in
       let wished = wishes r.asked calls replies in
       let w = granted_all d wished u in
-      let answer = answer_unless (some_lacked d wished u) clock now r.asked calls replies in
+      let answer = answer_unless (first_fault d wished u) clock now r.asked calls replies in
       table.both c t u (replied now.zxid d r.xid answer w) (table.absorbs_all c calls replies t)
       (table.both c u w (replied now.zxid d r.xid answer w) (table.grants c d r.asked calls replies u (λ is. absurd (other is)))
       (reports_answer now.zxid r.xid answer w))
@@ -108,7 +108,7 @@ module _ (c d : ℕ) (other : d ≢ c) where
   makes calls r old new has =
       let middle = with_answer calls d r old in
       front.both c old middle new (answers old.clock (now_of (asked calls old).tree) r calls (replies_to calls old) old.tables)
-      (front.tidies c calls (replies_to calls old) middle new has)
+      (front.tidies c calls (replies_to calls old) (watched old) middle new has)
 
   acts : (meaning : Meaning (List Call)) (r : Request) (old new : FrontView) → Acts meaning d r old new → Calm c old.tables new.tables
   acts (Err (Refused code)) r old new is =
@@ -284,7 +284,7 @@ module _ (c : ℕ) where
       front.both c old middle new
       (table.alike c old.tables middle.tables refl (free-attachments c old.tables (all_rested old.tables.attachments)
       (rests_alike old.tables.attachments).0))
-      (front.tidies c calls (replies_to calls old) middle new has)
+      (front.tidies c calls (replies_to calls old) (watched old) middle new has)
 
   pub ticks : (old new : FrontView) → Ticks old new → Calm c old.tables new.tables
   ticks old new has = ticks_by (tick_calls (touched_ids old.tables.attachments)) old new has

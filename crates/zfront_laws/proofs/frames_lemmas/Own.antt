@@ -23,15 +23,16 @@ use Rattle.zconnections.specs.Tables.{may_send, is_open}
 use Rattle.zresponses.specs.effects.Answering.{answer_unless, now_of}
 use Rattle.zresponses.specs.effects.Frames.{answer_frame}
 use Rattle.zresponses.specs.effects.Replying.{absorbed_all, replied}
-use Rattle.zresponses.specs.effects.Watching.{granted_all, some_lacked}
+use Rattle.zresponses.specs.effects.Watching.{IsFaultOf, granted_all, first_fault}
 use Rattle.zresponses.specs.effects.Wishes.{wishes}
-use Rattle.zfront.specs.Front.{FrontView, asked, replies_to}
+use Rattle.zfront.specs.Front.{FrontView, asked, replies_to, watched}
 use Rattle.zfront.specs.Reading.{HandlesIn, Handles, HandlesAll}
 use Rattle.zfront.specs.Requests.{touched_by, with_answer, Acts, Requests}
 use Rattle.zfront_laws.specs.Logs.{meant, request_calls, frame_calls, done_by, frame_log, frames_log}
 use Rattle.zfront_laws.proofs.Coming as coming
 use Rattle.zfront_laws.proofs.Steps.{Goes}
 use Rattle.zfront_laws.specs.frames.Talk.{Talk, Quiet, Answers, is_closed, Says, IsAnswer, tree_behind, Answered}
+use Rattle.zresponses.proofs.effects_lemmas.Granting.{first_fault_is}
 use Rattle.zfront_laws.proofs.frames_lemmas.Views.{view, phase_in, run, followed, run_then, run_ends}
 use Rattle.zfront_laws.proofs.frames_lemmas.Free.{speaks, Free}
 use Rattle.zfront_laws.proofs.frames_lemmas.Calm as table
@@ -79,18 +80,18 @@ module _ (c : ℕ) where
           let u = absorbed_all calls reported t in
           let wished = wishes r.asked calls reported in
           let w = granted_all c wished u in
-          let lacked = some_lacked c wished u in
-          let answer = answer_unless lacked v.clock (now_of after) r.asked calls reported in
+          let fault = first_fault c wished u in
+          let answer = answer_unless fault v.clock (now_of after) r.asked calls reported in
           let each : replies_of log ≡ reported = replies_zipped v.tree calls in
           let events = table.both c t u w (table.absorbs_all c calls reported t)
           (table.grants c c r.asked calls reported u (λ is. ap (λ rows. speaks (phase_of rows c)) (absorbed_all_streams calls reported t) ∙ speaking)) free in
           let reported_to = replies c after.zxid r.xid answer w in
           let talk = Answers (answer_frame after.zxid r.xid answer) reported_to.0 in
-          let none_lacked : wishes r.asked calls (replies_of log) ≡ [] → lacked ≡ false =
-          λ none. ap (λ ws. some_lacked c ws u) (ap (λ rs. wishes r.asked calls rs) (sym each) ∙ none) in
+          let why : IsFaultOf (wishes r.asked calls (replies_of log)) fault =
+          subst (λ rs. IsFaultOf (wishes r.asked calls rs) fault) (sym each) (first_fault_is c wished u) in
           let is = says_so v.clock v.secret session bytes r reads after (tree_behind v.tree log) log answer (Ok calls)
           (sym (leads_by v.tree calls).1) means
-          (calls_zipped v.tree calls, (lacked, none_lacked, ap (λ rs. answer_unless lacked v.clock (now_of after) r.asked calls rs) (sym each))) in (
+          (calls_zipped v.tree calls, (fault, why, ap (λ rs. answer_unless fault v.clock (now_of after) r.asked calls rs) (sym each))) in (
             followed events.0.0 talk,
             answered_behind v.clock v.secret session (speaks (phase_of t.streams c)) v.tree log bytes events.0.0 talk events.0.1
                 (answers_one v.clock v.secret session bytes v.tree log (answer_frame after.zxid r.xid answer) reported_to.0 is reported_to.1),
@@ -122,7 +123,7 @@ module _ (c : ℕ) where
           subst (λ (l : Log). Answered old.clock old.secret session tree l (bytes ∷ []) (followed one.0 talk)) (append-nil log)
           (answered_both old.clock old.secret session tree log [] (bytes ∷ []) [] one.0 talk one.1
           (answered_calm old.clock old.secret session speaking_then (tree_behind tree log) [] talk calm) (λ ends. refl)))
-          (front.tidies c calls (replies_to calls old) middle new makes)
+          (front.tidies c calls (replies_to calls old) (watched old) middle new makes)
 
     serves_by : (read : Result Request Fault) → whole request bytes ≡ read → (old new : FrontView)
         → speaks (phase_of old.tables.streams c) ≡ true → Free c old.tables → Requests read session c old new

@@ -4,7 +4,7 @@ use Rattle.std.proofs.Common.{inl, inr}
 use Rattle.std.specs.Prelude.{◌||◌, nat_lt, if◌then◌else◌}
 use Rattle.zcalls.specs.Lists.{Among}
 use Rattle.zjute.specs.Frames.{next_of}
-use Rattle.zjute.specs.declared.request.SetWatches.{SetWatches}
+use Rattle.zjute.specs.declared.request.Asked.{Asked}
 use Rattle.zconnections.specs.declared.buffers.phase.Phase.{Phase}
 use Rattle.zconnections.specs.declared.buffers.phase.Phase.TheVariants.{Silent, Speaking, Closing}
 use Rattle.zconnections.specs.buffers.Streams.{bytes_of, held_of, phase_of, with_bytes}
@@ -19,8 +19,8 @@ use Rattle.zfront_laws.specs.Runs.{KeepsFew}
 use Rattle.zfront_laws.proofs.Coming as step
 use Rattle.zfront_laws.proofs.Seated.{has_seat}
 use Rattle.zfront_laws.proofs.Steps.{Fine}
-use Rattle.zfront_laws.specs.watches.Laws.{Arriving, IsRenewal, requests_in}
-use Rattle.zfront_laws.specs.watches.Watching.{Scene, Renewals, Said, after}
+use Rattle.zfront_laws.specs.watches.Laws.{Arriving, IsRequest, requests_in}
+use Rattle.zfront_laws.specs.watches.Watching.{Scene, Asking, Said, after}
 use Rattle.zfront_laws.proofs.frames_lemmas.Views.{phase_with}
 use Rattle.zfront_laws.proofs.watches_lemmas.Greeting.{greets}
 use Rattle.zfront_laws.proofs.watches_lemmas.Marks.{closed_keeps, unchanged}
@@ -30,8 +30,8 @@ use Rattle.zfront_laws.proofs.watches_lemmas.Requesting.{serves}
 use Rattle.zfront_laws.proofs.watches_lemmas.Standing.{closed_fewer}
 
 -- nothing happens
-unmoved : {Renews : Renewals} (old new : FrontView) (s : Scene) → At old s → new ≡ old → Reaches Renews new s []
-unmoved old new s there is = becomes new old s [] is (stays false old s there)
+unmoved : {Asks : Asking} (old new : FrontView) (s : Scene) → At old s → new ≡ old → Reaches Asks new s []
+unmoved old new s there is = becomes new old s [] is (stays None old s there)
 
 -- ---- frames
 
@@ -50,60 +50,60 @@ request_among (Some (Speaking session)) first frame frames among = inr among
 request_among (Some Closing) first frame frames among = inr among
 request_among None first frame frames among = inr among
 
--- the connection re-registers the watches of each request among the frames
-abbrev RenewsIn : Renewals → ℕ → List (List ℕ) → Type 0
-RenewsIn Renews c requests = (frame : List ℕ) (set : SetWatches) → Among frame requests → IsRenewal set frame → Renews c set
+-- the connection has each request among the frames
+abbrev AsksIn : Asking → ℕ → List (List ℕ) → Type 0
+AsksIn Asks c requests = (frame : List ℕ) (asks : Asked) → Among frame requests → IsRequest asks frame → Asks c asks
 
-handles_in : {Renews : Renewals} (phase : Option Phase) (bytes : List ℕ) (frames : List (List ℕ)) (c : ℕ) (old new : FrontView) (s : Scene)
-    → RenewsIn Renews c (requests_in phase (bytes ∷ frames)) → phase_of old.tables.streams c ≡ phase
-    → Fine old → At old s → HandlesIn phase bytes c old new → Reaches Renews new s (done_by (frame_calls phase bytes old) old)
-handles_in (Some Silent) bytes frames c old new s renewed is fine there same =
+handles_in : {Asks : Asking} (phase : Option Phase) (bytes : List ℕ) (frames : List (List ℕ)) (c : ℕ) (old new : FrontView) (s : Scene)
+    → AsksIn Asks c (requests_in phase (bytes ∷ frames)) → phase_of old.tables.streams c ≡ phase
+    → Fine old → At old s → HandlesIn phase bytes c old new → Reaches Asks new s (done_by (frame_calls phase bytes old) old)
+handles_in (Some Silent) bytes frames c old new s mine is fine there same =
     becomes new (greeted bytes c old) s (done_by (frame_calls (Some Silent) bytes old) old) same (greets bytes c old s fine there)
-handles_in (Some (Speaking session)) bytes frames c old new s renewed is fine there has =
-    serves bytes session c old new s (λ set asks. renewed bytes set (inl refl) asks) is (has_seat old.tables c session fine.seated is) there has
-handles_in (Some Closing) bytes frames c old new s renewed is fine there same = unmoved old new s there same
-handles_in None bytes frames c old new s renewed is fine there same = unmoved old new s there same
+handles_in (Some (Speaking session)) bytes frames c old new s mine is fine there has =
+    serves bytes session c old new s (λ asks is. mine bytes asks (inl refl) is) is (has_seat old.tables c session fine.seated is) there has
+handles_in (Some Closing) bytes frames c old new s mine is fine there same = unmoved old new s there same
+handles_in None bytes frames c old new s mine is fine there same = unmoved old new s there same
 
-handles_all : {Renews : Renewals} (frames : List (List ℕ)) (c : ℕ) (old new : FrontView) (s : Scene)
-    → RenewsIn Renews c (requests_in (phase_of old.tables.streams c) frames) → Fine old → At old s → (has : HandlesAll frames c old new)
-    → Reaches Renews new s (frames_log frames c old new has)
-handles_all [] c old new s renewed fine there is = unmoved old new s there is
-handles_all (bytes ∷ frames) c old new s renewed fine there has =
+handles_all : {Asks : Asking} (frames : List (List ℕ)) (c : ℕ) (old new : FrontView) (s : Scene)
+    → AsksIn Asks c (requests_in (phase_of old.tables.streams c) frames) → Fine old → At old s → (has : HandlesAll frames c old new)
+    → Reaches Asks new s (frames_log frames c old new has)
+handles_all [] c old new s mine fine there is = unmoved old new s there is
+handles_all (bytes ∷ frames) c old new s mine fine there has =
     let middle = has.1 in
     let phase = phase_of old.tables.streams c in
-    behind false false middle new s (frame_log bytes c old) (frames_log frames c middle new has.3)
-    (handles_in phase bytes frames c old middle s renewed refl fine there has.2)
+    behind None None middle new s (frame_log bytes c old) (frames_log frames c middle new has.3)
+    (handles_in phase bytes frames c old middle s mine refl fine there has.2)
     (λ next here.
     handles_all frames c middle new next
-    (λ frame set among asks.
-    renewed frame set (request_among phase bytes frame frames (request_later (phase_of middle.tables.streams c) frame frames among)) asks)
+    (λ frame asks among is.
+    mine frame asks (request_among phase bytes frame frames (request_later (phase_of middle.tables.streams c) frame frames among)) is)
     ((step.handles bytes c old middle has.2).seats fine) here has.3)
 
 -- ---- what is stored
 
-rest_moves : {Renews : Renewals} (over : Bool) (rest : List ℕ) (c : ℕ) (v : FrontView) (s : Scene) → At v s
-    → Reaches Renews (with_tables (if over then closed c v.tables else record v.tables { streams = with_bytes v.tables.streams c rest }) v) s []
-rest_moves true rest c v s there = closes false v s c there
+rest_moves : {Asks : Asking} (over : Bool) (rest : List ℕ) (c : ℕ) (v : FrontView) (s : Scene) → At v s
+    → Reaches Asks (with_tables (if over then closed c v.tables else record v.tables { streams = with_bytes v.tables.streams c rest }) v) s []
+rest_moves true rest c v s there = closes None v s c there
 rest_moves false rest c v s there =
     let t : TablesView = record v.tables { streams = with_bytes v.tables.streams c rest } in
-    moves false v s t there (bytes_move v.tables c rest) (unchanged v.tables.attachments)
+    moves None v s t there (bytes_move v.tables c rest) (unchanged v.tables.attachments)
 
-keeps_rest : {Renews : Renewals} (rest : List ℕ) (c : ℕ) (v : FrontView) (s : Scene) → At v s → Reaches Renews (keeps rest c v) s []
-keeps_rest {Renews} rest c v s there = elim (is_open v.tables c) as (λ b. Reaches Renews (if b then with_tables (kept rest c v.tables) v else v) s []) [
+keeps_rest : {Asks : Asking} (rest : List ℕ) (c : ℕ) (v : FrontView) (s : Scene) → At v s → Reaches Asks (keeps rest c v) s []
+keeps_rest {Asks} rest c v s there = elim (is_open v.tables c) as (λ b. Reaches Asks (if b then with_tables (kept rest c v.tables) v else v) s []) [
   | true ↦ rest_moves (is_too_long (next_of rest) || nat_lt MAX_KEPT (held_of v.tables.streams + length rest)) rest c v s there
-  | false ↦ stays false v s there
+  | false ↦ stays None v s there
 ]
 
 -- ---- bytes
 
 -- a word is answered, and its connection closed
-says : {Renews : Renewals} (text : List ℕ) (c : ℕ) (v : FrontView) (s : Scene) → phase_of v.tables.streams c ≡ Some Silent → At v s
-    → Reaches Renews (with_tables (closed c (sent c text v.tables)) v) s []
+says : {Asks : Asking} (text : List ℕ) (c : ℕ) (v : FrontView) (s : Scene) → phase_of v.tables.streams c ≡ Some Silent → At v s
+    → Reaches Asks (with_tables (closed c (sent c text v.tables)) v) s []
 says text c v s silent there =
     let t = sent c text s.tables in
-    once false (with_tables (closed c (sent c text v.tables)) v) s (Said c text) (after (Said c text) s)
+    once None (with_tables (closed c (sent c text v.tables)) v) s (Said c text) (after (Said c text) s)
     (ap (λ (u : TablesView). phase_of u.streams c) there.tables ∙ silent, refl) refl
-    (shuts false (with_tables (sent c text v.tables) v) (record s { tables = t }) (closed c) (sends false v s c text there)
+    (shuts None (with_tables (sent c text v.tables) v) (record s { tables = t }) (closed c) (sends None v s c text there)
     (closed_fewer c t) (closed_keeps c t))
 
 -- only a silent connection is asked for a word
@@ -113,43 +113,43 @@ asked_silent (Some (Speaking session)) came word is = absurd (cc is)
 asked_silent (Some Closing) came word is = absurd (cc is)
 asked_silent None came word is = absurd (cc is)
 
--- the connection re-registers the watches of each request in these bytes
-abbrev RenewsOf : Renewals → ℕ → Option Phase → List ℕ → Type 0
-RenewsOf Renews c phase came = (frames : List (List ℕ)) (rest : List ℕ) → Cuts came frames rest → RenewsIn Renews c (requests_in phase frames)
+-- the connection has each request in these bytes
+abbrev AsksOf : Asking → ℕ → Option Phase → List ℕ → Type 0
+AsksOf Asks c phase came = (frames : List (List ℕ)) (rest : List ℕ) → Cuts came frames rest → AsksIn Asks c (requests_in phase frames)
 
-comes_by : {Renews : Renewals} (word : _) (came : List ℕ) (c : ℕ) (old new : FrontView) (s : Scene)
-    → RenewsOf Renews c (phase_of old.tables.streams c) came → KeepsFew old → Fine old → At old s
+comes_by : {Asks : Asking} (word : _) (came : List ℕ) (c : ℕ) (old new : FrontView) (s : Scene)
+    → AsksOf Asks c (phase_of old.tables.streams c) came → KeepsFew old → Fine old → At old s
     → word_asked (phase_of old.tables.streams c) came ≡ word
-    → (has : ComesBy word came c old new) → Reaches Renews new s (bytes_log word came c old new has)
-comes_by (Some word) came c old new s renewed few fine there asks is =
+    → (has : ComesBy word came c old new) → Reaches Asks new s (bytes_log word came c old new has)
+comes_by (Some word) came c old new s mine few fine there asks is =
     becomes new (said word c old) s [] is (says (text_of_word word old) c old s (asked_silent (phase_of old.tables.streams c) came word asks) there)
-comes_by None came c old new s renewed few fine there asks has =
+comes_by None came c old new s mine few fine there asks has =
     let middle = has.1 in
     let handled = has.2.handles in
     let kept = (step.handles_all has.2.frames c old middle handled).few few in
-    still false false middle new s (frames_log has.2.frames c old middle handled)
-    (handles_all has.2.frames c old middle s (renewed has.2.frames has.0 has.2.cuts) fine there handled)
+    still None None middle new s (frames_log has.2.frames c old middle handled)
+    (handles_all has.2.frames c old middle s (mine has.2.frames has.0 has.2.cuts) fine there handled)
     (λ next here. becomes new (keeps has.0 c middle) next [] (step.keeps_now has.0 c middle new kept has.3) (keeps_rest has.0 c middle next here))
 
-comes_if : {Renews : Renewals} (on : Bool) (bytes : List ℕ) (c : ℕ) (old new : FrontView) (s : Scene)
-    → RenewsOf Renews c (phase_of old.tables.streams c) (bytes_of old.tables.streams c ++ bytes) → KeepsFew old → Fine old → At old s
-    → (has : ComesIf on bytes c old new) → Reaches Renews new s (came_log on bytes c old new has)
-comes_if false bytes c old new s renewed few fine there is = unmoved old new s there is
-comes_if {Renews} true bytes c old new s renewed few fine there has =
+comes_if : {Asks : Asking} (on : Bool) (bytes : List ℕ) (c : ℕ) (old new : FrontView) (s : Scene)
+    → AsksOf Asks c (phase_of old.tables.streams c) (bytes_of old.tables.streams c ++ bytes) → KeepsFew old → Fine old → At old s
+    → (has : ComesIf on bytes c old new) → Reaches Asks new s (came_log on bytes c old new has)
+comes_if false bytes c old new s mine few fine there is = unmoved old new s there is
+comes_if {Asks} true bytes c old new s mine few fine there has =
     let came = bytes_of old.tables.streams c ++ bytes in
     let v = emptied c old in
     let empty = step.empties c old in
     let same = phase_with c old.tables.streams [] in
-    behind false false v new s [] (came_log true bytes c old new has)
-    (moves false old s v.tables there (bytes_move old.tables c []) (unchanged old.tables.attachments))
+    behind None None v new s [] (came_log true bytes c old new has)
+    (moves None old s v.tables there (bytes_move old.tables c []) (unchanged old.tables.attachments))
     (λ next here.
-    comes_by (word_asked (phase_of v.tables.streams c) came) came c v new next (subst (λ phase. RenewsOf Renews c phase came) (sym same) renewed)
+    comes_by (word_asked (phase_of v.tables.streams c) came) came c v new next (subst (λ phase. AsksOf Asks c phase came) (sym same) mine)
     (empty.few few) (empty.seats fine) here refl has)
 
 pub comes : (bytes : List ℕ) (c : ℕ) (old new : FrontView) (s : Scene) → KeepsFew old → Fine old → At old s
     → (has : Comes bytes c old new) → Reaches (Arriving c bytes s) new s (came_log (is_open old.tables c) bytes c old new has)
 comes bytes c old new s few fine there has =
     comes_if (is_open old.tables c) bytes c old new s
-    (subst (λ (t : TablesView). RenewsOf (Arriving c bytes s) c (phase_of t.streams c) (bytes_of t.streams c ++ bytes)) there.tables
-    (λ frames rest cuts frame set among asks. (refl, frames, rest, cuts, frame, among, asks)))
+    (subst (λ (t : TablesView). AsksOf (Arriving c bytes s) c (phase_of t.streams c) (bytes_of t.streams c ++ bytes)) there.tables
+    (λ frames rest cuts frame asks among is. (refl, frames, rest, cuts, frame, among, is)))
     few fine there has

@@ -12,7 +12,7 @@ use Rattle.std.specs.FinMap.{nat_cmp-IsAntisymmetric}
 use Rattle.ztree.specs.Tree.{Sessions}
 use Rattle.ztree.proofs.Maps.{get-insert-here, get-insert-elsewhere, get-remove-elsewhere, tied_same}
 use Rattle.zcalls.specs.declared.call.Lifetime.{Lifetime}
-use Rattle.zcalls.specs.declared.call.Lifetime.TheVariants.{Persistent, WithTtl, Ephemeral}
+use Rattle.zcalls.specs.declared.call.Lifetime.TheVariants.{Persistent, WithTtl, Ephemeral, Container}
 use Rattle.zcalls.specs.declared.call.Part.{Part}
 use Rattle.zcalls.specs.declared.call.Part.TheVariants as part
 use Rattle.zcalls.specs.Part.{owner_of}
@@ -154,6 +154,7 @@ here_marked m session (inr has) =
 pub made_marked : (lifetime : Lifetime) (m : AttachmentsView) → Known m (owner_of lifetime) → Marked (made_by lifetime m) (owner_of lifetime)
 made_marked Persistent m mine = inl refl
 made_marked (WithTtl ttl) m mine = inl refl
+made_marked Container m mine = inl refl
 made_marked (Ephemeral session) m mine = here_marked m session mine
 
 pub parts_keep : (parts : List Part) (m : AttachmentsView) → Keeps m (made_by_parts parts m)

@@ -2,6 +2,7 @@
 use Rattle.std.proofs.Common.{◌+◌, ℕ, Bool, List, [], ◌∷◌}
 use Rattle.std.specs.List.{AllByRecursion}
 use Rattle.std.specs.FinMap as finite
+use Rattle.ztree.specs.declared.term.Term.{Term}
 use Rattle.ztree.specs.declared.node.Node.{Node}
 use Rattle.ztree.specs.Lawful.{AllNodes}
 use Rattle.ztree.specs.Tree.{Tree, Path, Nodes, new_node, parent_of, with_node, with_child, without_child, with_data}
@@ -10,7 +11,7 @@ use Rattle.zcalls.specs.declared.call.Delete.{Delete}
 use Rattle.zcalls.specs.declared.call.SetData.{SetData}
 use Rattle.zcalls.specs.declared.call.Part.{Part}
 use Rattle.zcalls.specs.declared.call.Part.TheVariants as part
-use Rattle.zcalls.specs.Part.{create_step, delete_step, set_step, part_step, made_path, owner_of, ttl_of}
+use Rattle.zcalls.specs.Part.{create_step, delete_step, set_step, part_step, made_path, owner_of, term_of}
 use Rattle.zcalls.specs.Multi.{run}
 use Rattle.zcalls.proofs.Bounds.{all_insert, all_remove, all_changed}
 use Rattle.zcalls.proofs.Leaving.{Leaves, create_step-leaves, delete_step-leaves, set_step-leaves, check_step-leaves}
@@ -22,11 +23,11 @@ OwnersAre Q nodes = AllNodes (λ n. Q n.owner) nodes
 
 module _ (Q : ℕ → Type 0) where
   -- a node is made
-  pub made : (t : Tree) (at : Path) (bytes : List ℕ) (owner ttl : ℕ) (sequential : Bool) → OwnersAre Q t.nodes → Q owner
-      → OwnersAre Q (with_node t at bytes owner ttl sequential).nodes
-  made t at bytes owner ttl sequential all mine =
+  pub made : (t : Tree) (at : Path) (bytes : List ℕ) (owner : ℕ) (term : Term) (sequential : Bool) → OwnersAre Q t.nodes → Q owner
+      → OwnersAre Q (with_node t at bytes owner term sequential).nodes
+  made t at bytes owner term sequential all mine =
       let P : Node → Type 0 = λ n. Q n.owner in
-      let new = new_node bytes owner ttl (t.zxid + 1) t.time in
+      let new = new_node bytes owner term (t.zxid + 1) t.time in
       let more = all_insert P t.nodes at new all mine in
       all_changed P P (finite.insert t.nodes at new) (parent_of at) (with_child (t.zxid + 1) sequential) more (λ n has. has)
       (λ n is. more (parent_of at) n is)
@@ -36,7 +37,7 @@ module _ (Q : ℕ → Type 0) where
   created t client create all mine =
       create_step-leaves (λ u. OwnersAre Q u.nodes) t client create
       (λ none. made t (made_path t.nodes create.kind create.path) create.bytes (owner_of create.kind.lifetime)
-      (ttl_of create.kind.lifetime) create.kind.is_sequential all mine)
+      (term_of create.kind.lifetime) create.kind.is_sequential all mine)
 
   pub deleted : (t : Tree) (delete : Delete) → OwnersAre Q t.nodes → Leaves (λ u. OwnersAre Q u.nodes) (delete_step t delete)
   deleted t delete all =

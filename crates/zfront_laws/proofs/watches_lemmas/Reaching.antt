@@ -1,5 +1,5 @@
 -- A server at a scene, and how it comes to the next one.
-use Rattle.std.proofs.Common.{◌≡◌, ◌∙◌, ℕ, Bool, true, false, List, [], ◌∷◌, ◌++◌, refl, sym, ap, subst, append_assoc}
+use Rattle.std.proofs.Common.{◌≡◌, ◌∙◌, ℕ, true, false, List, [], ◌∷◌, ◌++◌, Option, None, refl, sym, ap, subst, append_assoc}
 use Rattle.std.specs.Prelude.{◌⊎◌, ℤ, if◌then◌else◌}
 use Rattle.std.specs.FinSet.{contains}
 use Rattle.std.proofs.lemmas.List.{append-nil}
@@ -10,112 +10,113 @@ use Rattle.zconnections.specs.Tables.{TablesView, sent, closed}
 use Rattle.zresponses.specs.effects.Frames.{answer_frame, ends_connection}
 use Rattle.zresponses.specs.effects.Replying.{replied}
 use Rattle.zfront.specs.Front.{FrontView, with_tables}
-use Rattle.zfront_laws.specs.watches.Watching.{Scene, Happening, Renewals, Answered, Closed, Moved, tree_of, after, May, Happens}
+use Rattle.zfront_laws.specs.watches.Watching.{Scene, Happening, Asking, Answered, Closed, Moved, tree_of, after, May, Happens}
 use Rattle.zfront_laws.specs.watches.Watching.{HasReportedAll, IsClose, IsMoved}
-use Rattle.zfront_laws.proofs.watches_lemmas.Holding.{Holds, fewer_holds, owners_kept, settled}
+use Rattle.zfront_laws.proofs.watches_lemmas.Holding.{Holds, fewer_holds}
+use Rattle.zfront_laws.proofs.watches_lemmas.Owning.{owners_kept}
 use Rattle.zfront_laws.proofs.watches_lemmas.Marks.{Marked, Keeps}
 use Rattle.zfront_laws.proofs.watches_lemmas.Marks as marks
 use Rattle.zfront_laws.proofs.watches_lemmas.Owners.{OwnersAre}
 use Rattle.zfront_laws.proofs.watches_lemmas.Scenes.{happens_both}
 use Rattle.zfront_laws.proofs.watches_lemmas.Standing.{Fewer, closed_fewer, sent_watches, sent_attachments}
 
--- the server's tables and tree are those of the scene, where a look may be due
-pub record AtIf (must : Bool) (v : FrontView) (s : Scene) : Type 0 where
+-- the server's tables and tree are those of the scene; the watches may know the nodes of an earlier front only
+pub record AtIf (since : Option FrontView) (v : FrontView) (s : Scene) : Type 0 where
   pub tables : s.tables ≡ v.tables
   pub tree : tree_of s ≡ v.tree
-  pub holds : Holds must (tree_of s) s.set_at s.tables
+  pub holds : Holds since (tree_of s) s.set_at s.tables
 
--- where none is due
+-- where they know those of now
 abbrev pub At : FrontView → Scene → Type 0
-At v s = AtIf false v s
+At v s = AtIf None v s
 
 -- a connection is closed, or ends
-pub shuts : (must : Bool) (v : FrontView) (s : Scene) (to : TablesView → TablesView) → AtIf must v s → Fewer s.tables (to s.tables)
-    → Keeps s.tables.attachments (to s.tables).attachments → AtIf must (with_tables (to v.tables) v) (record s { tables = to s.tables })
-shuts must v s to there fewer kept = record {
+pub shuts : (since : Option FrontView) (v : FrontView) (s : Scene) (to : TablesView → TablesView) → AtIf since v s → Fewer s.tables (to s.tables)
+    → Keeps s.tables.attachments (to s.tables).attachments → AtIf since (with_tables (to v.tables) v) (record s { tables = to s.tables })
+shuts since v s to there fewer kept = record {
   tables = ap to there.tables;
   tree = there.tree;
-  holds = fewer_holds must (tree_of s) s.set_at s.tables (to s.tables) fewer
+  holds = fewer_holds since (tree_of s) s.set_at s.tables (to s.tables) fewer
       (owners_kept s.tables.attachments (to s.tables).attachments (tree_of s).nodes kept) there.holds;
 }
 
 -- something is sent
-pub sends : (must : Bool) (v : FrontView) (s : Scene) (c : ℕ) (bytes : List ℕ) → AtIf must v s
-    → AtIf must (with_tables (sent c bytes v.tables) v) (record s { tables = sent c bytes s.tables })
-sends must v s c bytes there = record {
+pub sends : (since : Option FrontView) (v : FrontView) (s : Scene) (c : ℕ) (bytes : List ℕ) → AtIf since v s
+    → AtIf since (with_tables (sent c bytes v.tables) v) (record s { tables = sent c bytes s.tables })
+sends since v s c bytes there = record {
   tables = ap (sent c bytes) there.tables;
   tree = there.tree;
-  holds = fewer_holds must (tree_of s) s.set_at s.tables (sent c bytes s.tables)
+  holds = fewer_holds since (tree_of s) s.set_at s.tables (sent c bytes s.tables)
       (λ w is. ap (λ table. contains table w) (sym (sent_watches c bytes s.tables)) ∙ is)
       (subst (λ m. OwnersAre (Marked m) (tree_of s).nodes) (sym (sent_attachments c bytes s.tables)))
       there.holds;
 }
 
--- where no look is due, everything was reported to all watches
+-- there everything was reported to all watches
 pub all_reported : (v : FrontView) (s : Scene) (c : ℕ) → At v s → HasReportedAll s c
-all_reported v s c there w stands mine = settled (tree_of s) (s.set_at w) w.kind w.path (there.holds.seen w stands)
+all_reported v s c there w stands mine = there.holds.seen w stands
 
 -- things happen, with these calls in the log, and then the server is there
-pub record Arrives (Renews : Renewals) (must : Bool) (v : FrontView) (s : Scene) (more : Log) : Type 0 where
+pub record Arrives (Asks : Asking) (since : Option FrontView) (v : FrontView) (s : Scene) (more : Log) : Type 0 where
   pub happenings : List Happening
   pub scene : Scene
-  pub happens : Happens Renews happenings s scene
+  pub happens : Happens Asks happenings s scene
   pub log : scene.log ≡ s.log ++ more
-  pub there : AtIf must v scene
+  pub there : AtIf since v scene
 
-abbrev pub Reaches : Renewals → FrontView → Scene → Log → Type 0
-Reaches Renews v s more = Arrives Renews false v s more
+abbrev pub Reaches : Asking → FrontView → Scene → Log → Type 0
+Reaches Asks v s more = Arrives Asks None v s more
 
-module _ {Renews : Renewals} where
+module _ {Asks : Asking} where
   -- one thing happens, and no call is made
-  pub once : (must : Bool) (v : FrontView) (s : Scene) (h : Happening) (t : Scene) → Happens Renews (h ∷ []) s t → t.log ≡ s.log → AtIf must v t
-      → Arrives Renews must v s []
-  once must v s h t has same there =
+  pub once : (since : Option FrontView) (v : FrontView) (s : Scene) (h : Happening) (t : Scene) → Happens Asks (h ∷ []) s t → t.log ≡ s.log → AtIf since v t
+      → Arrives Asks since v s []
+  once since v s h t has same there =
       record { happenings = h ∷ []; scene = t; happens = has; log = same ∙ sym (append-nil s.log); there = there }
 
-  pub stays : (must : Bool) (v : FrontView) (s : Scene) → AtIf must v s → Arrives Renews must v s []
-  stays must v s there = record { happenings = []; scene = s; happens = refl; log = sym (append-nil s.log); there = there }
+  pub stays : (since : Option FrontView) (v : FrontView) (s : Scene) → AtIf since v s → Arrives Asks since v s []
+  stays since v s there = record { happenings = []; scene = s; happens = refl; log = sym (append-nil s.log); there = there }
 
   -- after things that happened before
-  precede : (n : Bool) (w : FrontView) (s t : Scene) (hs : List Happening) (first more : Log) → Happens Renews hs s t → t.log ≡ s.log ++ first
-      → Arrives Renews n w t more → Arrives Renews n w s (first ++ more)
+  precede : (n : Option FrontView) (w : FrontView) (s t : Scene) (hs : List Happening) (first more : Log) → Happens Asks hs s t → t.log ≡ s.log ++ first
+      → Arrives Asks n w t more → Arrives Asks n w s (first ++ more)
   precede n w s t hs first more has goes rest = record {
     happenings = hs ++ rest.happenings;
     scene = rest.scene;
-    happens = happens_both Renews hs rest.happenings s t rest.scene has rest.happens;
+    happens = happens_both Asks hs rest.happenings s t rest.scene has rest.happens;
     log = rest.log ∙ ap (λ log. log ++ more) goes ∙ append_assoc s.log first more;
     there = rest.there;
   }
 
-  pub behind : (m n : Bool) (v w : FrontView) (s : Scene) (first more : Log) → Arrives Renews m v s first
-      → ((t : Scene) → AtIf m v t → Arrives Renews n w t more)
-      → Arrives Renews n w s (first ++ more)
+  pub behind : (m n : Option FrontView) (v w : FrontView) (s : Scene) (first more : Log) → Arrives Asks m v s first
+      → ((t : Scene) → AtIf m v t → Arrives Asks n w t more)
+      → Arrives Asks n w s (first ++ more)
   behind m n v w s first more one next =
       precede n w s one.scene one.happenings first more one.happens one.log (next one.scene one.there)
 
   -- after which no call is made
-  pub still : (m n : Bool) (v w : FrontView) (s : Scene) (first : Log) → Arrives Renews m v s first → ((t : Scene) → AtIf m v t → Arrives Renews n w t [])
-      → Arrives Renews n w s first
-  still m n v w s first one next = subst (Arrives Renews n w s) (append-nil first) (behind m n v w s first [] one next)
+  pub still : (m n : Option FrontView) (v w : FrontView) (s : Scene) (first : Log) → Arrives Asks m v s first → ((t : Scene) → AtIf m v t → Arrives Asks n w t [])
+      → Arrives Asks n w s first
+  still m n v w s first one next = subst (Arrives Asks n w s) (append-nil first) (behind m n v w s first [] one next)
 
   -- calls are made, and then none
-  pub called : (w : FrontView) (s t : Scene) (hs : List Happening) (first : Log) → Happens Renews hs s t → t.log ≡ s.log ++ first
-      → Reaches Renews w t [] → Reaches Renews w s first
-  called w s t hs first has goes rest = subst (Reaches Renews w s) (append-nil first) (precede false w s t hs first [] has goes rest)
+  pub called : (w : FrontView) (s t : Scene) (hs : List Happening) (first : Log) → Happens Asks hs s t → t.log ≡ s.log ++ first
+      → Reaches Asks w t [] → Reaches Asks w s first
+  called w s t hs first has goes rest = subst (Reaches Asks w s) (append-nil first) (precede None w s t hs first [] has goes rest)
 
   -- what a server became
-  pub becomes : (new like : FrontView) (s : Scene) (more : Log) → new ≡ like → Reaches Renews like s more → Reaches Renews new s more
-  becomes new like s more is has = subst (λ (v : FrontView). Reaches Renews v s more) (sym is) has
+  pub becomes : (new like : FrontView) (s : Scene) (more : Log) → new ≡ like → Reaches Asks like s more → Reaches Asks new s more
+  becomes new like s more is has = subst (λ (v : FrontView). Reaches Asks v s more) (sym is) has
 
   -- the tables move
-  pub moves_if : (must : Bool) (v : FrontView) (s : Scene) (t : TablesView) → AtIf must v s → IsMoved v.tables t
+  pub moves_if : (since : Option FrontView) (v : FrontView) (s : Scene) (t : TablesView) → AtIf since v s → IsMoved v.tables t
       → (OwnersAre (Marked v.tables.attachments) v.tree.nodes → OwnersAre (Marked t.attachments) v.tree.nodes)
-      → Arrives Renews must (with_tables t v) s []
-  moves_if must v s t there moved owners =
-      once must (with_tables t v) s (Moved t) (after (Moved t) s) (subst (λ old. IsMoved old t) (sym there.tables) moved, refl) refl (record {
+      → Arrives Asks since (with_tables t v) s []
+  moves_if since v s t there moved owners =
+      once since (with_tables t v) s (Moved t) (after (Moved t) s) (subst (λ old. IsMoved old t) (sym there.tables) moved, refl) refl (record {
         tables = refl;
         tree = there.tree;
-        holds = fewer_holds must (tree_of s) s.set_at s.tables t
+        holds = fewer_holds since (tree_of s) s.set_at s.tables t
             (λ w is. ap (λ (u : TablesView). contains u.watches w) there.tables ∙ ap (λ table. contains table w) (sym moved.watches) ∙ is)
             (λ all.
             subst (λ (u : Tree). OwnersAre (Marked t.attachments) u.nodes) (sym there.tree)
@@ -125,41 +126,41 @@ module _ {Renews : Renewals} where
       })
 
   -- and its sessions keep their marks
-  pub moves : (must : Bool) (v : FrontView) (s : Scene) (t : TablesView) → AtIf must v s → IsMoved v.tables t → Keeps v.tables.attachments t.attachments
-      → Arrives Renews must (with_tables t v) s []
-  moves must v s t there moved kept = moves_if must v s t there moved (owners_kept v.tables.attachments t.attachments v.tree.nodes kept)
+  pub moves : (since : Option FrontView) (v : FrontView) (s : Scene) (t : TablesView) → AtIf since v s → IsMoved v.tables t → Keeps v.tables.attachments t.attachments
+      → Arrives Asks since (with_tables t v) s []
+  moves since v s t there moved kept = moves_if since v s t there moved (owners_kept v.tables.attachments t.attachments v.tree.nodes kept)
 
   -- a connection is closed
-  pub closes : (must : Bool) (v : FrontView) (s : Scene) (c : ℕ) → AtIf must v s → Arrives Renews must (with_tables (closed c v.tables) v) s []
-  closes must v s c there =
-      once must (with_tables (closed c v.tables) v) s (Closed c) (after (Closed c) s) (tt, refl) refl
-      (shuts must v s (closed c) there (closed_fewer c s.tables) (marks.closed_keeps c s.tables))
+  pub closes : (since : Option FrontView) (v : FrontView) (s : Scene) (c : ℕ) → AtIf since v s → Arrives Asks since (with_tables (closed c v.tables) v) s []
+  closes since v s c there =
+      once since (with_tables (closed c v.tables) v) s (Closed c) (after (Closed c) s) (tt, refl) refl
+      (shuts since v s (closed c) there (closed_fewer c s.tables) (marks.closed_keeps c s.tables))
 
   -- something is sent, by something that happens
-  pub sends_as : (must : Bool) (v : FrontView) (s : Scene) (c : ℕ) (bytes : List ℕ) (h : Happening) → May Renews h s
-      → after h s ≡ record s { tables = sent c bytes s.tables } → AtIf must v s → Arrives Renews must (with_tables (sent c bytes v.tables) v) s []
-  sends_as must v s c bytes h may is there =
-      once must (with_tables (sent c bytes v.tables) v) s h (record s { tables = sent c bytes s.tables }) (may, sym is) refl
-      (sends must v s c bytes there)
+  pub sends_as : (since : Option FrontView) (v : FrontView) (s : Scene) (c : ℕ) (bytes : List ℕ) (h : Happening) → May Asks h s
+      → after h s ≡ record s { tables = sent c bytes s.tables } → AtIf since v s → Arrives Asks since (with_tables (sent c bytes v.tables) v) s []
+  sends_as since v s c bytes h may is there =
+      once since (with_tables (sent c bytes v.tables) v) s h (record s { tables = sent c bytes s.tables }) (may, sym is) refl
+      (sends since v s c bytes there)
 
   -- an answer
-  answers : (must : Bool) (v : FrontView) (s : Scene) (c : ℕ) (xid : ℤ) (answer : Answer) → AtIf must v s → (HasReportedAll s c ⊎ IsClose s c)
-      → Arrives Renews must (with_tables (sent c (answer_frame v.tree.zxid xid answer) v.tables) v) s []
-  answers must v s c xid answer there may =
-      sends_as must v s c (answer_frame v.tree.zxid xid answer) (Answered c xid answer) may
+  answers : (since : Option FrontView) (v : FrontView) (s : Scene) (c : ℕ) (xid : ℤ) (answer : Answer) → AtIf since v s → (HasReportedAll s c ⊎ IsClose s c)
+      → Arrives Asks since (with_tables (sent c (answer_frame v.tree.zxid xid answer) v.tables) v) s []
+  answers since v s c xid answer there may =
+      sends_as since v s c (answer_frame v.tree.zxid xid answer) (Answered c xid answer) may
       (ap (λ (t : Tree). record s { tables = sent c (answer_frame t.zxid xid answer) s.tables }) there.tree) there
 
   -- and after one that ends the connection it is closed
-  pub replies : (must : Bool) (v : FrontView) (s : Scene) (c : ℕ) (xid : ℤ) (answer : Answer) → AtIf must v s → (HasReportedAll s c ⊎ IsClose s c)
-      → Arrives Renews must (with_tables (replied v.tree.zxid c xid answer v.tables) v) s []
-  replies must v s c xid answer there may = elim (ends_connection answer.code) as (λ b. Arrives Renews must (with_tables (
+  pub replies : (since : Option FrontView) (v : FrontView) (s : Scene) (c : ℕ) (xid : ℤ) (answer : Answer) → AtIf since v s → (HasReportedAll s c ⊎ IsClose s c)
+      → Arrives Asks since (with_tables (replied v.tree.zxid c xid answer v.tables) v) s []
+  replies since v s c xid answer there may = elim (ends_connection answer.code) as (λ b. Arrives Asks since (with_tables (
       if b
       then closed c (sent c (answer_frame v.tree.zxid xid answer) v.tables)
       else sent c (answer_frame v.tree.zxid xid answer) v.tables
       ) v) s []) [
         | true ↦
             let t = sent c (answer_frame v.tree.zxid xid answer) v.tables in
-            still must must (with_tables t v) (with_tables (closed c t) v) s [] (answers must v s c xid answer there may)
-            (λ next here. closes must (with_tables t v) next c here)
-        | false ↦ answers must v s c xid answer there may
+            still since since (with_tables t v) (with_tables (closed c t) v) s [] (answers since v s c xid answer there may)
+            (λ next here. closes since (with_tables t v) next c here)
+        | false ↦ answers since v s c xid answer there may
       ]

@@ -1,18 +1,20 @@
--- The calls of a request that re-registers watches: each is the query of a path that it names.
-use Rattle.std.proofs.Common.{◌≡◌, ◌∙◌, ℕ, List, [], ◌∷◌, ◌++◌, length, take, drop, Some, Ok, Err, refl, ap, subst, inl, inr, append_assoc}
+-- The calls of a request of watches: each is the query of a path that it names.
+use Rattle.std.proofs.Common.{◌≡◌, ◌∙◌, ℕ, List, [], ◌∷◌, ◌++◌, length, take, drop, Option, Some, None, Ok, Err, refl, ap, subst, inl, inr, append_assoc}
 use Rattle.std.specs.Prelude.{nat_lt}
 use Rattle.std.specs.List.{AllByRecursion}
 use Rattle.zcalls.specs.declared.call.Call.{Call}
 use Rattle.zcalls.specs.declared.call.Call.TheVariants.{Update, Query}
 use Rattle.zcalls.specs.declared.call.Query.TheVariants.{Exists, GetData, GetChildren}
-use Rattle.zjute.specs.declared.code.Code.TheVariants.{BadArguments}
+use Rattle.zjute.specs.declared.code.Code.TheVariants.{BadArguments, MarshallingError}
 use Rattle.zjute.specs.declared.request.Asked.{Asked}
 use Rattle.zjute.specs.declared.request.Asked.TheVariants as asked
 use Rattle.zjute.specs.declared.request.SetWatches.{SetWatches}
+use Rattle.zjute.specs.declared.request.SetWatches2.{SetWatches2}
+use Rattle.zjute.specs.WatchNumbers.{mode_of, type_of}
 use Rattle.zrequests.specs.declared.fault.Unasked.TheVariants.{Refused}
 use Rattle.zrequests.specs.declared.limits.TheConstants.{MAX_PATHS}
 use Rattle.zrequests.specs.Asking.{Meaning, then_means, each_in, path_in}
-use Rattle.zrequests.specs.Requests.{watch_in, watched_in, calls_in}
+use Rattle.zrequests.specs.Requests.{all_watched_in, calls_in, numbered_in, one, query_in, watch_in, watched_in}
 use Rattle.zrequests.proofs.Meanings.{choice, done, never, through}
 use Rattle.zwatches.specs.declared.kind.Kind.{Kind}
 use Rattle.zwatches.specs.declared.kind.Kind.TheVariants.{Data, Missing, Children}
@@ -74,6 +76,7 @@ abbrev pub list_of : Kind → SetWatches → List (List ℕ)
 list_of Data set = set.data_watches
 list_of Missing set = set.exist_watches
 list_of Children set = set.child_watches
+list_of other set = []
 
 -- the calls of a request that re-registers watches: those of each list, in order
 pub record AsksAgain (set : SetWatches) (calls : List Call) : Type 0 where
@@ -96,9 +99,55 @@ asks_again set calls is =
       of_children = all_ask of_children (drop (length of_missing) rest) second.1;
     }
 
--- where a request re-registers watches, its calls are those
+-- the same with watches that stay
+pub record AsksEach (all : SetWatches2) (calls : List Call) : Type 0 where
+  pub of_once : AsksAgain all.watches (take (length (watched_in all.watches)) calls)
+  pub of_persistent : AllByRecursion (AsksOf all.persistent_watches)
+      (take (length all.persistent_watches) (drop (length (watched_in all.watches)) calls))
+  pub of_recursive : AllByRecursion (AsksOf all.recursive_watches)
+      (drop (length all.persistent_watches) (drop (length (watched_in all.watches)) calls))
+
+asks_each : (all : SetWatches2) (calls : List Call) → each_in watch_in (all_watched_in all) ≡ Ok calls → AsksEach all calls
+asks_each all calls is =
+    let of_once = watched_in all.watches in
+    let persistent = all.persistent_watches in
+    let recursive = all.recursive_watches in
+    let rest = drop (length of_once) calls in
+    let first =
+    parts watch_in of_once (persistent ++ recursive) calls
+    (subst (λ texts. each_in watch_in texts ≡ Ok calls) (append_assoc of_once persistent recursive) is) in
+    let second = parts watch_in persistent recursive rest first.1 in
+    record {
+      of_once = asks_again all.watches (take (length of_once) calls) first.0;
+      of_persistent = all_ask persistent (take (length persistent) rest) second.0;
+      of_recursive = all_ask recursive (drop (length persistent) rest) second.1;
+    }
+
+-- the call asks whether the node exists that this text names
+abbrev pub AsksAt : Option (List ℕ) → Call → Type 0
+AsksAt text (Query (Exists path)) = path_in text ≡ Ok path
+AsksAt text other = Unit {0}
+
+-- the first call asks so
+abbrev pub FirstAsks : Option (List ℕ) → List Call → Type 0
+FirstAsks text [] = Unit {0}
+FirstAsks text (call ∷ calls) = AsksAt text call
+
+first_ask : {A : Type 0} (known : Option A) (text : Option (List ℕ)) (calls : List Call) → numbered_in known text ≡ Ok calls → FirstAsks text calls
+first_ask None text = never (FirstAsks text) (Refused MarshallingError)
+first_ask (Some known) text =
+    through (AsksAt text) (FirstAsks text) (query_in Exists text) one
+    (through (λ path. path_in text ≡ Ok path) (AsksAt text) (path_in text) (λ path. Ok (Query (Exists path)))
+    (λ path is. is)
+    (λ path is. done (AsksAt text) (Query (Exists path)) is))
+    (λ call asks. done (FirstAsks text) (call ∷ []) asks)
+
+-- where a request is of watches, its calls are those
 abbrev pub AsksIf : Asked → List Call → Type 0
 AsksIf (asked.SetWatches set) calls = AsksAgain set calls
+AsksIf (asked.SetWatches2 all) calls = AsksEach all calls
+AsksIf (asked.AddWatch add) calls = FirstAsks add.path calls
+AsksIf (asked.RemoveWatches at) calls = FirstAsks at.path calls
 AsksIf other calls = Unit {0}
 
 pub asks_if : (tick session : ℕ) (asks : Asked) (calls : List Call) → calls_in tick session asks ≡ Ok calls → AsksIf asks calls
@@ -106,4 +155,10 @@ asks_if tick session (asked.SetWatches set) =
     choice (AsksAgain set) (nat_lt MAX_PATHS (length (watched_in set))) (Err (Refused BadArguments)) (each_in watch_in (watched_in set))
     (never (AsksAgain set) (Refused BadArguments))
     (asks_again set)
+asks_if tick session (asked.SetWatches2 all) =
+    choice (AsksEach all) (nat_lt MAX_PATHS (length (all_watched_in all))) (Err (Refused BadArguments)) (each_in watch_in (all_watched_in all))
+    (never (AsksEach all) (Refused BadArguments))
+    (asks_each all)
+asks_if tick session (asked.AddWatch add) = first_ask (mode_of add.mode) add.path
+asks_if tick session (asked.RemoveWatches at) = first_ask (type_of at.kind) at.path
 asks_if tick session other = λ calls is. tt

@@ -1,5 +1,5 @@
 -- A server at a scene, where a request is done.
-use Rattle.std.proofs.Common.{◌≡◌, ◌∙◌, ℕ, true, false, List, [], ◌∷◌, Some, Result, Ok, Err, refl, sym, ap, subst, inl, inr, ◌++◌}
+use Rattle.std.proofs.Common.{◌≡◌, ◌∙◌, ℕ, true, false, List, [], ◌∷◌, Some, None, Result, Ok, Err, refl, sym, ap, subst, inl, inr, ◌++◌}
 use Rattle.std.specs.Prelude.{◌⊎◌, ◌||◌, if◌then◌else◌}
 use Rattle.std.specs.List.{AllByRecursion, list_any}
 use Rattle.zcodec.specs.Readers.{whole}
@@ -9,7 +9,7 @@ use Rattle.ztree.specs.Tree.{Tree}
 use Rattle.zcalls.specs.declared.call.Call.{Call}
 use Rattle.zcalls.specs.declared.call.Call.TheVariants.{Update, Query}
 use Rattle.zcalls.specs.declared.call.Lifetime.{Lifetime}
-use Rattle.zcalls.specs.declared.call.Lifetime.TheVariants.{Persistent, WithTtl, Ephemeral}
+use Rattle.zcalls.specs.declared.call.Lifetime.TheVariants.{Persistent, WithTtl, Ephemeral, Container}
 use Rattle.zcalls.specs.declared.call.Part.{Part}
 use Rattle.zcalls.specs.declared.call.Part.TheVariants as part
 use Rattle.zcalls.specs.declared.call.Update.{Update as Act}
@@ -21,7 +21,7 @@ use Rattle.zcalls.specs.Step.{step}
 use Rattle.zwatches.specs.changes.Laws.{takes_away}
 use Rattle.zjute.specs.Asking.{request}
 use Rattle.zjute.specs.declared.request.Request.{Request}
-use Rattle.zjute.specs.declared.request.SetWatches.{SetWatches}
+use Rattle.zjute.specs.declared.request.Asked.{Asked}
 use Rattle.zrequests.specs.Asking.{Meaning}
 use Rattle.zrequests.specs.Laws.{CallIsFor, UpdateIsFor, PartIsFor, IsForSession}
 use Rattle.zrequests.specs.Requests.{calls_in}
@@ -37,27 +37,29 @@ use Rattle.zconnections.specs.Tables.{TablesView, closed, sent}
 use Rattle.zresponses.specs.effects.Answering.{answer_unless, granted_and_answered, now_of}
 use Rattle.zresponses.specs.effects.Replying.{absorbed_all, replied}
 use Rattle.zresponses.specs.effects.Frames.{answer_frame, ends_connection}
-use Rattle.zresponses.specs.effects.Watching.{granted_all, some_lacked}
+use Rattle.zresponses.specs.effects.Watching.{granted_all, first_fault}
 use Rattle.zresponses.specs.effects.Wishes.{wishes}
-use Rattle.zfront.specs.Front.{FrontView, with_tables, asked, replies_to, may_end, swept, took_unnamed, LooksIf, TidiesIf, takes_nodes}
+use Rattle.zfront.specs.Front.{FrontView, with_tables, asked, replies_to, may_end, takes_nodes, tidied_if, watched}
 use Rattle.zfront.specs.Requests.{touched_by, with_answer, Makes, Acts, Requests, Serves}
 use Rattle.zfront_laws.specs.Logs.{done_by, meant, request_calls}
 use Rattle.zfront_laws.proofs.Seated.{Has}
-use Rattle.zfront_laws.specs.watches.Laws.{IsRenewal}
-use Rattle.zfront_laws.specs.watches.Watching.{Scene, Renewals, HasReportedAll, IsClose}
-use Rattle.zfront_laws.proofs.watches_lemmas.Granting.{RenewsIf, granted_answers, no_wish_grants, wishes_grant}
-use Rattle.zfront_laws.proofs.watches_lemmas.Holding.{UpdateNames, absorbing}
+use Rattle.zfront_laws.specs.watches.Laws.{IsRequest}
+use Rattle.zfront_laws.specs.watches.Watching.{Scene, Asking, HasReportedAll, IsClose}
+use Rattle.zfront_laws.proofs.watches_lemmas.Granting.{granted_answers, no_wish_grants}
+use Rattle.zfront_laws.proofs.watches_lemmas.Holding.{absorbing}
+use Rattle.zfront_laws.proofs.watches_lemmas.Owning.{UpdateNames}
 use Rattle.zfront_laws.proofs.watches_lemmas.Marks.{Known, Keeps, unchanged, closed_keeps, touched_keeps}
 use Rattle.zfront_laws.proofs.watches_lemmas.Moving.{attachments_move}
 use Rattle.zfront_laws.proofs.watches_lemmas.Owners.{PartNames}
-use Rattle.zfront_laws.proofs.watches_lemmas.Reaching.{At, Reaches, all_reported, becomes, behind, moves, replies, still, closes}
+use Rattle.zfront_laws.proofs.watches_lemmas.Reaching.{At, AtIf, Reaches, all_reported, becomes, behind, moves, replies, still, closes}
 use Rattle.zfront_laws.proofs.watches_lemmas.Renewing.{AsksIf, asks_if}
 use Rattle.zfront_laws.proofs.watches_lemmas.Scenes.{is_lawful}
 use Rattle.zfront_laws.proofs.watches_lemmas.Sorting.{Sorts, sorts}
 use Rattle.zfront_laws.proofs.watches_lemmas.Standing.{sent_attachments}
 use Rattle.zfront_laws.proofs.watches_lemmas.Taking.{close_takes}
-use Rattle.zfront_laws.proofs.watches_lemmas.Tidying.{Gone, tidies}
-use Rattle.zfront_laws.proofs.watches_lemmas.Updating.{Taken, absorbs, behind_calls, close_does, next, nothing_taken, taken}
+use Rattle.zfront_laws.proofs.watches_lemmas.Tidying.{Gone, Lost, tidies}
+use Rattle.zfront_laws.proofs.watches_lemmas.Updating.{absorbs, behind_calls, close_does, next, nothing_taken, taken}
+use Rattle.zfront_laws.proofs.watches_lemmas.Wished.{wishes_grant}
 use Rattle.zfront_laws.proofs.watches_lemmas.Wishing.{AreOf, AreQueries, served_are_of}
 
 -- ---- queries
@@ -81,13 +83,13 @@ absorbed_queries (Update update ∷ calls) (reply ∷ reported) t all = absurd a
 
 module _ (c : ℕ) (asks : Request) where
   -- queries set watches, and are answered
-  makes_queries : {Renews : Renewals} (calls : List Call) (old new : FrontView) (s : Scene) → RenewsIf Renews c asks.asked → AsksIf asks.asked calls
-      → AreQueries calls → At old s → Makes calls c asks old new → Reaches Renews new s (done_by calls old)
-  makes_queries {Renews} calls old new s renewed named all there has =
+  makes_queries : {Asks : Asking} (calls : List Call) (old new : FrontView) (s : Scene) → Asks c asks.asked → AsksIf asks.asked calls
+      → AreQueries calls → At old s → Makes calls c asks old new → Reaches Asks new s (done_by calls old)
+  makes_queries {Asks} calls old new s mine named all there is =
       becomes new (with_answer calls c asks old) s (done_by calls old)
-      (subst (λ b. TidiesIf b reported (with_answer calls c asks old) new) (never_end calls all) has)
+      (is ∙ ap (λ b. tidied_if b reported (watched old) (with_answer calls c asks old)) (never_end calls all))
       (behind_calls calls old s there (with_answer calls c asks old)
-      (subst (λ t. Reaches Renews (with_tables (granted_and_answered old.clock (now_of v.tree) c asks calls reported t) v) (next calls old s there) [])
+      (subst (λ t. Reaches Asks (with_tables (granted_and_answered old.clock (now_of v.tree) c asks calls reported t) v) (next calls old s there) [])
       (sym (absorbed_queries calls reported old.tables all)) granted))
     where
       reported : List Reply
@@ -99,10 +101,10 @@ module _ (c : ℕ) (asks : Request) where
       same : v.tree ≡ old.tree
       same = same_tree old.tree calls all
 
-      granted : Reaches Renews (with_tables (granted_and_answered old.clock (now_of v.tree) c asks calls reported old.tables) v) (next calls old s there) []
+      granted : Reaches Asks (with_tables (granted_and_answered old.clock (now_of v.tree) c asks calls reported old.tables) v) (next calls old s there) []
       granted =
           granted_answers v (next calls old s there) c asks calls reported (nothing_taken calls old s there (ap (λ (t : Tree). t.nodes) same))
-          (wishes_grant c v.tree asks.asked calls reported renewed named (subst (λ t. AreOf t calls reported) (sym same) (served_are_of old.tree calls all)))
+          (wishes_grant c v.tree asks.asked calls reported mine named (subst (λ t. AreOf t calls reported) (sym same) (served_are_of old.tree calls all)))
 
   -- an update, which sets no watch
   module _ (u : Act) (old new : FrontView) (s : Scene) (no_watch : (reported : List Reply) → wishes asks.asked (Update u ∷ []) reported ≡ [])
@@ -117,18 +119,18 @@ module _ (c : ℕ) (asks : Request) where
     v = asked calls old
 
     -- it takes nothing away
-    updates : {Renews : Renewals} → takes_away u ≡ false → UpdateNames (Known s.tables.attachments) u → new ≡ with_answer calls c asks old → Reaches Renews new s (done_by calls old)
+    updates : {Asks : Asking} → takes_away u ≡ false → UpdateNames (Known s.tables.attachments) u → new ≡ with_answer calls c asks old → Reaches Asks new s (done_by calls old)
     updates stays names is =
         let w = with_tables (absorbing u reported old.tables) v in
         becomes new (with_answer calls c asks old) s (done_by calls old) is
-        (still false false w (with_answer calls c asks old) s (done_by calls old) (absorbs old s u there stays names)
+        (still None None w (with_answer calls c asks old) s (done_by calls old) (absorbs old s u there stays names)
         (λ last here.
         granted_answers w last c asks calls (reported ∷ []) here
         (no_wish_grants c asks.asked calls (reported ∷ []) w.tree.nodes (no_watch (reported ∷ [])))))
 
     -- the answer to one that may take something away
     abbrev answer : Answer
-    answer = answer_unless false old.clock (now_of v.tree) asks.asked calls (reported ∷ [])
+    answer = answer_unless None old.clock (now_of v.tree) asks.asked calls (reported ∷ [])
 
     abbrev answered : FrontView
     answered = with_tables (replied v.tree.zxid c asks.xid answer old.tables) v
@@ -136,7 +138,7 @@ module _ (c : ℕ) (asks : Request) where
     no_wishes : with_tables (granted_and_answered old.clock (now_of v.tree) c asks calls (reported ∷ []) old.tables) v ≡ answered
     no_wishes =
         ap (λ ws. with_tables (replied v.tree.zxid c asks.xid
-        (answer_unless (some_lacked c ws old.tables) old.clock (now_of v.tree) asks.asked calls (reported ∷ [])) (granted_all c ws old.tables)) v)
+        (answer_unless (first_fault c ws old.tables) old.clock (now_of v.tree) asks.asked calls (reported ∷ [])) (granted_all c ws old.tables)) v)
         (no_watch (reported ∷ []))
 
     -- it is answered, and what it took away is reported
@@ -148,23 +150,29 @@ module _ (c : ℕ) (asks : Request) where
           | false ↦ subst (Keeps t.attachments) (sym (sent_attachments c (answer_frame v.tree.zxid asks.xid answer) t)) (unchanged t.attachments)
         ]
 
-    ends : {Renews : Renewals} (took : Taken v (next calls old s there) (takes_nodes reported)) → (HasReportedAll (next calls old s there) c ⊎ IsClose (next calls old s there) c)
-        → LooksIf (took_unnamed (reported ∷ []) answered) (swept answered) new → Reaches Renews new s (done_by calls old)
-    ends took may has =
-        behind_calls calls old s there new
-        (behind took.must false answered new (next calls old s there) [] []
-        (replies took.must v (next calls old s there) c asks.xid answer took.there may)
-        (λ last here. tidies took.must (reported ∷ []) answered new last here (λ due. why (took.why due)) has))
+    ends : {Asks : Asking} → AtIf (Some old) v (next calls old s there) → Lost old v (takes_nodes reported)
+        → (HasReportedAll (next calls old s there) c ⊎ IsClose (next calls old s there) c)
+        → new ≡ tidied_if true (reported ∷ []) (watched old) answered → Reaches Asks new s (done_by calls old)
+    ends here lost may is =
+        becomes new (tidied_if true (reported ∷ []) (watched old) answered) s (done_by calls old) is
+        (behind_calls calls old s there (tidied_if true (reported ∷ []) (watched old) answered)
+        (behind (Some old) None answered (tidied_if true (reported ∷ []) (watched old) answered) (next calls old s there) [] []
+        (replies (Some old) v (next calls old s there) c asks.xid answer here may)
+        (λ last this. tidies (reported ∷ []) old answered last this (still_lost lost))))
       where
         why : (takes_nodes reported ≡ true) ⊎ Gone v → (list_any takes_nodes (reported ∷ []) ≡ true) ⊎ Gone answered
         why (inl some) = inl (ap (λ b. b || false) some)
         why (inr (id, gone, made)) = inr (id, gone, (replied_keeps old.tables).marks id made)
 
+        still_lost : Lost old v (takes_nodes reported) → Lost old answered (list_any takes_nodes (reported ∷ []))
+        still_lost (inl same) = inl same
+        still_lost (inr (loses, reason)) = inr (loses, why reason)
+
   -- a close
-  closes_session : {Renews : Renewals} (session : ℕ) (old new : FrontView) (s : Scene) → phase_of old.tables.streams c ≡ Some (Speaking session)
+  closes_session : {Asks : Asking} (session : ℕ) (old new : FrontView) (s : Scene) → phase_of old.tables.streams c ≡ Some (Speaking session)
       → ((reported : List Reply) → wishes asks.asked (Update (act.Close session) ∷ []) reported ≡ []) → At old s
-      → Makes (Update (act.Close session) ∷ []) c asks old new → Reaches Renews new s (done_by (Update (act.Close session) ∷ []) old)
-  closes_session {Renews} session old new s speaks no_watch there has = by (close_does old.tree session)
+      → Makes (Update (act.Close session) ∷ []) c asks old new → Reaches Asks new s (done_by (Update (act.Close session) ∷ []) old)
+  closes_session {Asks} session old new s speaks no_watch there is = by (close_does old.tree session)
     where
       u : Act
       u = act.Close session
@@ -172,32 +180,35 @@ module _ (c : ℕ) (asks : Request) where
       then_scene : Scene
       then_scene = next (Update u ∷ []) old s there
 
+      reported : Reply
+      reported = (step old.tree 0 u).1
+
       done : FrontView
       done = answered u old new s no_watch there
 
-      looks : LooksIf (took_unnamed ((step old.tree 0 u).1 ∷ []) done) (swept done) new
-      looks = subst (λ w. LooksIf (took_unnamed ((step old.tree 0 u).1 ∷ []) w) (swept w) new) (no_wishes u old new s no_watch there) has
+      tidied : new ≡ tidied_if true (reported ∷ []) (watched old) done
+      tidied = is ∙ ap (tidied_if true (reported ∷ []) (watched old)) (no_wishes u old new s no_watch there)
 
-      by : ((step old.tree 0 u).0 ≡ old.tree) ⊎ ((step old.tree 0 u).1 ≡ reply.Closed) → Reaches Renews new s (done_by (Update u ∷ []) old)
+      took : AtIf (Some old) (asked (Update u ∷ []) old) then_scene × Lost old (asked (Update u ∷ []) old) (takes_nodes reported)
+      took = taken (Update u ∷ []) old s there (takes_nodes reported) (close_takes old.tree session (subst IsLawful there.tree (is_lawful s)))
+
+      by : ((step old.tree 0 u).0 ≡ old.tree) ⊎ ((step old.tree 0 u).1 ≡ reply.Closed) → Reaches Asks new s (done_by (Update u ∷ []) old)
       by (inl same) =
           let here = nothing_taken (Update u ∷ []) old s there (ap (λ (t : Tree). t.nodes) same) in
-          ends u old new s no_watch there (record { must = false; there = here; why = λ due. absurd (cc due) })
-          (inl (all_reported (asked (Update u ∷ []) old) then_scene c here)) looks
+          ends u old new s no_watch there took.0 took.1 (inl (all_reported (asked (Update u ∷ []) old) then_scene c here)) tidied
       by (inr ended) =
-          ends u old new s no_watch there
-          (taken (Update u ∷ []) old s there (takes_nodes (step old.tree 0 u).1)
-          (close_takes old.tree session (subst IsLawful there.tree (is_lawful s))))
+          ends u old new s no_watch there took.0 took.1
           (inr (
             s.log,
             session,
             ap (λ r. s.log ++ (Update u, r) ∷ []) ended,
             ap (λ (t : TablesView). phase_of t.streams c) there.tables ∙ speaks,
-          )) looks
+          )) tidied
 
   -- an update
-  makes_update : {Renews : Renewals} (session : ℕ) (u : Act) → UpdateIsFor session u → ((reported : List Reply) → wishes asks.asked (Update u ∷ []) reported ≡ [])
+  makes_update : {Asks : Asking} (session : ℕ) (u : Act) → UpdateIsFor session u → ((reported : List Reply) → wishes asks.asked (Update u ∷ []) reported ≡ [])
       → (old new : FrontView) (s : Scene) → phase_of old.tables.streams c ≡ Some (Speaking session) → UpdateNames (Known s.tables.attachments) u
-      → At old s → Makes (Update u ∷ []) c asks old new → Reaches Renews new s (done_by (Update u ∷ []) old)
+      → At old s → Makes (Update u ∷ []) c asks old new → Reaches Asks new s (done_by (Update u ∷ []) old)
   makes_update session (act.Create create) for no_watch old new s speaks names there is =
       updates (act.Create create) old new s no_watch there refl names is
   makes_update session (act.Delete delete) for no_watch old new s speaks names there is =
@@ -218,6 +229,7 @@ lifetime_names : (m : AttachmentsView) (session : ℕ) → Has m session → (li
     → Known m (owner_of lifetime)
 lifetime_names m session has Persistent for = inl refl
 lifetime_names m session has (WithTtl ttl) for = inl refl
+lifetime_names m session has Container for = inl refl
 lifetime_names m session has (Ephemeral owner) for = inr (subst (Has m) (sym for) has)
 
 parts_names : (m : AttachmentsView) (session : ℕ) → Has m session → (parts : List Part) → AllByRecursion (PartIsFor session) parts
@@ -243,14 +255,14 @@ update_names m session has act.Tick for = tt
 
 -- ---- a request
 
-module _ {Renews : Renewals} (c session : ℕ) (asks : Request) (renewed : RenewsIf Renews c asks.asked) where
+module _ {Asks : Asking} (c session : ℕ) (asks : Request) (mine : Asks c asks.asked) where
   makes : (made : List Call) → AsksIf asks.asked made → Sorts asks.asked made → AllByRecursion (CallIsFor session) made
       → (old new : FrontView) (s : Scene) → phase_of old.tables.streams c ≡ Some (Speaking session) → Has s.tables.attachments session → At old s
-      → Makes made c asks old new → Reaches Renews new s (done_by made old)
-  makes made named (inl all) for old new s speaks sits there has = makes_queries c asks made old new s renewed named all there has
+      → Makes made c asks old new → Reaches Asks new s (done_by made old)
+  makes made named (inl all) for old new s speaks sits there has = makes_queries c asks made old new s mine named all there has
   makes made named (inr (u, is, no_watch)) for old new s speaks sits there has =
       let own : UpdateIsFor session u = (subst (AllByRecursion (CallIsFor session)) is for).0 in
-      subst (λ cs. Reaches Renews new s (done_by cs old)) (sym is)
+      subst (λ cs. Reaches Asks new s (done_by cs old)) (sym is)
       (makes_update c asks session u own (λ reported. ap (λ cs. wishes asks.asked cs reported) (sym is) ∙ no_watch reported) old new s speaks
       (update_names s.tables.attachments session sits u own) there
       (subst (λ cs. Makes cs c asks old new) is has))
@@ -258,35 +270,35 @@ module _ {Renews : Renewals} (c session : ℕ) (asks : Request) (renewed : Renew
   acts : (meaning : Meaning (List Call)) → ((calls : List Call) → meaning ≡ Ok calls
       → AsksIf asks.asked calls × Sorts asks.asked calls × AllByRecursion (CallIsFor session) calls)
       → (old new : FrontView) (s : Scene) → phase_of old.tables.streams c ≡ Some (Speaking session) → Has s.tables.attachments session
-      → At old s → Acts meaning c asks old new → Reaches Renews new s (done_by (meant meaning) old)
+      → At old s → Acts meaning c asks old new → Reaches Asks new s (done_by (meant meaning) old)
   acts (Err (Refused code)) each old new s speaks sits there is =
       becomes new (with_tables (replied old.tree.zxid c asks.xid (failed code) old.tables) old) s [] is
-      (replies false old s c asks.xid (failed code) there (inl (all_reported old s c there)))
+      (replies None old s c asks.xid (failed code) there (inl (all_reported old s c there)))
   acts (Err Memory) each old new s speaks sits there has = absurd has
   acts (Ok calls) each old new s speaks sits there has =
       let sorted = each calls refl in
       makes calls sorted.0 sorted.1 sorted.2 old new s speaks sits there has
 
 -- a frame of a session
-requests : {Renews : Renewals} (read : Result Request Fault) (session c : ℕ) (old new : FrontView) (s : Scene)
-    → ((asks : Request) → read ≡ Ok asks → RenewsIf Renews c asks.asked) → phase_of old.tables.streams c ≡ Some (Speaking session)
-    → Has old.tables.attachments session → At old s → Requests read session c old new → Reaches Renews new s (done_by (request_calls read session old) old)
-requests (Err fault) session c old new s renewed speaks sits there is =
-    becomes new (with_tables (closed c old.tables) old) s [] is (closes false old s c there)
-requests (Ok asks) session c old new s renewed speaks sits there has =
+requests : {Asks : Asking} (read : Result Request Fault) (session c : ℕ) (old new : FrontView) (s : Scene)
+    → ((asks : Request) → read ≡ Ok asks → Asks c asks.asked) → phase_of old.tables.streams c ≡ Some (Speaking session)
+    → Has old.tables.attachments session → At old s → Requests read session c old new → Reaches Asks new s (done_by (request_calls read session old) old)
+requests (Err fault) session c old new s mine speaks sits there is =
+    becomes new (with_tables (closed c old.tables) old) s [] is (closes None old s c there)
+requests (Ok asks) session c old new s mine speaks sits there has =
     let kept = touched_keeps session old.tables.attachments in
     let t : TablesView = record old.tables { attachments = with_changed touched old.tables.attachments session } in
-    behind false false (touched_by session old) new s [] (done_by (request_calls (Ok asks) session old) old)
-    (moves false old s t there (attachments_move old.tables (with_changed touched old.tables.attachments session)) kept)
+    behind None None (touched_by session old) new s [] (done_by (request_calls (Ok asks) session old) old)
+    (moves None old s t there (attachments_move old.tables (with_changed touched old.tables.attachments session)) kept)
     (λ next here.
-    acts c session asks (renewed asks refl) (calls_in old.clock.tick session asks.asked)
+    acts c session asks (mine asks refl) (calls_in old.clock.tick session asks.asked)
     (λ calls is. (asks_if old.clock.tick session asks.asked calls is, sorts old.clock.tick session asks.asked calls is, calls_are_for_their_session old.clock.tick session asks.asked calls is))
     (touched_by session old) new next speaks
     (subst (λ (u : TablesView). Has u.attachments session) (sym here.tables) (kept.has session sits)) here has)
 
-pub serves : {Renews : Renewals} (bytes : List ℕ) (session c : ℕ) (old new : FrontView) (s : Scene)
-    → ((set : SetWatches) → IsRenewal set bytes → Renews c set) → phase_of old.tables.streams c ≡ Some (Speaking session)
+pub serves : {Asks : Asking} (bytes : List ℕ) (session c : ℕ) (old new : FrontView) (s : Scene)
+    → ((asks : Asked) → IsRequest asks bytes → Asks c asks) → phase_of old.tables.streams c ≡ Some (Speaking session)
     → Has old.tables.attachments session → At old s → Serves bytes session c old new
-    → Reaches Renews new s (done_by (request_calls (whole request bytes) session old) old)
-serves bytes session c old new s renewed speaks sits there has =
-    requests (whole request bytes) session c old new s (λ asks reads set is. renewed set (asks, reads, is)) speaks sits there has
+    → Reaches Asks new s (done_by (request_calls (whole request bytes) session old) old)
+serves bytes session c old new s mine speaks sits there has =
+    requests (whole request bytes) session c old new s (λ asks reads. mine asks.asked (asks, reads, refl)) speaks sits there has

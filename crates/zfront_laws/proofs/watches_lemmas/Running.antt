@@ -1,5 +1,5 @@
 -- A server at a scene, at any steps.
-use Rattle.std.proofs.Common.{◌≡◌, ◌∙◌, ℕ, Bool, true, false, List, [], ◌∷◌, ◌++◌, refl, sym, ap, subst, inl, inr, drop, append_assoc}
+use Rattle.std.proofs.Common.{◌≡◌, ◌∙◌, ℕ, Bool, true, false, List, [], ◌∷◌, ◌++◌, None, refl, sym, ap, subst, inl, inr, drop, append_assoc}
 use Rattle.std.specs.FinMap as finite
 use Rattle.std.specs.FinSet as sets
 use Rattle.std.specs.FinSet.{contains}
@@ -30,10 +30,9 @@ use Rattle.zfront_laws.proofs.Inputs.{goes, every_front_is_one_tree}
 use Rattle.zfront_laws.proofs.Restored.{is_bare, is_few, is_fine, sits}
 use Rattle.zfront_laws.proofs.Seated.{Has}
 use Rattle.zfront_laws.proofs.Steps.{Fine}
-use Rattle.zfront_laws.specs.watches.Watching.{Scene, tree_of}
-use Rattle.zfront_laws.specs.watches.Laws.{Brings, BringsAll, EveryWatchIsReported, none_renewed, opening_scene}
+use Rattle.zfront_laws.specs.watches.Watching.{Scene}
+use Rattle.zfront_laws.specs.watches.Laws.{Brings, BringsAll, EveryWatchIsReported, none_asked, opening_scene}
 use Rattle.zfront_laws.proofs.watches_lemmas.Coming.{comes}
-use Rattle.zfront_laws.proofs.watches_lemmas.Holding.{settled}
 use Rattle.zfront_laws.proofs.watches_lemmas.Marks.{Marked, unchanged, without_seat_keeps}
 use Rattle.zfront_laws.proofs.watches_lemmas.Owners.{OwnersAre}
 use Rattle.zfront_laws.proofs.watches_lemmas.Reaching.{At, shuts}
@@ -56,7 +55,7 @@ brings (Takes (Opened c)) old new s few fine there is =
       record s { tables = to s.tables },
       refl,
       sym (append-nil s.log),
-      shuts false old s to there (λ w stands. stands) (unchanged s.tables.attachments),
+      shuts None old s to there (λ w stands. stands) (unchanged s.tables.attachments),
     )
 brings (Takes (Came c bytes)) old new s few fine there has =
     let done = comes bytes c old new s few fine there has in
@@ -66,11 +65,11 @@ brings (Takes (Ended c)) old new s few fine there is =
       record s { tables = tables.ended c s.tables },
       refl,
       sym (append-nil s.log),
-      shuts false old s (tables.ended c) there (λ w stands. without_fewer s.tables.watches c w stands)
+      shuts None old s (tables.ended c) there (λ w stands. without_fewer s.tables.watches c w stands)
           (without_seat_keeps (session_in (phase_of s.tables.streams c)) s.tables),
     )
 brings (Takes Tick) old new s few fine there has =
-    let done = ticks {Renews = none_renewed} old new s there has in
+    let done = ticks {Asks = none_asked} old new s there has in
     (done.scene, (done.happenings, done.happens), done.log, done.there)
 brings Sent old new s few fine there is =
     let to : TablesView → TablesView = λ t. record t { unsent = drop 1 t.unsent } in
@@ -78,7 +77,7 @@ brings Sent old new s few fine there is =
       record s { tables = to s.tables },
       refl,
       sym (append-nil s.log),
-      shuts false old s to there (λ w stands. stands) (unchanged s.tables.attachments),
+      shuts None old s to there (λ w stands. stands) (unchanged s.tables.attachments),
     )
 brings Took old new s few fine there is =
     became Took new (all_taken old) s is (
@@ -140,6 +139,7 @@ module _ (t : Tree) (secret : List ℕ) (times : Clock) (is_kept : Bool) (before
     holds = record {
       right = λ w stands. no_watches v.tables w bare stands;
       seen = λ w stands. no_watches v.tables w bare stands;
+      none = tt;
       owners = subst (λ (u : Tree). OwnersAre (Marked v.tables.attachments) u.nodes) (sym left.1) owners;
     };
   }
@@ -154,5 +154,5 @@ every_watch_is_reported t secret times is_kept before steps v left runs =
       done.3.tables,
       done.2,
       subst (λ log. Leaves log v.tree) (sym done.2) (every_front_is_one_tree t secret times is_kept before steps v left runs),
-      λ w stands. settled (tree_of done.0) (done.0.set_at w) w.kind w.path (done.3.holds.seen w stands),
+      done.3.holds.seen,
     )

@@ -1,5 +1,5 @@
 -- Scenes: how a log continues in one, and what happens in its order.
-use Rattle.std.proofs.Common.{◌≡◌, ◌∙◌, ℕ, List, [], ◌∷◌, ◌++◌, Some, refl, sym, ap, subst, inl, inr, append_assoc, true}
+use Rattle.std.proofs.Common.{◌≡◌, ◌≢◌, ◌∙◌, ℕ, List, [], ◌∷◌, ◌++◌, Some, refl, sym, ap, subst, inl, inr, append_assoc, true}
 use Rattle.std.specs.Prelude.{map, zip}
 use Rattle.std.specs.FinMap.{get}
 use Rattle.std.proofs.lemmas.List.{append-nil}
@@ -23,8 +23,10 @@ use Rattle.ztree_service.proofs.log_lemmas.Incarnations.{calls_zipped, incarnati
 use Rattle.ztree_service.proofs.log_lemmas.Logs.{last_tree}
 use Rattle.zconnections.specs.Tables.{TablesView}
 use Rattle.zconnections.specs.Reporting.{reported_all}
-use Rattle.zfront_laws.specs.watches.Watching.{Scene, Happening, Renewals, Served, Fired, tree_of, after, May, Happens}
+use Rattle.zfront_laws.specs.watches.Watching.{Scene, Happening, Asking, Served, Fired, tree_of, after, May, Happens}
+use Rattle.zfront_laws.proofs.watches_lemmas.Holding.{knowing}
 use Rattle.zfront_laws.proofs.watches_lemmas.Standing.{Fewer, reported_leaves}
+use Rattle.zfront_laws.proofs.watches_lemmas.Telling.{AreApart, IsNowhere}
 
 -- the tree of a scene can start a service: it is lawful
 pub can_start : (s : Scene) → CanStart (tree_of s)
@@ -68,30 +70,40 @@ tree_logged calls t s is =
     incarnations_leave_one_tree opening_tree s.log (zip calls (served t calls)) ∙ ap (tree_after (tree_of s)) (calls_zipped t calls)
     ∙ ap (λ u. tree_after u calls) is
 
-module _ (Renews : Renewals) where
+elsewhere : (e : Event) (q : Path) (es : List Event) → IsNowhere q es → Among e es → e.path ≢ q
+elsewhere e q [] nowhere none = absurd none
+elsewhere e q (first ∷ es) nowhere (inl here) = subst (λ (e : Event). e.path ≢ q) here nowhere.0
+elsewhere e q (first ∷ es) nowhere (inr there) = elsewhere e q es nowhere.1 there
+
+module _ (Asks : Asking) where
   -- what happens after something else
-  pub happens_both : (hs more : List Happening) (a b c : Scene) → Happens Renews hs a b → Happens Renews more b c → Happens Renews (hs ++ more) a c
-  happens_both [] more a b c is rest = subst (λ s. Happens Renews more s c) is rest
+  pub happens_both : (hs more : List Happening) (a b c : Scene) → Happens Asks hs a b → Happens Asks more b c → Happens Asks (hs ++ more) a c
+  happens_both [] more a b c is rest = subst (λ s. Happens Asks more s c) is rest
   happens_both (h ∷ hs) more a b c has rest = (has.0, happens_both hs more (after h a) b c has.1 rest)
 
   pub served_happens : (calls : List Call) (t : Tree) (s : Scene) → tree_of s ≡ t
-      → Happens Renews (servings calls (served t calls)) s (logged s (zip calls (served t calls)))
+      → Happens Asks (servings calls (served t calls)) s (logged s (zip calls (served t calls)))
   served_happens [] t s is = ap (λ (log : Log). record s { log = log }) (append-nil s.log)
   served_happens (call ∷ calls) t s is =
       let did = serve t 0 call in
       let next = after (Served call did.1) s in (
         ap (λ u. (serve u 0 call).1) (sym is),
-        subst (λ log. Happens Renews (servings calls (served did.0 calls)) next (record s { log = log }))
+        subst (λ log. Happens Asks (servings calls (served did.0 calls)) next (record s { log = log }))
             (append_assoc s.log ((call, did.1) ∷ []) (zip calls (served did.0 calls)))
             (served_happens calls did.0 next (last_tree s.log opening_tree call did.1 ∙ ap (λ u. (serve u 0 call).0) is)),
       )
 
-  -- events are reported, one after the other
+  -- events are reported, one after the other; the watches were told of those before
   pub fired_happens : (es : List Event) (s : Scene)
-      → ((e : Event) (t : TablesView) → Among e es → Fewer s.tables t → May Renews (Fired e) (record s { tables = t }))
-      → Happens Renews (map (λ e. Fired e) es) s (record s { tables = reported_all es s.tables })
+      → ((first : List Event) (e : Event) (t : TablesView) → Among e es → Fewer s.tables t → (AreApart es → IsNowhere e.path first)
+      → May Asks (Fired e) (record s { set_at = knowing (tree_of s).nodes first s.set_at; tables = t }))
+      → Happens Asks (map (λ e. Fired e) es) s
+      (record s { set_at = knowing (tree_of s).nodes es s.set_at; tables = reported_all es s.tables })
   fired_happens [] s cause = refl
   fired_happens (e ∷ es) s cause = (
-    cause e s.tables (inl refl) (λ w stands. stands),
-    fired_happens es (after (Fired e) s) (λ other t among fewer. cause other t (inr among) (λ w stands. (reported_leaves e s.tables w (fewer w stands)).0)),
+    cause [] e s.tables (inl refl) (λ w stands. stands) (λ apart. tt),
+    fired_happens es (after (Fired e) s)
+        (λ first other t among fewer apart.
+        cause (e ∷ first) other t (inr among) (λ w stands. (reported_leaves e s.tables w (fewer w stands)).0)
+        (λ both. (λ same. elsewhere other e.path es both.0 among (sym same), apart both.1))),
   )

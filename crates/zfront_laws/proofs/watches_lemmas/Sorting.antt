@@ -11,9 +11,10 @@ use Rattle.zcalls.specs.declared.call.Query.TheVariants.{GetData, Exists, GetChi
 use Rattle.zcalls.specs.declared.call.Call.{Call}
 use Rattle.zcalls.specs.declared.call.Call.TheVariants.{Update, Query}
 use Rattle.zcalls.specs.declared.reply.Reply.{Reply}
-use Rattle.zjute.specs.declared.code.Code.TheVariants.{BadArguments, Unimplemented, AuthFailed}
+use Rattle.zjute.specs.declared.code.Code.TheVariants.{BadArguments, MarshallingError, Unimplemented, AuthFailed}
 use Rattle.zjute.specs.declared.request.Asked.{Asked}
 use Rattle.zjute.specs.declared.request.Asked.TheVariants as asked
+use Rattle.zjute.specs.WatchNumbers.{mode_of, type_of}
 use Rattle.zjute.specs.declared.part.PartRequest.{PartRequest as AskedPart}
 use Rattle.zjute.specs.declared.part.LookPart.{LookPart}
 use Rattle.zjute.specs.declared.part.LookPart.TheVariants as of_look
@@ -22,7 +23,7 @@ use Rattle.zrequests.specs.declared.fault.Unasked.TheVariants.{Refused}
 use Rattle.zrequests.specs.declared.limits.TheConstants.{MAX_PATHS}
 use Rattle.zrequests.specs.Asking.{Meaning, then_means, each_in, path_in}
 use Rattle.zrequests.specs.Requests.{create_in, timed_create_in, delete_in, check_in, set_in, part_in, one, one_of_parts}
-use Rattle.zrequests.specs.Requests.{multi_in, query_in, look_in, looks_in, watch_in, watched_in, look_alone, calls_in}
+use Rattle.zrequests.specs.Requests.{multi_in, query_in, look_in, looks_in, watch_in, watched_in, all_watched_in, numbered_in, look_alone, calls_in}
 use Rattle.zrequests.proofs.Meanings.{meant, unmeant, behind, choice, done, each_for, never, through}
 use Rattle.zresponses.specs.effects.Wishes.{wishes}
 use Rattle.zfront_laws.proofs.watches_lemmas.Wishing.{AreQueries, IsQuery}
@@ -56,6 +57,10 @@ module _ (asks : Asked) where
   refused : (fault : Unasked) (calls : List Call) → unmeant fault ≡ meant calls → Sorts asks calls
   refused fault = never (Sorts asks) fault
 
+  numbered : {A : Type 0} (known : Option A) (path : Option (List ℕ)) (calls : List Call) → numbered_in known path ≡ Ok calls → Sorts asks calls
+  numbered None path = refused (Refused MarshallingError)
+  numbered (Some known) path = alone Exists path
+
   update : (u : Act) → ((replies : List Reply) → wishes asks (Update u ∷ []) replies ≡ []) → (calls : List Call)
       → one (Update u) ≡ Ok calls → Sorts asks calls
   update u no_watch = done (Sorts asks) (Update u ∷ []) (inr (u, refl, no_watch))
@@ -77,6 +82,10 @@ sorts tick session (asked.Create create) =
     (λ create. update asks (act.Create create) (λ replies. refl))
 sorts tick session (asked.Create2 create) =
     let asks = asked.Create2 create in
+    behind (Sorts asks) (create_in session create) (λ create. one (Update (act.Create create)))
+    (λ create. update asks (act.Create create) (λ replies. refl))
+sorts tick session (asked.CreateContainer create) =
+    let asks = asked.CreateContainer create in
     behind (Sorts asks) (create_in session create) (λ create. one (Update (act.Create create)))
     (λ create. update asks (act.Create create) (λ replies. refl))
 sorts tick session (asked.CreateTtl timed) =
@@ -119,8 +128,12 @@ sorts tick session (asked.Auth auth) =
 sorts tick session asked.Ping = none asked.Ping
 sorts tick session asked.CloseSession = update asked.CloseSession (act.Close session) (λ replies. refl)
 sorts tick session (asked.SetAcl set) = refused (asked.SetAcl set) (Refused Unimplemented)
-sorts tick session (asked.CheckWatches watches) = refused (asked.CheckWatches watches) (Refused Unimplemented)
-sorts tick session (asked.RemoveWatches watches) = refused (asked.RemoveWatches watches) (Refused Unimplemented)
-sorts tick session (asked.SetWatches2 set) = refused (asked.SetWatches2 set) (Refused Unimplemented)
-sorts tick session (asked.AddWatch watch) = refused (asked.AddWatch watch) (Refused Unimplemented)
+sorts tick session (asked.CheckWatches at) = numbered (asked.CheckWatches at) (type_of at.kind) at.path
+sorts tick session (asked.RemoveWatches at) = numbered (asked.RemoveWatches at) (type_of at.kind) at.path
+sorts tick session (asked.SetWatches2 set) =
+    queries (asked.SetWatches2 set) _
+    (choice AreQueries (nat_lt MAX_PATHS (length (all_watched_in set))) (Err (Refused BadArguments)) (each_in watch_in (all_watched_in set))
+    (never AreQueries (Refused BadArguments))
+    (each_for IsQuery watch_in (λ path. query_sorts Exists (Some path)) (all_watched_in set)))
+sorts tick session (asked.AddWatch add) = numbered (asked.AddWatch add) (mode_of add.mode) add.path
 sorts tick session (asked.Other kind bytes) = refused (asked.Other kind bytes) (Refused Unimplemented)

@@ -1,5 +1,5 @@
 -- A server at a scene, where a tick goes by.
-use Rattle.std.proofs.Common.{◌≡◌, ℕ, true, false, List, [], ◌∷◌, refl, subst, inl, inr}
+use Rattle.std.proofs.Common.{◌≡◌, ◌∙◌, ℕ, true, List, [], ◌∷◌, Some, None, refl, ap, subst, inl, inr}
 use Rattle.std.specs.Prelude.{◌⊎◌}
 use Rattle.std.specs.List.{list_any}
 use Rattle.ztree.specs.Lawful.{IsLawful}
@@ -10,16 +10,16 @@ use Rattle.ztree_service.proofs.log_lemmas.Incarnations.{trees_can_start_again}
 use Rattle.zprotocol.specs.world.FromTree.{CanStart}
 use Rattle.zconnections.specs.attachments.Attachments.{touched_ids, all_rested}
 use Rattle.zconnections.specs.Tables.{TablesView}
-use Rattle.zfront.specs.Front.{FrontView, asked, replies_to, may_end, takes_nodes, TidiesIf}
+use Rattle.zfront.specs.Front.{FrontView, asked, replies_to, may_end, takes_nodes, tidied_if, watched}
 use Rattle.zfront.specs.Ticking.{tick_calls, rested, TicksBy, Ticks}
 use Rattle.zfront_laws.specs.Logs.{done_by}
-use Rattle.zfront_laws.specs.watches.Watching.{Scene, Renewals}
+use Rattle.zfront_laws.specs.watches.Watching.{Scene, Asking}
 use Rattle.zfront_laws.proofs.watches_lemmas.Marks.{rested_keeps}
 use Rattle.zfront_laws.proofs.watches_lemmas.Moving.{attachments_move}
-use Rattle.zfront_laws.proofs.watches_lemmas.Reaching.{At, Reaches, behind, moves}
+use Rattle.zfront_laws.proofs.watches_lemmas.Reaching.{At, AtIf, Reaches, becomes, behind, moves}
 use Rattle.zfront_laws.proofs.watches_lemmas.Scenes.{can_start}
-use Rattle.zfront_laws.proofs.watches_lemmas.Tidying.{Gone, tidies}
-use Rattle.zfront_laws.proofs.watches_lemmas.Updating.{Taken, behind_calls, next, taken, tick_taken}
+use Rattle.zfront_laws.proofs.watches_lemmas.Tidying.{Gone, Lost, tidies}
+use Rattle.zfront_laws.proofs.watches_lemmas.Updating.{behind_calls, next, taken, tick_taken}
 
 -- a tick may end sessions
 may_end_some : (sessions : List ℕ) → list_any may_end (tick_calls sessions) ≡ true
@@ -39,21 +39,26 @@ module _ (sessions : List ℕ) (old new : FrontView) (s : Scene) (there : At old
   lawful : (more : List Call) → IsLawful (tree_after old.tree more)
   lawful more = (trees_can_start_again old.tree more (subst CanStart there.tree (can_start s))).lawful
 
-  took : Taken v (next calls old s there) (list_any takes_nodes reported)
+  took : AtIf (Some old) v (next calls old s there) × Lost old v (list_any takes_nodes reported)
   took = taken calls old s there (list_any takes_nodes reported) (tick_taken sessions old.tree lawful)
 
   why : (list_any takes_nodes reported ≡ true) ⊎ Gone v → (list_any takes_nodes reported ≡ true) ⊎ Gone (rested v)
   why (inl some) = inl some
   why (inr (id, gone, made)) = inr (id, gone, (rested_keeps v.tables.attachments).marks id made)
 
-  ticks_by : {Renews : Renewals} → TicksBy calls old new → Reaches Renews new s (done_by calls old)
-  ticks_by has =
-      let t : TablesView = record v.tables { attachments = all_rested v.tables.attachments } in
-      behind_calls calls old s there new
-      (behind took.must false (rested v) new (next calls old s there) [] []
-      (moves took.must v (next calls old s there) t took.there (attachments_move v.tables t.attachments) (rested_keeps v.tables.attachments))
-      (λ last here. tidies took.must reported (rested v) new last here (λ due. why (took.why due))
-      (subst (λ b. TidiesIf b reported (rested v) new) (may_end_some sessions) has)))
+  still_lost : Lost old v (list_any takes_nodes reported) → Lost old (rested v) (list_any takes_nodes reported)
+  still_lost (inl same) = inl same
+  still_lost (inr (loses, reason)) = inr (loses, why reason)
 
-pub ticks : {Renews : Renewals} (old new : FrontView) (s : Scene) → At old s → Ticks old new → Reaches Renews new s (done_by (tick_calls (touched_ids old.tables.attachments)) old)
+  ticks_by : {Asks : Asking} → TicksBy calls old new → Reaches Asks new s (done_by calls old)
+  ticks_by is =
+      let t : TablesView = record v.tables { attachments = all_rested v.tables.attachments } in
+      let done = tidied_if true reported (watched old) (rested v) in
+      becomes new done s (done_by calls old) (is ∙ ap (λ b. tidied_if b reported (watched old) (rested v)) (may_end_some sessions))
+      (behind_calls calls old s there done
+      (behind (Some old) None (rested v) done (next calls old s there) [] []
+      (moves (Some old) v (next calls old s there) t took.0 (attachments_move v.tables t.attachments) (rested_keeps v.tables.attachments))
+      (λ last here. tidies reported old (rested v) last here (still_lost took.1))))
+
+pub ticks : {Asks : Asking} (old new : FrontView) (s : Scene) → At old s → Ticks old new → Reaches Asks new s (done_by (tick_calls (touched_ids old.tables.attachments)) old)
 ticks old new s there has = ticks_by (touched_ids old.tables.attachments) old new s there has

@@ -1,37 +1,45 @@
 -- A server at a scene, where sessions are swept, and where it looks.
-use Rattle.std.proofs.Common.{◌≡◌, ◌∙◌, ℕ, Bool, true, false, List, [], ◌∷◌, Some, None, refl, sym, ap, subst, inl, inr}
+use Rattle.std.proofs.Common.{◌≡◌, ◌∙◌, ℕ, Bool, true, false, List, [], ◌∷◌, Option, Some, None, refl, sym, ap, subst, inl, inr}
 use Rattle.std.proofs.Math.Bool.{or-true}
-use Rattle.std.specs.Prelude.{◌⊎◌, ◌||◌, map}
+use mathlib.Core.Bool.{true≢false}
+use Rattle.std.specs.Prelude.{◌⊎◌, ◌||◌, is_some, map}
 use Rattle.std.specs.List.{AllByRecursion, list_any}
 use Rattle.std.specs.FinMap as finite
-use Rattle.std.specs.FinSet.{contains}
-use Rattle.std.specs.Option.{option_map_or}
+use Rattle.std.specs.Option.{option_map, option_map_or}
 use Rattle.std.proofs.lemmas.List.{append-nil}
+use Rattle.ztree.specs.declared.node.Node.{Node}
 use Rattle.ztree.specs.Lawful.{IsLawful, IsOwner}
-use Rattle.ztree.specs.Tree.{Tree, Sessions}
+use Rattle.ztree.specs.Tree.{Path, Tree, Sessions, has_node}
 use Rattle.zcalls.specs.Lists.{Among}
 use Rattle.zcalls.specs.declared.reply.Reply.{Reply}
-use Rattle.zjute.specs.declared.event.EventKind.TheVariants.{NodeDeleted}
+use Rattle.zwatches.specs.changes.Laws.{but_children}
 use Rattle.zwatches.specs.declared.changes.event.Event.{Event}
-use Rattle.zwatches.specs.declared.place.Place.{Place}
 use Rattle.zwatches.specs.declared.watch.Watch.{Watch}
-use Rattle.zwatches.specs.Events.{Lists, fires}
-use Rattle.zwatches.specs.Places.{node_places}
+use Rattle.zwatches.specs.Events.{fires}
 use Rattle.zconnections.specs.Tables.{TablesView, closed, connection_of, moved}
 use Rattle.zconnections.specs.Reporting.{reported_all}
 use Rattle.zconnections.specs.Sweeping.{forgotten, is_gone, made_one, some_made_one, swept_all}
 use Rattle.zconnections.specs.Sweeping as tables
-use Rattle.zresponses.specs.effects.Looking.{seen}
-use Rattle.zfront.specs.Front.{FrontView, with_tables, gone_from, swept, takes_nodes, took_unnamed, looks, looked, LooksIf}
-use Rattle.zfront_laws.specs.watches.Watching.{Scene, Renewals, Fired, tree_of, May, IsUnchanged}
-use Rattle.zfront_laws.proofs.watches_lemmas.Changing.{fired_at_path, gone_changed, reports_of}
-use Rattle.zfront_laws.proofs.watches_lemmas.Holding.{WentAway, look_holds, more_due}
-use Rattle.zfront_laws.proofs.watches_lemmas.Looking.{IsSeenIn, seen_caused, none_in_vain}
+use Rattle.zfront.specs.Front.{FrontView, with_tables, gone_from, swept, takes_nodes, took_unnamed, watched, looked, looked_if, tidied_if}
+use Rattle.zfront_laws.specs.watches.Watching.{Scene, Asking, Fired, tree_of, May, IsSameAt}
+use Rattle.zfront_laws.proofs.watches_lemmas.Changing.{seen_same}
+use Rattle.zfront_laws.proofs.watches_lemmas.Holding.{knowing, none_lost, told_holds}
+use Rattle.zfront_laws.proofs.watches_lemmas.Looking.{IsSeenIn, seen_apart, seen_caused, seen_now}
 use Rattle.zfront_laws.proofs.watches_lemmas.Marks.{Marked, all_gone, apart_from, gone_made, removed_mark}
 use Rattle.zfront_laws.proofs.watches_lemmas.Moving.{attachments_move}
-use Rattle.zfront_laws.proofs.watches_lemmas.Reaching.{AtIf, Reaches, Arrives, becomes, moves_if, stays, still, closes}
+use Rattle.zfront_laws.proofs.watches_lemmas.Reaching.{AtIf, Reaches, Arrives, moves_if, stays, still, closes}
 use Rattle.zfront_laws.proofs.watches_lemmas.Scenes.{fired_happens, is_lawful}
+use Rattle.zfront_laws.proofs.watches_lemmas.Seeing.{IsSeen, Sees, fired_sees}
 use Rattle.zfront_laws.proofs.watches_lemmas.Standing.{Fewer, In}
+use Rattle.zfront_laws.proofs.watches_lemmas.Taking.{Loses, loses_nothing}
+use Rattle.zfront_laws.proofs.watches_lemmas.Telling.{AreApart, IsNowhere, told_all_leaves, untold_nowhere}
+use Rattle.zfront_laws.proofs.watches_lemmas.Told.{look_told}
+use Rattle.zfront_laws.proofs.watches_lemmas.Watched.{watched_once, watched_there}
+
+-- what is read of a node is there where it is
+there_read : {X : Type 0} (f : Node → X) (o : Option Node) → is_some (option_map f o) ≡ is_some o
+there_read f None = refl
+there_read f (Some n) = refl
 
 -- ---- sessions that ended are swept
 
@@ -50,10 +58,10 @@ owned_there m id (inl nobody) = inl nobody
 owned_there m id (inr there) = inr there
 
 -- a session that is gone is forgotten
-forgets : {Renews : Renewals} (must : Bool) (id : ℕ) (v : FrontView) (s : Scene) → is_gone v.tree.sessions id ≡ true → AtIf must v s
-    → Arrives Renews must (with_tables (forgotten id v.tables) v) s []
-forgets must id v s gone there =
-    moves_if must v s (forgotten id v.tables) there (attachments_move v.tables (finite.remove v.tables.attachments id))
+forgets : {Asks : Asking} (since : Option FrontView) (id : ℕ) (v : FrontView) (s : Scene) → is_gone v.tree.sessions id ≡ true → AtIf since v s
+    → Arrives Asks since (with_tables (forgotten id v.tables) v) s []
+forgets since id v s gone there =
+    moves_if since v s (forgotten id v.tables) there (attachments_move v.tables (finite.remove v.tables.attachments id))
     (λ all path n found. mark n.owner (owned_there v.tree.sessions n.owner (lawful.owners path n found)) (all path n found))
   where
     lawful : IsLawful v.tree
@@ -67,79 +75,123 @@ forgets must id v s gone there =
         inr (removed_mark v.tables.attachments id owner (apart_from v.tree.sessions owner id lives gone) ∙ made)
 
 -- its connection is closed
-pub moves_away : {Renews : Renewals} (must : Bool) (id : ℕ) (v : FrontView) (s : Scene) → AtIf must v s → Arrives Renews must (with_tables (moved id v.tables) v) s []
-moves_away {Renews} must id v s there =
-    elim (connection_of v.tables.attachments id) as (λ o. Arrives Renews must (with_tables (option_map_or (λ c. closed c v.tables) o v.tables) v) s []) [
-      | None ↦ stays must v s there
-      | Some c ↦ closes must v s c there
+pub moves_away : {Asks : Asking} (since : Option FrontView) (id : ℕ) (v : FrontView) (s : Scene) → AtIf since v s → Arrives Asks since (with_tables (moved id v.tables) v) s []
+moves_away {Asks} since id v s there =
+    elim (connection_of v.tables.attachments id) as (λ o. Arrives Asks since (with_tables (option_map_or (λ c. closed c v.tables) o v.tables) v) s []) [
+      | None ↦ stays since v s there
+      | Some c ↦ closes since v s c there
     ]
 
-sweeps : {Renews : Renewals} (must : Bool) (ids : List ℕ) (v : FrontView) (s : Scene) → AllByRecursion (λ id. is_gone v.tree.sessions id ≡ true) ids
-    → AtIf must v s → Arrives Renews must (with_tables (swept_all ids v.tables) v) s []
-sweeps must [] v s all there = stays must v s there
-sweeps must (id ∷ ids) v s all there =
+sweeps : {Asks : Asking} (since : Option FrontView) (ids : List ℕ) (v : FrontView) (s : Scene) → AllByRecursion (λ id. is_gone v.tree.sessions id ≡ true) ids
+    → AtIf since v s → Arrives Asks since (with_tables (swept_all ids v.tables) v) s []
+sweeps since [] v s all there = stays since v s there
+sweeps since (id ∷ ids) v s all there =
     let u = with_tables (moved id v.tables) v in
     let w = with_tables (tables.swept id v.tables) v in
     let done = with_tables (swept_all ids w.tables) v in
-    still must must u done s [] (moves_away must id v s there)
-    (λ next here. still must must w done next [] (forgets must id u next all.0 here) (λ last this. sweeps must ids w last all.1 this))
+    still since since u done s [] (moves_away since id v s there)
+    (λ next here. still since since w done next [] (forgets since id u next all.0 here) (λ last this. sweeps since ids w last all.1 this))
 
 -- ---- a look
 
-module _ (places : List Place) (v : FrontView) (s : Scene) (lists : Lists places (node_places v.tables.watches)) (there : AtIf true v s) where
+module _ (old v : FrontView) (s : Scene) (loses : (path : Path) → Loses v.tree.zxid old.tree.nodes v.tree.nodes path) (there : AtIf (Some old) v s) where
+  abbrev t : Tree
+  t = tree_of s
+
+  abbrev paths : List Path
+  paths = watched old
+
   abbrev es : List Event
-  es = seen v.tree.zxid places (looks v.tree places)
+  es = seen_now t paths
 
   abbrev last : Scene
-  last = record s { tables = reported_all es s.tables }
+  last = record s { set_at = knowing t.nodes es s.set_at; tables = reported_all es s.tables }
 
-  cause : (e : Event) → Among e es → IsSeenIn (tree_of s) e
-  cause e among = subst (λ u. IsSeenIn u e) (sym there.tree) (seen_caused v.tree places e among)
+  -- a watch that a deletion fires knew the node
+  gone_changed : {X : Type 0} (f : Node → X) (e : Event) (w : Watch) (first : List Event) → Sees f e.path w → In s.tables w
+      → has_node old.tree.nodes e.path ≡ true → finite.get t.nodes e.path ≡ None → IsNowhere e.path first
+      → IsSameAt w.kind w.path (knowing t.nodes first s.set_at w) t.nodes → ⊥
+  gone_changed f e w first sees stands was none nowhere same =
+      true≢false (sym was ∙ sym (there_read f (finite.get old.tree.nodes e.path)) ∙ ap is_some (sym kept) ∙ ap (λ o. is_some (option_map f o)) none)
+    where
+      kept : option_map f (finite.get t.nodes e.path) ≡ option_map f (finite.get old.tree.nodes e.path)
+      kept =
+          seen_same f e.path w sees old.tree.nodes (s.set_at w) (knowing t.nodes first s.set_at w) t.nodes (there.holds.seen w stands)
+          (told_all_leaves t.nodes w e.path first (s.set_at w) (untold_nowhere first w e.path nowhere)) same
 
-  changed : (e : Event) (w : Watch) → In s.tables w → e.kind ≡ NodeDeleted → finite.get (tree_of s).nodes e.path ≡ None
-      → fires e.kind e.path w ≡ true
-      → IsUnchanged s w → ⊥
-  changed e w stands deleted none fired unchanged =
-      let at = fired_at_path e.kind e.path w fired in
-      gone_changed (s.set_at w) (tree_of s).nodes w.path w.kind (there.holds.right w stands)
-      (ap (finite.get (tree_of s).nodes) (sym at.0) ∙ none)
-      (ap (reports_of w.kind) (sym deleted) ∙ at.1) unchanged
+  changed : (e : Event) (w : Watch) (first : List Event) → In s.tables w → fires e.kind e.path w ≡ true
+      → has_node old.tree.nodes e.path ≡ true → finite.get t.nodes e.path ≡ None → IsNowhere e.path first
+      → IsSameAt w.kind w.path (knowing t.nodes first s.set_at w) t.nodes → ⊥
+  changed e w first stands fired was none nowhere same = by (fired_sees e.kind e.path w fired)
+    where
+      by : IsSeen e.kind e.path w → ⊥
+      by (inl (reports, sees)) = gone_changed but_children e w first sees stands was none nowhere same
+      by (inr (reports, sees)) = gone_changed (λ n. n.pzxid) e w first sees stands was none nowhere same
 
-  may : (Renews : Renewals) (e : Event) (t : TablesView) → Fewer s.tables t → IsSeenIn (tree_of s) e → May Renews (Fired e) (record s { tables = t })
-  may Renews e t fewer (inl (deleted, none)) =
-      inl (inr (deleted, none), λ w stands fired. inl (λ unchanged. changed e w (fewer w stands) deleted none fired unchanged))
-  may Renews e t fewer (inr lost) = inr lost
+  may : (Asks : Asking) (first : List Event) (e : Event) (u : TablesView) → Among e es → Fewer s.tables u → (AreApart es → IsNowhere e.path first)
+      → May Asks (Fired e) (record s { set_at = knowing t.nodes first s.set_at; tables = u })
+  may Asks first e u among fewer apart = by cause.0
+    where
+      cause : IsSeenIn t e × Among e.path paths
+      cause = seen_caused t paths e among
 
-  looks_by : {Renews : Renewals} → Reaches Renews (looked places v) s []
-  looks_by {Renews} = record {
+      by : IsSeenIn t e → May Asks (Fired e) (record s { set_at = knowing t.nodes first s.set_at; tables = u })
+      by (inl (deleted, none)) =
+          inl (
+            inr (deleted, none),
+            λ w stands fired. inl (
+                changed e w first (fewer w stands) fired (watched_there old e.path cause.1) none
+                (apart (seen_apart t paths (watched_once old)))),
+          )
+      by (inr lost) = inr lost
+
+  looks_by : {Asks : Asking} → Reaches Asks (looked paths v) s []
+  looks_by {Asks} = record {
     happenings = map (λ e. Fired e) es;
     scene = last;
-    happens = fired_happens Renews es s (λ e t among fewer. may Renews e t fewer (cause e among));
+    happens = fired_happens Asks es s (may Asks);
     log = sym (append-nil s.log);
     there = record {
-      tables = ap (reported_all es) there.tables;
+      tables = ap (λ (t : Tree). reported_all (seen_now t paths) s.tables) there.tree ∙ ap (reported_all (seen_now v.tree paths)) there.tables;
       tree = there.tree;
-      holds = look_holds (tree_of s) s.set_at s.tables es
-          (λ w stands unfired away.
-          none_in_vain v.tree v.tables.watches places w lists (ap (λ (u : TablesView). contains u.watches w) (sym there.tables) ∙ stands) unfired
-          (subst (λ (u : Tree). WentAway w.kind w.path u) there.tree away))
+      holds = told_holds old t s.set_at s.tables es
+          (λ w stands unfired right same.
+          look_told old t (subst (λ (t : Tree). (path : Path) → Loses t.zxid old.tree.nodes t.nodes path) (sym there.tree) loses) w
+          (there.holds.none w stands) (s.set_at w) unfired right same)
           there.holds;
     };
   }
 
-looks_if : {Renews : Renewals} (must due : Bool) (old new : FrontView) (s : Scene) → (must ≡ true → due ≡ true) → AtIf must old s → LooksIf due old new → Reaches Renews new s []
-looks_if false false old new s why there is = becomes new old s [] is (stays false old s there)
-looks_if true false old new s why there is = absurd (cc (why refl))
-looks_if must true old new s why there (places, lists, is) =
-    becomes new (looked places old) s [] is (looks_by places old s lists (record {
+-- what calls took away since the earlier front, and why a look gets due then
+abbrev pub Lost : FrontView → FrontView → Bool → Type 0
+Lost old v took =
+    (v.tree.nodes ≡ old.tree.nodes)
+    ⊎ (((path : Path) → Loses v.tree.zxid old.tree.nodes v.tree.nodes path) × ((took ≡ true) ⊎ Gone v))
+
+looks_if : {Asks : Asking} (due : Bool) (old v : FrontView) (s : Scene) → AtIf (Some old) v s
+    → (v.tree.nodes ≡ old.tree.nodes) ⊎ (((path : Path) → Loses v.tree.zxid old.tree.nodes v.tree.nodes path) × (due ≡ true))
+    → Reaches Asks (looked_if due (watched old) v) s []
+looks_if false old v s there (inl same) =
+    stays None v s (record {
       tables = there.tables;
       tree = there.tree;
-      holds = more_due must true (tree_of s) s.set_at s.tables (λ due. refl) there.holds;
-    }))
+      holds = none_lost old (tree_of s) s.set_at s.tables (ap (λ (t : Tree). t.nodes) there.tree ∙ same) there.holds;
+    })
+looks_if false old v s there (inr (loses, due)) = absurd (true≢false (sym due))
+looks_if true old v s there (inl same) =
+    looks_by old v s
+    (λ path. subst (λ nodes. Loses v.tree.zxid old.tree.nodes nodes path) (sym same) (loses_nothing v.tree.zxid old.tree.nodes path)) there
+looks_if true old v s there (inr (loses, due)) = looks_by old v s loses there
 
 -- after calls that ended sessions
-pub tidies : {Renews : Renewals} (must : Bool) (reported : List Reply) (old new : FrontView) (s : Scene) → AtIf must old s
-    → (must ≡ true → (list_any takes_nodes reported ≡ true) ⊎ Gone old) → LooksIf (took_unnamed reported old) (swept old) new → Reaches Renews new s []
-tidies must reported old new s there why has =
-    still must false (swept old) new s [] (sweeps must (gone_from old) old s (all_gone old.tree.sessions old.tables.attachments) there)
-    (λ next here. looks_if must (took_unnamed reported old) (swept old) new next (λ due. becomes_due reported old (why due)) here has)
+pub tidies : {Asks : Asking} (reported : List Reply) (old v : FrontView) (s : Scene) → AtIf (Some old) v s
+    → Lost old v (list_any takes_nodes reported) → Reaches Asks (tidied_if true reported (watched old) v) s []
+tidies reported old v s there lost =
+    still (Some old) None (swept v) (tidied_if true reported (watched old) v) s []
+    (sweeps (Some old) (gone_from v) v s (all_gone v.tree.sessions v.tables.attachments) there)
+    (λ next here. looks_if (took_unnamed reported v) old (swept v) next here (due lost))
+  where
+    due : Lost old v (list_any takes_nodes reported)
+        → (v.tree.nodes ≡ old.tree.nodes) ⊎ (((path : Path) → Loses v.tree.zxid old.tree.nodes v.tree.nodes path) × (took_unnamed reported v ≡ true))
+    due (inl same) = inl same
+    due (inr (loses, why)) = inr (loses, becomes_due reported v why)

@@ -1,17 +1,16 @@
 -- What an event of an update reports has changed: the node is gone, or has the zxid of this change.
 use Rattle.std.proofs.Common.{◌≡◌, ◌≢◌, ◌∙◌, ◌+◌, ℕ, Bool, true, false, List, [], ◌∷◌, ◌++◌, Option, Some, None, Result}
 use Rattle.std.proofs.Common.{Ok, Err, refl, sym, ap, subst, inl, inr, if◌then◌else◌}
-use Rattle.std.specs.Prelude.{◌⊎◌, is_some}
+use Rattle.std.specs.Prelude.{◌⊎◌}
 use Rattle.std.specs.Option.{option_map_or}
 use Rattle.std.specs.FinMap as finite
 use Rattle.zpath.specs.First.{first_that_holds}
 use Rattle.ztree.specs.declared.node.Node.{Node}
-use Rattle.ztree.specs.Tree.{Tree, Path, Nodes, has_node, parent_of, new_node, with_node, without_node, with_child}
+use Rattle.ztree.specs.Tree.{Tree, Path, Nodes, parent_of, new_node, with_node, without_node, with_child}
 use Rattle.ztree.specs.Tree.{without_child, with_data, with_change_at}
 use Rattle.ztree.proofs.Sorted.{paths_total, same_path}
 use Rattle.ztree.proofs.Maps.{same_or_other, get-insert-here, get-remove-here, get-remove-elsewhere}
 use Rattle.ztree.proofs.Nodes.{get-insert-other}
-use Rattle.ztree.proofs.Ending.{has_node-changed}
 use Rattle.zcalls.specs.Lists.{Among}
 use Rattle.zcalls.specs.declared.refusal.Refusal.{Refusal}
 use Rattle.zcalls.specs.declared.refusal.Refusal.TheVariants.{BadVersion, Exhausted}
@@ -31,7 +30,7 @@ use Rattle.zcalls.specs.declared.change.ChangeReply.TheVariants.{Created, Delete
 use Rattle.zcalls.specs.declared.reply.PartReply.{PartReply}
 use Rattle.zcalls.specs.declared.reply.PartReply.TheVariants as part_reply
 use Rattle.zcalls.specs.Part.{create_step, delete_step, set_step, check_step, part_step, reported_as_part, create_refusals}
-use Rattle.zcalls.specs.Part.{delete_refusals, unless_refused, made_path, owner_of, ttl_of, on_version}
+use Rattle.zcalls.specs.Part.{delete_refusals, unless_refused, made_path, owner_of, term_of, on_version}
 use Rattle.zcalls.specs.Part.{has_other_version, with_node_set}
 use Rattle.zcalls.specs.Multi.{Run, run, behind, and_then}
 use Rattle.zcalls.proofs.Leaving.{Leaves, create_step-leaves, delete_step-leaves, set_step-leaves, part_step-leaves, run-leaves}
@@ -40,7 +39,7 @@ use Rattle.zjute.specs.declared.event.EventKind.TheVariants.{NodeCreated, NodeDe
 use Rattle.zwatches.specs.declared.changes.event.Event.{Event}
 use Rattle.zwatches.specs.changes.Events.{event, events_of, with_parent, part_events, parts_events}
 use Rattle.zwatches.specs.changes.Laws.{reports_data}
-use Rattle.zfront_laws.proofs.watches_lemmas.Waiting.{reports_creation, reports_loss}
+use Rattle.zfront_laws.proofs.watches_lemmas.Waiting.{reports_loss}
 
 -- what is read of a node reports that it is gone, or that its last change is this one
 abbrev pub Dated : (Node → ℕ) → ℕ → Nodes → Path → Type 0
@@ -132,7 +131,7 @@ module _ (zxid : ℕ) (path : Path) where
       create_step-leaves (IsDated written_at zxid path) t client create
       (λ none.
       let at = made_path t.nodes create.kind create.path in
-      let new = new_node create.bytes (owner_of create.kind.lifetime) (ttl_of create.kind.lifetime) (t.zxid + 1) t.time in (
+      let new = new_node create.bytes (owner_of create.kind.lifetime) (term_of create.kind.lifetime) (t.zxid + 1) t.time in (
         dated.0,
         changed written_at zxid path (finite.insert t.nodes at new) (parent_of at) (with_child (t.zxid + 1) create.kind.is_sequential) (λ n is. is)
             (inserted written_at zxid path t.nodes at new dated.0 dated.1),
@@ -157,7 +156,7 @@ module _ (zxid : ℕ) (path : Path) where
       create_step-leaves (IsDated children_changed_at zxid path) t client create
       (λ none.
       let at = made_path t.nodes create.kind create.path in
-      let new = new_node create.bytes (owner_of create.kind.lifetime) (ttl_of create.kind.lifetime) (t.zxid + 1) t.time in (
+      let new = new_node create.bytes (owner_of create.kind.lifetime) (term_of create.kind.lifetime) (t.zxid + 1) t.time in (
         dated.0,
         changed children_changed_at zxid path (finite.insert t.nodes at new) (parent_of at) (with_child (t.zxid + 1) create.kind.is_sequential)
             (λ n is. dated.0)
@@ -234,7 +233,7 @@ create_did t client create path = by (first_that_holds (create_refusals t client
     at = made_path t.nodes create.kind create.path
 
     new : Node
-    new = new_node create.bytes (owner_of create.kind.lifetime) (ttl_of create.kind.lifetime) (t.zxid + 1) t.time
+    new = new_node create.bytes (owner_of create.kind.lifetime) (term_of create.kind.lifetime) (t.zxid + 1) t.time
 
     more : Nodes
     more = finite.insert t.nodes at new
@@ -243,7 +242,7 @@ create_did t client create path = by (first_that_holds (create_refusals t client
     f = with_child (t.zxid + 1) create.kind.is_sequential
 
     by : (refused : Option Refusal) → ChangeDid (t.zxid + 1) path of_create (unless_refused refused (
-      with_node t at create.bytes (owner_of create.kind.lifetime) (ttl_of create.kind.lifetime) create.kind.is_sequential,
+      with_node t at create.bytes (owner_of create.kind.lifetime) (term_of create.kind.lifetime) create.kind.is_sequential,
       Created at,
     ))
     by (Some refusal) = tt
@@ -469,56 +468,3 @@ unfolding step
 update_touches t u path =
     either (t.zxid + 1) path u (is_exhausted t u) (t, reply.Refused Exhausted) (update_result t 0 u)
     (no_events (t.zxid + 1) path u (t, reply.Refused Exhausted) (refused_events u Exhausted)) (result_touches t u path)
-
--- a create that makes a node leaves it there
-abbrev Makes : Path → Result (Tree × ChangeReply) Refusal → Type 0
-Makes path (Err refusal) = Unit {0}
-Makes path (Ok (u, Created at)) = at ≡ path → has_node u.nodes path ≡ true
-Makes path (Ok (u, other)) = Unit {0}
-
-create_made : (t : Tree) (create : Create) (path : Path) → Makes path (create_step t 0 create)
-unfolding create_step
-create_made t create path = by (first_that_holds (create_refusals t 0 create))
-  where
-    at : Path
-    at = made_path t.nodes create.kind create.path
-
-    new : Node
-    new = new_node create.bytes (owner_of create.kind.lifetime) (ttl_of create.kind.lifetime) (t.zxid + 1) t.time
-
-    by : (refused : Option Refusal) → Makes path (unless_refused refused (
-      with_node t at create.bytes (owner_of create.kind.lifetime) (ttl_of create.kind.lifetime) create.kind.is_sequential,
-      Created at,
-    ))
-    by (Some refusal) = tt
-    by None = λ same.
-        has_node-changed (finite.insert t.nodes at new) (parent_of at) (with_child (t.zxid + 1) create.kind.is_sequential) path
-        ∙ ap (λ p. has_node (finite.insert t.nodes at new) p) (sym same)
-        ∙ ap is_some (get-insert-here paths_total same_path t.nodes at new)
-
-created_at : (at path : Path) → Reports reports_creation path (with_parent NodeCreated at) → at ≡ path
-created_at at path (e, inl is, does, same) = ap (λ (e : Event). e.path) is ∙ same
-created_at at path (e, inr (inl is), does, same) = absurd (cc (ap (λ (e : Event). reports_creation e.kind) is ∙ does))
-created_at at path (e, inr (inr none), does, same) = absurd none
-
-create_makes : (t : Tree) (create : Create) (path : Path) (r : Result (Tree × ChangeReply) Refusal) → Makes path r
-    → Reports reports_creation path (events_of (act.Create create) (change_result t r).1) → has_node (change_result t r).0.nodes path ≡ true
-create_makes t create path (Err refusal) made reports = no_event reports_creation path reports
-create_makes t create path (Ok (u, Created at)) made reports = made (created_at at path reports)
-create_makes t create path (Ok (u, Deleted)) made reports = no_event reports_creation path reports
-create_makes t create path (Ok (u, Set stat)) made reports = no_event reports_creation path reports
-
-makes_if : (t : Tree) (create : Create) (path : Path) (b : Bool) (r : Tree × Reply)
-    → (Reports reports_creation path (events_of (act.Create create) r.1) → has_node r.0.nodes path ≡ true)
-    → Reports reports_creation path (events_of (act.Create create) (if b then (t, reply.Refused Exhausted) else r).1)
-    → has_node (if b then (t, reply.Refused Exhausted) else r).0.nodes path ≡ true
-makes_if t create path true r makes reports = no_event reports_creation path reports
-makes_if t create path false r makes reports = makes reports
-
-pub create_leaves : (t : Tree) (create : Create) (path : Path)
-    → Reports reports_creation path (events_of (act.Create create) (step t 0 (act.Create create)).1)
-    → has_node (step t 0 (act.Create create)).0.nodes path ≡ true
-unfolding step
-create_leaves t create path =
-    makes_if t create path (is_exhausted t (act.Create create)) (update_result t 0 (act.Create create))
-    (create_makes t create path (create_step t 0 create) (create_made t create path))

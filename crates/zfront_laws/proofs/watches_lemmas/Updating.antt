@@ -1,12 +1,11 @@
 -- A server at a scene, where it makes calls.
-use Rattle.std.proofs.Common.{◌≡◌, ◌∙◌, ◌+◌, ℕ, Bool, true, false, List, [], ◌∷◌, ◌++◌, refl, sym, ap, subst, inl, inr, arith}
-use Rattle.std.proofs.Common.{None}
+use Rattle.std.proofs.Common.{◌≡◌, ◌∙◌, ◌+◌, ℕ, Bool, true, false, List, [], ◌∷◌, ◌++◌, Some, None, refl, sym, ap, subst, inl, inr, arith}
 use Rattle.std.proofs.Math.Bool.{or-true}
 use Rattle.std.specs.Prelude.{◌⊎◌, ◌||◌, map, nat_le, if◌then◌else◌}
 use Rattle.std.specs.List.{list_any}
 use Rattle.std.specs.FinMap as finite
 use Rattle.ztree.specs.Lawful.{IsLawful}
-use Rattle.ztree.specs.Tree.{Tree, Nodes, opening_tree, with_next_zxid}
+use Rattle.ztree.specs.Tree.{Tree, Nodes, Path, opening_tree, with_next_zxid}
 use Rattle.ztree.specs.Sessions.{with_session, without_session, with_renewed_session}
 use Rattle.ztree.specs.declared.limits.TheConstants.{MAX_SESSIONS}
 use Rattle.zcalls.specs.Lists.{Among}
@@ -25,7 +24,6 @@ use Rattle.zwatches.specs.changes.Laws.{takes_away}
 use Rattle.ztree_service.specs.log.Logs.{served, tree_after}
 use Rattle.ztree_service.proofs.log_lemmas.Logs.{last_tree}
 use Rattle.zwatches.specs.declared.watch.Watch.{Watch}
-use Rattle.zwatches.specs.declared.kind.Kind.TheVariants.{Missing}
 use Rattle.zwatches.specs.Events.{fires}
 use Rattle.zconnections.specs.attachments.Attachments.{AttachmentsView}
 use Rattle.zconnections.specs.Tables.{TablesView}
@@ -33,18 +31,20 @@ use Rattle.zconnections.specs.Sweeping.{noted, made_one}
 use Rattle.zfront.specs.Front.{FrontView, with_tables, asked, replies_to, takes_nodes}
 use Rattle.zfront.specs.Ticking.{ping, tick_calls}
 use Rattle.zfront_laws.specs.Logs.{done_by}
-use Rattle.zfront_laws.specs.watches.Watching.{Scene, Renewals, Served, Fired, Moved, tree_of, after, HasChanged, IsSameAt}
-use Rattle.zfront_laws.proofs.watches_lemmas.Changing.{OfMulti, fired_at_path, has_changed, reports_of}
-use Rattle.zfront_laws.proofs.watches_lemmas.Holding.{Holds, UpdateNames, absorbing, update_holds, lost_holds, still_holds, settled}
+use Rattle.zfront_laws.specs.watches.Watching.{Scene, Asking, Served, Fired, Moved, tree_of, after, HasChanged, IsSameAt, takes_more}
+use Rattle.zfront_laws.proofs.watches_lemmas.Changing.{has_changed}
+use Rattle.zfront_laws.proofs.watches_lemmas.Holding.{Holds, absorbing, knowing, update_holds, lost_holds, still_holds}
+use Rattle.zfront_laws.proofs.watches_lemmas.Owning.{UpdateNames}
 use Rattle.zfront_laws.proofs.watches_lemmas.Marks.{Known, Marked}
 use Rattle.zfront_laws.proofs.watches_lemmas.Moving.{attachments_move}
 use Rattle.zfront_laws.proofs.watches_lemmas.Owners.{OwnersAre}
 use Rattle.zfront_laws.proofs.watches_lemmas.Reaching.{AtIf, At, Reaches, called}
-use Rattle.zfront_laws.proofs.watches_lemmas.Scenes.{fired_happens, logged, served_happens, servings, tree_logged}
+use Rattle.zfront_laws.proofs.watches_lemmas.Scenes.{fired_happens, is_lawful, logged, served_happens, servings, tree_logged}
+use Rattle.zfront_laws.proofs.watches_lemmas.Single.{OfMulti}
 use Rattle.zfront_laws.proofs.watches_lemmas.Standing.{In}
-use Rattle.zfront_laws.proofs.watches_lemmas.Taking.{TakesTo, Owned, Loses, tick_takes}
-use Rattle.zfront_laws.proofs.watches_lemmas.Tidying.{Gone}
-use Rattle.zfront_laws.proofs.watches_lemmas.Touching.{Reports}
+use Rattle.zfront_laws.proofs.watches_lemmas.Taking.{TakesTo, Owned, Loses, loses_nothing, tick_takes}
+use Rattle.zfront_laws.proofs.watches_lemmas.Telling.{AreApart, IsNowhere, told_all_leaves, told_once, untold_nowhere}
+use Rattle.zfront_laws.proofs.watches_lemmas.Tidying.{Gone, Lost}
 
 -- an update that takes nothing away is reported whole
 module _ (v : FrontView) (s : Scene) (u : Act) (there : At v s) where
@@ -66,45 +66,50 @@ module _ (v : FrontView) (s : Scene) (u : Act) (there : At v s) where
   abbrev second : Scene
   second = after (Moved middle) (after (Served (Update u) reported) s)
 
-  reports : (e : Event) (w : Watch) → Among e es → fires e.kind e.path w ≡ true
-      → Reports (reports_of w.kind) w.path (events_of u (step (tree_of s) 0 u).1)
-  reports e w among fired =
-      let at = fired_at_path e.kind e.path w fired in
-      (e, subst (λ r. Among e (events_of u r)) right among, at.1, at.0)
+  lawful : IsLawful (step (tree_of s) 0 u).0
+  lawful = subst IsLawful goes (is_lawful (after (Served (Update u) reported) s))
 
-  changed : (e : Event) (t : TablesView) (w : Watch) → Among e es → In s.tables w → fires e.kind e.path w ≡ true
-      → HasChanged (record second { tables = t }) w
-  changed e t w among stands fired =
-      by (has_changed s u w.path (s.set_at w) w.kind (there.holds.right w stands)
-      (settled (tree_of s) (s.set_at w) w.kind w.path (there.holds.seen w stands)) (reports e w among fired))
+  -- what the watch knows after some of the events
+  abbrev known : List Event → Watch → Nodes
+  known first = knowing (tree_of second).nodes first s.set_at
+
+  changed : (first : List Event) (e : Event) (t : TablesView) (w : Watch) → Among e es → (AreApart es → IsNowhere e.path first) → In s.tables w
+      → fires e.kind e.path w ≡ true → HasChanged (record second { set_at = known first; tables = t }) w
+  changed first e t w among apart stands fired =
+      by (has_changed s u e w (s.set_at w) (known first w) lawful (subst (λ r. Among e (events_of u r)) right among) fired
+      (there.holds.right w stands) (there.holds.seen w stands)
+      (told_once (tree_of second).nodes first w (s.set_at w))
+      (λ all. told_all_leaves (tree_of second).nodes w e.path first (s.set_at w) (untold_nowhere first w e.path
+      (apart (subst (λ r. AreApart (events_of u r)) (sym right) all)))))
     where
-      by : (IsSameAt w.kind w.path (s.set_at w) (step (tree_of s) 0 u).0.nodes → ⊥) ⊎ ((w.kind ≡ Missing) × OfMulti u)
-          → HasChanged (record second { tables = t }) w
-      by (inl differs) = inl (λ same. differs (subst (λ (t : Tree). IsSameAt w.kind w.path (s.set_at w) t.nodes) goes same))
-      by (inr (missing, (parts, is))) = inr (missing, (s.log, parts, reported, ap (λ (v : Act). s.log ++ (Update v, reported) ∷ []) is))
+      by : (IsSameAt w.kind w.path (known first w) (step (tree_of s) 0 u).0.nodes → ⊥) ⊎ ((takes_more w.kind ≡ true) × OfMulti u)
+          → HasChanged (record second { set_at = known first; tables = t }) w
+      by (inl differs) = inl (λ same. differs (subst (λ (t : Tree). IsSameAt w.kind w.path (known first w) t.nodes) goes same))
+      by (inr (more, (parts, is))) = inr (more, (s.log, parts, reported, ap (λ (v : Act). s.log ++ (Update v, reported) ∷ []) is))
 
   abbrev last : Scene
-  last = record (after (Served (Update u) reported) s) { tables = absorbing u reported s.tables }
+  last = record (after (Served (Update u) reported) s) { set_at = known es; tables = absorbing u reported s.tables }
 
-  pub absorbs : {Renews : Renewals} → takes_away u ≡ false → UpdateNames (Known s.tables.attachments) u
-      → Reaches Renews (with_tables (absorbing u reported v.tables) (asked (Update u ∷ []) v)) s (done_by (Update u ∷ []) v)
-  absorbs {Renews} stays names = record {
+  pub absorbs : {Asks : Asking} → takes_away u ≡ false → UpdateNames (Known s.tables.attachments) u
+      → Reaches Asks (with_tables (absorbing u reported v.tables) (asked (Update u ∷ []) v)) s (done_by (Update u ∷ []) v)
+  absorbs {Asks} stays names = record {
     happenings = Served (Update u) reported ∷ Moved middle ∷ map (λ e. Fired e) es;
     scene = last;
     happens = (
       right,
       (
         attachments_move s.tables (noted u reported s.tables.attachments),
-        fired_happens Renews es second
-            (λ e t among fewer. inl (inl (s.log, u, reported, refl, among), λ w stands fired. changed e t w among (fewer w stands) fired)),
+        fired_happens Asks es second
+            (λ first e t among fewer apart.
+            inl (inl (s.log, u, reported, refl, among), λ w stands fired. changed first e t w among apart (fewer w stands) fired)),
       ),
     );
     log = refl;
     there = record {
       tables = ap (absorbing u reported) there.tables;
       tree = goes ∙ ap (λ t. (step t 0 u).0) there.tree;
-      holds = subst (λ t. Holds false t s.set_at last.tables) (sym goes)
-          (subst (λ r. Holds false (step (tree_of s) 0 u).0 s.set_at (absorbing u r s.tables)) (sym right)
+      holds = subst (λ t. Holds None t (knowing t.nodes es s.set_at) last.tables) (sym goes)
+          (subst (λ r. Holds None (step (tree_of s) 0 u).0 (knowing (step (tree_of s) 0 u).0.nodes (events_of u r) s.set_at) (absorbing u r s.tables)) (sym right)
           (update_holds (tree_of s) s.set_at s.tables u stays names there.holds));
     };
   }
@@ -118,20 +123,18 @@ owner_made m nodes id all (above, path, n, found, is) = by (all path n found)
     by (inl nobody) = absurd (omega (arith, above, nobody, is))
     by (inr made) = ap (made_one m) (sym is) ∙ made
 
--- a look is due after them where they took something
-pub record Taken (v : FrontView) (s : Scene) (took : Bool) : Type 0 where
-  pub must : Bool
-  pub there : AtIf must v s
-  pub why : must ≡ true → (took ≡ true) ⊎ Gone v
+all_lose : (t u : Tree) (took : Bool) → TakesTo t u took → (path : Path) → Loses u.zxid t.nodes u.nodes path
+all_lose t u took (inl same) path = subst (λ nodes. Loses u.zxid t.nodes nodes path) (sym same) (loses_nothing u.zxid t.nodes path)
+all_lose t u took (inr (zxid, loses, reason)) path = subst (λ z. Loses z t.nodes u.nodes path) (sym zxid) (loses path)
 
 module _ (calls : List Call) (v : FrontView) (s : Scene) (there : At v s) where
   -- the scene after them
   abbrev pub next : Scene
   next = logged s (done_by calls v)
 
-  pub behind_calls : {Renews : Renewals} (w : FrontView) → Reaches Renews w next [] → Reaches Renews w s (done_by calls v)
-  behind_calls {Renews} w =
-      called w s next (servings calls (replies_to calls v)) (done_by calls v) (served_happens Renews calls v.tree s there.tree) refl
+  pub behind_calls : {Asks : Asking} (w : FrontView) → Reaches Asks w next [] → Reaches Asks w s (done_by calls v)
+  behind_calls {Asks} w =
+      called w s next (servings calls (replies_to calls v)) (done_by calls v) (served_happens Asks calls v.tree s there.tree) refl
 
   goes_to : tree_of next ≡ tree_after v.tree calls
   goes_to = tree_logged calls v.tree s there.tree
@@ -145,36 +148,37 @@ module _ (calls : List Call) (v : FrontView) (s : Scene) (there : At v s) where
         (ap (λ (t : Tree). t.nodes) goes_to ∙ same ∙ ap (λ (t : Tree). t.nodes) (sym there.tree)) there.holds;
   }
 
-  taken_so : (took : Bool) → TakesTo (tree_of s) (tree_of next) took → Taken (asked calls v) next took
-  taken_so took (inl nodes) = record {
-    must = false;
-    there = nothing_taken (ap (λ (t : Tree). t.nodes) (sym goes_to) ∙ nodes ∙ ap (λ (t : Tree). t.nodes) there.tree);
-    why = λ due. absurd (cc due);
-  }
-  taken_so took (inr (zxid, loses, reason)) = record {
-    must = true;
-    there = record {
+  -- all that they took is still to be told
+  pub taken : (took : Bool) → TakesTo v.tree (tree_after v.tree calls) took → AtIf (Some v) (asked calls v) next × Lost v (asked calls v) took
+  taken took takes = (
+    record {
       tables = there.tables;
       tree = goes_to;
-      holds = lost_holds (tree_of s) (tree_of next) s.set_at s.tables zxid loses there.holds;
-    };
-    why = λ due. why reason;
-  }
+      holds = lost_holds (tree_of next).zxid v (tree_of s) (tree_of next) s.set_at s.tables there.tree there.tables loses there.holds;
+    },
+    lost takes,
+  )
     where
-      why : (took ≡ true) ⊎ ((id : ℕ) × (finite.get (tree_of next).sessions id ≡ None) × Owned (tree_of s).nodes id)
+      loses : (path : Path) → Loses (tree_of next).zxid (tree_of s).nodes (tree_of next).nodes path
+      loses =
+          subst (λ (t : Tree). (path : Path) → Loses (tree_of next).zxid t.nodes (tree_of next).nodes path) (sym there.tree)
+          (subst (λ (u : Tree). (path : Path) → Loses u.zxid v.tree.nodes u.nodes path) (sym goes_to) (all_lose v.tree (tree_after v.tree calls) took takes))
+
+      why : (took ≡ true) ⊎ ((id : ℕ) × (finite.get (tree_after v.tree calls).sessions id ≡ None) × Owned v.tree.nodes id)
           → (took ≡ true) ⊎ Gone (asked calls v)
       why (inl some) = inl some
       why (inr (id, gone, owned)) =
           inr (
             id,
-            ap (λ (t : Tree). finite.get t.sessions id) (sym goes_to) ∙ gone,
+            gone,
             ap (λ (t : TablesView). made_one t.attachments id) (sym there.tables)
-                ∙ owner_made s.tables.attachments (tree_of s).nodes id there.holds.owners owned,
+                ∙ owner_made s.tables.attachments (tree_of s).nodes id there.holds.owners
+                (subst (λ (t : Tree). Owned t.nodes id) (sym there.tree) owned),
           )
 
-  pub taken : (took : Bool) → TakesTo v.tree (tree_after v.tree calls) took → Taken (asked calls v) next took
-  taken took takes =
-      taken_so took (subst (λ t. TakesTo t (tree_of next) took) (sym there.tree) (subst (λ t. TakesTo v.tree t took) (sym goes_to) takes))
+      lost : TakesTo v.tree (tree_after v.tree calls) took → Lost v (asked calls v) took
+      lost (inl same) = inl same
+      lost (inr (zxid, moved, reason)) = inr (all_lose v.tree (tree_after v.tree calls) took takes, why reason)
 
 -- a close leaves the tree, or its reply is Closed
 closes_so : (t : Tree) (exhausted gone : Bool) (why other : Reply) (did : Tree × Reply) → did.1 ≡ reply.Closed

@@ -33,7 +33,7 @@ use Rattle.zcalls.specs.declared.reply.PartReply.TheVariants as part_reply
 use Rattle.zcalls.specs.declared.reply.Reply.{Reply}
 use Rattle.zcalls.specs.declared.reply.Reply.TheVariants as reply
 use Rattle.zcalls.specs.Part.{create_step, delete_step, set_step, check_step, part_step, reported_as_part, create_refusals}
-use Rattle.zcalls.specs.Part.{delete_refusals, unless_refused, made_path, owner_of, ttl_of, on_version}
+use Rattle.zcalls.specs.Part.{delete_refusals, unless_refused, made_path, owner_of, term_of, on_version}
 use Rattle.zcalls.specs.Part.{has_other_version, with_node_set}
 use Rattle.zcalls.specs.Multi.{Run, run, behind, and_then}
 use Rattle.zcalls.specs.Step.{step, is_exhausted, update_result, change_result, multi_result}
@@ -156,15 +156,15 @@ abbrev ChangeDid : Tree → Path → (ChangeReply → List Event) → Result (Tr
 ChangeDid t path events (Err refusal) = Unit {0}
 ChangeDid t path events (Ok (u, did)) = Leaves t.nodes u.nodes path (events did)
 
-abbrev of_create : ChangeReply → List Event
+abbrev pub of_create : ChangeReply → List Event
 of_create (Created path) = with_parent NodeCreated path
 of_create other = []
 
-abbrev of_delete : Delete → ChangeReply → List Event
+abbrev pub of_delete : Delete → ChangeReply → List Event
 of_delete delete Deleted = with_parent NodeDeleted delete.path
 of_delete delete other = []
 
-abbrev of_set : SetData → ChangeReply → List Event
+abbrev pub of_set : SetData → ChangeReply → List Event
 of_set set (Set stat) = event NodeDataChanged set.path ∷ []
 of_set set other = []
 
@@ -177,13 +177,13 @@ create_did t client create path = by (first_that_holds (create_refusals t client
 
     by : (refused : Option Refusal) → first_that_holds (create_refusals t client create) ≡ refused
         → ChangeDid t path of_create (unless_refused refused (
-          with_node t at create.bytes (owner_of create.kind.lifetime) (ttl_of create.kind.lifetime) create.kind.is_sequential,
+          with_node t at create.bytes (owner_of create.kind.lifetime) (term_of create.kind.lifetime) create.kind.is_sequential,
           Created at,
         ))
     by (Some refusal) is = tt
     by None is =
         let tests = no_test_holds (create_refusals t client create) is in
-        made t at (new_node create.bytes (owner_of create.kind.lifetime) (ttl_of create.kind.lifetime) (t.zxid + 1) t.time)
+        made t at (new_node create.bytes (owner_of create.kind.lifetime) (term_of create.kind.lifetime) (t.zxid + 1) t.time)
         (with_child (t.zxid + 1) create.kind.is_sequential) path tests.1.1.1.1.1.1.0
 
 delete_did : (t : Tree) (delete : Delete) (path : Path) → ChangeDid t path (of_delete delete) (delete_step t delete)

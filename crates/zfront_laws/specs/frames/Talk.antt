@@ -2,7 +2,7 @@
 -- request, with events of watches between them. After a close nothing is sent. The sources are
 -- zookeeper.jute and the ZooKeeper Programmer's Guide, "ZooKeeper Sessions" and "ZooKeeper
 -- Watches".
-use Rattle.std.specs.Prelude.{◌≡◌, ◌⊎◌, ℕ, ◌≤◌, pos, Bool, true, false, List, [], ◌∷◌, ◌++◌, length, replicate, Some, Ok, Err}
+use Rattle.std.specs.Prelude.{◌≡◌, ◌⊎◌, ℕ, ◌≤◌, pos, Bool, true, false, List, [], ◌∷◌, ◌++◌, length, replicate, Option, Some, Ok, Err}
 use Rattle.std.specs.Option.{MatchOption}
 use Rattle.zcodec.specs.Readers.{whole}
 use Rattle.std.specs.FinMap.{get}
@@ -12,6 +12,7 @@ use Rattle.zcalls.specs.declared.call.Call.{Call}
 use Rattle.zcalls.specs.declared.reply.Reply.TheVariants.{Opened}
 use Rattle.zjute.specs.Asking.{request}
 use Rattle.zjute.specs.Connecting.{connect_request}
+use Rattle.zjute.specs.declared.code.Code.{Code}
 use Rattle.zjute.specs.declared.connecting.ConnectRequest.{ConnectRequest}
 use Rattle.zjute.specs.declared.request.Asked.{Asked}
 use Rattle.zjute.specs.declared.request.Request.{Request}
@@ -33,6 +34,7 @@ use Rattle.zconnections.specs.Reporting.{event_frame}
 use Rattle.zresponses.specs.effects.Answering.{answer_unless, now_of}
 use Rattle.zresponses.specs.effects.Frames.{answer_frame, response_frame}
 use Rattle.zresponses.specs.effects.Greeting.{given}
+use Rattle.zresponses.specs.effects.Watching.{IsFaultOf}
 use Rattle.zresponses.specs.effects.Wishes.{wishes}
 use Rattle.zfront.specs.Front.{FrontView}
 use Rattle.zfront.specs.Greeting.{opening}
@@ -61,13 +63,13 @@ is_closed (Answers bytes talk) = is_closed talk
 is_closed Closes = true
 
 -- the answer to a request: the code of its refusal, without calls; or that of the replies to its
--- calls; only a request for watches may get an error since there was no room
+-- calls; only a request on watches may get an error since there was no room, or no watch
 abbrev pub Says : Meaning (List Call) → Clock → Now → Asked → Log → Answer → Type 0
 Says (Err (Refused code)) clock now asked part answer = (part ≡ []) × (answer ≡ failed code)
 Says (Err Memory) clock now asked part answer = ⊥
 Says (Ok calls) clock now asked part answer =
     (calls_of part ≡ calls)
-    × ((lacked : Bool) × (wishes asked calls (replies_of part) ≡ [] → lacked ≡ false) × (answer ≡ answer_unless lacked clock now asked calls (replies_of part)))
+    × ((fault : Option Code) × IsFaultOf (wishes asked calls (replies_of part)) fault × (answer ≡ answer_unless fault clock now asked calls (replies_of part)))
 
 -- the tree after the calls of a log
 abbrev pub tree_behind : Tree → Log → Tree

@@ -5,9 +5,8 @@ use Rattle.zcodec.specs.Readers.{whole}
 use Rattle.ztree.specs.Tree.{Tree}
 use Rattle.zcalls.specs.Lists.{Among}
 use Rattle.zjute.specs.Asking.{request}
-use Rattle.zjute.specs.declared.request.Asked.TheVariants as asked
+use Rattle.zjute.specs.declared.request.Asked.{Asked}
 use Rattle.zjute.specs.declared.request.Request.{Request}
-use Rattle.zjute.specs.declared.request.SetWatches.{SetWatches}
 use Rattle.zresponses.specs.declared.clock.Clock.{Clock}
 use Rattle.zconnections.specs.buffers.Inputs.InputView.{Opened, Came, Ended, Tick}
 use Rattle.zconnections.specs.buffers.Streams.{bytes_of, opened, phase_of}
@@ -21,31 +20,31 @@ use Rattle.zfront.specs.Reading.{Cuts}
 use Rattle.zfront.specs.Restoring.{beginning}
 use Rattle.zfront_laws.specs.Logs.{run_log}
 use Rattle.zfront_laws.specs.Runs.{Step, Takes, Sent, Took, Runs}
-use Rattle.zfront_laws.specs.watches.Watching.{Scene, Happening, Renewals, Happens, Stands, IsUnchanged}
+use Rattle.zfront_laws.specs.watches.Watching.{Scene, Happening, Asking, Happens, Stands, IsUnchanged}
 
 -- the calls of this log were answered, and no watch was set
 abbrev pub opening_scene : Log → TablesView → Scene
 opening_scene log t = record { log = log; set_at = λ w. finite.empty; tables = t }
 
--- the frame is a request that re-registers these watches (`setWatches`)
-abbrev pub IsRenewal : SetWatches → List ℕ → Type 0
-IsRenewal set frame = (r : Request) × (whole request frame ≡ Ok r) × (r.asked ≡ asked.SetWatches set)
+-- the frame is a request with this record
+abbrev pub IsRequest : Asked → List ℕ → Type 0
+IsRequest asks frame = (r : Request) × (whole request frame ≡ Ok r) × (r.asked ≡ asks)
 
 -- the requests among the frames of a connection in this phase: its first frame is none
 abbrev pub requests_in : Option Phase → List (List ℕ) → List (List ℕ)
 requests_in (Some Silent) (first ∷ frames) = frames
 requests_in phase frames = frames
 
--- bytes arrive on this connection, and only it re-registers watches: by a request that is whole in
--- its unread bytes with these
-abbrev pub Arriving : ℕ → List ℕ → Scene → Renewals
-Arriving c bytes s d set =
+-- bytes arrive on this connection, and only it has requests: those that are whole in its unread
+-- bytes with these
+abbrev pub Arriving : ℕ → List ℕ → Scene → Asking
+Arriving c bytes s d asks =
     (d ≡ c) × (frames : List (List ℕ)) × (rest : List ℕ) × Cuts (bytes_of s.tables.streams c ++ bytes) frames rest
-    × (frame : List ℕ) × Among frame (requests_in (phase_of s.tables.streams c) frames) × IsRenewal set frame
+    × (frame : List ℕ) × Among frame (requests_in (phase_of s.tables.streams c) frames) × IsRequest asks frame
 
--- no connection re-registers watches
-abbrev pub none_renewed : Renewals
-none_renewed c set = ⊥
+-- no connection has a request
+abbrev pub none_asked : Asking
+none_asked c asks = ⊥
 
 -- the effect of a step on a scene: a connection is added, or removed with its watches; the first
 -- chunk is sent; nothing, when updates are taken; or happenings
@@ -53,7 +52,7 @@ abbrev pub Brings : Step → Scene → Scene → Type 0
 Brings (Takes (Opened c)) s t = t ≡ record s { tables = record s.tables { streams = finite.insert s.tables.streams c opened } }
 Brings (Takes (Ended c)) s t = t ≡ record s { tables = ended c s.tables }
 Brings (Takes (Came c bytes)) s t = (happenings : List Happening) × Happens (Arriving c bytes s) happenings s t
-Brings (Takes Tick) s t = (happenings : List Happening) × Happens none_renewed happenings s t
+Brings (Takes Tick) s t = (happenings : List Happening) × Happens none_asked happenings s t
 Brings Sent s t = t ≡ record s { tables = record s.tables { unsent = drop 1 s.tables.unsent } }
 Brings Took s t = t ≡ s
 

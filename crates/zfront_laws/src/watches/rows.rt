@@ -1,7 +1,7 @@
 //! Worked examples of the definitions, as clauses. The functions do nothing.
 
 ghost use Rattle.std.specs.Prelude.{◌≡◌, ◌⊎◌, ℕ, ℤ, true, false, List, [], ◌∷◌, None, Some, Ok};
-ghost use Rattle.std.specs.FinMap.{get};
+ghost use Rattle.std.specs.FinMap.{get, insert};
 ghost use Rattle.zcodec.specs.Readers.{whole};
 ghost use Rattle.ztree.specs.declared.node.Node.{Node};
 ghost use Rattle.ztree.specs.Tree.{Nodes, has_node};
@@ -17,9 +17,11 @@ ghost use Rattle.zwatches.specs.changes.Events.{event};
 ghost use Rattle.zwatches.specs.declared.changes.event.Event.{Event};
 ghost use Rattle.zjute.specs.declared.event.EventKind.TheVariants.{NodeChildrenChanged};
 ghost use Rattle.zjute.specs.declared.event.EventKind.TheVariants.{NodeDataChanged};
-ghost use Rattle.zjute.specs.declared.event.EventKind.TheVariants.{NodeDeleted};
+ghost use Rattle.zjute.specs.declared.event.EventKind.TheVariants.{NodeCreated, NodeDeleted};
 ghost use Rattle.zwatches.specs.changes.Laws.{data_at, children_at};
-ghost use Rattle.zwatches.specs.declared.kind.Kind.TheVariants.{Data, Missing, Children};
+ghost use Rattle.zwatches.specs.declared.kind.Kind.TheVariants.{Data, Missing, Children, EachData, EachChildren, Recursive};
+ghost use Rattle.zjute.specs.declared.watch_type.WatchType.TheVariants as typed;
+ghost use Rattle.zwatches.specs.Watches.{watch};
 ghost use Rattle.zwatches.specs.declared.watch.Watch.{Watch};
 ghost use Rattle.zwatches.specs.Events.{fires};
 ghost use Rattle.ztree_service.specs.log.Logs.{Log};
@@ -28,11 +30,11 @@ ghost use Rattle.zconnections.specs.buffers.Streams.{bytes_of, phase_of};
 ghost use Rattle.zconnections.specs.declared.buffers.phase.Phase.TheVariants.{Silent, Speaking};
 ghost use Rattle.zconnections.specs.Tables.{TablesView, is_open};
 ghost use Rattle.zfront_laws.specs.Runs.{Sent, Took, Takes};
-ghost use Rattle.zfront_laws.specs.watches.Laws.{Arriving, Brings, none_renewed, opening_scene};
+ghost use Rattle.zfront_laws.specs.watches.Laws.{Arriving, Brings, none_asked, opening_scene};
 ghost use Rattle.zfront_laws.specs.watches.Laws.{requests_in};
 ghost use Rattle.zfront_laws.specs.watches.Watching.{Answered, Fired, Missed, Moved, Said, Set};
 ghost use Rattle.zfront_laws.specs.watches.Watching.{IsClose, IsGone, IsMissed, IsOfTheLast};
-ghost use Rattle.zfront_laws.specs.watches.Watching.{IsSameAt, IsUnchanged, LostChild};
+ghost use Rattle.zfront_laws.specs.watches.Watching.{Dropped, IsSameAt, IsUnchanged, LostChild, is_told, takes_more};
 ghost use Rattle.zfront_laws.specs.watches.Watching.{May, Scene, Stands, tree_of};
 
 /// What a watch waits for, by its kind. A child watch ignores the data, and a data watch ignores
@@ -49,9 +51,31 @@ pub fn what_is_waited_for()
 /// `exists` sets a watch for a creation only where no node exists.
 pub fn where_watches_are_set()
     ensures missing { (s : Scene) → has_node (tree_of s).nodes [] ≡ true
-        → May none_renewed (Set 1 Missing []) s → ⊥ }
+        → May none_asked (Set 1 Missing []) s → ⊥ }
     ensures data { (s : Scene) → has_node (tree_of s).nodes [] ≡ false
-        → May none_renewed (Set 1 Data []) s → ⊥ }
+        → May none_asked (Set 1 Data []) s → ⊥ }
+{}
+
+/// A watch that stays is told of each change. A recursive one waits for the nodes below its path,
+/// and not for others. Once it is told of a node, it knows that node as it is.
+pub fn what_stays()
+    ensures below { (before now : Nodes) → (data_at now at_a_b ≡ data_at before at_a_b → ⊥)
+        → IsSameAt Recursive at_a before now → ⊥ }
+    ensures sibling { (before : Nodes) (n : Node) → IsSameAt Recursive at_a_b before
+        (insert before at_a n) }
+    ensures told { is_told (event NodeDataChanged at_a) (watch at_a EachData 1) ≡ true }
+    ensures told_below { is_told (event NodeCreated at_a_b) (watch at_a Recursive 1) ≡ true }
+    ensures untold { is_told (event NodeDataChanged at_a) (watch at_a EachChildren 1) ≡ false }
+    ensures other { is_told (event NodeDataChanged at_a) (watch at_a_b Recursive 1) ≡ false }
+    ensures once { is_told (event NodeDataChanged at_a) (watch at_a Data 1) ≡ false }
+{}
+
+/// A watch that stays is set, and watches are removed, only by a request of their own connection.
+pub fn who_asks()
+    ensures added { (s : Scene) → May none_asked (Set 1 Recursive []) s → ⊥ }
+    ensures removed { (s : Scene) → May none_asked (Dropped 1 typed.Any []) s → ⊥ }
+    ensures other { (s : Scene) (bytes : List ℕ)
+        → May (Arriving 1 bytes s) (Dropped 2 typed.Any []) s → ⊥ }
 {}
 
 /// A client that has seen change 1 re-registers a data watch of /a, a watch for the creation of /a,
@@ -73,18 +97,18 @@ pub fn what_is_missed()
 {}
 
 /// A missed event is sent only to a connection that re-registers its watch, in that step: by a
-/// whole request on that connection. A tick re-registers none, and the first frame is no request.
+/// whole request on that connection. A tick has none, and the first frame is no request.
 pub fn who_missed_it()
     ensures own { (s : Scene) (bytes frame : List ℕ) (r : Request) (set : SetWatches)
         → phase_of s.tables.streams 1 ≡ Some (Speaking 7) → bytes_of s.tables.streams 1 ≡ []
         → next_of bytes ≡ Whole frame [] → whole request frame ≡ Ok r
-        → r.asked ≡ asked.SetWatches set → Arriving 1 bytes s 1 set }
+        → r.asked ≡ asked.SetWatches set → Arriving 1 bytes s 1 (asked.SetWatches set) }
     ensures allowed { (s : Scene) (bytes : List ℕ) (set : SetWatches) (e : Event)
-        → Arriving 1 bytes s 1 set → IsMissed set (tree_of s).nodes e.kind e.path
+        → Arriving 1 bytes s 1 (asked.SetWatches set) → IsMissed set (tree_of s).nodes e.kind e.path
         → May (Arriving 1 bytes s) (Missed 1 e) s }
     ensures other { (s : Scene) (bytes : List ℕ) (e : Event)
         → May (Arriving 1 bytes s) (Missed 2 e) s → ⊥ }
-    ensures tick { (s : Scene) (e : Event) → May none_renewed (Missed 1 e) s → ⊥ }
+    ensures tick { (s : Scene) (e : Event) → May none_asked (Missed 1 e) s → ⊥ }
     ensures first { (frame : List ℕ) → requests_in (Some Silent) (frame ∷ []) ≡ [] }
 {}
 
@@ -94,18 +118,18 @@ pub fn who_missed_it()
 pub fn what_may_not_happen()
     ensures answered { (s : Scene) (w : Watch) (xid : ℤ) (answer : Answer) → Stands s w
         → w.connection ≡ 1 → (IsUnchanged s w → ⊥) → (IsClose s 1 → ⊥)
-        → May none_renewed (Answered 1 xid answer) s → ⊥ }
+        → May none_asked (Answered 1 xid answer) s → ⊥ }
     ensures fired { (s : Scene) (e : Event) → (IsOfTheLast s e → ⊥) → (IsGone s e → ⊥)
-        → (LostChild s e → ⊥) → May none_renewed (Fired e) s → ⊥ }
+        → (LostChild s e → ⊥) → May none_asked (Fired e) s → ⊥ }
     ensures changed { (s : Scene) (w : Watch) → Stands s w → IsUnchanged s w
-        → fires NodeDataChanged [] w ≡ true → (w.kind ≡ Missing → ⊥)
-        → May none_renewed (Fired (event NodeDataChanged [])) s → ⊥ }
+        → fires NodeDataChanged [] w ≡ true → takes_more w.kind ≡ false
+        → May none_asked (Fired (event NodeDataChanged [])) s → ⊥ }
     ensures own { (s : Scene) → phase_of s.tables.streams 1 ≡ Some Silent → IsClose s 1 → ⊥ }
     ensures said { (s : Scene) (session : ℕ) (bytes : List ℕ)
         → phase_of s.tables.streams 1 ≡ Some (Speaking session)
-        → May none_renewed (Said 1 bytes) s → ⊥ }
+        → May none_asked (Said 1 bytes) s → ⊥ }
     ensures moved { (s : Scene) (t : TablesView) → is_open s.tables 1 ≡ true
-        → is_open t 1 ≡ false → May none_renewed (Moved t) s → ⊥ }
+        → is_open t 1 ≡ false → May none_asked (Moved t) s → ⊥ }
 {}
 
 /// A scene begins with the given log and tables. Taking updates leaves it unchanged. Opening a

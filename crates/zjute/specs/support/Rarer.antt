@@ -61,6 +61,20 @@ create_ttl_bytes =
 abbrev pub create_ttl_asked : Request
 create_ttl_asked = asking 24 (asks.CreateTtl (record { create = record { path = Some slash_a; bytes = Some hi; acls = open_acls; flags = pos 5 }; ttl = pos 60000 }))
 
+-- a create of the container /a (`CreateRequest`)
+abbrev pub create_container_bytes : List ℕ
+create_container_bytes =
+    0 ∷ 0 ∷ 0 ∷ 28 ∷  -- xid 28
+    0 ∷ 0 ∷ 0 ∷ 19 ∷  -- type 19: createContainer
+    0 ∷ 0 ∷ 0 ∷ 2 ∷ 47 ∷ 97 ∷  -- path /a
+    0 ∷ 0 ∷ 0 ∷ 2 ∷ 104 ∷ 105 ∷  -- data "hi"
+    0 ∷ 0 ∷ 0 ∷ 0 ∷  -- no ACL
+    0 ∷ 0 ∷ 0 ∷ 4 ∷  -- flags: container
+    []
+
+abbrev pub create_container_asked : Request
+create_container_asked = asking 28 (asks.CreateContainer (record { path = Some slash_a; bytes = Some hi; acls = []; flags = pos 4 }))
+
 -- the data of /a and its children (`MultiTransactionRecord` of reads)
 abbrev pub multi_read_bytes : List ℕ
 multi_read_bytes =

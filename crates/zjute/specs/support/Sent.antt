@@ -118,6 +118,18 @@ reported_names_bytes =
 abbrev pub reported_names : Reply
 reported_names = answer 14 code.Ok (body.Names ((97 ∷ []) ∷ hi ∷ []))
 
+-- a watch was added
+abbrev pub watched_bytes : List ℕ
+watched_bytes =
+    0 ∷ 0 ∷ 0 ∷ 15 ∷  -- xid 15
+    0 ∷ 0 ∷ 0 ∷ 0 ∷ 0 ∷ 0 ∷ 0 ∷ 9 ∷  -- zxid 9
+    0 ∷ 0 ∷ 0 ∷ 0 ∷  -- code 0: ok
+    0 ∷ 0 ∷ 0 ∷ 0 ∷  -- code 0 once more
+    []
+
+abbrev pub watched : Reply
+watched = answer 15 code.Ok (body.Error code.Ok)
+
 -- the open ACL and the stat
 abbrev pub reported_acl_bytes : List ℕ
 reported_acl_bytes =

@@ -1,5 +1,5 @@
 -- What the calls write: how a row is put into its lists, and taken out of them.
-use Rattle.std.specs.Prelude.{◌≡◌, ◌+◌, ◌==◌, ℕ, Option, None, Some, IfSome, if◌then◌else◌}
+use Rattle.std.specs.Prelude.{◌≡◌, ◌+◌, ℕ, Bool, Option, None, Some, IfSome, if◌then◌else◌}
 use Rattle.std.specs.Option.{option_map_or, option_and_then}
 use Rattle.std.specs.FinMap.{get, insert}
 use Rattle.zslots.specs.declared.id.Id.{Id}
@@ -23,7 +23,7 @@ with_siblings r to = record r { siblings = to }
 abbrev pub with_fellows : Row → Links → Row
 with_fellows r to = record r { fellows = to }
 
--- a row with other links among the nodes with a time to live
+-- a row with other links among the nodes that ticks may remove
 abbrev pub with_timed_links : Row → Links → Row
 with_timed_links r to = record r { timed = to }
 
@@ -101,22 +101,22 @@ slots_without_owned s owners owner id =
 abbrev pub owners_left : Items Row → OwnerLists → ℕ → Id → OwnerLists
 owners_left m owners owner id = owners_without m owners owner (list_of owners owner) id
 
--- a row put before those with a time to live, where its node has one
-abbrev pub with_timed : Items Row → IdList 2 → ℕ → Id → Items Row
-with_timed m list ttl id =
-    if ttl == 0 then m else with_front timed_links with_timed_links m (first_id list) id
+-- a row put before those that ticks may remove, where its node is one
+abbrev pub with_timed : Items Row → IdList 2 → Bool → Id → Items Row
+with_timed m list ends id =
+    if ends then with_front timed_links with_timed_links m (first_id list) id else m
 
--- a row taken out of those with a time to live, where its node has one
-abbrev pub without_timed : Items Row → ℕ → Id → Items Row
-without_timed m ttl id = if ttl == 0 then m else without timed_links with_timed_links m id
+-- a row taken out of those that ticks may remove, where its node is one
+abbrev pub without_timed : Items Row → Bool → Id → Items Row
+without_timed m ends id = if ends then without timed_links with_timed_links m id else m
 
 -- the list of those with the row in it
-abbrev pub timed_with : IdList 2 → ℕ → Id → IdList 2
-timed_with list ttl id = if ttl == 0 then list else list_with_front list id
+abbrev pub timed_with : IdList 2 → Bool → Id → IdList 2
+timed_with list ends id = if ends then list_with_front list id else list
 
 -- the list of those with the row out of it
-abbrev pub timed_without : Items Row → IdList 2 → ℕ → Id → IdList 2
-timed_without m list ttl id = if ttl == 0 then list else list_without timed_links m list id
+abbrev pub timed_without : Items Row → IdList 2 → Bool → Id → IdList 2
+timed_without m list ends id = if ends then list_without timed_links m list id else list
 
 -- the rows with one row's node changed
 abbrev pub with_node_at : Items Row → Id → (Node → Node) → Items Row

@@ -1,5 +1,5 @@
 -- The rows of the nodes, the lists in which they are, and what they represent.
-use Rattle.std.specs.Prelude.{◌≡◌, ℕ, Bool, true, false, [], ◌∷◌, List, Option, None, Some, if◌then◌else◌, ◌==◌}
+use Rattle.std.specs.Prelude.{◌≡◌, ℕ, Bool, true, false, [], ◌∷◌, List, Option, None, Some, if◌then◌else◌}
 use Rattle.std.specs.Global.{Global}
 use Rattle.std.specs.Option.{option_map, option_map_or, option_and_then}
 use Rattle.std.specs.Ordering.{nat_cmp}
@@ -16,6 +16,7 @@ use Rattle.zslots.specs.MapValues.{map_values}
 use Rattle.znodes.specs.index.IndexView.{IdsByPath}
 use Rattle.ztree.specs.declared.node.Node.{Node}
 use Rattle.ztree.specs.Tree.{Name, Path, Nodes, parent_of}
+use Rattle.ztree.specs.Stale.{may_end}
 use Rattle.znodes.specs.declared.row.Row.{Row}
 use Rattle.znodes.specs.NodesView.{Taken}
 use Rattle.znodes.specs.support.OwnerLists.{OwnerLists, somebody}
@@ -56,13 +57,13 @@ parent_key r = if is_live r then above r.path else None
 abbrev pub owner_key : Row → Option ℕ
 owner_key r = if is_live r then somebody r.node.owner else None
 
--- where a time to live ends the node, its one list's key
-abbrev pub timed_by : ℕ → Option (Unit {0})
-timed_by ttl = if ttl == 0 then None else Some tt
+-- where a tick may remove the node, its one list's key
+abbrev pub timed_by : Bool → Option (Unit {0})
+timed_by ends = if ends then Some tt else None
 
--- a live node with a time to live is in the one list of these
+-- a live node that a tick may remove is in the one list of these
 abbrev pub timed_key : Row → Option (Unit {0})
-timed_key r = if is_live r then timed_by r.node.ttl else None
+timed_key r = if is_live r then timed_by (may_end r.node.term) else None
 
 -- the links among the children of one parent
 abbrev pub sibling_links : Row → Links
@@ -72,7 +73,7 @@ sibling_links r = r.siblings
 abbrev pub fellow_links : Row → Links
 fellow_links r = r.fellows
 
--- the links among the nodes with a time to live
+-- the links among the nodes that ticks may remove
 abbrev pub timed_links : Row → Links
 timed_links r = r.timed
 
@@ -103,7 +104,7 @@ pub record IsLinked (m : Items Row) (ids : IdsByPath) (owners : OwnerLists) : Ty
   pub children : HasFamilies sibling_links parent_key m (children_of m ids)
   pub owned : HasFamilies fellow_links owner_key m (owned_by owners)
 
--- the list holds exactly the live nodes with a time to live
+-- the list holds exactly the live nodes that ticks may remove
 abbrev pub HasTimed : Items Row → IdList 2 → Type 0
 HasTimed m timed = HasFamilies timed_links timed_key m (λ _. timed)
 

@@ -1,7 +1,7 @@
 -- Samples for the worked examples.
 use Rattle.std.specs.Prelude.{ℕ, List, [], ◌∷◌, pos, negsuc, codes, Option, None, Some, Err, false}
 use Rattle.zjute.specs.declared.acl.Acl.{Acl}
-use Rattle.zjute.specs.declared.code.Code.TheVariants.{BadArguments, InvalidAcl, Unimplemented, AuthFailed}
+use Rattle.zjute.specs.declared.code.Code.TheVariants.{BadArguments, InvalidAcl, MarshallingError, Unimplemented, AuthFailed}
 use Rattle.zjute.specs.declared.request.CreateRequest.{CreateRequest}
 use Rattle.zjute.specs.declared.request.CreateTtl.{CreateTtl}
 use Rattle.zjute.specs.declared.request.AtVersion.{AtVersion}
@@ -22,6 +22,9 @@ invalid_acl = Err (Refused InvalidAcl)
 
 abbrev pub auth_failed : {A : Type 0} → Meaning A
 auth_failed = Err (Refused AuthFailed)
+
+abbrev pub marshalling : {A : Type 0} → Meaning A
+marshalling = Err (Refused MarshallingError)
 
 -- the entry of the open ACL
 abbrev pub open_entry : Acl

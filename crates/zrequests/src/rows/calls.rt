@@ -3,7 +3,7 @@
 ghost use Rattle.std.specs.Prelude.{◌≡◌, [], ◌∷◌, pos, codes, None, Some, Ok, replicate};
 ghost use Rattle.ztree.specs.support.Samples.{at_a};
 ghost use Rattle.zcalls.specs.Part.{named};
-ghost use Rattle.zcalls.specs.declared.call.Lifetime.TheVariants.{Ephemeral, WithTtl};
+ghost use Rattle.zcalls.specs.declared.call.Lifetime.TheVariants.{Ephemeral, WithTtl, Container};
 ghost use Rattle.zcalls.specs.declared.call.Expected.TheVariants.{Any, Exactly};
 ghost use Rattle.zcalls.specs.declared.call.Part.TheVariants as part;
 ghost use Rattle.zcalls.specs.declared.call.Update.TheVariants as act;
@@ -15,9 +15,10 @@ ghost use Rattle.zjute.specs.declared.request.Asked.TheVariants as asked;
 ghost use Rattle.zrequests.specs.declared.limits.TheConstants.{NO_VERSION};
 ghost use Rattle.zrequests.specs.Requests.{calls_in};
 ghost use Rattle.zrequests.specs.support.Samples.{bad, unimplemented, invalid_acl, auth_failed, open_entry, text_a};
+ghost use Rattle.zrequests.specs.support.Samples.{marshalling};
 ghost use Rattle.zrequests.specs.support.Samples.{create_a, timed_a, at_version, set_a, look_a};
 
-/// Creates: an ephemeral of the session, and a node with a TTL.
+/// Creates: an ephemeral of the session, a node with a TTL, and a container.
 #[tactic(auto, unfolding(zpath::specs::Faults::fault_of))]
 pub fn calls_of_creates()
     ensures create { calls_in 2000 9 (asked.Create create_a) ≡ Ok (Update (act.Create
@@ -28,8 +29,12 @@ pub fn calls_of_creates()
         (record { path = at_a; kind = named (WithTtl 2); bytes = [] })) ∷ []) }
     ensures closed { calls_in 2000 9 (asked.Create (record create_a { acls = [] })) ≡ invalid_acl }
     ensures no_path { calls_in 2000 9 (asked.Create (record create_a { path = None })) ≡ bad }
-    ensures container { calls_in 2000 9 (asked.Create (record create_a { flags = pos 4 }))
-        ≡ unimplemented }
+    ensures flag_4 { calls_in 2000 9 (asked.Create (record create_a { flags = pos 4 }))
+        ≡ Ok (Update (act.Create
+        (record { path = at_a; kind = named Container; bytes = [] })) ∷ []) }
+    ensures container { calls_in 2000 9 (asked.CreateContainer (record create_a { flags = pos 4 }))
+        ≡ Ok (Update (act.Create
+        (record { path = at_a; kind = named Container; bytes = [] })) ∷ []) }
     ensures no_time { calls_in 2000 9 (asked.CreateTtl (record timed_a { ttl = pos 0 })) ≡ bad }
 {}
 
@@ -42,6 +47,34 @@ pub fn calls_of_changes()
         (record { path = at_a; bytes = 7 ∷ []; version = Any })) ∷ []) }
     ensures check { calls_in 2000 9 (asked.Check at_version) ≡ Ok (Update (act.Multi (part.Check
         (record { path = at_a; version = Exactly NO_VERSION }) ∷ [])) ∷ []) }
+{}
+
+/// Requests on watches: each asks whether the node exists, once its number is known. Then comes the
+/// path. The five lists of a setWatches2 are asked for in order.
+#[tactic(auto, unfolding(zpath::specs::Faults::fault_of))]
+pub fn calls_of_watches()
+    ensures add { calls_in 2000 9 (asked.AddWatch (record { path = text_a; mode = pos 1 }))
+        ≡ Ok (Query (Exists at_a) ∷ []) }
+    ensures no_mode { calls_in 2000 9 (asked.AddWatch (record { path = text_a; mode = pos 2 }))
+        ≡ marshalling }
+    ensures remove { calls_in 2000 9 (asked.RemoveWatches (record { path = text_a; kind = pos 3 }))
+        ≡ Ok (Query (Exists at_a) ∷ []) }
+    ensures check { calls_in 2000 9 (asked.CheckWatches (record { path = text_a; kind = pos 1 }))
+        ≡ Ok (Query (Exists at_a) ∷ []) }
+    ensures no_type { calls_in 2000 9 (asked.RemoveWatches (record { path = None; kind = pos 4 }))
+        ≡ marshalling }
+    ensures no_path { calls_in 2000 9 (asked.AddWatch (record { path = None; mode = pos 0 }))
+        ≡ bad }
+    ensures all { calls_in 2000 9 (asked.SetWatches2 (record {
+      watches = record {
+        relative_zxid = pos 1;
+        data_watches = codes "/a" ∷ [];
+        exist_watches = [];
+        child_watches = [];
+      };
+      persistent_watches = [];
+      recursive_watches = codes "/a" ∷ [];
+    })) ≡ Ok (Query (Exists at_a) ∷ Query (Exists at_a) ∷ []) }
 {}
 
 /// Requests that read.
@@ -76,8 +109,9 @@ pub fn calls_of_multis()
         (part.Check (record { path = at_a; version = Exactly NO_VERSION })
         ∷ part.SetData (record { path = at_a; bytes = 7 ∷ []; version = Any }) ∷ [])) ∷ []) }
     ensures container { calls_in 2000 9
-        (asked.Multi (of_multi.SetData set_a ∷ of_multi.CreateContainer create_a ∷ []))
-        ≡ unimplemented }
+        (asked.Multi (of_multi.CreateContainer (record create_a { flags = pos 4 }) ∷ []))
+        ≡ Ok (Update (act.Multi (part.Create
+        (record { path = at_a; kind = named Container; bytes = [] }) ∷ [])) ∷ []) }
     ensures too_many { calls_in 2000 9 (asked.Multi (replicate 65 (of_multi.SetData set_a)))
         ≡ bad }
 {}

@@ -2,7 +2,7 @@
 
 ghost use Rattle.std.specs.Prelude.{◌≡◌, [], ◌∷◌, pos, negsuc, codes, None, Some, Ok, Err, true, false};
 ghost use Rattle.zcalls.specs.Part.{named, sequential};
-ghost use Rattle.zcalls.specs.declared.call.Lifetime.TheVariants.{Persistent, WithTtl, Ephemeral};
+ghost use Rattle.zcalls.specs.declared.call.Lifetime.TheVariants.{Persistent, WithTtl, Ephemeral, Container};
 ghost use Rattle.zcalls.specs.declared.call.Expected.TheVariants.{Any, Exactly};
 ghost use Rattle.zrequests.specs.declared.limits.TheConstants.{NO_VERSION, ALL_PERMISSIONS, MAX_PATHS};
 ghost use Rattle.zrequests.specs.Asking.{path_in, data_in, version_in, has_open_acl, kind_in, ttl_in, timed_kind_in};
@@ -53,7 +53,7 @@ pub fn kinds_of_requests()
     ensures ephemeral { kind_in 9 (pos 1) ≡ Ok (named (Ephemeral 9)) }
     ensures sequential { kind_in 9 (pos 2) ≡ Ok (sequential Persistent) }
     ensures both { kind_in 9 (pos 3) ≡ Ok (sequential (Ephemeral 9)) }
-    ensures container { kind_in 9 (pos 4) ≡ unimplemented }
+    ensures container { kind_in 9 (pos 4) ≡ Ok (named Container) }
     ensures without_a_ttl { kind_in 9 (pos 5) ≡ bad }
     ensures negative { kind_in 9 (negsuc 0) ≡ bad }
     ensures timed { timed_kind_in 8 (pos 5) ≡ Ok (named (WithTtl 8)) }

@@ -3,10 +3,10 @@ use Rattle.std.proofs.Common.{◌≡◌, ℕ, ◌≤◌, Bool, true, false, List
 use Rattle.std.specs.Prelude.{◌⊎◌, min, nat_le}
 use Rattle.std.proofs.lemmas.Bool.Decides.{nat_tests}
 use Rattle.std.proofs.lemmas.List.{drop_all}
+use Rattle.ztree.specs.Tree.{Path}
 use Rattle.zcalls.specs.declared.call.Call.{Call}
 use Rattle.zcalls.specs.declared.reply.Reply.{Reply}
 use Rattle.zwatches.specs.declared.kind.Kind.{Kind}
-use Rattle.zwatches.specs.declared.place.Place.{Place}
 use Rattle.zresponses.specs.effects.Wishes.{wishes_again}
 use Rattle.zresponses.specs.effects.Looking.{seen}
 use Rattle.zresponses.specs.effects.Replying.{absorbed_all}
@@ -33,17 +33,17 @@ none_again kind seen calls replies i end =
       | inr e ↦ rw e (no_replies_again kind seen (drop i calls))
     ]
 
-no_replies_seen : (zxid : ℕ) (places : List Place) → seen zxid places [] ≡ []
+no_replies_seen : (zxid : ℕ) (paths : List Path) → seen zxid paths [] ≡ []
 no_replies_seen zxid [] = refl
-no_replies_seen zxid (p ∷ places) = refl
+no_replies_seen zxid (path ∷ paths) = refl
 
--- nothing is seen after the last position or reply
-pub none_seen : (zxid : ℕ) (places : List Place) (replies : List Reply) (i : ℕ) → min (length places) (length replies) ≤ i
-    → seen zxid (drop i places) (drop i replies) ≡ []
-none_seen zxid places replies i end =
-    elim (one_ended places replies i end) [
+-- nothing is seen after the last path or reply
+pub none_seen : (zxid : ℕ) (paths : List Path) (replies : List Reply) (i : ℕ) → min (length paths) (length replies) ≤ i
+    → seen zxid (drop i paths) (drop i replies) ≡ []
+none_seen zxid paths replies i end =
+    elim (one_ended paths replies i end) [
       | inl e ↦ rw e refl
-      | inr e ↦ rw e (no_replies_seen zxid (drop i places))
+      | inr e ↦ rw e (no_replies_seen zxid (drop i paths))
     ]
 
 no_replies_absorbed : (calls : List Call) (t : TablesView) → absorbed_all calls [] t ≡ t

@@ -1,8 +1,8 @@
 -- Samples for the worked examples.
-use Rattle.std.specs.Prelude.{List, ℕ, [], ◌∷◌, pos, codes, Some, false}
+use Rattle.std.specs.Prelude.{List, ℕ, [], ◌∷◌, pos, codes, Some, false, negsuc}
 use Rattle.ztree.specs.support.Samples.{at_a_b}
 use Rattle.zcalls.specs.declared.call.Create.{Create}
-use Rattle.zcalls.specs.declared.call.Lifetime.TheVariants.{Ephemeral, WithTtl}
+use Rattle.zcalls.specs.declared.call.Lifetime.TheVariants.{Ephemeral, WithTtl, Container}
 use Rattle.zcalls.specs.Part.{named, sequential}
 use Rattle.zjute.specs.declared.stat.StatRecord.{StatRecord as ReportedStat}
 use Rattle.zjute.specs.declared.request.CreateRequest.{CreateRequest as AskedCreate}
@@ -34,12 +34,15 @@ reported_stat = record {
   pzxid = pos 3;
 }
 
--- creates beneath /a: an ephemeral of session 9, and a node with a TTL
+-- creates beneath /a: an ephemeral of session 9, a node with a TTL, and a container
 abbrev pub create_b : Create
 create_b = record { path = at_a_b; kind = sequential (Ephemeral 9); bytes = 7 ∷ 8 ∷ 9 ∷ [] }
 
 abbrev pub timed_b : Create
 timed_b = record { path = at_a_b; kind = named (WithTtl 5); bytes = [] }
+
+abbrev pub container_b : Create
+container_b = record { path = at_a_b; kind = named Container; bytes = [] }
 
 -- the stats for a client of the nodes that they made
 abbrev pub reported_of_b : ReportedStat
@@ -59,6 +62,10 @@ reported_of_b = record {
 
 abbrev pub reported_of_timed : ReportedStat
 reported_of_timed = record reported_of_b { ephemeral_owner = pos 0; data_length = pos 0 }
+
+-- the owner is `Long.MIN_VALUE`
+abbrev pub reported_of_container : ReportedStat
+reported_of_container = record reported_of_timed { ephemeral_owner = negsuc 9223372036854775807 }
 
 -- the text of /a/b, and requests for it
 abbrev pub text_a_b : List ℕ

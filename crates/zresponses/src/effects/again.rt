@@ -1,15 +1,16 @@
 //! Watches that a client re-registers after it reconnects.
 
-ghost use Rattle.std.specs.Prelude.{◌≡◌, ◌++◌, take, drop, OnOk};
+ghost use Rattle.std.specs.Prelude.{◌≡◌, ◌++◌, length, take, drop, OnOk};
+ghost use Rattle.zrequests.specs.Requests.{watched_in};
 ghost use Rattle.zresponses.specs.effects.Wishes as table;
-ghost use Rattle.zresponses.specs.effects.Wishes.{all_again, call_again};
+ghost use Rattle.zresponses.specs.effects.Wishes.{all_again, call_again, each_again};
 
 use crate::effects::wish::Wish;
-use crate::effects::wishes::{reports, waits};
+use crate::effects::wishes::{add_all_added, reports, waits};
 use crate::numbers::long_of;
 use zalloc::Memory;
 use zcalls::{Call, Query, Refusal, Reply};
-use zjute::SetWatches;
+use zjute::{AddMode, SetWatches, SetWatches2};
 use zpath::Path;
 use zwatches::Kind;
 use zwatches::changes::EventKind;
@@ -34,6 +35,35 @@ pub(crate) fn add_all_again(
     wishes_again(Kind::Data, seen, of_data, to_data, list)?;
     wishes_again(Kind::Missing, seen, of_missing, to_missing, list)?;
     wishes_again(Kind::Children, seen, of_children, to_children, list)
+}
+
+/// Adds the re-registered watches of `SetWatches2`: those of its first three lists, then persistent
+/// ones, then recursive ones.
+#[tactic(auto, using(std::proofs::Common::append_assoc))]
+pub(crate) fn add_each_again(
+    set: &SetWatches2,
+    calls: &[Call],
+    replies: &[Reply],
+    list: &mut Vec<Wish>,
+) -> Result<(), Memory>
+    ensures { OnOk result
+        (list.new.items ≡ list.old.items ++ each_again set.now calls.now replies.now) }
+{
+    let (first, others) = split(calls, count_of(&set.watches));
+    let (to_first, _) = split(replies, count_of(&set.watches));
+    let (persistent, recursive) = split(others, set.persistent_watches.as_slice().len());
+    add_all_again(&set.watches, first, to_first, list)?;
+    add_all_added(AddMode::Persistent, persistent, list)?;
+    add_all_added(AddMode::Recursive, recursive, list)
+}
+
+// Returns the number of paths in the first three lists.
+fn count_of(set: &SetWatches) -> usize
+    ensures { result ≡ length (watched_in set.now) }
+{
+    let of_data = set.data_watches.as_slice().len();
+    let of_missing = set.exist_watches.as_slice().len();
+    of_data + of_missing + set.child_watches.as_slice().len()
 }
 
 // Splits a list after the first `count` elements.
@@ -107,7 +137,11 @@ fn wish_again(
         }
         (Kind::Missing, Reply::Exists(_)) => reports(EventKind::NodeCreated, path, list),
         (Kind::Missing, Reply::Refused(Refusal::NoNode)) => waits(kind, path, list),
-        (_, Reply::Refused(Refusal::NoNode)) => reports(EventKind::NodeDeleted, path, list),
+        (Kind::Data | Kind::Children, Reply::Refused(Refusal::NoNode)) => reports(
+            EventKind::NodeDeleted,
+            path,
+            list,
+        ),
         _ => Ok(()),
     }
 }

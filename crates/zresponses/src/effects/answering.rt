@@ -13,7 +13,7 @@ use std::alloc::Global;
 use zalloc::Memory;
 use zcalls::{Call, Reply};
 use zconnections::Tables;
-use zjute::{Body, Code, Request};
+use zjute::{Code, Request};
 
 /// A request whose calls all have replies.
 #[derive(Drop)]
@@ -29,7 +29,7 @@ pub struct Done<'a> {
 }
 
 /// Sends the answer to a request whose calls all have replies. The events of its calls are sent
-/// first, then its watches are set.
+/// first, then its watches are set or removed.
 pub fn answer(
     alloc: Global,
     tables: &mut Tables,
@@ -45,7 +45,7 @@ pub fn answer(
     grant_and_answer(alloc, tables, clock, now, done)
 }
 
-// Sets the watches of a request, and sends its answer.
+// Sets or removes the watches of a request, and sends its answer.
 fn grant_and_answer(
     alloc: Global,
     tables: &mut Tables,
@@ -58,9 +58,9 @@ fn grant_and_answer(
         done.now.calls.now done.now.replies.now tables.old) }
 {
     let wishes = wishes(alloc, &done.request.asked, done.calls, done.replies)?;
-    let lacked = grant_all(tables, done.connection, &wishes)?;
+    let fault = grant_all(tables, done.connection, &wishes)?;
     drop(wishes);
-    let answer = answer_unless(alloc, lacked, clock, now, done)?;
+    let answer = answer_unless(alloc, fault, clock, now, done)?;
     reply(
         alloc,
         tables,
@@ -71,23 +71,20 @@ fn grant_and_answer(
     )
 }
 
-// Returns the answer to a request; an error, if there was no room for a watch.
+// Returns the answer to a request; an error, if a wish wasn't granted.
 fn answer_unless(
     alloc: Global,
-    lacked: bool,
+    fault: Option<Code>,
     clock: &Clock,
     now: &Now,
     done: &Done,
 ) -> Result<crate::Answer, Memory>
     ensures { IfOk result (λ answer. answer
-        ≡ table.answer_unless lacked clock.now now.now done.now.request.now.asked
+        ≡ table.answer_unless fault clock.now now.now done.now.request.now.asked
         done.now.calls.now done.now.replies.now) }
 {
-    if lacked {
-        return Ok(crate::Answer {
-            code: Code::SystemError,
-            body: Body::Nothing,
-        });
+    if let Some(code) = fault {
+        return Ok(crate::Answer::failed(code));
     }
     answer_to(
         alloc,

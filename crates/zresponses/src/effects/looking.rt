@@ -14,21 +14,21 @@ use std::alloc::Global;
 use zalloc::Memory;
 use zcalls::Reply;
 use zconnections::Tables;
+use zpath::Path;
 use ztree::Zxid;
-use zwatches::Place;
 
 /// Sends the events of the nodes that the change of this zxid deleted, and of those that lost a
-/// child in it. The reply for each position says whether its node exists.
+/// child in it. The reply for each path says whether its node exists.
 pub fn look(
     alloc: Global,
     tables: &mut Tables,
     zxid: Zxid,
-    places: &[Place],
+    paths: &[Path],
     replies: &[Reply],
 ) -> Result<(), Memory>
     ensures { OnOk result (tables.new
-        ≡ reported_all (table.seen zxid places.now replies.now) tables.old) }
+        ≡ reported_all (table.seen zxid paths.now replies.now) tables.old) }
 {
-    let events = seen(alloc, zxid, places, replies)?;
+    let events = seen(alloc, zxid, paths, replies)?;
     tables.report_all(&events)
 }

@@ -1,16 +1,16 @@
-//! The watches that a request asks for.
+//! What a request asks for of the watches of its connection.
 
-ghost use Rattle.std.specs.Prelude.{◌≡◌, ◌++◌, ◌∷◌, [], IfOk, OnOk};
+ghost use Rattle.std.specs.Prelude.{◌≡◌, ◌++◌, ◌∷◌, [], Some, IfOk, OnOk};
 ghost use Rattle.zwatches.specs.changes.Events.{event};
 ghost use Rattle.zresponses.specs.effects.Wishes as table;
 ghost use Rattle.zresponses.specs.declared.effects.wish.Wish.TheVariants as wish;
 
-use crate::effects::again::add_all_again;
+use crate::effects::again::{add_all_again, add_each_again};
 use crate::effects::wish::Wish;
 use std::alloc::Global;
 use zalloc::Memory;
 use zcalls::{Call, Query, Refusal, Reply};
-use zjute::{Asked, Look};
+use zjute::{AddMode, Asked, Look, WatchType};
 use zpath::Path;
 use zwatches::Kind;
 use zwatches::changes::{Event, EventKind};
@@ -45,6 +45,10 @@ fn add_all(
         | Asked::GetChildren(look)
         | Asked::GetChildren2(look) => add_look(look, calls, replies, list),
         Asked::SetWatches(set) => add_all_again(set, calls, replies, list),
+        Asked::SetWatches2(set) => add_each_again(set, calls, replies, list),
+        Asked::AddWatch(add) => add_mode(AddMode::of(add.mode), calls, list),
+        Asked::CheckWatches(at) => add_check(WatchType::of(at.kind), calls, list),
+        Asked::RemoveWatches(at) => add_end(WatchType::of(at.kind), calls, list),
         _ => Ok(()),
     }
 }
@@ -93,6 +97,84 @@ fn add_query(query: &Query, reply: &Reply, list: &mut Vec<Wish>) -> Result<(), M
             waits(Kind::Missing, path, list)
         }
         (Query::GetChildren(path), Reply::Children(_)) => waits(Kind::Children, path, list),
+        _ => Ok(()),
+    }
+}
+
+// Adds the added watch of a request.
+fn add_mode(mode: Option<AddMode>, calls: &[Call], list: &mut Vec<Wish>) -> Result<(), Memory>
+    ensures { OnOk result
+        (list.new.items ≡ list.old.items ++ table.added_by mode calls.now) }
+{
+    match (mode, calls) {
+        (Some(mode), [Call::Query(Query::Exists(path)), ..]) => add_added(mode, path, list),
+        _ => Ok(()),
+    }
+}
+
+// Adds an added watch.
+#[tactic(auto, using(std::proofs::Common::append_assoc))]
+fn add_added(mode: AddMode, path: &Path, list: &mut Vec<Wish>) -> Result<(), Memory>
+    ensures { OnOk result
+        (list.new.items ≡ list.old.items ++ table.added mode path.now) }
+{
+    match mode {
+        AddMode::Persistent => {
+            waits(Kind::EachData, path, list)?;
+            waits(Kind::EachChildren, path, list)
+        }
+        AddMode::Recursive => waits(Kind::Recursive, path, list),
+    }
+}
+
+// Adds that there is a watch of this type.
+fn add_check(type_of: Option<WatchType>, calls: &[Call], list: &mut Vec<Wish>) -> Result<(), Memory>
+    ensures { OnOk result
+        (list.new.items ≡ list.old.items ++ table.checked_by type_of calls.now) }
+{
+    let (Some(type_of), [Call::Query(Query::Exists(path)), ..]) = (type_of, calls) else {
+        return Ok(());
+    };
+    let path = path.clone()?;
+    list.push(Wish::Has(type_of, path))?;
+    Ok(())
+}
+
+// Adds that the watches of this type are removed.
+fn add_end(type_of: Option<WatchType>, calls: &[Call], list: &mut Vec<Wish>) -> Result<(), Memory>
+    ensures { OnOk result
+        (list.new.items ≡ list.old.items ++ table.ended_by type_of calls.now) }
+{
+    let (Some(type_of), [Call::Query(Query::Exists(path)), ..]) = (type_of, calls) else {
+        return Ok(());
+    };
+    let path = path.clone()?;
+    list.push(Wish::Ends(type_of, path))?;
+    Ok(())
+}
+
+/// Adds the added watch of each call.
+pub(crate) fn add_all_added(
+    mode: AddMode,
+    calls: &[Call],
+    list: &mut Vec<Wish>,
+) -> Result<(), Memory>
+    ensures { OnOk result
+        (list.new.items ≡ list.old.items ++ table.all_added mode calls.now) }
+{
+    for call in calls {
+        add_one(mode, call, list)?;
+    }
+    Ok(())
+}
+
+// Adds the added watch of a call.
+fn add_one(mode: AddMode, call: &Call, list: &mut Vec<Wish>) -> Result<(), Memory>
+    ensures { OnOk result
+        (list.new.items ≡ list.old.items ++ table.added_by (Some mode) (call.now ∷ [])) }
+{
+    match call {
+        Call::Query(Query::Exists(path)) => add_added(mode, path, list),
         _ => Ok(()),
     }
 }

@@ -36,6 +36,9 @@ pub fn answers_with_a_stat()
     ensures create2 { answer_in clock now (asked.Create2 asked_b)
         (call.Update (act.Create create_b) ∷ []) (reply.Created at_a_b ∷ [])
         ≡ done (body.PathStat text_a_b reported_of_b) }
+    ensures container { answer_in clock now (asked.CreateContainer asked_b)
+        (call.Update (act.Create create_b) ∷ []) (reply.Created at_a_b ∷ [])
+        ≡ done (body.PathStat text_a_b reported_of_b) }
     ensures no_create2 { answer_in clock now (asked.Create2 asked_b)
         (call.Update (act.Create create_b) ∷ []) (reply.Refused NoNode ∷ [])
         ≡ failed code.NoNode }

@@ -30,6 +30,8 @@ pub fn done_parts()
         (part_reply.Created at_a_b) ≡ result_of.Create text_a_b }
     ensures create2 { part_result clock now (asked.Create2 asked_b) (part.Create create_b)
         (part_reply.Created at_a_b) ≡ result_of.Create2 text_a_b reported_of_b }
+    ensures container { part_result clock now (asked.CreateContainer asked_b) (part.Create create_b)
+        (part_reply.Created at_a_b) ≡ result_of.Create2 text_a_b reported_of_b }
     ensures delete { part_result clock now (asked.Create asked_b) (part.Create create_b)
         part_reply.Deleted ≡ result_of.Delete }
     ensures set { part_result clock now (asked.Create asked_b) (part.Create create_b)

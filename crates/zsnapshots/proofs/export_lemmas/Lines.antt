@@ -13,13 +13,15 @@ use Rattle.zpath.specs.Grammar.{has_bad_byte, is_name_byte, segment_of, text_of,
 use Rattle.zpath.specs.Faults.{fault_of, names_of}
 use Rattle.zpath.proofs.Spelling.{names_of-text_of, text_has_no_fault}
 use Rattle.ztree.specs.declared.limits.TheConstants.{MAX_DATA, MAX_TTL}
+use Rattle.ztree.specs.declared.term.Term.{Term}
+use Rattle.ztree.specs.declared.term.Term.TheVariants.{Unlimited, Timed, Container}
 use Rattle.ztree.specs.declared.node.Node.{Node}
 use Rattle.ztree.specs.Tree.{Path}
 use Rattle.zcalls.specs.declared.call.Call.TheVariants.{Update}
 use Rattle.zcalls.specs.declared.call.Update.TheVariants as act
 use Rattle.zcalls.specs.declared.call.Kind.{Kind}
 use Rattle.zcalls.specs.declared.call.Lifetime.{Lifetime}
-use Rattle.zcalls.specs.declared.call.Lifetime.TheVariants.{Persistent, WithTtl}
+use Rattle.zcalls.specs.declared.call.Lifetime.TheVariants.{Persistent, WithTtl, Container as OfContainer}
 use Rattle.zcalls.specs.Part.{named}
 use Rattle.zcalls.specs.declared.call.Expected.TheVariants.{Any}
 use Rattle.zscript_text.specs.declared.limits.TheConstants.{MAX_LINE, NUMBER_BOUND}
@@ -28,6 +30,7 @@ use Rattle.zscript_text.specs.Line.{line_of}
 use Rattle.zscript_text.specs.LineWords.{Word, data_of, data_text, is_malformed, number_of, words_of}
 use Rattle.zscript_text.specs.Shape.{in_ttl_range, kind_of}
 use Rattle.zscript_text.proofs.OneNumeral.{reads_decimal}
+use Rattle.zsnapshots.specs.Rows.{HasValidTtl}
 use Rattle.zsnapshots.specs.export.Export.{create_line, kind_text, set_line}
 use Rattle.zsnapshots.specs.export.Laws.{IsWithinLimits}
 use Rattle.zsnapshots.proofs.export_lemmas.Words.{AreMarks, AreWords, IsMark, IsWord, length-spaced, marks-append, spaced, well_formed, words_of-spaced}
@@ -35,13 +38,15 @@ use Rattle.zsnapshots.proofs.export_lemmas.Data.{data_length, data_of-text, data
 
 -- ---- kinds
 
--- the lifetime of a node without an owner, by its TTL in ticks
-abbrev pub lifetime_for : ℕ → Lifetime
-lifetime_for ttl = if ttl == 0 then Persistent else WithTtl ttl
+-- the lifetime of a node without an owner, by its term
+abbrev pub lifetime_for : Term → Lifetime
+lifetime_for Unlimited = Persistent
+lifetime_for (Timed ttl) = WithTtl ttl
+lifetime_for Container = OfContainer
 
 -- and its kind
-abbrev pub kind_for : ℕ → Kind
-kind_for ttl = named (lifetime_for ttl)
+abbrev pub kind_for : Term → Kind
+kind_for term = named (lifetime_for term)
 
 range : (ttl : ℕ) → 0 < ttl → ttl ≤ MAX_TTL → in_ttl_range ttl ≡ Some ttl
 range ttl some few =
@@ -57,12 +62,14 @@ for_good : kind_of (codes "p") ≡ Some (named Persistent)
 unfolding kind_of
 for_good = refl
 
-pub kind_of-text : (ttl : ℕ) → ttl ≤ MAX_TTL → kind_of (kind_text ttl) ≡ Some (kind_for ttl)
-kind_of-text ttl few = by (ttl == 0) refl
-  where
-    by : (b : Bool) → (ttl == 0) ≡ b → kind_of (cond b (codes "p") (codes "t:" ++ decimal ttl)) ≡ Some (named (cond b Persistent (WithTtl ttl)))
-    by true e = for_good
-    by false e = timed ttl (grind (arith, nat_tests)) few
+contained : kind_of (codes "c") ≡ Some (named OfContainer)
+unfolding kind_of
+contained = refl
+
+pub kind_of-text : (term : Term) → HasValidTtl term → kind_of (kind_text term) ≡ Some (kind_for term)
+kind_of-text Unlimited is = for_good
+kind_of-text (Timed ttl) is = timed ttl is.0 is.1
+kind_of-text Container is = contained
 
 digits_marks : (n : ℕ) → n < 2 ^ 64 → AreMarks (decimal n)
 digits_marks n small = decimal_by_steps (λ n ds. AreMarks ds) one more n small
@@ -73,22 +80,24 @@ digits_marks n small = decimal_by_steps (λ n ds. AreMarks ds) one more n small
     more : (n : ℕ) (ds : List ℕ) → 10 ≤ n → AreMarks ds → AreMarks (ds ++ ((48 + n % 10) ∷ []))
     more n ds large are = marks-append ds ((48 + n % 10) ∷ []) are ((omega arith, omega arith), tt)
 
-kind_word : (ttl : ℕ) → ttl ≤ MAX_TTL → IsWord (kind_text ttl)
-kind_word ttl few = by (ttl == 0)
-  where
-    by : (b : Bool) → IsWord (cond b (codes "p") (codes "t:" ++ decimal ttl))
-    by true = record { some = omega arith; marks = ((omega arith, omega arith), tt) }
-    by false = record {
-      some = omega arith;
-      marks = ((omega arith, omega arith), ((omega arith, omega arith), digits_marks ttl (omega arith)));
-    }
+timed_word : (ttl : ℕ) → ttl ≤ MAX_TTL → IsWord (codes "t:" ++ decimal ttl)
+timed_word ttl few = record {
+  some = omega arith;
+  marks = ((omega arith, omega arith), ((omega arith, omega arith), digits_marks ttl (omega arith)));
+}
 
-kind_length : (ttl : ℕ) → ttl ≤ MAX_TTL → length (kind_text ttl) ≤ 12
-kind_length ttl few = by (ttl == 0)
-  where
-    by : (b : Bool) → length (cond b (codes "p") (codes "t:" ++ decimal ttl)) ≤ 12
-    by true = omega arith
-    by false = let digits = length-decimal-le 10 ttl (omega arith) (omega arith) (omega arith) in omega (arith, digits)
+kind_word : (term : Term) → HasValidTtl term → IsWord (kind_text term)
+kind_word Unlimited is = record { some = omega arith; marks = ((omega arith, omega arith), tt) }
+kind_word (Timed ttl) is = timed_word ttl is.1
+kind_word Container is = record { some = omega arith; marks = ((omega arith, omega arith), tt) }
+
+timed_length : (ttl : ℕ) → ttl ≤ MAX_TTL → length (codes "t:" ++ decimal ttl) ≤ 12
+timed_length ttl few = let digits = length-decimal-le 10 ttl (omega arith) (omega arith) (omega arith) in omega (arith, digits)
+
+kind_length : (term : Term) → HasValidTtl term → length (kind_text term) ≤ 12
+kind_length Unlimited is = omega arith
+kind_length (Timed ttl) is = timed_length ttl is.1
+kind_length Container is = omega arith
 
 -- ---- paths
 
@@ -140,7 +149,7 @@ word_one = record { some = omega arith; marks = ((omega arith, omega arith), tt)
 
 module _ (path : Path) (n : Node) (is : IsPath path) (within : IsWithinLimits n) where
   abbrev create_words : List Word
-  create_words = codes "create" ∷ text_of path ∷ kind_text n.ttl ∷ data_text n.bytes ∷ []
+  create_words = codes "create" ∷ text_of path ∷ kind_text n.term ∷ data_text n.bytes ∷ []
 
   word_create : IsWord (codes "create")
   word_create = record {
@@ -155,13 +164,13 @@ module _ (path : Path) (n : Node) (is : IsPath path) (within : IsWithinLimits n)
   }
 
   create_are : AreWords (codes "1" ∷ create_words)
-  create_are = (word_one, (word_create, (path_word path is, (kind_word n.ttl within.ttl, (data_word n.bytes within.bytes, tt)))))
+  create_are = (word_one, (word_create, (path_word path is, (kind_word n.term within.ttl, (data_word n.bytes within.bytes, tt)))))
 
   create_short : length (spaced (codes "1") create_words) ≤ MAX_LINE
   create_short =
       let all = length-spaced (codes "1") create_words in
       let of_path = is.short in
-      let of_kind = kind_length n.ttl within.ttl in
+      let of_kind = kind_length n.term within.ttl in
       let of_data = data_length n.bytes within.short in
       omega (arith, all, of_path, of_kind, of_data)
 
@@ -170,11 +179,11 @@ module _ (path : Path) (n : Node) (is : IsPath path) (within : IsWithinLimits n)
   create_is = simp append_assoc
 
   pub create_read : line_of (create_line path n)
-      ≡ Ok (Call (record { client = 1; call = Update (act.Create (record { path = path; kind = kind_for n.ttl; bytes = n.bytes })) }))
-  create_read = ap line_of create_is ∙ read_create (spaced (codes "1") create_words) (text_of path) (kind_text n.ttl)
-      (data_text n.bytes) path (kind_for n.ttl) n.bytes
+      ≡ Ok (Call (record { client = 1; call = Update (act.Create (record { path = path; kind = kind_for n.term; bytes = n.bytes })) }))
+  create_read = ap line_of create_is ∙ read_create (spaced (codes "1") create_words) (text_of path) (kind_text n.term)
+      (data_text n.bytes) path (kind_for n.term) n.bytes
       (well_formed (codes "1") create_words create_are create_short) (words_of-spaced (codes "1") create_words create_are)
-      (kind_of-text n.ttl within.ttl) (text_has_no_fault path is) (names_of-text_of path is) (data_of-text n.bytes within.bytes within.short)
+      (kind_of-text n.term within.ttl) (text_has_no_fault path is) (names_of-text_of path is) (data_of-text n.bytes within.bytes within.short)
 
 module _ (bytes : List ℕ) (are_bytes : IsBytes bytes) (short : length bytes ≤ MAX_DATA) where
   abbrev set_words : List Word

@@ -18,6 +18,8 @@ use Rattle.zpath.specs.declared.limits.TheConstants.{MAX_NAME_LEN, MAX_TEXT_LEN}
 use Rattle.zpath.proofs.First.{first_that_holds-none}
 use Rattle.zpath.proofs.NameTests.{not_above}
 use Rattle.ztree.specs.declared.limits.TheConstants.{MAX_NODES, ZXID_BOUND}
+use Rattle.ztree.specs.declared.term.Term.{Term}
+use Rattle.ztree.specs.declared.term.Term.TheVariants.{Unlimited, Timed, Container}
 use Rattle.ztree.specs.declared.node.Node.{Node}
 use Rattle.ztree.specs.Tree.{Nodes, Path, Sessions, Tree, has_node, new_node, opening_tree, parent_of, with_change_at}
 use Rattle.ztree.specs.Tree.{with_child, with_data, with_next_zxid, with_node}
@@ -31,10 +33,9 @@ use Rattle.zstore.proofs.parts.Cached.{has-inserted}
 use Rattle.zcalls.specs.declared.call.Create.{Create}
 use Rattle.zcalls.specs.declared.call.Expected.TheVariants.{Any}
 use Rattle.zcalls.specs.declared.call.Lifetime.{Lifetime}
-use Rattle.zcalls.specs.declared.call.Lifetime.TheVariants.{Persistent, WithTtl}
 use Rattle.zcalls.specs.declared.change.ChangeReply.TheVariants.{Created}
 use Rattle.zcalls.specs.declared.call.Update.TheVariants as act
-use Rattle.zcalls.specs.Part.{create_refusals, create_step, is_owned, is_root, has_no_owner, named, node_has, owner_of, set_step, ttl_of}
+use Rattle.zcalls.specs.Part.{create_refusals, create_step, is_owned, is_root, has_no_owner, named, node_has, owner_of, set_step, term_of}
 use Rattle.zcalls.specs.Step.{step}
 use Rattle.zscript_text.specs.Line.{line_of}
 use Rattle.zops.proofs.Creating.{created-done}
@@ -72,21 +73,19 @@ len-more : (nodes : Nodes) (path : Path) (n : Node) (most : ℕ) → finite.len 
 len-more nodes path n most few = len-insert-most paths_total same_path nodes path n most few
 
 -- a lifetime of a node without an owner
-record IsPlain (l : Lifetime) (ttl : ℕ) : Type 0 where
+record IsPlain (l : Lifetime) (term : Term) : Type 0 where
   nobodys : owner_of l ≡ 0
-  lives : ttl_of l ≡ ttl
+  lives : term_of l ≡ term
   there : (sessions : Sessions) (client : ℕ) → has_no_owner sessions client l ≡ false
 
-plain_lifetime : (ttl : ℕ) → IsPlain (lifetime_for ttl) ttl
-plain_lifetime ttl = by (ttl == 0) refl
-  where
-    by : (b : Bool) → (ttl == 0) ≡ b → IsPlain (cond b Persistent (WithTtl ttl)) ttl
-    by true e = record { nobodys = refl; lives = grind (arith, nat_tests); there = λ sessions client. refl }
-    by false e = record { nobodys = refl; lives = refl; there = λ sessions client. refl }
+plain_lifetime : (term : Term) → IsPlain (lifetime_for term) term
+plain_lifetime Unlimited = record { nobodys = refl; lives = refl; there = λ sessions client. refl }
+plain_lifetime (Timed ttl) = record { nobodys = refl; lives = refl; there = λ sessions client. refl }
+plain_lifetime Container = record { nobodys = refl; lives = refl; there = λ sessions client. refl }
 
 -- the tree after a node came
-abbrev with_one : Tree → Path → List ℕ → ℕ → Tree
-with_one u path bytes ttl = with_next_zxid (with_node u path bytes 0 ttl false)
+abbrev with_one : Tree → Path → List ℕ → Term → Tree
+with_one u path bytes term = with_next_zxid (with_node u path bytes 0 term false)
 
 -- no test of a create holds
 record CanCome (u : Tree) (path : Path) : Type 0 where
@@ -98,7 +97,7 @@ record CanCome (u : Tree) (path : Path) : Type 0 where
   few : nat_le MAX_NODES (finite.len u.nodes) ≡ false
   young : nat_le (ZXID_BOUND - 1) u.zxid ≡ false
 
-module _ (u : Tree) (path : Path) (bytes : List ℕ) (ttl : ℕ) (l : Lifetime) (plain : IsPlain l ttl) where
+module _ (u : Tree) (path : Path) (bytes : List ℕ) (term : Term) (l : Lifetime) (plain : IsPlain l term) where
   abbrev create : Create
   create = record { path = path; kind = named l; bytes = bytes }
 
@@ -106,10 +105,10 @@ module _ (u : Tree) (path : Path) (bytes : List ℕ) (ttl : ℕ) (l : Lifetime) 
   not_refused can = first_that_holds-none (create_refusals u 1 create)
       (plain.there u.sessions 1, (can.below, (can.above, (can.persistent, (refl, (can.fits, (can.free, (can.few, tt))))))))
 
-  done : CanCome u path → create_step u 1 create ≡ Ok (with_node u path bytes 0 ttl false, Created path)
+  done : CanCome u path → create_step u 1 create ≡ Ok (with_node u path bytes 0 term false, Created path)
   done can = rw (plain.nobodys, plain.lives) at (created-done u 1 create (not_refused can))
 
-  step_create : CanCome u path → (step u 1 (act.Create create)).0 ≡ with_one u path bytes ttl
+  step_create : CanCome u path → (step u 1 (act.Create create)).0 ≡ with_one u path bytes term
   unfolding step
   step_create can = rw (can.young, done can) refl
 
@@ -176,18 +175,18 @@ module _ (t : Tree) (has : HasLines t) where
         young = let most = fewer in let early = made.young in under (ZXID_BOUND - 1) u.zxid (omega (arith, most, early));
       }
 
-      comes : after_line u (line_of (create_line path n)) ≡ with_one u path n.bytes n.ttl
+      comes : after_line u (line_of (create_line path n)) ≡ with_one u path n.bytes n.term
       comes =
           let is = has.paths path (is_there _ n is_there_now) in
           let within = has.within path n is_there_now in
-          ap (after_line u) (create_read path n is within) ∙ step_create u path n.bytes n.ttl (lifetime_for n.ttl) (plain_lifetime n.ttl) can_come
+          ap (after_line u) (create_read path n is within) ∙ step_create u path n.bytes n.term (lifetime_for n.term) (plain_lifetime n.term) can_come
 
-      new_shown : shown_of (new_node n.bytes 0 n.ttl (u.zxid + 1) u.time) ≡ (0, said_of n)
+      new_shown : shown_of (new_node n.bytes 0 n.term (u.zxid + 1) u.time) ≡ (0, said_of n)
       new_shown = refl
 
-      with_one_made : IsMade (finite.insert now path n) (with_one u path n.bytes n.ttl)
+      with_one_made : IsMade (finite.insert now path n) (with_one u path n.bytes n.term)
       with_one_made =
-          let new = new_node n.bytes 0 n.ttl (u.zxid + 1) u.time in
+          let new = new_node n.bytes 0 n.term (u.zxid + 1) u.time in
           let raised = with_child (u.zxid + 1) false in
           record {
             mirrors = λ q. shown-changed (finite.insert u.nodes path new) (parent_of path) raised (λ m. refl) q
@@ -259,7 +258,7 @@ module _ (t : Tree) (has : HasLines t) where
       (finite.len (finite.empty {X = Node} {R = path_cmp}) + 1)) (get-empty path_cmp []) ∙ ap (λ k. k + 1) (len-empty path_cmp Node)
 
   abbrev no_data : Node
-  no_data = new_node [] 0 0 0 0
+  no_data = new_node [] 0 Unlimited 0 0
 
   len_opening : finite.len opening_tree.nodes ≡ 1
   len_opening = len-insert paths_total finite.empty [] no_data
@@ -274,7 +273,7 @@ module _ (t : Tree) (has : HasLines t) where
 
   root_without : own.root.bytes ≡ [] → IsMade first opening_tree
   root_without nothing = record {
-    mirrors = mirrors_root finite.empty no_data (λ i. (0, record { bytes = sym nothing i; ttl = sym own.can_root.stays i }))
+    mirrors = mirrors_root finite.empty no_data (λ i. (0, record { bytes = sym nothing i; term = sym own.can_root.stays i }))
         (λ q other. get-empty path_cmp q);
     few = let a = len_first in let b = len_opening in omega (arith, a, b);
     young = let a = len_first in omega (arith, a);
@@ -292,7 +291,7 @@ module _ (t : Tree) (has : HasLines t) where
 
   root_with : IsMade first with_root
   root_with = record {
-    mirrors = mirrors_root opening_tree.nodes root_set (λ i. (0, record { bytes = own.root.bytes; ttl = sym own.can_root.stays i })) opening_alone;
+    mirrors = mirrors_root opening_tree.nodes root_set (λ i. (0, record { bytes = own.root.bytes; term = sym own.can_root.stays i })) opening_alone;
     few =
         let a = len_first in
         let b = len_opening in

@@ -1,4 +1,4 @@
--- What of a node an export is about: its owner, its data and its TTL; and what changes of a tree do to it.
+-- What of a node an export is about: its owner, its data and its term; and what changes of a tree do to it.
 use Rattle.std.proofs.Common.{◌≡◌, ◌≢◌, ◌⊎◌, inl, inr, ℕ, ◌+◌, ◌≤◌, Bool, true, false, cond, List, Option, Some, None, eqb, refl, sym, ap, ◌∙◌, arith}
 use Rattle.std.specs.Prelude.{is_some}
 use Rattle.std.specs.Option.{option_map, option_map_or}

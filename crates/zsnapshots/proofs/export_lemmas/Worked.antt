@@ -7,6 +7,7 @@ use Rattle.std.specs.FinMap as finite
 use Rattle.std.specs.FinMap.{entries, entries-insert, get-empty, len-empty, len-entries, len-insert, put}
 use Rattle.std.proofs.lemmas.List.{nil_from_length}
 use Rattle.zpath.specs.Grammar.{path_cmp}
+use Rattle.ztree.specs.declared.term.Term.TheVariants.{Unlimited, Timed, Container}
 use Rattle.ztree.specs.declared.node.Node.{Node}
 use Rattle.ztree.specs.declared.session.Session.{Session}
 use Rattle.ztree.specs.Tree.{Nodes, Path, Sessions, new_node, opening_tree}
@@ -18,30 +19,30 @@ no_rows : entries (finite.empty {X = Node} {R = path_cmp}) ≡ []
 no_rows = nil_from_length (entries (finite.empty {X = Node} {R = path_cmp})) (sym (len-entries (finite.empty {X = Node} {R = path_cmp}))
     ∙ len-empty path_cmp Node)
 
-pub opening_rows : entries opening_tree.nodes ≡ ([], new_node [] 0 0 0 0) ∷ []
-opening_rows = entries-insert paths_total finite.empty [] (new_node [] 0 0 0 0) ∙ ap (put path_cmp [] (new_node [] 0 0 0 0)) no_rows
+pub opening_rows : entries opening_tree.nodes ≡ ([], new_node [] 0 Unlimited 0 0) ∷ []
+opening_rows = entries-insert paths_total finite.empty [] (new_node [] 0 Unlimited 0 0) ∙ ap (put path_cmp [] (new_node [] 0 Unlimited 0 0)) no_rows
 
 abbrev timed_root : Nodes
-timed_root = finite.insert finite.empty [] (node_with (codes "hi") 0 0)
+timed_root = finite.insert finite.empty [] (node_with (codes "hi") 0 Unlimited)
 
 abbrev timed_two : Nodes
-timed_two = finite.insert timed_root at_a (node_with [] 0 0)
+timed_two = finite.insert timed_root at_a (node_with [] 0 Container)
 
-pub timed_rows : entries timed_tree.nodes ≡ ([], node_with (codes "hi") 0 0) ∷ (at_a, node_with [] 0 0) ∷ (at_a_b, node_with (codes "hi") 0 12) ∷ []
+pub timed_rows : entries timed_tree.nodes ≡ ([], node_with (codes "hi") 0 Unlimited) ∷ (at_a, node_with [] 0 Container) ∷ (at_a_b, node_with (codes "hi") 0 (Timed 12)) ∷ []
 timed_rows =
-    entries-insert paths_total timed_two at_a_b (node_with (codes "hi") 0 12)
-    ∙ ap (put path_cmp at_a_b (node_with (codes "hi") 0 12))
-    (entries-insert paths_total timed_root at_a (node_with [] 0 0)
-    ∙ ap (put path_cmp at_a (node_with [] 0 0))
-    (entries-insert paths_total finite.empty [] (node_with (codes "hi") 0 0) ∙ ap (put path_cmp [] (node_with (codes "hi") 0 0)) no_rows))
+    entries-insert paths_total timed_two at_a_b (node_with (codes "hi") 0 (Timed 12))
+    ∙ ap (put path_cmp at_a_b (node_with (codes "hi") 0 (Timed 12)))
+    (entries-insert paths_total timed_root at_a (node_with [] 0 Container)
+    ∙ ap (put path_cmp at_a (node_with [] 0 Container))
+    (entries-insert paths_total finite.empty [] (node_with (codes "hi") 0 Unlimited) ∙ ap (put path_cmp [] (node_with (codes "hi") 0 Unlimited)) no_rows))
 
 abbrev owned_root : Node
-owned_root = record (node_with [] 0 0) { seq = 5 }
+owned_root = record (node_with [] 0 Unlimited) { seq = 5 }
 
-pub owned_rows : entries owned_tree.nodes ≡ ([], owned_root) ∷ (at_a, node_with (codes "hi") 9 0) ∷ []
+pub owned_rows : entries owned_tree.nodes ≡ ([], owned_root) ∷ (at_a, node_with (codes "hi") 9 Unlimited) ∷ []
 owned_rows =
-    entries-insert paths_total (finite.insert finite.empty [] owned_root) at_a (node_with (codes "hi") 9 0)
-    ∙ ap (put path_cmp at_a (node_with (codes "hi") 9 0))
+    entries-insert paths_total (finite.insert finite.empty [] owned_root) at_a (node_with (codes "hi") 9 Unlimited)
+    ∙ ap (put path_cmp at_a (node_with (codes "hi") 9 Unlimited))
     (entries-insert paths_total finite.empty [] owned_root ∙ ap (put path_cmp [] owned_root) no_rows)
 
 pub opening_len : finite.len opening_tree.nodes ≡ 1

@@ -1,22 +1,26 @@
 -- A tree as a script: the lines that make it again, as far as lines can say it. The lines are those
 -- of `zscript_text`. This is the project's profile.
-use Rattle.std.specs.Prelude.{ℕ, List, [], ◌∷◌, ◌++◌, ◌==◌, codes, if◌then◌else◌}
+use Rattle.std.specs.Prelude.{ℕ, List, [], ◌∷◌, ◌++◌, codes, if◌then◌else◌}
 use Rattle.std.specs.Fmt.{decimal}
 use Rattle.std.specs.List.{flat_map}
 use Rattle.std.specs.FinMap.{entries}
 use Rattle.zpath.specs.Grammar.{is_empty, text_of}
+use Rattle.ztree.specs.declared.term.Term.{Term}
+use Rattle.ztree.specs.declared.term.Term.TheVariants.{Unlimited, Timed, Container}
 use Rattle.ztree.specs.declared.node.Node.{Node}
 use Rattle.ztree.specs.Tree.{Path, Tree}
 use Rattle.zcalls.specs.Part.{is_owned}
 use Rattle.zscript_text.specs.LineWords.{data_text}
 
--- the kind of a node without a TTL, and of one that has this many ticks
-abbrev pub kind_text : ℕ → List ℕ
-kind_text ttl = if ttl == 0 then codes "p" else codes "t:" ++ decimal ttl
+-- the kind of a node of this term that no session owns
+abbrev pub kind_text : Term → List ℕ
+kind_text Unlimited = codes "p"
+kind_text (Timed ttl) = codes "t:" ++ decimal ttl
+kind_text Container = codes "c"
 
 -- client 1 creates the node
 unfoldable pub create_line : Path → Node → List ℕ
-create_line path n = codes "1 create " ++ text_of path ++ 32 ∷ kind_text n.ttl ++ 32 ∷ data_text n.bytes
+create_line path n = codes "1 create " ++ text_of path ++ 32 ∷ kind_text n.term ++ 32 ∷ data_text n.bytes
 
 -- client 1 writes the root's data
 unfoldable pub set_line : List ℕ → List ℕ

@@ -2,7 +2,8 @@
 use Rattle.std.specs.Prelude.{◌≡◌, ◌≤◌, ℕ, List, [], ◌∷◌, length, Option, None, Some, Ok, if◌then◌else◌}
 use Rattle.std.specs.FinMap.{get}
 use Rattle.base64.specs.GeneralPurpose.{IsBytes}
-use Rattle.ztree.specs.declared.limits.TheConstants.{MAX_DATA, MAX_TTL}
+use Rattle.ztree.specs.declared.limits.TheConstants.{MAX_DATA}
+use Rattle.ztree.specs.declared.term.Term.{Term}
 use Rattle.ztree.specs.declared.node.Node.{Node}
 use Rattle.ztree.specs.Tree.{Path, Tree, opening_tree}
 use Rattle.ztree.specs.Lawful.{AllNodes, HasPaths, IsLawful}
@@ -14,6 +15,7 @@ use Rattle.zscript_text.specs.declared.line.Line.{Line}
 use Rattle.zscript_text.specs.declared.line.Line.TheVariants as asked
 use Rattle.zscript_text.specs.Line.{line_of}
 use Rattle.zscript_text.specs.Request.{Read}
+use Rattle.zsnapshots.specs.Rows.{HasValidTtl}
 use Rattle.zsnapshots.specs.export.Export.{export_lines}
 
 -- ---- playing lines
@@ -35,25 +37,26 @@ after_lines t (line ∷ lines) = after_lines (after_line t (line_of line)) lines
 
 -- ---- what lines say
 
--- what lines can say of a node: its data and its TTL
+-- What lines can say of a node: its data and its term. They don't say that a container had
+-- children, so one that is empty stays until it has had some again.
 pub record Said : Type 0 where
   pub bytes : List ℕ
-  pub ttl : ℕ
+  pub term : Term
 
 abbrev pub said_of : Node → Said
-said_of n = record { bytes = n.bytes; ttl = n.ttl }
+said_of n = record { bytes = n.bytes; term = n.term }
 
 -- what they say at a path: something where there is a node that no session owns
 abbrev pub said_if : Option Node → Option Said
 said_if None = None
 said_if (Some n) = if is_owned n then None else Some (said_of n)
 
--- a node within the limits of its types: data of at most `MAX_DATA` bytes, a TTL of at most
--- `MAX_TTL`
+-- a node within the limits of its types: data of at most `MAX_DATA` bytes, and a TTL, if it has
+-- one, from 1 to `MAX_TTL`
 pub record IsWithinLimits (n : Node) : Type 0 where
   pub short : length n.bytes ≤ MAX_DATA
   pub bytes : IsBytes n.bytes
-  pub ttl : n.ttl ≤ MAX_TTL
+  pub ttl : HasValidTtl n.term
 
 -- a tree that has lines: it is lawful, its keys are paths, and its nodes are within their limits
 pub record HasLines (t : Tree) : Type 0 where
@@ -62,7 +65,7 @@ pub record HasLines (t : Tree) : Type 0 where
   pub within : AllNodes IsWithinLimits t.nodes
 
 -- The lines of a tree, played from the initial tree on, make a tree that has the same nodes but
--- those that a session owns. Each has the same data and the same TTL.
+-- those that a session owns. Each has the same data and the same term.
 abbrev pub ExportsMakeTheirTree : Type 0
 ExportsMakeTheirTree =
     (t : Tree) → HasLines t → (path : Path)

@@ -1,5 +1,6 @@
 -- The rows of the worked examples.
 use Rattle.std.specs.Prelude.{ℕ, [], ◌∷◌}
+use Rattle.ztree.specs.declared.term.Term.TheVariants.{Timed}
 use Rattle.ztree.specs.declared.node.Node.{Node}
 use Rattle.ztree.specs.declared.session.Session.{Session}
 use Rattle.ztree.specs.Tree.{Path}
@@ -31,7 +32,7 @@ node = (
     cversion = 7;
     owner = 8;
     seq = 9;
-    ttl = 10;
+    term = Timed 10;
   },
 )
 

@@ -1,9 +1,10 @@
 //! The lines of a tree, written in order.
 
-ghost use Rattle.std.specs.Prelude.{◌≡◌, false, IfErr, IsFalse, IsTrue, OnOk};
+ghost use Rattle.std.specs.Prelude.{◌≡◌, false, IfErr, OnOk};
 ghost use Rattle.base64.specs.GeneralPurpose.{IsBytes};
 ghost use Rattle.zdevices.specs.Device.{Between, Failed, TookBeginning};
-ghost use Rattle.zsnapshots.specs.declared.export.fault.ExportFault.TheVariants.{Ttl, Write};
+ghost use Rattle.zsnapshots.specs.declared.export.fault.ExportFault.TheVariants.{Write};
+ghost use Rattle.zsnapshots.specs.Rows.{HasValidTtl};
 ghost use Rattle.zsnapshots.specs.export.Export.{export_text};
 ghost use Rattle.zsnapshots.specs.export.Laws.{HasLines, IsWithinLimits};
 ghost use Rattle.zsnapshots.specs.export.support.Counting.{text_for};
@@ -14,8 +15,7 @@ use std::alloc::Global;
 use zdevices::{Sink, write_all};
 use zops::Machine;
 use zpath::Path;
-use ztree::Node;
-use ztree::limits::MAX_TTL;
+use ztree::{Node, Term};
 
 /// Writes the lines of a machine's tree. Only one of them is in memory at a time. After a fault the
 /// sink has taken a prefix of them.
@@ -34,8 +34,6 @@ pub fn write_export<K: Sink>(
         fault ≡ Write → Failed (Between K.failed sink.old sink.new)) }
     // So the lines make the tree again (`laws`).
     ensures has_lines { OnOk result (HasLines machine.now.state.service.plain) }
-    ensures unsayable { IfErr result (λ fault.
-        fault ≡ Ttl → HasLines machine.now.state.service.plain → ⊥) }
 {
     machine.keeps_lawful();
     let paths = machine.paths()?;
@@ -66,11 +64,8 @@ fn write_next<K: Sink>(
     ensures failed { IfErr result (λ fault.
         fault ≡ Write → Failed (Between K.failed sink.old sink.new)) }
     ensures within { OnOk result (IsWithinLimits node.now) }
-    ensures unsayable { IfErr result (λ fault. fault ≡ Ttl → IsWithinLimits node.now → ⊥) }
 {
-    if !is_within(node) {
-        return Err(ExportFault::Ttl);
-    }
+    keeps_limits(node);
     text.clear();
     write_lines(path, node, text)?;
     match write_all(sink, text.as_bytes()) {
@@ -79,13 +74,21 @@ fn write_next<K: Sink>(
     }
 }
 
-// Returns whether a line can say the node's TTL. Its data is within its limit.
-fn is_within(node: &Node) -> bool
-    ensures yes { IsTrue result → IsWithinLimits node.now }
-    ensures no { IsFalse result → IsWithinLimits node.now → ⊥ }
+// Shows that the node's data and its TTL are within their limits. It does nothing.
+fn keeps_limits(node: &Node)
+    ensures { IsWithinLimits node.now }
 {
     keeps_bytes(node.bytes.as_slice());
-    node.ttl <= MAX_TTL
+    keeps_ttl(node.term);
+}
+
+// Shows that a TTL is within its limits. It does nothing.
+fn keeps_ttl(term: Term)
+    ensures { HasValidTtl term }
+{
+    if let Term::Timed(ttl) = term {
+        let _ = ttl.ticks();
+    }
 }
 
 // Shows that bytes are bytes. It does nothing.

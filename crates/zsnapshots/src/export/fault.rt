@@ -14,9 +14,6 @@ pub enum ExportFault {
     /// The sink failed.
     #[error("output")]
     Write,
-    /// A node has a TTL that no line can say. No call makes such a node.
-    #[error("a node has a TTL that no line says")]
-    Ttl,
 }
 
 impl From<Memory> for ExportFault {

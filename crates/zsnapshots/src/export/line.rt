@@ -4,12 +4,13 @@ ghost use Rattle.std.specs.Prelude.{OnOk};
 ghost use Rattle.std.specs.List.{flat_map};
 ghost use Rattle.zscript_text.specs.LineWords.{data_text};
 ghost use Rattle.zscript_text.specs.Texts.{Writes};
+ghost use Rattle.ztree.specs.declared.term.Term.TheVariants.{Timed};
 ghost use Rattle.zsnapshots.specs.export.Export.{create_line, ended, kind_text, lines_for, root_lines, set_line};
 
 use base64::engine::general_purpose::STANDARD;
 use zalloc::Memory;
 use zpath::Path;
-use ztree::Node;
+use ztree::{Node, Term};
 
 /// Appends the line that makes a node, with its end, or nothing if it has none.
 pub(crate) fn write_lines(path: &Path, node: &Node, out: &mut String) -> Result<(), Memory>
@@ -55,20 +56,28 @@ fn write_create(path: &Path, node: &Node, out: &mut String) -> Result<(), Memory
     ensures { OnOk result (Writes out.old out.new (create_line path.now node.now)) }
 {
     write!(out, "1 create {path} ")?;
-    write_kind(node.ttl, out)?;
+    write_kind(node.term, out)?;
     out.push_str(" ")?;
     write_data(node.bytes.as_slice(), out)
 }
 
-// Appends the kind of a node that has this many ticks to live, or no TTL.
-fn write_kind(ttl: u64, out: &mut String) -> Result<(), Memory>
-    ensures { OnOk result (Writes out.old out.new (kind_text ttl)) }
+// Appends the kind of a node of this term that no session owns.
+fn write_kind(term: Term, out: &mut String) -> Result<(), Memory>
+    ensures { OnOk result (Writes out.old out.new (kind_text term)) }
 {
-    if ttl == 0 {
-        out.push_str("p")?;
-        return Ok(());
+    match term {
+        Term::Unlimited => out.push_str("p")?,
+        Term::Timed(ttl) => write_ttl(ttl.ticks(), out)?,
+        Term::Container => out.push_str("c")?,
     }
-    write!(out, "t:{ttl}")?;
+    Ok(())
+}
+
+// Appends the kind of a node that has this many ticks to live.
+fn write_ttl(ticks: u64, out: &mut String) -> Result<(), Memory>
+    ensures { OnOk result (Writes out.old out.new (kind_text (Timed ticks))) }
+{
+    write!(out, "t:{ticks}")?;
     Ok(())
 }
 

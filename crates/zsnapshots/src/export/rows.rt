@@ -1,6 +1,7 @@
 //! Worked examples of the definitions. Each function's contract has some; its body is empty.
 
 ghost use Rattle.std.specs.Prelude.{◌≡◌, [], ◌∷◌, ◌++◌, codes, None, Some};
+ghost use Rattle.ztree.specs.declared.term.Term.TheVariants.{Unlimited, Timed};
 ghost use Rattle.ztree.specs.Tree.{opening_tree};
 ghost use Rattle.zsnapshots.specs.export.Counts.{counts_of};
 ghost use Rattle.zsnapshots.specs.export.Export.{export_lines, export_text, kind_text};
@@ -14,18 +15,18 @@ ghost use Rattle.zsnapshots.specs.export.support.Samples.{some_stat};
 pub fn trees_have_lines()
     ensures opening { export_lines opening_tree ≡ [] }
     ensures timed { export_text timed_tree
-        ≡ codes "1 set / any aGk=\n1 create /a p -\n1 create /a/b t:12 aGk=\n" }
+        ≡ codes "1 set / any aGk=\n1 create /a c -\n1 create /a/b t:12 aGk=\n" }
     ensures owned { export_text owned_tree ≡ [] }
-    ensures for_good { kind_text 0 ≡ codes "p" }
-    ensures for_a_tick { kind_text 1 ≡ codes "t:1" }
+    ensures for_good { kind_text Unlimited ≡ codes "p" }
+    ensures for_a_tick { kind_text (Timed 1) ≡ codes "t:1" }
 {}
 
 /// What lines say of a node.
 pub fn lines_say_little()
     ensures nothing { said_if None ≡ None }
-    ensures owned { said_if (Some (node_with [] 9 0)) ≡ None }
-    ensures some { said_if (Some (node_with (codes "hi") 0 12))
-        ≡ Some (record { bytes = codes "hi"; ttl = 12 }) }
+    ensures owned { said_if (Some (node_with [] 9 Unlimited)) ≡ None }
+    ensures some { said_if (Some (node_with (codes "hi") 0 (Timed 12)))
+        ≡ Some (record { bytes = codes "hi"; term = Timed 12 }) }
 {}
 
 /// The counts of trees, and how they are printed.

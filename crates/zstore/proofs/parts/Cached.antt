@@ -161,9 +161,9 @@ module _ (nodes : Nodes) (places : Places) (sessions : Sessions) (time zxid : �
     named = names_without nodes places kept.named id path is;
   }
 
-  -- a node written, by a change that leaves its owner and its time to live
+  -- a node written, by a change that leaves its owner and its term
   pub kept_changed : (path : Path) (f : Node → Node) →
-      ((n : Node) → ((f n).owner ≡ n.owner) × ((f n).ttl ≡ n.ttl)) →
+      ((n : Node) → ((f n).owner ≡ n.owner) × ((f n).term ≡ n.term)) →
       IsKept (with_change_at nodes path f) places sessions time zxid
   kept_changed path f owner = record {
     lawful = lawful_changed (tree_of nodes sessions time zxid) path f owner kept.lawful;

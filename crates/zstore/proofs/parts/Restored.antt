@@ -45,12 +45,12 @@ module _ (root : Node) (can : CanBeRoot root) (time zxid : ℕ) where
   lawful_rooted : IsLawful (rooted_tree root time zxid)
   lawful_rooted = record {
     root = (root, found, can.nobodys);
-    root_stays = λ n e. ap (λ (m : Node). m.ttl) (sym (only [] n e).1) ∙ can.stays;
+    root_stays = λ n e. ap (λ (m : Node). m.term) (sym (only [] n e).1) ∙ can.stays;
     parents = λ q is. let n = has_some _ is in
         subst (λ p. IsPersistent (finite.get nodes (parent_of p))) (sym (only q n.0 n.1).0)
         (root, found, can.nobodys);
     owners = λ q n e. inl (ap (λ (m : Node). m.owner) (sym (only q n e).1) ∙ can.nobodys);
-    ends = λ q n e. inl (ap (λ (m : Node). m.ttl) (sym (only q n e).1) ∙ can.stays);
+    ends = λ q n e. inl (ap (λ (m : Node). m.term) (sym (only q n e).1) ∙ can.stays);
     ids = λ id s e. absurd (none id s e);
     deadlines = λ id s e. absurd (none id s e);
     few_nodes = len-insert-most paths_total same_path finite.empty [] root 4096 (rw (len-empty path_cmp Node) (omega arith));

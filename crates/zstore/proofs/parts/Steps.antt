@@ -121,7 +121,7 @@ module _ (old new : NodesView) (sessions : Sessions) (time zxid : ℕ) (notes : 
     written_held =
         noted_held u old new sessions time zxid written_back notes stored owners written_fits
 
-    pub written_stored : ((m : Node) → ((f m).owner ≡ m.owner) × ((f m).ttl ≡ m.ttl)) →
+    pub written_stored : ((m : Node) → ((f m).owner ≡ m.owner) × ((f m).term ≡ m.term)) →
         IsStored (add_note u notes) (with_held new (held_after u notes new.held)) sessions time zxid
     written_stored same =
         let room = ap (λ (v : NodesView). v.room) writes in

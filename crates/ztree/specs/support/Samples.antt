@@ -2,6 +2,7 @@
 use Rattle.std.specs.Prelude.{ℕ, Bool, List, [], ◌∷◌, codes}
 use Rattle.std.specs.FinMap as finite
 use Rattle.ztree.specs.Tree.{Tree, Path, with_node}
+use Rattle.ztree.specs.declared.term.Term.TheVariants.{Timed, Container}
 use Rattle.ztree.specs.declared.node.Node.{Node}
 use Rattle.ztree.specs.declared.node.Stat.{Stat}
 use Rattle.ztree.specs.declared.session.Session.{Session}
@@ -34,8 +35,15 @@ some_node =
       cversion = 8;
       owner = 9;
       seq = 10;
-      ttl = 12;
+      term = Timed 12;
     }
+
+-- the same as a container that no one owns: one that had eight changes of its children, and one that never had a child
+abbrev pub container : Node
+container = record some_node { owner = 0; term = Container }
+
+abbrev pub fresh_container : Node
+fresh_container = record container { cversion = 0 }
 
 -- its stat where it has eleven children
 abbrev pub some_stat : Stat
@@ -67,7 +75,7 @@ made_node =
       cversion = 0;
       owner = 9;
       seq = 0;
-      ttl = 12;
+      term = Timed 12;
     }
 
 -- a session of client 3 with a timeout of five ticks, opened at tick 4
@@ -87,4 +95,8 @@ two_nodes =
 -- the same where the next change made a node beneath the second one, of owner 9 and with a time to live of 12: under a name
 -- that the call gave, or that its parent numbered
 abbrev pub three_nodes : Bool → Tree
-three_nodes is_sequential = with_node two_nodes at_a_b b 9 12 is_sequential
+three_nodes is_sequential = with_node two_nodes at_a_b b 9 (Timed 12) is_sequential
+
+-- a tree of a container at the root, and of this one beneath it
+abbrev pub with_container : Node → Tree
+with_container n = record two_nodes { nodes = finite.insert (finite.insert finite.empty [] container) at_a n }

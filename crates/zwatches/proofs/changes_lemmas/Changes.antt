@@ -24,7 +24,7 @@ use Rattle.zcalls.specs.declared.reply.PartReply.{PartReply}
 use Rattle.zcalls.specs.declared.reply.PartReply.TheVariants as part_reply
 use Rattle.zcalls.specs.declared.reply.Reply.{Reply}
 use Rattle.zcalls.specs.declared.reply.Reply.TheVariants as reply
-use Rattle.zcalls.specs.Part.{create_step, delete_step, set_step, check_step, part_step, reported_as_part, create_refusals, delete_refusals, unless_refused, made_path, owner_of, ttl_of, on_version, has_other_version, with_node_set}
+use Rattle.zcalls.specs.Part.{create_step, delete_step, set_step, check_step, part_step, reported_as_part, create_refusals, delete_refusals, unless_refused, made_path, owner_of, term_of, on_version, has_other_version, with_node_set}
 use Rattle.zcalls.specs.Multi.{Run, run, behind, and_then}
 use Rattle.zcalls.specs.Step.{step, is_exhausted, update_result, change_result, multi_result}
 use Rattle.zjute.specs.declared.event.EventKind.{EventKind}
@@ -92,13 +92,13 @@ unfolding create_step
 create_did t client create path = by (first_that_holds (create_refusals t client create))
   where
     by : (refused : Option Refusal) → CreateDid t path (unless_refused refused (
-      with_node t (made_path t.nodes create.kind create.path) create.bytes (owner_of create.kind.lifetime) (ttl_of create.kind.lifetime) create.kind.is_sequential,
+      with_node t (made_path t.nodes create.kind create.path) create.bytes (owner_of create.kind.lifetime) (term_of create.kind.lifetime) create.kind.is_sequential,
       Created (made_path t.nodes create.kind create.path),
     ))
     by (Some refusal) = tt
     by None =
         let made = made_path t.nodes create.kind create.path in
-        let new = new_node create.bytes (owner_of create.kind.lifetime) (ttl_of create.kind.lifetime) (t.zxid + 1) t.time in
+        let new = new_node create.bytes (owner_of create.kind.lifetime) (term_of create.kind.lifetime) (t.zxid + 1) t.time in
         let more = finite.insert t.nodes made new in
         let f = with_child (t.zxid + 1) create.kind.is_sequential in
         record {

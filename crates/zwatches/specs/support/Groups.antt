@@ -1,12 +1,15 @@
 -- Rows of watches, in order.
 use Rattle.std.specs.Prelude.{◌≡◌, ℕ, ◌≤◌, Bool, true, false, not, List, [], ◌∷◌, ◌++◌, length, map}
-use Rattle.std.specs.List.{AllWithin, filter}
+use Rattle.std.specs.List.{AllWithin, filter, list_any}
 use Rattle.std.specs.List.Sorted.{IsStrictlySortedBy, IsPartitionPoint}
 use Rattle.std.specs.declared.cmp.Ordering.TheVariants.{Less, Greater}
 use Rattle.std.specs.FinSet.{from_list}
-use Rattle.zwatches.specs.declared.place.Place.{Place}
+use Rattle.zwatches.specs.Watches.{Place}
+use Rattle.zjute.specs.declared.event.EventKind.{EventKind}
+use Rattle.zjute.specs.declared.event.EventKind.TheVariants.{NodeCreated, NodeDeleted, NodeDataChanged, NodeChildrenChanged}
+use Rattle.zwatches.specs.declared.kind.Kind.TheVariants.{Data, Missing, Children}
 use Rattle.zwatches.specs.declared.watch.Watch.{Watch}
-use Rattle.zwatches.specs.Watches.{Watches, watch_cmp}
+use Rattle.zwatches.specs.Watches.{Path, Watches, place, watch_cmp}
 use Rattle.zwatches.specs.Events.{is_at}
 
 -- each row is below those after it
@@ -41,3 +44,15 @@ reported_by rows (at ∷ places) =
 abbrev pub kept : List Watch → List Place → List Watch
 kept rows [] = rows
 kept rows (at ∷ places) = kept (filter (λ w. not (is_at at w)) rows) places
+
+-- the positions of the watches that an event at a path removes
+abbrev pub once_at : EventKind → Path → List Place
+once_at NodeCreated path = place path Data ∷ place path Missing ∷ []
+once_at NodeDataChanged path = place path Data ∷ []
+once_at NodeDeleted path = place path Data ∷ place path Children ∷ []
+once_at NodeChildrenChanged path = place path Children ∷ []
+once_at other path = []
+
+-- a row is at one of the positions
+abbrev pub found_by : List Watch → List Place → Bool
+found_by rows places = list_any (λ at. list_any (is_at at) rows) places

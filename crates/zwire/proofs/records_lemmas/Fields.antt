@@ -30,7 +30,7 @@ use Rattle.zcalls.specs.declared.call.Expected.{Expected}
 use Rattle.zcalls.specs.declared.call.Expected.TheVariants.{Any, Exactly}
 use Rattle.zcalls.specs.declared.call.Kind.{Kind}
 use Rattle.zcalls.specs.declared.call.Lifetime.{Lifetime}
-use Rattle.zcalls.specs.declared.call.Lifetime.TheVariants.{Persistent, WithTtl, Ephemeral}
+use Rattle.zcalls.specs.declared.call.Lifetime.TheVariants.{Persistent, WithTtl, Ephemeral, Container}
 use Rattle.zcalls.specs.Part.{named, sequential}
 use Rattle.zwire.specs.records.Fields.{up_to_from, up_to, ttl, long, content, path_from, path, version_at, version_spelled, version, kind_at, spelled_as, kind_spelled, node_kind}
 use Rattle.zwire.proofs.records_lemmas.Sums.{none_take, one_takes}
@@ -149,6 +149,8 @@ kind_again kind rest any = by kind.lifetime kind.is_sequential
     by (WithTtl ticks) true fits = again_as Anything ttl (λ ticks. sequential (WithTtl ticks)) (before Anything ttl is_ttl) ticks rest any fits
     by (Ephemeral session) false fits = again_as Anything long (λ session. named (Ephemeral session)) (before Anything long is_number) session rest any fits
     by (Ephemeral session) true fits = again_as Anything long (λ session. sequential (Ephemeral session)) (before Anything long is_number) session rest any fits
+    by Container false fits = refl
+    by Container true fits = refl
 
 pub is_node_kind : IsForm node_kind
 unfolding node_kind kind_at
@@ -159,5 +161,7 @@ is_node_kind = is_form node_kind (is_by_tag Anything (number w8) kind_at kind_sp
     (one_takes kind_spelled 3 ttl (λ ticks. sequential (WithTtl ticks)) _ is_ttl (λ x. refl) (λ x. refl) (λ x fits. fits)
     (one_takes kind_spelled 4 long (λ session. named (Ephemeral session)) _ is_number (λ x. refl) (λ x. refl) (λ x fits. fits)
     (one_takes kind_spelled 5 long (λ session. sequential (Ephemeral session)) _ is_number (λ x. refl) (λ x. refl) (λ x fits. fits)
-    (none_take kind_spelled)))))))
+    (one_takes kind_spelled 6 empty (λ _. named Container) _ is_empty (λ x. refl) (λ x. refl) (λ x fits. fits)
+    (one_takes kind_spelled 7 empty (λ _. sequential Container) _ is_empty (λ x. refl) (λ x. refl) (λ x fits. fits)
+    (none_take kind_spelled)))))))))
     kind_again)

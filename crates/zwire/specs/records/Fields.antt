@@ -16,7 +16,7 @@ use Rattle.zcalls.specs.declared.call.Expected.{Expected}
 use Rattle.zcalls.specs.declared.call.Expected.TheVariants.{Any, Exactly}
 use Rattle.zcalls.specs.declared.call.Kind.{Kind}
 use Rattle.zcalls.specs.declared.call.Lifetime.{Lifetime}
-use Rattle.zcalls.specs.declared.call.Lifetime.TheVariants.{Persistent, WithTtl, Ephemeral}
+use Rattle.zcalls.specs.declared.call.Lifetime.TheVariants.{Persistent, WithTtl, Ephemeral, Container}
 use Rattle.zcalls.specs.Part.{named, sequential}
 use Rattle.zwire.specs.records.Sums.{at_tag, no_tag}
 
@@ -74,7 +74,9 @@ kind_at =
     (at_tag 2 (read_as ttl (λ ticks. named (WithTtl ticks)))
     (at_tag 3 (read_as ttl (λ ticks. sequential (WithTtl ticks)))
     (at_tag 4 (read_as long (λ session. named (Ephemeral session)))
-    (at_tag 5 (read_as long (λ session. sequential (Ephemeral session))) no_tag)))))
+    (at_tag 5 (read_as long (λ session. sequential (Ephemeral session)))
+    (at_tag 6 (read_as empty (λ _. named Container))
+    (at_tag 7 (read_as empty (λ _. sequential Container)) no_tag)))))))
 
 abbrev pub spelled_as : Lifetime → Bool → Spelled ℕ
 spelled_as Persistent false = behind 0 empty tt
@@ -83,6 +85,8 @@ spelled_as (WithTtl ticks) false = behind 2 ttl ticks
 spelled_as (WithTtl ticks) true = behind 3 ttl ticks
 spelled_as (Ephemeral session) false = behind 4 long session
 spelled_as (Ephemeral session) true = behind 5 long session
+spelled_as Container false = behind 6 empty tt
+spelled_as Container true = behind 7 empty tt
 
 abbrev pub kind_spelled : Kind → Spelled ℕ
 kind_spelled kind = spelled_as kind.lifetime kind.is_sequential

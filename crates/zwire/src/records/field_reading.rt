@@ -134,6 +134,8 @@ fn kind_behind(tag: u8, bytes: &[u8]) -> Result<(Kind, &[u8]), Fault>
             let lifetime = Lifetime::Ephemeral(SessionId::new(session));
             Ok((Kind::sequential(lifetime), rest))
         }
+        6 => Ok((Kind::named(Lifetime::Container), bytes)),
+        7 => Ok((Kind::sequential(Lifetime::Container), bytes)),
         _ => Err(Fault::Invalid),
     }
 }

@@ -75,5 +75,6 @@ fn put_lifetime(
             put_u8(out, if is_sequential { 5 } else { 4 })?;
             put_u64(out, session.number())
         }
+        Lifetime::Container => put_u8(out, if is_sequential { 7 } else { 6 }),
     }
 }

@@ -5,7 +5,7 @@ ghost use Rattle.zcodec.specs.declared.fault.Fault.TheVariants.{Short, Long, Inv
 ghost use Rattle.zcodec.specs.Readers.{whole};
 ghost use Rattle.zwire.specs.declared.records.record.Record.TheVariants.{Fail, Join, Retire, Row};
 ghost use Rattle.zwire.specs.records.Records.{logged, line_of, text_of, IsBadLine};
-ghost use Rattle.zwire.specs.records.support.Samples.{password, create, create_for_7, delete, set_root};
+ghost use Rattle.zwire.specs.records.support.Samples.{password, create, create_for_7, create_container, delete, set_root};
 ghost use Rattle.zwire.specs.records.support.Samples.{multi, open_for_10, ping, close, tick};
 
 /// The bytes of changes of nodes, after the two tags of each.
@@ -15,6 +15,8 @@ pub fn changes_have_bytes()
     ensures create_for_7 { logged.spell create_for_7
         ≡ 1 ∷ 0 ∷ 0 ∷ 0 ∷ 0 ∷ 2 ∷ 47 ∷ 97 ∷ 2 ∷ 0 ∷ 0 ∷ 0 ∷ 0 ∷ 0 ∷ 0 ∷ 0 ∷ 7
         ∷ 0 ∷ 0 ∷ 0 ∷ 0 ∷ [] }
+    ensures create_container { logged.spell create_container
+        ≡ 1 ∷ 0 ∷ 0 ∷ 0 ∷ 0 ∷ 2 ∷ 47 ∷ 97 ∷ 6 ∷ 0 ∷ 0 ∷ 0 ∷ 0 ∷ [] }
     ensures delete { logged.spell delete
         ≡ 1 ∷ 1 ∷ 0 ∷ 0 ∷ 0 ∷ 2 ∷ 47 ∷ 97 ∷ 1 ∷ 0 ∷ 0 ∷ 0 ∷ 0 ∷ 0 ∷ 0 ∷ 0 ∷ 3 ∷ [] }
     ensures set { logged.spell set_root ≡ 1 ∷ 2 ∷ 0 ∷ 0 ∷ 0 ∷ 1 ∷ 47 ∷ 0 ∷ 0 ∷ 0 ∷ 0 ∷ 0 ∷ [] }

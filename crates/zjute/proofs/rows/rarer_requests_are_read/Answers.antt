@@ -14,6 +14,7 @@ returns c =
       check_watches = refl;
       remove_watches = refl;
       create_ttl = refl;
+      create_container = refl;
       multi_read = refl;
       set_watches = refl;
       set_watches_2 = refl;

@@ -16,6 +16,7 @@ returns c =
       reported_null = refl;
       reported_names = refl;
       reported_acl = refl;
+      watched = refl;
       multi_done = refl;
       multi_refused = refl;
       multi_kinds = refl;

@@ -110,7 +110,7 @@ returns-clause-done c =
     record {
       step_is = created-done t c.args.client create
           (all_clear t c.args.client create owner below.root there owned c.in_ok-made.made c.in_ok-made.ensures.made c.in_ok-made.ensures.allowed free few)
-          ∙ (λ i. Ok (with_node t (sym c.in_ok-made.ensures.made i) (sym c.in-Ok-clone.ensures.cases i) (sym c.owner-owner.ensures i) (sym c.ttl-ttl.ensures i) create.kind.is_sequential, Created (sym c.in_ok-made.ensures.made i)))
+          ∙ (λ i. Ok (with_node t (sym c.in_ok-made.ensures.made i) (sym c.in-Ok-clone.ensures.cases i) (sym c.owner-owner.ensures i) (sym c.term-term.ensures i) create.kind.is_sequential, Created (sym c.in_ok-made.ensures.made i)))
           ∙ (λ i. Ok (sym c.in_ok-add.ensures.added i, Created (sym c.in-Ok.ensures.cases i)));
       given = c.in_ok-add.ensures.given.1;
       mark = mark_steps 2 c.args.store.now c.add.new.self (omega arith) c.in_ok-add.ensures.marked;
@@ -134,4 +134,4 @@ add-requires-clause-owner c =
     (owner_lives sessions c.args.client c.args.create.now.kind.lifetime (sym c.has_no_owner.ensures ∙ c.if-has_no_owner.false))
 
 pub add-requires-clause-one_end : goal.add-requires-clause-one_end
-add-requires-clause-one_end c = rw (c.ttl-ttl.ensures, c.owner-owner.ensures) (one_end c.args.create.now.kind.lifetime)
+add-requires-clause-one_end c = rw (c.term-term.ensures, c.owner-owner.ensures) (one_end c.args.create.now.kind.lifetime)

@@ -1,4 +1,4 @@
-use Rattle.std.proofs.Common.{◌≡◌, ◌<◌, ◌≤◌, ◌++◌, ◌∷◌, [], length, take, None, sym, ap, ◌∙◌, arith, length-take-le}
+use Rattle.std.proofs.Common.{◌<◌, ◌++◌, ◌∷◌, [], length, take, None, sym, ap, ◌∙◌, arith, length-take-le}
 use Rattle.std.proofs.lemmas.List.{get_or_read}
 use Rattle.zops.specs.support.Places.{clients_from}
 use Rattle.zops.proofs.KeptMaps.{clients-more, length-clients}

@@ -1,4 +1,4 @@
-use Rattle.std.proofs.Common.{arith, lit<}
+use Rattle.std.proofs.Common.{arith}
 use Rattle.zops.proofs.rows.cached_replies.Goals as goal
 
 pub returns : goal.returns

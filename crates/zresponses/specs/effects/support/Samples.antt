@@ -10,8 +10,9 @@ use Rattle.zjute.specs.declared.request.Asked.{Asked}
 use Rattle.zjute.specs.declared.request.Look.{Look}
 use Rattle.zjute.specs.declared.request.Request.{Request}
 use Rattle.zjute.specs.declared.request.SetWatches.{SetWatches}
-use Rattle.zwatches.specs.declared.kind.Kind.{Kind}
-use Rattle.zwatches.specs.declared.place.Place.{Place}
+use Rattle.zjute.specs.declared.request.AddWatch.{AddWatch}
+use Rattle.zjute.specs.declared.request.SetWatches2.{SetWatches2}
+use Rattle.zjute.specs.declared.request.WatchesAt.{WatchesAt}
 
 -- a query of /a, with a watch or without
 abbrev pub look_a : Bool → Look
@@ -34,13 +35,25 @@ set_again = record {
   child_watches = codes "/a/b" ∷ [];
 }
 
+-- and a persistent watch of /a, and a recursive one of /a/b
+abbrev pub set_each_again : SetWatches2
+set_each_again = record {
+  watches = set_again;
+  persistent_watches = codes "/a" ∷ [];
+  recursive_watches = codes "/a/b" ∷ [];
+}
+
+-- a watch of /a with the mode of this number
+abbrev pub add_a : ℕ → AddWatch
+add_a mode = record { path = Some (codes "/a"); mode = pos mode }
+
+-- the watches of /a with the type of this number
+abbrev pub watches_a : ℕ → WatchesAt
+watches_a kind = record { path = Some (codes "/a"); kind = pos kind }
+
 -- the request 9
 abbrev pub request_9 : Asked → Request
 request_9 asked = record { xid = pos 9; asked = asked }
-
--- a position of watches at /a
-abbrev pub place_a : Kind → Place
-place_a kind = record { path = at_a; kind = kind }
 
 -- a tree is at tick 4, and its last change was the 8th
 abbrev pub now : Now

@@ -1,6 +1,6 @@
 //! The effect of calls and answers on the tables.
 
-ghost use Rattle.std.specs.Prelude.{◌≡◌, ℕ, pos, true, false, [], ◌∷◌};
+ghost use Rattle.std.specs.Prelude.{◌≡◌, ℕ, pos, true, false, [], ◌∷◌, None, Some};
 ghost use Rattle.std.specs.FinSet.{insert};
 ghost use Rattle.ztree.specs.Tree.{Tree};
 ghost use Rattle.ztree.specs.support.Samples.{at_a, at_a_b, some_stat};
@@ -16,16 +16,20 @@ ghost use Rattle.zwatches.specs.changes.Events.{event};
 ghost use Rattle.zwatches.specs.changes.support.Samples.{create_a_b, set_a_b, delete_a_b, gone_a_b};
 ghost use Rattle.zresponses.specs.Answers.{done, failed};
 ghost use Rattle.zresponses.specs.support.Samples.{clock};
-ghost use Rattle.zwatches.specs.declared.kind.Kind.TheVariants.{Data};
+ghost use Rattle.zwatches.specs.declared.kind.Kind.TheVariants.{Data, Recursive};
+ghost use Rattle.zwatches.specs.Removal.{has_meant, without_meant};
+ghost use Rattle.zjute.specs.declared.watch_type.WatchType.TheVariants as typed;
 ghost use Rattle.zwatches.specs.Watches.{watch, is_full};
 ghost use Rattle.zconnections.specs.Tables.{TablesView, closed, sent};
 ghost use Rattle.zconnections.specs.Reporting.{event_frame, reported, reported_all};
-ghost use Rattle.zresponses.specs.declared.effects.wish.Wish.TheVariants.{Waits, Reports};
+ghost use Rattle.zresponses.specs.declared.effects.wish.Wish.TheVariants.{Waits, Reports, Has, Ends};
 ghost use Rattle.zresponses.specs.effects.Frames.{answer_frame};
 ghost use Rattle.zresponses.specs.effects.Replying.{absorbed, absorbed_all, replied};
-ghost use Rattle.zresponses.specs.effects.Watching.{granted, granted_all, lacks_room, some_lacked};
+ghost use Rattle.zresponses.specs.effects.Watching.{earlier, fault_of, first_fault, granted};
+ghost use Rattle.zresponses.specs.effects.Watching.{granted_all};
 ghost use Rattle.zresponses.specs.effects.Answering.{answered, now_of};
 ghost use Rattle.zresponses.specs.effects.support.Samples.{look_a, exists_a, now, request_9};
+ghost use Rattle.zresponses.specs.effects.support.Samples.{add_a, watches_a};
 
 /// The events of each call are sent.
 pub fn calls_are_absorbed()
@@ -56,18 +60,34 @@ pub fn wishes_are_granted()
         → granted 1 (Waits Data at_a) t
         ≡ record t { watches = insert t.watches (watch at_a Data 1) } }
     ensures room { (t : TablesView) → is_full t.watches (watch at_a Data 1) ≡ false
-        → lacks_room 1 (Waits Data at_a) t ≡ false }
+        → fault_of 1 (Waits Data at_a) t ≡ None }
     ensures full { (t : TablesView) → is_full t.watches (watch at_a Data 1) ≡ true
         → granted 1 (Waits Data at_a) t ≡ t }
     ensures reports { (t : TablesView) → granted 1 (Reports (event NodeCreated at_a)) t
         ≡ sent 1 (event_frame (event NodeCreated at_a)) t }
     ensures no_room { (t : TablesView) → is_full t.watches (watch at_a Data 1) ≡ true
-        → some_lacked 1 (Waits Data at_a ∷ []) t ≡ true }
-    ensures none { (t : TablesView) → some_lacked 1 [] t ≡ false }
+        → first_fault 1 (Waits Data at_a ∷ []) t ≡ Some code.SystemError }
+    ensures none { (t : TablesView) → first_fault 1 [] t ≡ None }
     ensures order { (t : TablesView)
         → granted_all 1 (Reports (event NodeDeleted at_a) ∷ Reports (event NodeCreated at_a) ∷ []) t
         ≡ sent 1 (event_frame (event NodeCreated at_a))
         (sent 1 (event_frame (event NodeDeleted at_a)) t) }
+{}
+
+/// Watches are removed from the table if the connection has some of the type. Else the error is
+/// NoWatcher. A check removes none.
+pub fn watches_are_ended()
+    ensures has { (t : TablesView) → granted 1 (Has typed.Any at_a) t ≡ t }
+    ensures ends { (t : TablesView) → granted 1 (Ends typed.Any at_a) t
+        ≡ record t { watches = without_meant t.watches 1 typed.Any at_a } }
+    ensures found { (t : TablesView) → has_meant t.watches 1 typed.Any at_a ≡ true
+        → first_fault 1 (Ends typed.Any at_a ∷ []) t ≡ None }
+    ensures no_watch { (t : TablesView) → has_meant t.watches 1 typed.Any at_a ≡ false
+        → first_fault 1 (Ends typed.Any at_a ∷ []) t ≡ Some code.NoWatcher }
+    ensures unchecked { (t : TablesView) → has_meant t.watches 1 typed.Data at_a ≡ false
+        → first_fault 1 (Has typed.Data at_a ∷ []) t ≡ Some code.NoWatcher }
+    ensures earlier { earlier (Some code.SystemError) (Some code.NoWatcher)
+        ≡ Some code.SystemError }
 {}
 
 /// The answer to a request is sent after its events, once its watches are set.
@@ -83,4 +103,16 @@ pub fn requests_are_answered()
         → answered clock now 1 (request_9 (asked.Exists (look_a true))) (exists_a ∷ [])
         (reply.Exists some_stat ∷ []) t
         ≡ replied 8 1 (pos 9) (failed code.SystemError) t }
+    ensures added { (t : TablesView) → is_full t.watches (watch at_a Recursive 1) ≡ false
+        → answered clock now 1 (request_9 (asked.AddWatch (add_a 1))) (exists_a ∷ [])
+        (reply.Exists some_stat ∷ []) t
+        ≡ replied 8 1 (pos 9) (done (body.Error code.Ok)) (record t {
+          watches = insert t.watches (watch at_a Recursive 1);
+        }) }
+    ensures removed { (t : TablesView) → has_meant t.watches 1 typed.Any at_a ≡ true
+        → answered clock now 1 (request_9 (asked.RemoveWatches (watches_a 3))) (exists_a ∷ [])
+        (reply.Exists some_stat ∷ []) t
+        ≡ replied 8 1 (pos 9) (done body.Nothing) (record t {
+          watches = without_meant t.watches 1 typed.Any at_a;
+        }) }
 {}

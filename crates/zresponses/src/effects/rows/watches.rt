@@ -9,10 +9,12 @@ ghost use Rattle.zcalls.specs.declared.reply.Reply.TheVariants as reply;
 ghost use Rattle.zjute.specs.declared.event.EventKind.TheVariants.{NodeCreated, NodeDeleted, NodeDataChanged, NodeChildrenChanged};
 ghost use Rattle.zjute.specs.declared.request.Asked.TheVariants as asked;
 ghost use Rattle.zwatches.specs.changes.Events.{event};
-ghost use Rattle.zwatches.specs.declared.kind.Kind.TheVariants.{Data, Missing, Children};
-ghost use Rattle.zresponses.specs.declared.effects.wish.Wish.TheVariants.{Waits, Reports};
+ghost use Rattle.zwatches.specs.declared.kind.Kind.TheVariants.{Data, Missing, Children, EachData, EachChildren, Recursive};
+ghost use Rattle.zresponses.specs.declared.effects.wish.Wish.TheVariants.{Waits, Reports, Has, Ends};
+ghost use Rattle.zjute.specs.declared.watch_type.WatchType.TheVariants as typed;
 ghost use Rattle.zresponses.specs.effects.Wishes.{query_wish, first_wish, wishes, wish_again, call_again, wishes_again};
 ghost use Rattle.zresponses.specs.effects.support.Samples.{look_a, exists_a, exists_a_b, set_again};
+ghost use Rattle.zresponses.specs.effects.support.Samples.{add_a, set_each_again, watches_a};
 
 /// The watch of a query, from its reply. Only `exists` waits for a creation.
 pub fn watches_of_queries()
@@ -73,4 +75,31 @@ pub fn all_watches_set_again()
         (reply.Exists some_stat ∷ reply.Refused NoNode ∷ reply.Exists some_stat ∷ [])
         ≡ Reports (event NodeDataChanged at_a) ∷ Waits Missing at_a
         ∷ Reports (event NodeChildrenChanged at_a_b) ∷ [] }
+{}
+
+/// An added watch, whether its node exists or not. A persistent one is of data and of children.
+pub fn watches_are_added()
+    ensures persistent { wishes (asked.AddWatch (add_a 0)) (exists_a ∷ [])
+        (reply.Exists some_stat ∷ []) ≡ Waits EachData at_a ∷ Waits EachChildren at_a ∷ [] }
+    ensures recursive { wishes (asked.AddWatch (add_a 1)) (exists_a ∷ [])
+        (reply.Exists some_stat ∷ []) ≡ Waits Recursive at_a ∷ [] }
+    ensures missing { wishes (asked.AddWatch (add_a 1)) (exists_a ∷ [])
+        (reply.Refused NoNode ∷ []) ≡ Waits Recursive at_a ∷ [] }
+    ensures again { wishes (asked.SetWatches2 set_each_again)
+        (exists_a ∷ exists_a ∷ exists_a_b ∷ exists_a ∷ exists_a_b ∷ [])
+        (reply.Exists some_stat ∷ reply.Refused NoNode ∷ reply.Exists some_stat
+        ∷ reply.Exists some_stat ∷ reply.Refused NoNode ∷ [])
+        ≡ Reports (event NodeDataChanged at_a) ∷ Waits Missing at_a
+        ∷ Reports (event NodeChildrenChanged at_a_b)
+        ∷ Waits EachData at_a ∷ Waits EachChildren at_a ∷ Waits Recursive at_a_b ∷ [] }
+{}
+
+/// Watches that are checked, or removed.
+pub fn watches_are_removed()
+    ensures checked { wishes (asked.CheckWatches (watches_a 1)) (exists_a ∷ [])
+        (reply.Exists some_stat ∷ []) ≡ Has typed.Children at_a ∷ [] }
+    ensures removed { wishes (asked.RemoveWatches (watches_a 3)) (exists_a ∷ [])
+        (reply.Refused NoNode ∷ []) ≡ Ends typed.Any at_a ∷ [] }
+    ensures of_data { wishes (asked.RemoveWatches (watches_a 2)) (exists_a ∷ [])
+        (reply.Refused NoNode ∷ []) ≡ Ends typed.Data at_a ∷ [] }
 {}

@@ -2,7 +2,7 @@ use Rattle.std.proofs.Common.{◌≡◌, ◌<◌, ◌≤◌, ℕ, Bool, true, fa
 use Rattle.std.specs.Prelude.{nat_lt, nat_le}
 use Rattle.std.specs.Option.{option_and_then}
 use Rattle.std.proofs.lemmas.Bool.Decides.{nat_tests}
-use Rattle.ztree.specs.Stale.{IsTtl}
+use Rattle.ztree.specs.Ttls.{IsTtl}
 use Rattle.zscript_text.specs.Shape.{in_ttl_range}
 use Rattle.zscript_text.proofs.words.ttl_in.Goals as goal
 

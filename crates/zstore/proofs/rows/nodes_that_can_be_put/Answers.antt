@@ -2,7 +2,7 @@ use Rattle.std.proofs.Common.{◌≡◌, true, false, inl, inr, refl, ap, sym, �
 use Rattle.std.specs.Prelude.{is_some}
 use Rattle.ztree.proofs.Maps.{none_some}
 use Rattle.zstore.specs.support.Samples.{plain}
-use Rattle.zstore.proofs.Worked.{root_there, none_at_a, session_there, one_node, not_owner, two_ends, not_persistent}
+use Rattle.zstore.proofs.Worked.{root_there, none_at_a, session_there, one_node, not_owner, two_ends, owned_container_ends, not_persistent}
 use Rattle.zstore.proofs.rows.nodes_that_can_be_put.Goals as goal
 
 pub returns-clause-yes : goal.returns-clause-yes
@@ -29,3 +29,6 @@ returns-clause-of_no_session c = λ can. not_owner can.owner
 
 pub returns-clause-two_ends : goal.returns-clause-two_ends
 returns-clause-two_ends c = λ can. two_ends can.one_end
+
+pub returns-clause-owned_container : goal.returns-clause-owned_container
+returns-clause-owned_container c = λ can. owned_container_ends can.one_end

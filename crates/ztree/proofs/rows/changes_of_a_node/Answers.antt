@@ -4,6 +4,9 @@ use Rattle.ztree.proofs.rows.changes_of_a_node.Goals as goal
 pub returns-clause-stat : goal.returns-clause-stat
 returns-clause-stat c = refl
 
+pub returns-clause-container : goal.returns-clause-container
+returns-clause-container c = refl
+
 pub returns-clause-child : goal.returns-clause-child
 returns-clause-child c = refl
 

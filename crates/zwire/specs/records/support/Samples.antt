@@ -1,6 +1,6 @@
 -- The records of the worked examples.
 use Rattle.std.specs.Prelude.{ℕ, List, [], ◌∷◌}
-use Rattle.zcalls.specs.declared.call.Lifetime.TheVariants.{Persistent, WithTtl, Ephemeral}
+use Rattle.zcalls.specs.declared.call.Lifetime.TheVariants.{Persistent, WithTtl, Ephemeral, Container}
 use Rattle.zcalls.specs.Part.{named}
 use Rattle.zcalls.specs.declared.call.Expected.TheVariants.{Any, Exactly}
 use Rattle.zcalls.specs.declared.call.Part.TheVariants as part_is
@@ -25,6 +25,10 @@ create = Update (act.Create (record { path = a; kind = named Persistent; bytes =
 -- create /a t:7 -
 abbrev pub create_for_7 : Record
 create_for_7 = Update (act.Create (record { path = a; kind = named (WithTtl 7); bytes = [] }))
+
+-- create /a c -
+abbrev pub create_container : Record
+create_container = Update (act.Create (record { path = a; kind = named Container; bytes = [] }))
 
 -- delete /a 3
 abbrev pub delete : Record

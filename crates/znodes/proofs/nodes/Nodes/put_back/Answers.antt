@@ -1,6 +1,4 @@
-use Rattle.std.proofs.Common.{◌≡◌, ◌≤◌, ◌+◌, ◌⊎◌, ℕ, false, Option, Some, None, IsSome, refl, sym, ap, ◌∙◌, arith}
-use Rattle.std.specs.Prelude.{◌==◌, if◌then◌else◌}
-use Rattle.std.proofs.lemmas.Bool.Decides.{nat_tests}
+use Rattle.std.proofs.Common.{◌≡◌, ◌≤◌, ◌+◌, ◌⊎◌, Option, Some, None, IsSome, sym, ap, ◌∙◌}
 use mathlib.Core.Path.{subst}
 use Rattle.std.specs.Option.{option_copied, option_copied_mut, option_map_or}
 use Rattle.std.specs.FinMap.{get, insert, remove}
@@ -8,18 +6,17 @@ use Rattle.zslots.specs.declared.id.Id.{Id}
 use Rattle.zslots.specs.declared.limits.TheConstants.{MAX_LENGTH}
 use Rattle.zslots.specs.declared.list.List.{List as IdList}
 use Rattle.zslots.specs.SlotsView.{SlotsView, Items, with_items}
-use Rattle.zslots.specs.Links.{with_front}
-use Rattle.zslots.specs.Lists.{first_id, list_with_front}
 use Rattle.zslots.proofs.Items.{some_there}
 use Rattle.znodes.specs.index.IndexView.{IdsByPath}
 use Rattle.ztree.specs.Tree.{parent_of}
+use Rattle.ztree.specs.Stale.{may_end}
 use Rattle.ztree.proofs.Maps.{same_some, none_some}
 use Rattle.znodes.specs.declared.row.Row.{Row}
 use Rattle.znodes.specs.declared.nodes.Nodes.TheInside.{Inside}
 use Rattle.znodes.specs.NodesView.{NodesView, CanReturn}
 use Rattle.znodes.specs.support.OwnerLists.{OwnerLists, list_of}
-use Rattle.znodes.specs.support.Rows.{Key, IsThreaded, timed_links, nodes_of, places_of, held_of, known_of}
-use Rattle.znodes.specs.support.Linking.{with_timed_links, with_key, kept_key, with_child, with_owned, with_timed, timed_with, with_parent}
+use Rattle.znodes.specs.support.Rows.{Key, IsThreaded, nodes_of, places_of, held_of, known_of}
+use Rattle.znodes.specs.support.Linking.{with_key, kept_key, with_child, with_owned, with_timed, timed_with, with_parent}
 use Rattle.znodes.proofs.OwnerMaps.{listed}
 use Rattle.znodes.proofs.Linked.{taken-row, shown-taken, can-return, parent-named}
 use Rattle.znodes.proofs.Heads.{known-with}
@@ -27,7 +24,7 @@ use Rattle.znodes.proofs.Back.{put, back, more, owners_back, key-kept}
 use Rattle.znodes.proofs.Returned.{child-room, owned-room, linked-back, nodes-returned, places-returned, held-returned}
 use Rattle.znodes.proofs.Mortal.{nodes-same, places-same, held-same, mortal-back, timed-room, linked-listed, listed-faces}
 use Rattle.znodes.proofs.Parents.{named-faces, linked-named, mortal-named, parents-back}
-use Rattle.znodes.proofs.nodes.Nodes.put_back.Goals.{then-ttl-ne0, else-ttl-ne0, in-Some-get_mut, in_default-get_mut}
+use Rattle.znodes.proofs.nodes.Nodes.put_back.Goals.{in-Some-get_mut, in_default-get_mut}
 use Rattle.znodes.proofs.nodes.Nodes.put_back.Goals as goal
 
 pub unreachable-requires : goal.unreachable-requires
@@ -54,13 +51,13 @@ put_owned-requires c =
     owned-room s.slots.items s.index.ids s.owners c.args.id r shown.0 c.self.invariant.linked there shown.1 MAX_LENGTH c.keeps_countable.ensures
     (list_of s.owners r.node.owner) (λ list e. listed s.owners r.node.owner list e)
 
-pub push_front-requires : goal.push_front-requires
-push_front-requires c =
+pub put_timed-requires : goal.put_timed-requires
+put_timed-requires c =
     let s = c.self.inside in
     let r = c.in-Some.row.now in
     let there = sym c.in-Some.ensures in
     let shown = shown-taken s c.args.self.now c.self.view_is c.args.id r c.requires.held there in
-    (omega arith, timed-room s.slots.items s.index.ids s.owners s.timed c.args.id r shown.0 c.self.invariant.mortal there shown.1 MAX_LENGTH c.keeps_countable.ensures)
+    timed-room s.slots.items s.index.ids s.owners s.timed c.args.id r shown.0 c.self.invariant.mortal there shown.1 MAX_LENGTH c.keeps_countable.ensures
 
 -- it has a key
 pub unreachable-requires-in-None : goal.unreachable-requires-in-None
@@ -76,13 +73,6 @@ unreachable-requires-in-None c =
     let owned = ap (λ (h : SlotsView Row). h.items) c.put_owned.ensures.rows ∙ ap (λ w. with_owned w list id) put-is in
     none_some shown.0
     (sym c.in-None.is ∙ c.take_key.ensures.key ∙ ap (λ w. kept_key w id) owned ∙ key-kept s.slots.items s.index.ids s.owners id r there list ∙ shown.1)
-
--- of two that are distinguished by whether a number is 0
-some : {X : Type 0} (n : ℕ) (a b : X) → (n ≡ 0 → ⊥) → (if n == 0 then a else b) ≡ b
-some n a b other = let e : (n == 0) ≡ false = grind (arith, nat_tests, other) in rw e refl
-
-none : {X : Type 0} (n : ℕ) (a b : X) → n ≡ 0 → (if n == 0 then a else b) ≡ a
-none n a b is = rw is refl
 
 -- the fields with a row beneath another
 abbrev beneath : Id → Id → Inside → Inside
@@ -126,34 +116,22 @@ module _ (c : goal.Joined-get_mut) where
   back-rows = ap (λ (h : SlotsView Row). h.items) c.take_key.ensures.rows ∙ ap (λ w. with_key w c.args.id None) owned
 
   abbrev listed_rows : Items Row
-  listed_rows = with_timed (back m ids owners c.args.id r) c.self.inside.timed r.node.ttl c.args.id
+  listed_rows = with_timed (back m ids owners c.args.id r) c.self.inside.timed (may_end r.node.term) c.args.id
 
-  -- with the row in list 2, where its node has a time to live
-  listed_end : c.if-ttl-ne0.self-inside ≡ record {
-    slots = with_items c.take_key.new.slots (with_timed c.take_key.new.slots.items c.self.inside.timed r.node.ttl c.args.id);
-    index = c.insert.new.self;
-    owners = c.put_owned.new.owners;
-    timed = timed_with c.self.inside.timed r.node.ttl c.args.id;
-    alloc = c.self.inside.alloc;
-  }
-  listed_end =
-      let slots = c.take_key.new.slots in
-      let timed = c.self.inside.timed in
-      let ended : SlotsView Row → IdList 2 → Inside = λ kept list. record { slots = kept; index = c.insert.new.self; owners = c.put_owned.new.owners; timed = list; alloc = c.self.inside.alloc } in
-      elim c.if-ttl-ne0.branch [
-        | then-ttl-ne0 w ↦ w.self-inside-is
-            ∙ (λ i. ended (w.push_front.ensures.items i) (w.push_front.ensures.own i))
-            ∙ (λ i. ended (with_items slots (sym (some r.node.ttl slots.items (with_front timed_links with_timed_links slots.items (first_id timed) c.args.id) w.if-ttl-ne0.true) i))
-            (sym (some r.node.ttl timed (list_with_front timed c.args.id) w.if-ttl-ne0.true) i))
-        | else-ttl-ne0 w ↦ w.self-inside-is
-            ∙ (λ i. ended (with_items slots (sym (none r.node.ttl slots.items (with_front timed_links with_timed_links slots.items (first_id timed) c.args.id) w.if-ttl-ne0.false) i))
-            (sym (none r.node.ttl timed (list_with_front timed c.args.id) w.if-ttl-ne0.false) i))
-      ]
+  -- with the row in list 2, where ticks may remove its node
+  listed_slots : c.put_timed.new.slots ≡ with_items c.take_key.new.slots (with_timed c.take_key.new.slots.items c.self.inside.timed (may_end r.node.term) c.args.id)
+  listed_slots = c.put_timed.ensures.rows
+
+  listed_timed : c.put_timed.new.timed ≡ timed_with c.self.inside.timed (may_end r.node.term) c.args.id
+  listed_timed = c.put_timed.ensures.timed
+
+  abbrev listed_end : SlotsView Row → IdList 2 → Inside
+  listed_end slots timed = record { slots = slots; index = c.insert.new.self; owners = c.put_owned.new.owners; timed = timed; alloc = c.self.inside.alloc }
 
   -- and with its parent
-  named_end : c.match-get_mut.self-inside ≡ beneath c.args.id c.args.parent c.if-ttl-ne0.self-inside
+  named_end : c.match-get_mut.self-inside ≡ beneath c.args.id c.args.parent (listed_end c.put_timed.new.slots c.put_timed.new.timed)
   named_end =
-      let s = c.if-ttl-ne0.self-inside in
+      let s = listed_end c.put_timed.new.slots c.put_timed.new.timed in
       let written : Option Row → Inside = λ o. record s { slots = with_items s.slots (option_map_or (λ (x : Row). insert s.slots.items c.args.id (record x { parent = Some c.args.parent })) o s.slots.items) } in
       elim c.match-get_mut.branch [
         | in-Some-get_mut w ↦ w.self-inside-is ∙ ap written (sym (ap option_copied_mut w.in-Some-get_mut.is) ∙ c.get_mut.follows)
@@ -161,18 +139,18 @@ module _ (c : goal.Joined-get_mut) where
       ]
 
   ended : c.match-get_mut.self-inside ≡ beneath c.args.id c.args.parent (record {
-    slots = with_items c.take_key.new.slots (with_timed c.take_key.new.slots.items c.self.inside.timed r.node.ttl c.args.id);
+    slots = with_items c.take_key.new.slots (with_timed c.take_key.new.slots.items c.self.inside.timed (may_end r.node.term) c.args.id);
     index = c.insert.new.self;
     owners = c.put_owned.new.owners;
-    timed = timed_with c.self.inside.timed r.node.ttl c.args.id;
+    timed = timed_with c.self.inside.timed (may_end r.node.term) c.args.id;
     alloc = c.self.inside.alloc;
   })
-  ended = named_end ∙ ap (beneath c.args.id c.args.parent) listed_end
+  ended = named_end ∙ (λ i. beneath c.args.id c.args.parent (listed_end (listed_slots i) (listed_timed i)))
 
   rows : c.match-get_mut.self-inside.slots.items ≡ with_parent listed_rows c.args.id c.args.parent
   rows =
       ap (λ (s : Inside). s.slots.items) ended
-      ∙ ap (λ w. with_parent (with_timed w c.self.inside.timed r.node.ttl c.args.id) c.args.id c.args.parent) back-rows
+      ∙ ap (λ w. with_parent (with_timed w c.self.inside.timed (may_end r.node.term) c.args.id) c.args.id c.args.parent) back-rows
 
   over : get ids (parent_of r.path) ≡ Some c.args.parent
   over = parent-named c.self.inside c.args.self.now c.self.view_is c.self.invariant.linked c.args.parent (parent_of r.path) (c.requires.under (r.path, r.node) shown.2)
@@ -197,9 +175,9 @@ invariant_of-self c =
     let lists_later = owners_back (m c) (ids c) (owners c) c.args.id (r c) in
     let all : (Items Row × (IdsByPath × (OwnerLists × IdList 2))) → Type 0 = λ w. IsThreaded w.0 w.1.0 w.1.1.0 w.1.1.1 in
     subst all (λ i. (sym (rows c) i, (sym (index c) i, (sym (lists c) i, sym (ap (λ (s : Inside). s.timed) (ended c)) i)))) (record {
-      linked = linked-named (listed_rows c) later lists_later c.args.id c.args.parent (linked-listed here later lists_later c.self.inside.timed (r c).node.ttl c.args.id linked);
+      linked = linked-named (listed_rows c) later lists_later c.args.id c.args.parent (linked-listed here later lists_later c.self.inside.timed (may_end (r c).node.term) c.args.id linked);
       mortal =
-          mortal-named (listed_rows c) later lists_later c.args.id c.args.parent (timed_with c.self.inside.timed (r c).node.ttl c.args.id)
+          mortal-named (listed_rows c) later lists_later c.args.id c.args.parent (timed_with c.self.inside.timed (may_end (r c).node.term) c.args.id)
           (mortal-back (m c) (ids c) (owners c) c.self.inside.timed c.args.id (r c) (shown c).0 c.self.invariant.mortal (there c) (shown c).1);
       parents = parents-back (m c) (ids c) (owners c) c.self.inside.timed c.args.id (r c) c.self.invariant.linked (there c) (fits c).below_root ends.0 c.args.parent (over c) c.self.invariant.parents;
     })
@@ -211,25 +189,25 @@ returns c = λ t at.
     let ends = can c in
     let here = back (m c) (ids c) (owners c) id (r c) in
     let named = named-faces (listed_rows c) (ids c) (owners c) id c.args.parent in
-    let faces = listed-faces here (ids c) (owners c) c.self.inside.timed (r c).node.ttl id in
+    let faces = listed-faces here (ids c) (owners c) c.self.inside.timed (may_end (r c).node.term) id in
     let same = same_some ((r c).path, (r c).node) t (sym (shown c).2 ∙ at) in
     record {
       nodes =
           (λ i. nodes_of (rows c i) (index c i))
           ∙ nodes-same (listed_rows c) (with_parent (listed_rows c) id c.args.parent) (more (m c) (ids c) (owners c) id (r c)) named
-          ∙ nodes-same here (with_timed here c.self.inside.timed (r c).node.ttl id) (more (m c) (ids c) (owners c) id (r c)) faces
+          ∙ nodes-same here (with_timed here c.self.inside.timed (may_end (r c).node.term) id) (more (m c) (ids c) (owners c) id (r c)) faces
           ∙ nodes-returned (m c) (ids c) (owners c) id (r c) (shown c).0 c.self.invariant.linked (there c) (shown c).1 (fits c).below_root ends.0 ends.1.0 ends.1.1 ends.2
           ∙ (λ i. insert (view i).nodes (same i).0 (same i).1);
       places =
           ap places_of (rows c)
           ∙ places-same (listed_rows c) (with_parent (listed_rows c) id c.args.parent) (ids c) named
-          ∙ places-same here (with_timed here c.self.inside.timed (r c).node.ttl id) (ids c) faces
+          ∙ places-same here (with_timed here c.self.inside.timed (may_end (r c).node.term) id) (ids c) faces
           ∙ places-returned (m c) (ids c) (owners c) id (r c) (shown c).0 c.self.invariant.linked (there c) (shown c).1 (fits c).below_root ends.0 ends.1.0 ends.1.1 ends.2
           ∙ (λ i. insert (view i).places id (same i).0);
       held =
           ap held_of (rows c)
           ∙ held-same (listed_rows c) (with_parent (listed_rows c) id c.args.parent) (ids c) named
-          ∙ held-same here (with_timed here c.self.inside.timed (r c).node.ttl id) (ids c) faces
+          ∙ held-same here (with_timed here c.self.inside.timed (may_end (r c).node.term) id) (ids c) faces
           ∙ held-returned (m c) (ids c) (owners c) id (r c) (shown c).0 c.self.invariant.linked (there c) (shown c).1 (fits c).below_root ends.0 ends.1.0 ends.1.1 ends.2
           ∙ ap (λ (v : NodesView). remove v.held id) view;
       owners = ap known_of (lists c) ∙ known-with (owners c) (r c).node.owner id ∙ ap (λ (v : NodesView). v.owners) view;

@@ -6,6 +6,7 @@ use Rattle.zslots.specs.declared.list.List.{List as IdList}
 use Rattle.zslots.specs.SlotsView.{SlotsView, Items}
 use Rattle.znodes.specs.index.IndexView.{IdsByPath}
 use Rattle.ztree.specs.Tree.{Path, parent_of, children}
+use Rattle.ztree.specs.Stale.{may_end}
 use Rattle.ztree.proofs.Maps.{same_some, none_some, has_some}
 use Rattle.zslots.proofs.Items.{some_there}
 use Rattle.znodes.specs.declared.row.Row.{Row}
@@ -102,11 +103,11 @@ module _ (c : goal.After-cut_timed) where
       let owned = ap (λ (h : SlotsView Row). h.items) c.cut_owned.ensures.rows ∙ ap (λ w. without_owned w list c.args.id) cut-is in
       ap (λ (h : SlotsView Row). h.items) c.set_key.ensures ∙ (λ i. with_key (owned i) c.args.id (key.1 i))
 
-  rows : c.cut_timed.new.slots.items ≡ without_timed (away m ids owners c.args.id r key.0) r.node.ttl c.args.id
-  rows = ap (λ (h : SlotsView Row). h.items) c.cut_timed.ensures.rows ∙ ap (λ w. without_timed w r.node.ttl c.args.id) kept-rows
+  rows : c.cut_timed.new.slots.items ≡ without_timed (away m ids owners c.args.id r key.0) (may_end r.node.term) c.args.id
+  rows = ap (λ (h : SlotsView Row). h.items) c.cut_timed.ensures.rows ∙ ap (λ w. without_timed w (may_end r.node.term) c.args.id) kept-rows
 
-  timed : c.cut_timed.new.timed ≡ timed_without (away m ids owners c.args.id r key.0) c.self.inside.timed r.node.ttl c.args.id
-  timed = c.cut_timed.ensures.timed ∙ ap (λ w. timed_without w c.self.inside.timed r.node.ttl c.args.id) kept-rows
+  timed : c.cut_timed.new.timed ≡ timed_without (away m ids owners c.args.id r key.0) c.self.inside.timed (may_end r.node.term) c.args.id
+  timed = c.cut_timed.ensures.timed ∙ ap (λ w. timed_without w c.self.inside.timed (may_end r.node.term) c.args.id) kept-rows
 
   index : c.remove-key.new.self.ids ≡ fewer m ids owners c.args.id r key.0
   index = c.remove-key.ensures.ids
@@ -122,7 +123,7 @@ invariant_of-self c =
     let after = owners_after (m c) (ids c) (owners c) c.args.id (r c) (key c).0 in
     let all : (Items Row × (IdsByPath × (OwnerLists × IdList 2))) → Type 0 = λ w. IsThreaded w.0 w.1.0 w.1.1.0 w.1.1.1 in
     subst all (λ i. (sym (rows c) i, (sym (index c) i, (sym (lists c) i, sym (timed c) i)))) (record {
-      linked = linked-unlisted gone left after (r c).node.ttl c.args.id linked;
+      linked = linked-unlisted gone left after (may_end (r c).node.term) c.args.id linked;
       mortal = mortal-away (m c) (ids c) (owners c) c.self.inside.timed c.args.id (r c) (key c).0 c.self.invariant.mortal (there c) (shown c).0;
       parents = parents-away (m c) (ids c) (owners c) c.args.id (r c) (key c).0 c.self.invariant.linked (there c) (below c) (leaf c) c.self.invariant.parents;
     })
@@ -132,24 +133,24 @@ returns c = λ path at n node.
     let id = c.args.id in
     let view = c.self.view_is in
     let gone = away (m c) (ids c) (owners c) id (r c) (key c).0 in
-    let faces = unlisted-faces gone (ids c) (owners c) (r c).node.ttl id in
+    let faces = unlisted-faces gone (ids c) (owners c) (may_end (r c).node.term) id in
     let is_path = same_some (r c).path path (sym (shown c).1 ∙ at) in
     let is_node = same_some (r c).node n
     (sym (node-shown (m c) (ids c) (owners c) c.self.invariant.linked id (r c) (there c) (shown c).0) ∙ ap (λ (v : NodesView). get v.nodes (r c).path) view ∙ ap (option_and_then (get c.args.self.now.nodes)) (sym (shown c).1) ∙ node) in
     record {
       nodes =
           (λ i. nodes_of (rows c i) (index c i))
-          ∙ nodes-same gone (without_timed gone (r c).node.ttl id) (fewer (m c) (ids c) (owners c) id (r c) (key c).0) faces
+          ∙ nodes-same gone (without_timed gone (may_end (r c).node.term) id) (fewer (m c) (ids c) (owners c) id (r c) (key c).0) faces
           ∙ nodes-away (m c) (ids c) (owners c) id (r c) (key c).0 c.self.invariant.linked (there c) (shown c).0 (below c) (leaf c) (named c)
           ∙ (λ i. remove (view i).nodes (is_path i));
       places =
           ap places_of (rows c)
-          ∙ places-same gone (without_timed gone (r c).node.ttl id) (ids c) faces
+          ∙ places-same gone (without_timed gone (may_end (r c).node.term) id) (ids c) faces
           ∙ places-away (m c) (ids c) (owners c) id (r c) (key c).0 c.self.invariant.linked (there c) (shown c).0 (below c) (leaf c) (named c)
           ∙ ap (λ (v : NodesView). remove v.places id) view;
       held =
           ap held_of (rows c)
-          ∙ held-same gone (without_timed gone (r c).node.ttl id) (ids c) faces
+          ∙ held-same gone (without_timed gone (may_end (r c).node.term) id) (ids c) faces
           ∙ held-away (m c) (ids c) (owners c) id (r c) (key c).0 c.self.invariant.linked (there c) (shown c).0 (below c) (leaf c) (named c)
           ∙ (λ i. insert (view i).held id (is_path i, is_node i));
       owners =

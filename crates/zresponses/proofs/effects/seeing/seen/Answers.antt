@@ -8,6 +8,6 @@ pub returns : goal.returns
 returns c =
     let index = c.loop-index.index in
     let known = c.loop-index.events.items in
-    let none : table.seen c.args.zxid (drop index c.args.places.now) (drop index c.args.replies.now) ≡ [] =
-    none_seen c.args.zxid c.args.places.now c.args.replies.now index (omega arith) in
+    let none : table.seen c.args.zxid (drop index c.args.paths.now) (drop index c.args.replies.now) ≡ [] =
+    none_seen c.args.zxid c.args.paths.now c.args.replies.now index (omega arith) in
     sym (append-nil known) ∙ ap (λ more. known ++ more) (sym none) ∙ c.loop-index.invariant

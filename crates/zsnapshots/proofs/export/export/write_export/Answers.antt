@@ -68,11 +68,6 @@ returns-in-Err-clause-failed g c is =
     let failed = c.in-Err.ensures.failed is in
     (0 + failed.0, omega (arith, failed.1), g.met.K.Sink.failed_both _ _ _ 0 failed.0 so_far.2 failed.2)
 
-pub returns-in-Err-clause-unsayable : goal.returns-in-Err-clause-unsayable
-returns-in-Err-clause-unsayable g c is has =
-    let found = rw c.in-Some-node.is at c.node.ensures.node in
-    c.in-Err.ensures.unsayable is (has.within c.in-Some.path c.in-Some-node.node.now found)
-
 pub returns-clause-took : goal.returns-clause-took
 returns-clause-took g c =
     let t = c.args.machine.now.state.service.plain in

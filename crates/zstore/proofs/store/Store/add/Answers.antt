@@ -176,7 +176,7 @@ returns-clause-added c =
     } in
     let made =
     c.new-node.ensures
-    ∙ ap (λ z. new_node c.args.bytes c.args.owner c.args.ttl z s.time) c.next.ensures in
+    ∙ ap (λ z. new_node c.args.bytes c.args.owner c.args.term z s.time) c.next.ensures in
     ap (λ (m : Nodes). tree_of m s.sessions s.time s.zxid)
     (ap (λ (v : NodesView). v.nodes) c.note-2.ensures.nodes
     ∙ ap (λ (v : NodesView). v.nodes) (put.ensures.written over at)
@@ -193,7 +193,7 @@ returns-clause-added c =
     with_child_at (tree_of (finite.insert s.nodes.nodes c.args.path n) s.sessions s.time s.zxid)
     over c.args.sequential) made
     ∙ ap (λ (h : StoreView).
-    with_node h.tree c.args.path c.args.bytes c.args.owner c.args.ttl c.args.sequential)
+    with_node h.tree c.args.path c.args.bytes c.args.owner c.args.term c.args.sequential)
     c.self.view_is
 
 pub returns-clause-marked : goal.returns-clause-marked

@@ -6,4 +6,4 @@ use Rattle.zwire.proofs.records.rows.changes_have_bytes.Goals as goal
 
 pub returns : goal.returns
 unfolding logged update create delete set_data check part parts ttl content path version node_kind
-returns c = record { create = refl; create_for_7 = refl; delete = refl; set = refl; multi = refl }
+returns c = record { create = refl; create_for_7 = refl; create_container = refl; delete = refl; set = refl; multi = refl }

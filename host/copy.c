@@ -1,0 +1,83 @@
+/* A copy of the journal of a folder that a server uses.
+
+   A block's commit byte is set before the next block is begun. So the bytes that the file has when
+   it is opened are whole blocks, but for the last one, which may be unfinished. */
+#define _GNU_SOURCE
+#include <errno.h>
+#include <fcntl.h>
+#include <limits.h>
+#include <signal.h>
+#include <stdbool.h>
+#include <stdio.h>
+#include <stdlib.h>
+#include <string.h>
+#include <sys/file.h>
+#include <sys/sendfile.h>
+#include <sys/stat.h>
+#include <sys/wait.h>
+#include <unistd.h>
+#include "start.h"
+
+/* The folder of the copy, and the copy. */
+static char place[PATH_MAX], copy[PATH_MAX + 16];
+
+/* Copies so many bytes. Returns whether it could. */
+static bool is_copied(int from, int to, off_t left) {
+    while (left > 0) {
+        ssize_t count = sendfile(to, from, NULL, (size_t)(left < 1 << 30 ? left : 1 << 30));
+        if (count < 0 && errno == EINTR) continue;
+        if (count <= 0) return false;
+        left -= count;
+    }
+    return true;
+}
+
+static void remove_copy(void) {
+    unlink(copy);
+    rmdir(place);
+}
+
+/* The folder's journal if a server uses it, or -1. */
+static int used_journal(const char *folder) {
+    char *path;
+    if (asprintf(&path, "%s/journal", folder) < 0) stop(1, "out of memory");
+    int file = open(path, O_RDONLY | O_CLOEXEC);
+    free(path);
+    if (file >= 0 && flock(file, LOCK_SH | LOCK_NB) && errno == EWOULDBLOCK) return file;
+    if (file >= 0) close(file);
+    return -1;
+}
+
+const char *copied(const char *folder) {
+    struct stat found;
+    const char *top = getenv("TMPDIR");
+    int from = used_journal(folder), to = -1;
+    if (from < 0) return NULL;
+    snprintf(place, sizeof place, "%s/jellqupas-XXXXXX", top && *top ? top : "/tmp");
+    if (!mkdtemp(place)) stop(3, "%s: %s", place, strerror(errno));
+    snprintf(copy, sizeof copy, "%s/journal", place);
+    bool is_made = !fstat(from, &found) &&
+                   (to = open(copy, O_WRONLY | O_CREAT | O_EXCL | O_CLOEXEC, 0600)) >= 0 &&
+                   is_copied(from, to, found.st_size) && !close(to);
+    int why = errno;
+    if (!is_made) remove_copy(), stop(3, "%s: %s", copy, strerror(why));
+    close(from);
+    return place;
+}
+
+_Noreturn void end_after(char *const words[]) {
+    int status = 0;
+    /* (a signal ends the child, and then the copy is removed) */
+    signal(SIGINT, SIG_IGN), signal(SIGTERM, SIG_IGN);
+    pid_t child = fork();
+    if (!child) {
+        signal(SIGINT, SIG_DFL), signal(SIGTERM, SIG_DFL);
+        execv(words[0], words);
+        fprintf(stderr, "zk: %s: %s\n", words[0], strerror(errno));
+        _exit(3);
+    }
+    while (child > 0 && waitpid(child, &status, 0) < 0 && errno == EINTR) continue;
+    remove_copy();
+    if (child < 0) stop(3, "no process: %s", strerror(errno));
+    exit(WIFEXITED(status) ? WEXITSTATUS(status) : 1);
+}

@@ -1,0 +1,37 @@
+/* Lines for whoever runs the server, and what it counts. */
+#ifndef NOTES_H
+#define NOTES_H
+
+#include <stdint.h>
+
+/* What a line is about. */
+enum kind {
+    /* A connection beyond those that are served at once. */
+    REFUSED,
+    /* No descriptor or no memory for one more. */
+    SHORT,
+    /* One was closed, since too many bytes wait to be sent, or are of unfinished requests. */
+    UNREAD,
+    LONG_REQUESTS,
+    /* A batch took longer than SLOW. */
+    SLOW_BATCH,
+    KINDS
+};
+
+enum {
+    /* The milliseconds between two lines of one kind, and those of a batch that is told. */
+    QUIET = 60000,
+    SLOW = 1000
+};
+
+/* What was counted since the start. */
+struct counts {
+    uint64_t accepted, received, sent, requests, chunks, ticks, batches, batch_ms, longest_ms;
+    uint64_t noted[KINDS];
+};
+extern struct counts counts;
+
+/* Counts it, and prints a line on standard error, at most one a minute of each kind. */
+void note(enum kind kind, const char *format, ...);
+
+#endif
