@@ -1,7 +1,9 @@
 /* A copy of the journal of a folder that a server uses.
 
-   A block's commit byte is set before the next block is begun. So the bytes that the file has when
-   it is opened are whole blocks, but for the last one, which may be unfinished. */
+   A block is a commit byte, its content, and a byte 0. It is written whole, then its commit byte is
+   set, and then the next block is begun. So the bytes that the file has when it is opened are whole
+   blocks, but for the last one, which may be unfinished. Its commit byte may be set while they are
+   copied, and its end isn't among them. So the copy ends with the last block that is there whole. */
 #define _GNU_SOURCE
 #include <errno.h>
 #include <fcntl.h>
@@ -12,6 +14,7 @@
 #include <stdlib.h>
 #include <string.h>
 #include <sys/file.h>
+#include <sys/mman.h>
 #include <sys/sendfile.h>
 #include <sys/stat.h>
 #include <sys/wait.h>
@@ -21,15 +24,35 @@
 /* The folder of the copy, and the copy. */
 static char place[PATH_MAX], copy[PATH_MAX + 16];
 
-/* Copies so many bytes. Returns whether it could. */
+/* Copies so many bytes, or those that there are. Returns whether it could. */
 static bool is_copied(int from, int to, off_t left) {
     while (left > 0) {
         ssize_t count = sendfile(to, from, NULL, (size_t)(left < 1 << 30 ? left : 1 << 30));
         if (count < 0 && errno == EINTR) continue;
-        if (count <= 0) return false;
+        if (count < 0) return false;
+        if (count == 0) break;
         left -= count;
     }
     return true;
+}
+
+/* The length of the blocks that are whole and whose commit byte is set. */
+static size_t whole_blocks(const char *bytes, size_t count) {
+    const char *at = bytes, *end = bytes + count, *last;
+    while (at < end && *at == 1 && (last = memchr(at, 0, (size_t)(end - at)))) at = last + 1;
+    return (size_t)(at - bytes);
+}
+
+/* Cuts the copy after the last block that is whole. Returns whether it could. */
+static bool is_cut(int file) {
+    struct stat found;
+    if (fstat(file, &found)) return false;
+    if (found.st_size == 0) return true;
+    size_t count = (size_t)found.st_size;
+    void *bytes = mmap(NULL, count, PROT_READ, MAP_SHARED, file, 0);
+    if (bytes == MAP_FAILED) return false;
+    size_t whole = whole_blocks(bytes, count);
+    return !munmap(bytes, count) && !ftruncate(file, (off_t)whole);
 }
 
 static void remove_copy(void) {
@@ -57,8 +80,8 @@ const char *copied(const char *folder) {
     if (!mkdtemp(place)) stop(3, "%s: %s", place, strerror(errno));
     snprintf(copy, sizeof copy, "%s/journal", place);
     bool is_made = !fstat(from, &found) &&
-                   (to = open(copy, O_WRONLY | O_CREAT | O_EXCL | O_CLOEXEC, 0600)) >= 0 &&
-                   is_copied(from, to, found.st_size) && !close(to);
+                   (to = open(copy, O_RDWR | O_CREAT | O_EXCL | O_CLOEXEC, 0600)) >= 0 &&
+                   is_copied(from, to, found.st_size) && is_cut(to) && !close(to);
     int why = errno;
     if (!is_made) remove_copy(), stop(3, "%s: %s", copy, strerror(why));
     close(from);

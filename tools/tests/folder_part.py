@@ -1,5 +1,6 @@
 """The folder of a server: what was acknowledged is kept, over kills, full disks and restarts."""
 import base64
+import fcntl
 import os
 import random
 import re
@@ -243,6 +244,13 @@ def copies(builds):
             want(answered <= found, f"{found} copied, {answered} acknowledged")
             want_same(ended([*words, "stat", of, "--data", folder])[0], 0, "stat")
         until(lambda: writer.answered > answered)
+    with open(f"{folder}/journal", "r+b") as file:
+        fcntl.flock(file, fcntl.LOCK_EX)
+        for missing in range(1, 13):
+            # (the last block is being written, and its commit byte was set since it was looked at)
+            file.truncate(os.path.getsize(f"{folder}/journal") - 1)
+            found = ended([*words, "stat", of, "--data", folder])
+            want_same(found[0], 0, f"a block without its last {missing} bytes: {found}")
     want_same(os.listdir(spare), [], "what is left")
 
 
