@@ -1,0 +1,12 @@
+pub mod HeadLogs
+pub mod Kept
+pub mod Facts
+pub mod Served
+pub mod Committing
+pub mod Stands
+pub mod Steps
+pub mod Noted
+pub mod Settled
+pub mod OneTree
+pub mod FrontRuns
+pub mod Worked

@@ -1,0 +1,2 @@
+-- What serves the worked examples, and is part of no promise.
+pub mod ClusterRows
