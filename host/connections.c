@@ -8,6 +8,8 @@
 #include <unistd.h>
 #include "connections.h"
 #include "front.h"
+#include "journal.h"
+#include "monitors.h"
 #include "notes.h"
 #include "start.h"
 
@@ -19,14 +21,24 @@ enum {
     UNFINISHED = 15 << 20
 };
 
-struct connection all[MOST + 1];
+uint32_t places;
+struct connection *all;
 int events;
 size_t unfinished, asked;
+/* No place below this one is free. */
+static uint32_t lowest = 1;
 /* The bytes to be sent, on all connections together. */
 static size_t held;
 /* The connections with new chunks, and those that are GONE. */
-static uint32_t touched[MOST + 1], gone[MOST];
+static uint32_t *touched, *gone;
 static size_t touched_count, gone_count;
+
+void make_places(uint32_t count) {
+    places = count;
+    all = calloc(count + 1, sizeof *all);
+    touched = calloc(count + 1, sizeof *touched), gone = calloc(count + 1, sizeof *gone);
+    if (!all || !touched || !gone) stop(1, "out of memory");
+}
 
 bool is_there(const struct connection *it) {
     return it->state == OPEN || it->state == LAST;
@@ -36,14 +48,24 @@ size_t owed(const struct connection *it) { return it->count - it->sent; }
 
 size_t unread(void) { return held; }
 
+/* A free number, or one above those that there are. One that has been sent all, and its end, makes room if need be:
+   its client may never close it. */
+static uint32_t free_number(void) {
+    while (lowest <= places && all[lowest].state != FREE) lowest++;
+    for (uint32_t i = 1; lowest > places && i <= places; i++) {
+        if (all[i].state == LAST && !owed(&all[i])) shut(i), end_gone();
+    }
+    return lowest;
+}
+
 bool is_opened(int socket) {
-    uint32_t number = 1;
-    while (number <= MOST && all[number].state != FREE) number++;
+    uint32_t number = free_number();
     struct epoll_event event = {.events = EPOLLIN, .data.u32 = number};
-    if (number > MOST) note(REFUSED, "a connection is refused: %d are served at once", MOST);
-    if (number > MOST || epoll_ctl(events, EPOLL_CTL_ADD, socket, &event)) return false;
+    if (number > places) note(REFUSED, "a connection is refused: %u are served at once", places);
+    if (number > places || epoll_ctl(events, EPOLL_CTL_ADD, socket, &event)) return false;
     all[number] = (struct connection){
-        .state = OPEN, .socket = socket, .events = EPOLLIN, .until = now() + PATIENCE};
+        .state = OPEN, .socket = socket, .events = EPOLLIN, .until = now() + PATIENCE,
+        .seen.since = date()};
     front_opened(number);
     counts.accepted++;
     return true;
@@ -82,7 +104,7 @@ void shut(uint32_t number) {
 static void bound_owed(void) {
     while (held > HELD) {
         uint32_t most = 1;
-        for (uint32_t i = 2; i <= MOST; i++) {
+        for (uint32_t i = 2; i <= places; i++) {
             if (owed(&all[i]) > owed(&all[most])) most = i;
         }
         send_on(most);
@@ -95,7 +117,7 @@ static void bound_owed(void) {
 void bound_unfinished(void) {
     while (unfinished > UNFINISHED) {
         uint32_t most = 1;
-        for (uint32_t i = 2; i <= MOST; i++) {
+        for (uint32_t i = 2; i <= places; i++) {
             if (all[i].part > all[most].part) most = i;
         }
         note(LONG_REQUESTS, "a connection is closed: %d MiB of requests are unfinished",
@@ -106,23 +128,39 @@ void bound_unfinished(void) {
 
 /* The connection of the next chunk. A wrong number, and a wrong length, end the server. */
 static struct connection *connection_of(uint32_t number) {
-    if (number >= 1 && number <= MOST && all[number].state != FREE) return &all[number];
+    if (number >= 1 && number <= places && all[number].state != FREE) return &all[number];
     stop(1, "zk_serve sent a chunk of connection %u, which isn't there", number);
 }
 
 /* Counts a batch that took so long. */
 static void counted(uint64_t took) {
-    counts.batches++, counts.batch_ms += took, counts.requests += asked;
-    if (took > counts.longest_ms) counts.longest_ms = took;
+    if (!counts.batches || took < counts.shortest_us) counts.shortest_us = took;
+    if (took > counts.longest_us) counts.longest_us = took;
+    counts.batches++, counts.batch_us += took;
+    counts.requests += asked, counts.latency_us += took * asked, counts.outstanding = asked - 1;
+    took /= 1000;
     if (took >= SLOW) note(SLOW_BATCH, "a batch took %llu ms", (unsigned long long)took);
+}
+
+/* Puts the answer to a monitor's word in the place of what the front says. Returns its length. */
+static size_t answered(struct connection *it, size_t count) {
+    size_t length;
+    char *text = monitors_answer(it->word, it->out + it->count, count, &length);
+    make_room(it, length);
+    memcpy(it->out + it->count, text, length);
+    free(text);
+    return length;
 }
 
 void take(void) {
     uint32_t number;
     enum next next;
-    uint64_t began = now();
-    front_keep();
-    if (asked) counted(now() - began);
+    uint64_t began = now_us();
+    if (front_keep()) {
+        uint64_t took = now_us() - began;
+        if (asked) counted(took);
+        journal_look(took);
+    }
     asked = 0;
     while ((next = front_next(&number)) != NOTHING) {
         struct connection *it = connection_of(number);
@@ -133,8 +171,10 @@ void take(void) {
             count = front_take(it->out + it->count, it->room - it->count);
         } while (count > it->room - it->count);
         if (it->state != OPEN) continue;
+        if (!it->word) monitors_see(&it->seen, it->out + it->count, count);
+        else if (count) count = answered(it, count);
         it->count += count;
-        counts.chunks++;
+        counts.chunks += count > 0;
         it->until = 0;
         if (!it->is_touched) touched[touched_count++] = number;
         it->is_touched = true;
@@ -177,6 +217,7 @@ void end_gone(void) {
     while (gone_count) {
         uint32_t number = gone[--gone_count];
         front_ended(number);
+        if (number < lowest) lowest = number;
         free(all[number].out);
         all[number] = (struct connection){.is_touched = all[number].is_touched};
     }

@@ -8,8 +8,8 @@
 #include <stdint.h>
 
 enum {
-    /* The connections that are served at once. */
-    MOST = 1000,
+    /* The bytes at a connection's beginning that tell a word of four letters from a request. */
+    FIRST = 4,
     /* A connection that is to be sent more than this isn't read. */
     OWED = 1 << 20,
     /* The milliseconds for a greeting, and for sending the rest before a connection's end. */
@@ -25,6 +25,14 @@ enum state {
     GONE
 };
 
+/* What monitors are told of a connection: since when it is there, in milliseconds of the era; the
+   requests and chunks; its session and the session's timeout in milliseconds, or 0; and the xid and
+   the zxid of its last answer. */
+struct seen {
+    uint64_t since, requests, chunks, session, zxid;
+    uint32_t timeout, xid;
+};
+
 struct connection {
     enum state state;
     int socket;
@@ -36,6 +44,12 @@ struct connection {
     size_t part;
     uint32_t body, head;
     int heads;
+    /* Its first bytes, of which so many came. */
+    uint8_t first[FIRST];
+    size_t firsts;
+    /* The word of a monitor's connection (monitors.h), or 0. */
+    int word;
+    struct seen seen;
     /* When it is closed, in milliseconds; 0 for never. */
     uint64_t until;
     /* The events that it waits for. */
@@ -43,13 +57,18 @@ struct connection {
     bool is_touched;
 };
 
-extern struct connection all[MOST + 1];
+/* The connections that are served at once: `all` has a place for each, from 1 on. */
+extern uint32_t places;
+extern struct connection *all;
 /* The descriptor of epoll. */
 extern int events;
 /* The bytes of unfinished requests, of all connections together. */
 extern size_t unfinished;
 /* The requests passed on since the last commit. */
 extern size_t asked;
+
+/* Makes this many places, all of them free. */
+void make_places(uint32_t count);
 
 /* Whether it isn't closed. */
 bool is_there(const struct connection *it);

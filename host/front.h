@@ -10,7 +10,8 @@
      front_ended, and each front_opened has its front_ended, whichever side closed the
      connection. A number may be used again after its front_ended.
    - Bytes. The bytes that came on a connection are given under its number, each once and in
-     their order, cut in any way. None is given after its last chunk.
+     their order, cut in any way. None is given after its last chunk. (A connection of the host's own,
+     as those of monitors.h, has a number, too: the host gives its bytes, and takes its chunks.)
    - Chunks. They come after front_keep, and all are taken before any other input. A connection's
      chunks are sent on it in order, each whole; or else the connection is closed, and nothing
      more is sent. After a last chunk it is closed.
@@ -24,6 +25,7 @@
 #ifndef FRONT_H
 #define FRONT_H
 
+#include <stdbool.h>
 #include <stddef.h>
 #include <stdint.h>
 #include "start.h"
@@ -54,8 +56,9 @@ void front_ended(uint32_t connection);
 /* The clock advances by one tick. */
 void front_tick(void);
 
-/* Commits the changes of the inputs, as one batch. After it their chunks can be taken. */
-void front_keep(void);
+/* Commits the changes of the inputs, as one batch. After it their chunks can be taken. Returns
+   whether there were inputs. */
+bool front_keep(void);
 
 /* What is next to be sent, and on which connection. */
 enum next front_next(uint32_t *connection);

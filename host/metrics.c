@@ -10,9 +10,9 @@
 #include <string.h>
 #include <sys/epoll.h>
 #include <sys/socket.h>
-#include <sys/stat.h>
 #include <unistd.h>
 #include "connections.h"
+#include "journal.h"
 #include "metrics.h"
 #include "notes.h"
 #include "start.h"
@@ -27,8 +27,8 @@ struct reader {
 
 static struct reader readers[READERS];
 static int listener = -1;
-/* The path of the journal; empty if all is in memory. */
-static char journal[4096];
+/* How many watches there may be: of all connections together, and of each. */
+static uint64_t most_watches, most_each;
 /* The answer that is being made, and its length. */
 static char text[16384];
 static size_t length;
@@ -48,8 +48,7 @@ static void put_one(const char *type, const char *name, uint64_t value) {
 static void put_counts(void) {
     static const char *const kinds[KINDS] = {
         "connections_refused", "accepts_failed", "closed_unread", "closed_long_requests",
-        "slow_batches"};
-    struct stat found;
+        "slow_batches", "compactions"};
     put_one("counter", "jellqupas_connections_accepted", counts.accepted);
     put_one("counter", "jellqupas_bytes_received", counts.received);
     put_one("counter", "jellqupas_bytes_sent", counts.sent);
@@ -57,31 +56,32 @@ static void put_counts(void) {
     put_one("counter", "jellqupas_packets_sent", counts.chunks);
     put_one("counter", "jellqupas_ticks", counts.ticks);
     put_one("counter", "jellqupas_batches", counts.batches);
-    put_one("counter", "jellqupas_batch_milliseconds", counts.batch_ms);
-    put_one("gauge", "jellqupas_longest_batch_milliseconds", counts.longest_ms);
+    put_one("counter", "jellqupas_batch_milliseconds", counts.batch_us / 1000);
+    put_one("gauge", "jellqupas_longest_batch_milliseconds", counts.longest_us / 1000);
     put_one("gauge", "jellqupas_unfinished_bytes", unfinished);
     put_one("gauge", "jellqupas_unread_bytes", unread());
-    put_one("gauge", "jellqupas_limit_connections", MOST);
+    put_one("gauge", "jellqupas_limit_connections", places);
+    put_one("gauge", "jellqupas_limit_watches", most_watches);
+    put_one("gauge", "jellqupas_limit_watches_each", most_each);
     for (int i = 0; i < KINDS; i++) {
         char name[64];
         snprintf(name, sizeof name, "jellqupas_%s", kinds[i]);
         put_one("counter", name, counts.noted[i]);
     }
-    if (*journal && !stat(journal, &found)) {
-        put_one("gauge", "jellqupas_journal_bytes", (uint64_t)found.st_size);
-    }
+    if (journal_bytes()) put_one("gauge", "jellqupas_journal_bytes", journal_bytes());
 }
 
-/* The numbers of the front's text, a line each: a name, a tab, and a value. */
+/* The numbers of the answer to `mntr` by ZooKeeper's names, a line each: name, tab, and value. */
 static void put_told(char *told) {
     char *rest = told;
     for (char *line; (line = strsep(&rest, "\n"));) {
         char *value = strchr(line, '\t'), *end;
-        if (!value) continue;
+        if (!value || strncmp(line, "zk_", 3)) continue;
         *value++ = 0;
-        unsigned long long found = strtoull(value, &end, 10);
+        double found = strtod(value, &end);
         if (end == value || *end) continue;
-        put_one("gauge", line, found - !strcmp(line, "zk_num_alive_connections"));
+        if (!strcmp(line, "zk_num_alive_connections")) put_one("gauge", line, (uint64_t)found - 1);
+        else put("# TYPE %s gauge\n%s %s\n", line, line, value);
     }
 }
 
@@ -183,11 +183,12 @@ void metrics_look(void) {
     }
 }
 
-void metrics_open(const char *address, const char *folder) {
+void metrics_open(const struct words *words) {
+    const char *address = words->metrics;
     unsigned port;
     struct epoll_event event = {.events = EPOLLIN, .data.u32 = METRICS};
     listener = listening_at(address, &port);
-    if (folder) snprintf(journal, sizeof journal, "%s/journal", folder);
+    most_watches = (uint64_t)words->watches, most_each = (uint64_t)words->each;
     if (epoll_ctl(events, EPOLL_CTL_ADD, listener, &event)) {
         stop(3, "nothing can be waited for: %s", strerror(errno));
     }

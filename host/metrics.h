@@ -4,6 +4,7 @@
 
 #include <stdbool.h>
 #include <stdint.h>
+#include "start.h"
 
 enum {
     /* The requests for metrics that are answered at once. */
@@ -12,8 +13,8 @@ enum {
     METRICS = 1 << 20
 };
 
-/* Listens at this address. */
-void metrics_open(const char *address, const char *folder);
+/* Listens at the address of these words. */
+void metrics_open(const struct words *words);
 
 /* Whether this event is one of metrics; then it is handled. */
 bool is_of_metrics(uint32_t number);

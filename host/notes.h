@@ -15,18 +15,24 @@ enum kind {
     LONG_REQUESTS,
     /* A batch took longer than SLOW. */
     SLOW_BATCH,
+    /* The journal was replaced by a shorter one. */
+    COMPACTED,
     KINDS
 };
 
 enum {
     /* The milliseconds between two lines of one kind, and those of a batch that is told. */
     QUIET = 60000,
-    SLOW = 1000
+    SLOW = 1000,
+    /* The milliseconds after which what is waited for is told; then after twice as many, and so on. */
+    LONG = 2000
 };
 
-/* What was counted since the start. */
+/* What was counted since the start. Times are of batches, in microseconds: `latency_us` has them
+   once for each request. `outstanding` are the requests of the last batch but one. */
 struct counts {
-    uint64_t accepted, received, sent, requests, chunks, ticks, batches, batch_ms, longest_ms;
+    uint64_t accepted, received, sent, requests, chunks, ticks, batches, outstanding;
+    uint64_t batch_us, latency_us, shortest_us, longest_us;
     uint64_t noted[KINDS];
 };
 extern struct counts counts;

@@ -16,10 +16,11 @@
 #include <stdio.h>
 #include <stdlib.h>
 #include <string.h>
-#include <time.h>
 #include <unistd.h>
 #include "child.h"
 #include "front.h"
+#include "journal.h"
+#include "notes.h"
 
 /* The tags of records, and their limits. */
 enum { OPENED, CAME, ENDED, TICK, KEEP };
@@ -82,6 +83,21 @@ void front_tick(void) { put_tag(TICK); }
 
 /* ---- the answer */
 
+/* Waits until the child answers, or a signal ends this process. What takes long is told. */
+static void wait_for_child(const char *what, int signals) {
+    struct pollfd ends[] = {
+        {.fd = child.from, .events = POLLIN}, {.fd = signals, .events = POLLIN}};
+    uint64_t began = now(), took = 0, told = LONG;
+    while (poll(ends, 2, took < told ? (int)(told - took) : 0) <= 0) {
+        took = now() - began;
+        if (took < told) continue;
+        if (journal_is_replaced()) what = "compacting the journal";
+        fprintf(stderr, "zk: %s: %llu s so far\n", what, (unsigned long long)told / 1000);
+        told *= 2;
+    }
+    if (ends[1].revents) exit(0);
+}
+
 /* Takes this many bytes of the answer. */
 static void take_bytes(uint8_t *to, size_t size) {
     while (size) {
@@ -126,13 +142,15 @@ static void send_to_child(const uint8_t *bytes, size_t size) {
     }
 }
 
-void front_keep(void) {
-    if (!count) return;
+bool front_keep(void) {
+    if (!count) return false;
     put_tag(KEEP);
     send_to_child(inputs, count);
     count = 0;
+    wait_for_child("a batch", -1);
     if (room > 1 << 20) free(inputs), inputs = NULL, room = 0;
     take_head();
+    return true;
 }
 
 enum next front_next(uint32_t *number) {
@@ -152,33 +170,26 @@ size_t front_take(uint8_t *to, size_t left) {
 
 /* Starts the child: in memory alone if no folder is named. */
 static void start_child(const struct words *words) {
-    char servers[24], tick[24], time[24], journal[24];
+    char servers[24], tick[24], time[24], journal[24], watches[24], each[24];
     char *program = (char *)words->program, *sync = (char *)words->sync;
-    struct timespec now;
     const char *folder = words->data && !strcmp(words->data, "-") ? "./-" : words->data;
-    clock_gettime(CLOCK_REALTIME, &now);
     snprintf(servers, sizeof servers, "%d", words->servers);
     snprintf(tick, sizeof tick, "%ld", words->tick);
-    snprintf(time, sizeof time, "%lld", (long long)now.tv_sec * 1000 + now.tv_nsec / 1000000);
+    snprintf(time, sizeof time, "%llu", (unsigned long long)date());
     snprintf(journal, sizeof journal, "%ld", words->journal);
-    char *in_memory[] = {program, "-", tick, time, NULL};
-    char *in_folder[] = {program, (char *)folder, sync, servers, tick, time, journal, NULL};
+    snprintf(watches, sizeof watches, "%ld", words->watches);
+    snprintf(each, sizeof each, "%ld", words->each);
+    char *in_memory[] = {program, "-", tick, time, watches, each, NULL};
+    char *in_folder[] = {
+        program, (char *)folder, sync, servers, tick, time, journal, watches, each, NULL};
     child_start(&child, folder ? in_folder : in_memory);
-}
-
-/* Waits until the child has opened the front, or a signal ends this process. */
-static void wait_for_child(int signals) {
-    struct pollfd ends[] = {
-        {.fd = child.from, .events = POLLIN}, {.fd = signals, .events = POLLIN}};
-    while (poll(ends, 2, -1) < 0 && errno == EINTR) continue;
-    if (ends[1].revents) exit(0);
-    take_head();
 }
 
 void front_open(const struct words *words, const uint8_t secret[SECRET], int signals) {
     start_child(words);
     send_to_child(secret, SECRET);
-    wait_for_child(signals);
+    wait_for_child("opening", signals);
+    take_head();
 }
 
 void front_close(void) {

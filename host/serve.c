@@ -5,8 +5,8 @@
    on once and in order; chunks are sent in order and whole, or the connection is closed; and the
    secret can't be guessed.
 
-   One thread does everything. It waits for events of at most 1,000 connections, and of the
-   signals that end it.
+   One thread does everything. It waits for events of the connections, and of the signals that end
+   it.
 
    The input of one wait is committed together and then answered. After KEPT requests a commit
    comes before more is read: replies of up to a million bytes each wait in memory until then. */
@@ -24,7 +24,9 @@
 #include "connections.h"
 #include "front.h"
 #include "jellqupas.h"
+#include "journal.h"
 #include "metrics.h"
+#include "monitors.h"
 #include "notes.h"
 #include "start.h"
 
@@ -36,11 +38,17 @@ enum {
     /* The requests that are committed together. */
     KEPT = 128,
     /* Events that aren't a connection's. */
-    LISTENER = MOST + 1,
-    SIGNALS
+    SIGNALS = METRICS - 2,
+    LISTENER,
+    /* The descriptors beside those of connections. */
+    OTHERS = 32,
+    /* The connections that are served at once, if no word says how many. */
+    PLACES = 10000
 };
 
 static int listener, signals;
+/* The events of one wait: room for each connection's, and for the others'. */
+static struct epoll_event *ready;
 /* The milliseconds of a tick, when the next one is due, and whether it was put off. */
 static uint64_t tick, ticks_at;
 static bool is_put_off, is_over;
@@ -71,29 +79,47 @@ static size_t begun(struct connection *it, const uint8_t *bytes, size_t count) {
     return found;
 }
 
+/* Passes bytes of a connection on. */
+static void pass_on(uint32_t number, const uint8_t *bytes, size_t count) {
+    struct connection *it = &all[number];
+    end_gone();
+    unfinished -= it->part;
+    size_t found = begun(it, bytes, count);
+    unfinished += it->part;
+    asked += found, it->seen.requests += found;
+    front_came(number, bytes, count);
+    if (asked >= KEPT) take();
+    bound_unfinished();
+}
+
+/* Passes on the first bytes of a connection, once all are there: or, of a monitor's, what the front
+   is asked in their place. */
+static void came_first(uint32_t number, size_t count) {
+    struct connection *it = &all[number];
+    it->firsts += count;
+    if (it->firsts < FIRST) return;
+    it->word = monitors_word(it->first);
+    pass_on(number, it->word ? monitors_asked(it->word) : it->first, FIRST);
+}
+
 /* Reads from a connection, as long as it takes what it is sent. */
 static void read_from(uint32_t number) {
     static uint8_t block[HANDED];
     struct connection *it = &all[number];
     for (int parts = READ / HANDED; parts && is_there(it) && owed(it) <= OWED; parts--) {
         keep_time();
-        ssize_t count = recv(it->socket, block, HANDED, 0);
+        size_t firsts = FIRST - it->firsts, room = firsts ? firsts : HANDED;
+        uint8_t *to = firsts ? it->first + it->firsts : block;
+        ssize_t count = recv(it->socket, to, room, 0);
         if (count < 0 && (errno == EAGAIN || errno == EINTR)) return;
         if (count <= 0) {
             shut(number);
             return;
         }
         counts.received += (uint64_t)count;
-        if (it->state == OPEN) {
-            end_gone();
-            unfinished -= it->part;
-            asked += begun(it, block, (size_t)count);
-            unfinished += it->part;
-            front_came(number, block, (size_t)count);
-            if (asked >= KEPT) take();
-            bound_unfinished();
-        }
-        if (count < HANDED) return;
+        if (firsts) came_first(number, (size_t)count);
+        else if (it->state == OPEN && !it->word) pass_on(number, block, (size_t)count);
+        if ((size_t)count < room) return;
     }
 }
 
@@ -122,8 +148,7 @@ static bool is_welcomed(void) {
 /* Waits at most this long, and handles each event once.
    (connections end before others begin: a client that closes one and opens another finds room) */
 static void pass(int milliseconds) {
-    static struct epoll_event ready[MOST + 2];
-    int count = epoll_wait(events, ready, MOST + 2, milliseconds), most = 0;
+    int count = epoll_wait(events, ready, (int)places + OTHERS, milliseconds), most = 0;
     for (int i = 0; i < count; i++) {
         uint32_t number = ready[i].data.u32, came = ready[i].events;
         if (is_of_metrics(number)) continue;
@@ -141,7 +166,7 @@ static void pass(int milliseconds) {
 static void look(void) {
     struct epoll_event event = {.events = EPOLLIN, .data.u32 = LISTENER};
     epoll_ctl(events, EPOLL_CTL_MOD, listener, &event);
-    for (uint32_t i = 1; i <= MOST; i++) {
+    for (uint32_t i = 1; i <= places; i++) {
         if (all[i].until && now() >= all[i].until) shut(i);
     }
     metrics_look();
@@ -164,6 +189,8 @@ static void serve(void) {
 static const char SAID[] =
     "zk: jellqupas " JELLQUPAS_VERSION " for ZooKeeper's clients: one server, ticks of %ld ms\n"
     "zk: listening on %.*s:%u\n";
+static const char FEWER[] =
+    "zk: %u connections are served at once: no more descriptors may be opened\n";
 static const char OPEN_TO_ALL[] =
     "zk: anyone who can connect may do everything: clients aren't authenticated\n";
 
@@ -173,6 +200,7 @@ static void say(const struct words *words, unsigned port) {
     fprintf(stderr, SAID, words->tick, host, words->listen, port);
     if (words->data) fprintf(stderr, "zk: acknowledged changes are stored in %s\n", words->data);
     else fputs("zk: all is in memory: when it ends, nothing is left\n", stderr);
+    if (!words->connections && places < PLACES) fprintf(stderr, FEWER, places);
     fputs(OPEN_TO_ALL, stderr);
 }
 
@@ -182,6 +210,7 @@ static const char A_COPY[] = "zk: the folder is in use: this is of a copy of it,
    counted or exported. */
 static _Noreturn void become(const struct words *words) {
     char *folder = strcmp(words->data, "-") ? (char *)words->data : "./-", servers[24];
+    tell_time(words->task);
     const char *copy = strcmp(words->task, "compact") ? copied(folder) : NULL;
     char *of = copy ? (char *)copy : folder;
     char *own[] = {(char *)words->program, of, (char *)words->task, servers, NULL};
@@ -191,12 +220,23 @@ static _Noreturn void become(const struct words *words) {
     stop(3, "%s: %s", own[0], strerror(errno));
 }
 
+/* Makes the places of connections: as many as a word says, or as descriptors allow. */
+static void settle(long wanted) {
+    long count = wanted ? wanted : PLACES, most = make_ready((unsigned)count + OTHERS) - OTHERS;
+    if (wanted > most || most < 1) {
+        stop(3, "--connections %ld: %ld descriptors may be opened", count, most + OTHERS);
+    }
+    make_places((uint32_t)(count < most ? count : most));
+    ready = calloc(places + OTHERS, sizeof *ready);
+    if (!ready) stop(1, "out of memory");
+}
+
 int main(int count, char **given) {
     struct words words = understood(given + (count > 0));
     if (words.task) become(&words);
     unsigned port;
     uint8_t secret[SECRET];
-    make_ready(MOST + 32);
+    settle(words.connections);
     signals = ending_signals();
     listener = listening_at(words.listen, &port);
     events = epoll_create1(EPOLL_CLOEXEC);
@@ -208,11 +248,14 @@ int main(int count, char **given) {
     if (!is_added(signals, SIGNALS) || !is_added(listener, LISTENER)) {
         stop(3, "nothing can be waited for: %s", strerror(errno));
     }
-    if (words.metrics) metrics_open(words.metrics, words.data);
+    journal_open(words.data);
+    monitors_open(&words, port);
+    if (words.metrics) metrics_open(&words);
     tick = (uint64_t)words.tick;
     serve();
-    for (uint32_t i = 1; i <= MOST; i++) shut(i);
-    for (uint32_t i = 1; i <= MOST; i++) free(all[i].out);
+    for (uint32_t i = 1; i <= places; i++) shut(i);
+    for (uint32_t i = 1; i <= places; i++) free(all[i].out);
+    free(ready);
     front_close();
     return 0;
 }

@@ -27,11 +27,17 @@ _Noreturn void stop(int status, const char *format, ...) {
     exit(status);
 }
 
-uint64_t now(void) {
+static uint64_t microseconds(clockid_t clock) {
     struct timespec at;
-    clock_gettime(CLOCK_MONOTONIC, &at);
-    return (uint64_t)at.tv_sec * 1000 + (uint64_t)at.tv_nsec / 1000000;
+    clock_gettime(clock, &at);
+    return (uint64_t)at.tv_sec * 1000000 + (uint64_t)at.tv_nsec / 1000;
 }
+
+uint64_t now_us(void) { return microseconds(CLOCK_MONOTONIC); }
+
+uint64_t now(void) { return now_us() / 1000; }
+
+uint64_t date(void) { return microseconds(CLOCK_REALTIME) / 1000; }
 
 long number_in(const char *text, long least, long most) {
     char *end;
@@ -81,17 +87,20 @@ int listening_at(const char *text, unsigned *port) {
     return found;
 }
 
-void make_ready(unsigned descriptors) {
+long make_ready(unsigned descriptors) {
     /* (a socket must not be standard input or output, here or in the child) */
     int at;
     while ((at = open("/dev/null", O_RDWR)) >= 0 && at <= STDERR_FILENO) continue;
     if (at > STDERR_FILENO) close(at);
-    struct rlimit files;
-    if (getrlimit(RLIMIT_NOFILE, &files) == 0 && files.rlim_cur < descriptors) {
-        files.rlim_cur = files.rlim_max < descriptors ? files.rlim_max : descriptors;
-        setrlimit(RLIMIT_NOFILE, &files);
-    }
     signal(SIGPIPE, SIG_IGN);
+    struct rlimit files;
+    if (getrlimit(RLIMIT_NOFILE, &files)) return descriptors;
+    if (files.rlim_cur < descriptors) {
+        rlim_t had = files.rlim_cur;
+        files.rlim_cur = files.rlim_max < descriptors ? files.rlim_max : descriptors;
+        if (setrlimit(RLIMIT_NOFILE, &files)) return (long)had;
+    }
+    return files.rlim_cur < descriptors ? (long)files.rlim_cur : (long)descriptors;
 }
 
 int ending_signals(void) {
@@ -111,6 +120,9 @@ static const char USAGE[] =
     "  --data DIR               stores its state in this folder\n"
     "  --sync batch|never       whether a reply waits for the disk (batch)\n"
     "  --journal MIB            compacts its journal from this size on, 1 to 1048576 (64)\n"
+    "  --connections N          the connections that it serves at once, 1 to 1000000 (10000)\n"
+    "  --watches N              the watches of all of them together, 1 to 1000000000 (1000000)\n"
+    "  --watches-each N         the watches of each of them (a tenth of --watches)\n"
     "  --metrics ADDRESS:PORT   where Prometheus reads what it counts (nowhere)\n"
     "  --program PROGRAM        the program that it starts: zk_serve\n"
     "  --version, --help\n\n"
@@ -119,6 +131,8 @@ static const char USAGE[] =
     "in use, stat and export take a copy.\n";
 
 static const char NO_CHAIN[] = "--servers isn't taken: this is one server, without a chain";
+
+static const char MORE[] = "--watches-each isn't '%ld': it is more than --watches";
 
 static const char CLOSED[] =
     "--listen %s: other machines reach it, and anyone there may do everything; --open allows that";
@@ -162,6 +176,7 @@ static bool is_put(const struct place *place, const char *value) {
 struct words understood(char **words) {
     struct words found = {
         .listen = "127.0.0.1:2181", .sync = "batch", .tick = 2000, .journal = 64,
+        .watches = 1000000,
         .task = task_of(*words)};
     /* (the first two are a task's) */
     const struct place places[] = {
@@ -169,6 +184,9 @@ struct words understood(char **words) {
         {.name = "--listen", .text = &found.listen}, {.name = "--sync", .text = &found.sync},
         {.name = "--metrics", .text = &found.metrics},
         {.name = "--journal", .number = &found.journal, .least = 1, .most = 1048576},
+        {.name = "--connections", .number = &found.connections, .least = 1, .most = 1000000},
+        {.name = "--watches", .number = &found.watches, .least = 1, .most = 1000000000},
+        {.name = "--watches-each", .number = &found.each, .least = 1, .most = 1000000000},
         {.name = "--tick", .number = &found.tick, .least = 10, .most = 3600000}};
     const struct place *const end = places + (found.task ? 2 : sizeof places / sizeof *places);
     words += found.task != NULL;
@@ -193,6 +211,8 @@ struct words understood(char **words) {
         stop(2, "--sync isn't '%s'", found.sync);
     }
     if (!found.is_open && !is_loopback(found.listen)) stop(2, CLOSED, found.listen);
+    if (found.each > found.watches) stop(2, MORE, found.each);
+    if (!found.each) found.each = (found.watches + 9) / 10;
     if (found.task && !found.data) stop(2, "%s needs --data", found.task);
     if (!found.program) found.program = installed();
     if (!found.program) stop(2, "--program is missing");

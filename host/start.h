@@ -12,8 +12,12 @@ enum { SECRET = 32 };
 /* Prints one line on standard error, and ends with this status. */
 _Noreturn void stop(int status, const char *format, ...);
 
-/* Milliseconds of a clock that no one can set. */
+/* Milliseconds, and microseconds, of a clock that no one can set. */
 uint64_t now(void);
+uint64_t now_us(void);
+
+/* Milliseconds since 1970, by the clock on the wall. */
+uint64_t date(void);
 
 /* The number from `least` to `most` that this text is, or -1. */
 long number_in(const char *text, long least, long most);
@@ -29,11 +33,12 @@ socklen_t read_address(const char *text, union address *to);
 
 /* What the words ask for. `program` is the one that serves. `data` is its folder, or NULL,
    and `servers` the number in its journal's head. `metrics` is where its counts can be read, or
-   NULL. `is_open` allows addresses that others reach. `task` is what is done with the folder in the
-   place of serving, or NULL. */
+   NULL. `connections` are served at once; 0 is as many as it can. There are at most so many
+   `watches`, and so many of `each` connection. `is_open` allows addresses that others reach. `task`
+   is what is done with the folder in the place of serving, or NULL. */
 struct words {
     const char *listen, *metrics, *data, *sync, *program, *task;
-    long tick, journal;
+    long tick, journal, connections, watches, each;
     int servers;
     bool is_open;
 };
@@ -54,6 +59,9 @@ const char *copied(const char *folder);
 /* Runs a program that reads the copy, removes the copy, and ends with the program's status. */
 _Noreturn void end_after(char *const words[]);
 
+/* Prints how long a task takes, from some seconds on, until this process ends. */
+void tell_time(const char *task);
+
 /* A socket that listens at ADDRESS:PORT, and the port. */
 int listening_at(const char *text, unsigned *port);
 
@@ -63,7 +71,8 @@ bool is_loopback(const char *text);
 /* A descriptor on which SIGINT and SIGTERM come, or -1. */
 int ending_signals(void);
 
-/* Opens closed standard descriptors, asks for this many descriptors, and ignores SIGPIPE. */
-void make_ready(unsigned descriptors);
+/* Opens closed standard descriptors, asks for this many descriptors, and ignores SIGPIPE. Returns
+   how many it may open. */
+long make_ready(unsigned descriptors);
 
 #endif

@@ -18,11 +18,13 @@ from ending import Stopped
 PROGRAM, NODE_PROGRAM = "zk_serve", "zk_node"
 # What the hosts are compiled of.
 HOST = tuple(f"host/{it}.c" for it in (
-    "serve", "connections", "metrics", "notes", "start", "piped", "folder", "copy", "child"))
+    "serve", "connections", "monitors", "metrics", "journal", "notes", "start", "piped", "folder",
+    "copy", "child", "bytes", "progress"))
 NODE_HOST = tuple(f"host/{it}.c" for it in (
     "node", "seat", "log", "peers", "guests", "bytes", "child", "start"))
 HEADERS = (*(f"host/{it}.h" for it in (
-    "bytes", "child", "connections", "front", "metrics", "node", "notes", "start")),
+    "bytes", "child", "connections", "front", "journal", "metrics", "monitors", "node", "notes",
+    "start")),
     "include/jellqupas.h")
 FLAGS = "-std=c11 -O2 -Wall -Wextra".split()
 COMPILERS = ("cc", "gcc", "clang")

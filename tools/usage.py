@@ -19,9 +19,9 @@ A coordination service with ZooKeeper's data model and chain replication.
                               runs the service in threads, and audits the run:
                               N is 1 to 16 (3), C clients 1 to 31 (4), R nodes
                               1 to 1000 (100), S a server that is halted halfway
-./zk serve [--listen ADDRESS:PORT] [--tick MS]
+./zk serve [--listen ADDRESS:PORT] [--tick MS] ..
                               serves ZooKeeper's clients at 127.0.0.1:2181, in
-                              memory: MS is 10 to 3600000 (2000)
+                              memory: MS is 10 to 3600000 (2000), and limits
 ./zk serve --data DIR [--sync batch|never] [--journal MIB] ..
                               stores its state in DIR; with never a power cut may
                               lose it; compacts its journal from MIB on (64)

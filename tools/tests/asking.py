@@ -8,8 +8,9 @@ from wire import NO_SESSION, Answer, Event, greeted, refused
 
 BAD_PATHS = (
     b"", b"a", b"//", b"/.", b"/a\0b", b"/a\x7f", b"/a/", b"/a/..", b"/a b", b"/\xff", None,
-    b"/a\n1 delete /a any", b"/zookeeper/a", b"/" + b"n" * 256, b"/n" * 65, b"/nnnn" * 64 * 4,
+    b"/a\n1 delete /a any", b"/" + b"n" * 256, b"/n" * 65, b"/nnnn" * 64 * 4,
 )
+OWN = ("/zookeeper", "/zookeeper/config", "/zookeeper/quota")
 BODIES = {CREATE: create_body, GET: look_body, SET: set_body, DELETE: at_version}
 REFUSED = (
     *((NO_NODE, op, look_body("/no")) for op in (EXISTS, GET, LS, LS2)),
@@ -20,8 +21,14 @@ REFUSED = (
     (NOT_EMPTY, DELETE, at_version("/a")), (NO_CHILDREN, CREATE, create_body("/e/a")),
     (VERSION, DELETE, at_version("/a/b", 1)), (VERSION, SET, set_body("/a", version=7)),
     (VERSION, SET, set_body("/a", version=-2)), (VERSION, CHECK, at_version("/a", 5)),
-    *((ACL, CREATE, create_body("/x", acls=it)) for it in (acl(1), acl(name="me"), int4(0))),
-    *((UNIMPLEMENTED, op, text("/a") + int4(3)) for op in (16, 102, 999, -77)),
+    *((ACL, CREATE, create_body("/x", acls=it))
+      for it in (acl(1), acl(name="me"), int4(0), int4(-1))),
+    *((UNIMPLEMENTED, op, text("/a") + int4(3)) for op in (16, 999, -77)),
+    *((MARSHALLING, CREATE_SESSION, it) for it in (b"", int4(9000))),
+    *((NO_NODE, COUNT_BELOW, text(it)) for it in ("/no", "/a/", "a")),
+    (MARSHALLING, COUNT_BELOW, text(None)), (ARGUMENTS, SET_ACL, text("a") + int4(-1) + int4(7)),
+    *((ACL, SET_ACL, text("/no") + it + int4(7)) for it in (int4(-1), int4(0), acl(1))),
+    (NO_NODE, SET_ACL, text("/no") + acl() + int4(7)), (VERSION, SET_ACL, text("/a") + acl() + int4(7)),
     *((MARSHALLING, op, text("/a") + int4(it))
       for op, it in ((ADD_WATCH, 2), (ADD_WATCH, -1), (CHECK_WATCHES, 0), (REMOVE_WATCHES, 4))),
     *((NO_WATCHER, op, text("/a") + int4(it))
@@ -64,7 +71,7 @@ def requests(builds):
         want_same(made, ("/a/t-0000000000", it.exists("/a/t-0000000000")), "one with a TTL")
         made = it.call(CONTAINER, create_body("/c", kind=OF_CHILDREN), Reader.named)
         want_same(made, ("/c", it.exists("/c")), "a container")
-        want_same(made[1].owner, -(1 << 63), "the owner of a container")
+        want_same(made[1].owner, 0, "the owner of a container")
         new = it.set("/a", b"second", 0)
         want_same((new.version, new.length, new.mzxid), (1, 6, it.zxid), "the stat of a set")
         want_same((new.czxid, new.ctime, new.cversion), (stat.czxid, stat.ctime, 2), "what stays")
@@ -90,6 +97,55 @@ def requests(builds):
             auth = int4(0) + text(scheme) + text("me:secret")
             want_same(it.ask(AUTH, auth, AUTH_XID).code, code, f"auth by {scheme}")
         want(it.is_ended(), "auth by no scheme closes the connection")
+
+
+# Each part that is refused at once, and its code.
+OF_MULTI = (
+    *((ARGUMENTS, op, body(it)) for it in ("bad", None) for op, body in BODIES.items() if op != GET),
+    (ARGUMENTS, CHECK, at_version("bad")), (ARGUMENTS, CREATE, create_body("/x", kind=77)),
+    (ARGUMENTS, CREATE_TTL, create_body("/x", kind=TTL, ttl=0)),
+    *((ACL, op, create_body("/x", acls=it, kind=kind)) for it in (int4(-1), int4(0), acl(31, "no"))
+      for op, kind in ((CREATE, 0), (CREATE2, 0), (CONTAINER, OF_CHILDREN))),
+)
+
+
+def errors(*codes):
+    """The body of a multi's refusal, as ZooKeeper 3.8 has it."""
+    return b"".join(int4(-1) + b"\0" + int4(it) * 2 for it in codes) + int4(-1) + b"\1" + int4(-1)
+
+
+def walks(builds):
+    """What reads all nodes, who a client is, and each refused part of a multi in its place."""
+    with Server(builds) as server, server.client() as it, server.client() as other:
+        for path in ("/p", "/p/a", "/p/a/b", "/pa"):
+            it.create(path)
+        for path in ("/p/e", "/p/a/f", "/pe"):
+            it.create(path, kind=EPHEMERAL)
+        other.create("/p/o", kind=EPHEMERAL)
+        it.call(CONTAINER, create_body("/p/c", kind=OF_CHILDREN), Reader.named)
+        for front, wanted in (("/p", ["/p/a/f", "/p/e", "/pe"]), ("/p/", ["/p/a/f", "/p/e"]),
+                              ("/p/e", ["/p/e"]), ("/no", []), ("p", []),
+                              *((any_, ["/p/a/f", "/p/e", "/pe"]) for any_ in ("/", "", None))):
+            found = it.call(EPHEMERALS, text(front), Reader.texts)
+            want_same(found, wanted, f"the ephemeral nodes from {front} on")
+        for path, below in (("/", 9), ("/p", 6), ("/p/a", 2), ("/p/e", 0), ("/pa", 0)):
+            found = it.call(COUNT_BELOW, text(path), lambda reader: reader.numbers(">i"))
+            want_same(found, (below,), f"the nodes below {path}")
+        want_same(it.ask(WHO_AM_I)[2:], (OK, int4(1) + text("world") + text("anyone")), "who it is")
+        for token in (b"", b"x"):
+            want_same(it.ask(SASL, text(token))[2:], (OK, int4(-1)), "a token of SASL")
+        with server.client() as without:
+            without.post(SASL, text(None))
+            want(without.is_ended(), "a null token closes the connection")
+        before, zxid = it.exists("/"), it.zxid
+        fine, taken = (CREATE, create_body("/m")), (CREATE, create_body("/p"))
+        for code, *part in OF_MULTI:
+            found = it.ask(MULTI, multi_body(fine, part, fine, part))
+            want_same(found[2:], (OK, errors(OK, code, RUNTIME, RUNTIME)), f"a part: {part}")
+            found = it.ask(MULTI, multi_body(taken, part))
+            want_same(found[2:], (OK, errors(EXISTS_ALREADY, RUNTIME)), f"behind another: {part}")
+            want_same(it.ask(MULTI, multi_body(part))[2:], (OK, errors(code)), f"alone: {part}")
+        want_same((it.exists("/"), it.zxid), (before, zxid), "a refusal changes nothing")
 
 
 def watches(builds):
@@ -217,7 +273,10 @@ def sessions(builds):
 
 def limits(builds):
     """Nodes, the depth of a path, watches and sessions that are too many."""
-    with Server(builds) as server, server.client() as it, server.client() as other:
+    given = ("--watches=1000", "--watches-each=600")
+    # (a tick so long that no session ends while others begin)
+    with Server(builds, tick=600000, words=given) as server, server.client() as it, \
+            server.client() as other:
         deep = ""
         for _ in range(64):
             deep = it.create(f"{deep}/d")
@@ -227,13 +286,40 @@ def limits(builds):
         codes = [it.answer(1).code for _ in range(4096 - 64)]
         want_same((codes.count(OK), codes[-1]), (4096 - 65, SYSTEM), "nodes, and one too many")
         it.delete("/m0")
-        for number in range(10000):
-            it.post(EXISTS, look_body(f"/w{number}", True))
-        want_same({it.next().code for _ in range(10000)}, {NO_NODE}, "10,000 watches")
-        want_same((refused(other.get, "/", True), other.get("/")[0]), (SYSTEM, b""), "one more")
-        it.create("/w0")
-        want_same((it.events(), refused(other.get, "/", True)), ([(CREATED, "/w0")], None), "room")
+        for one, count in ((it, 600), (other, 400)):
+            for number in range(count):
+                one.post(EXISTS, look_body(f"/w{number}", True))
+            want_same({one.next().code for _ in range(count)}, {NO_NODE}, f"{count} watches")
+            want_same((refused(one.get, "/", True), one.get("/")[0]), (SYSTEM, b""), "one more")
+        it.create("/w500")
+        want_same((it.events(), refused(other.get, "/", True)), ([(CREATED, "/w500")], None), "room")
         count = 0
         while count < 1024 and server.serves():
             count += 1
         want(1000 < count < 1024, f"{count} sessions beside those that were there")
+
+
+def own_nodes(builds):
+    """`/zookeeper`, its config and its quota are read as in ZooKeeper, and never written."""
+    none = Stat(*[0] * 11)
+    stats = none._replace(cversion=-2, children=2), none._replace(aversion=-1), none
+    with Server(builds) as server, server.client() as it, server.client() as other:
+        for path, stat, bits in zip(OWN, stats, (31, 1, 31)):
+            names = ["config", "quota"] if path == OWN[0] else []
+            want_same(it.exists(path, True), stat, f"the stat of {path}")
+            want_same((it.get(path, True), it.ls(path)), ((b"", stat), names), f"what is in {path}")
+            read = lambda reader: (reader.texts(), reader.stat())
+            want_same(it.call(LS2, look_body(path), read), (names, stat), f"the names in {path}")
+            found = it.ask(GET_ACL, text(path)).body
+            want(found.startswith(acl(bits)) and len(found) == len(acl()) + 68, f"ACL: {found}")
+        for path in (*OWN, "/zookeeper/a", "/zookeeper/quota/a"):
+            for call in (it.create, it.set, it.delete):
+                want_same(refused(call, path), ARGUMENTS, f"{path} isn't written")
+        for path in ("/zookeeper/a", "/zookeeper/quota/a"):
+            for call in (it.exists, it.get, it.ls):
+                want_same(refused(call, path), NO_NODE, path)
+        want_same(refused(it.get, "/zookeepers"), NO_NODE, "another node of the root")
+        it.create("/a")
+        it.call(SET_WATCHES, watches_body(it.zxid, [OWN[1], "/a"], ["/zookeeper/a"], [OWN[0]]))
+        other.set("/a")
+        want_same(it.events(), [(CHANGED, "/a")], "other watches are set again")

@@ -1,4 +1,5 @@
 """Chains of nodes for tests: each node a host in C with zk_node and the log's helper below it."""
+import contextlib
 import os
 import random
 import signal
@@ -75,7 +76,9 @@ class Node:
     def signal(self, number):
         """Sends a signal to all of its processes."""
         for it in self.processes():
-            os.kill(it, number)
+            # (where the first ends, the others end with it)
+            with contextlib.suppress(ProcessLookupError):
+                os.kill(it, number)
 
     def kill(self):
         self.ran.kill()

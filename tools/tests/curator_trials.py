@@ -14,8 +14,8 @@ NEEDED = (
 )
 HELPFUL = ("netty-all", "metrics-core", "snappy-java")
 TRIALS = 63
-# These ask for what isn't here: setACL, getConfig, and two requests that count nodes.
-LACKING = {"acl", "children-number", "config", "ephemerals"}
+# This asks for what isn't here: setACL.
+LACKING = {"acl"}
 
 
 def with_curator():

@@ -1,5 +1,6 @@
 """Bytes that no client means, whole and in random pieces: the same comes of both."""
 import random
+import re
 
 from frames import *
 from report import want, want_same
@@ -10,7 +11,7 @@ from wire import Ended, Wire
 NO_TICKS = 3_600_000
 PATHS = (b"/a", b"/a/b", b"/c-", b"/", b"/a//", b"", b"/zookeeper", b"/\xc3\xbc", b"/a b", b"/d",
          b"/x" * 70, b"/a\n1 delete /a any", b"/n" * 500, None, b"/a\0b", b"/d/e")
-DATA, ACLS = (None, b"", b"hi", b"z" * 300, bytes(65537)), (acl(), acl(), acl(7), acl(31, "ip"))
+DATA, ACLS = (None, b"", b"hi", b"z" * 300, bytes(65537)), (acl(), acl(), acl(7), acl(31, "ip"), int4(-1))
 VERSIONS, KINDS, TTLS = (-1, 0, 1, -2, 2**31 - 1), (0, 1, 2, 3, 7, -1), (1, 5000, -3, 0, 2**62)
 # It ends a request whose length was changed, and isn't one.
 FILLED = bytes(MAX_FRAME + 9)
@@ -26,7 +27,7 @@ NO_REQUEST = (
 )
 NO_GREETING = (
     request(1, EXISTS, look_body("/")), bytes(4), b"GET / HTTP/1.1\r\n\r\n", int4(1) + b"x",
-    int4(20) + greeting()[4:24], int4(-1), int4(MAX_FRAME + 1), greeting(seen=1 << 40),
+    int4(20) + greeting()[4:24], int4(-1), int4(MAX_FRAME + 1), greeting(seen=1 << 62),
 )
 
 
@@ -45,7 +46,8 @@ def bodies(path, data=b"", version=-1, kind=0, acls=acl(), ttl=9000):
         (SET_WATCHES_2, watches_body(version, some, some[:2], some[2:], some[:1], some[1:])),
         *((op, text(path) + int4(version)) for op in (ADD_WATCH, REMOVE_WATCHES, CHECK_WATCHES)),
         (AUTH, int4(0) + text("digest") + text(data)), (DELETE, check), (CLOSE, b""),
-        (SET_ACL, text(path) + acls + int4(version)),
+        (SET_ACL, text(path) + acls + int4(version)), (WHO_AM_I, b""), (SASL, text(data)),
+        (EPHEMERALS, text(path)), (COUNT_BELOW, text(path)), (CREATE_SESSION, text(path)),
         (AUTH, int4(0) + text("ip") + text(b"")), (MULTI, multi_body((77, look))),
     ]
 
@@ -81,9 +83,10 @@ class Player(Server):
         self.observer = self.client()
         self.observer.create("/d", b"x")
         self.started = int8(self.observer.exists("/d").ctime)
+        self.base = self.observer.exists("/").czxid
 
     def play(self, data, cuts=()):
-        """What comes of bytes that are sent in pieces, without passwords and the server's times."""
+        """What comes of bytes sent in pieces, without passwords, times, and the base of zxids."""
         with Wire(self.address) as it:
             try:
                 for begin, end in zip([0, *cuts], [*cuts, len(data)]):
@@ -95,7 +98,9 @@ class Player(Server):
             found = it.rest()
         if found[4:8] == int4(0):
             found = found[:24] + bytes(16) + found[40:]
-        return found.replace(self.started, bytes(8))
+        told = re.compile(re.escape(int8(self.base)[:5]) + b"...", re.DOTALL)
+        lower = lambda it: int8(int.from_bytes(it[0], "big") - self.base)
+        return told.sub(lower, found.replace(self.started, bytes(8)))
 
 
 def pieces(builds, first, count=250):

@@ -23,7 +23,7 @@ def report_of(held, at, place):
 
 def do(builds, folder, task="serve", servers=1, wrap=()):
     """How a task on a folder ended, or a server that had its secret and no message."""
-    words = {"serve": ["batch", "1", "2000", "1000", "64"]}.get(task, [task, str(servers)])
+    words = {"serve": "batch 1 2000 1000 64 9 9".split()}.get(task, [task, str(servers)])
     return ended([*wrap, builds.program(serving.PROGRAM), folder, *words], input=SECRET.decode())
 
 
@@ -123,7 +123,7 @@ def pairs(builds):
     """Two starts at once on a folder that isn't there: one finds it in use."""
     pipe, wanted = subprocess.PIPE, [(0, b""), (3, b"zk: data: the folder is in use\n")]
     for _ in range(PAIRS):
-        words = [builds.program(serving.PROGRAM), new_folder(builds), "batch", *"1 9 9 9".split()]
+        words = [builds.program(serving.PROGRAM), new_folder(builds), "batch", *"1 9 9 9 9 9".split()]
         two = [subprocess.Popen(words, stdin=pipe, stdout=pipe, stderr=pipe, env=ENVIRONMENT)
                for _ in range(2)]
         # (each opens the folder once it has the secret, and has it until its input ends)

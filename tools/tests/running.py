@@ -132,7 +132,11 @@ def run(parts, is_proved, is_long):
             os._exit(Run(tests_of(parts, is_proved, is_long, room)).all())
         for it in (signal.SIGINT, signal.SIGTERM, signal.SIGHUP):
             signal.signal(it, ended)
-        return abs(os.waitstatus_to_exitcode(os.waitpid(child, 0)[1]))
+        pid = None
+        # (processes whose parent has ended are taken, too: who waits for their end sees it)
+        while pid != child:
+            pid, status = os.waitpid(-1, 0)
+        return abs(os.waitstatus_to_exitcode(status))
     finally:
         end_children()
         shutil.rmtree(room, ignore_errors=True)

@@ -10,10 +10,16 @@ import sys
 import tempfile
 import time
 import urllib.request
+from functools import partial
 
 import asking
+import c_trials
 import curator_trials
 import hostile
+import kazoo_trials
+import lifetimes
+import monitors
+import patroni_trials
 from frames import *
 from report import Skipped, Test, want, want_same
 from servers import Server, ended, free_port, program, until, words_of
@@ -21,15 +27,17 @@ from wire import NO_SESSION, Ended, Wire, greeted
 
 RECIPES = f"{os.path.dirname(os.path.abspath(__file__))}/recipes.py"
 MOST, DATA, ESTABLISHED = 1000, 1 << 16, 1
+FEW = 'ulimit -n 1060; exec "$0" "$@"'
 BAD_WORDS = (
     "frob", "--frob", "--servers", "--servers 3", "--servers=1", "--program=", "--tick 9",
     f"--tick {'9' * 20}", "--tick 1e3", "--sync often", "--journal 0", "--listen", "--data ",
-    "--tick 2000 ", *(f"--listen {it}" for it in (
+    "--tick 2000 ", "--connections 0", "--watches 0", "--watches 9 --watches-each 10",
+    *(f"--listen {it}" for it in (
         "2181", "127.0.0.1", "127.0.0.1:", ":1", "127.0.0.1:65536", "127.0.0.1:-1", "999.0.0.1:1",
         "somewhere:1", "::1:2181", "[::g]:1", "[]:1", "1" * 999 + ":1")),
 )
 FOUR_LETTERS = ((b"ruok", b"imok"), (b"isro", b"rw"), (b"envi", b"zookeeper.version="),
-                (b"srvr", b"\nMode: standalone\n"), (b"mntr", b"\nzk_num_alive_connections\t"))
+                (b"srvr", b"\nMode: standalone\n"), (b"mntr", b"\nzk_avg_latency\t"))
 
 
 def with_kazoo():
@@ -151,11 +159,15 @@ def ends(builds):
 
 
 def many(builds):
-    """1,000 connections. One more is closed at once, and one that ends leaves a place."""
+    """1,000 connections, for more of which there are no descriptors. One more is closed at once, and
+    one that ends leaves a place."""
     limit = resource.getrlimit(resource.RLIMIT_NOFILE)
     if limit[0] < 2048:
         resource.setrlimit(resource.RLIMIT_NOFILE, (min(4096, limit[1]), limit[1]))
-    with Server(builds) as server:
+    few = ["sh", "-c", FEW, *words_of(builds), "--connections"]
+    status, _, said = ended([*few, "1029"])
+    want((status, "1060 descriptors" in said) == (3, True), f"more than can be opened: {said}")
+    with Server(builds, own=[*few, str(MOST)]) as server:
         clients = [server.client() for _ in range(MOST)]
         for it in clients:
             it.post(CREATE, create_body("/n-", kind=SEQUENTIAL))
@@ -266,7 +278,7 @@ def chunks(builds):
     """Chunks of no connection, of no length and of no tag end the host."""
     no_one = "a chunk of connection {}, which isn't there".format
     for *head, said in (
-        (0, 0, 0, 0, no_one(0)), (0, 2, 0, 0, no_one(2)), (0, 1001, 1, 5, no_one(1001)),
+        (0, 0, 0, 0, no_one(0)), (0, 2, 0, 0, no_one(2)), (0, 10001, 1, 5, no_one(10001)),
         (7, 1, 1, 0, "no chunk: 7, 1"), (0, 1, 2, 0, "no chunk: 0, 2"),
         (0, 1, 0, 2**32 - 1, "a chunk of 4294967295 bytes"),
     ):
@@ -300,15 +312,28 @@ def drill(builds):
 
 EACH = (
     asking.limits, asking.sessions, clock, drill, many, readers, silence, words, asking.requests,
-    asking.watches, asking.persistent, hostile.frames, addresses, ends, four_letters, metrics,
-    secrets, late, unfinished, chunks
+    asking.watches, asking.persistent, asking.walks, asking.own_nodes, hostile.frames, addresses,
+    ends, four_letters, metrics, secrets, late, unfinished, chunks, lifetimes.timeouts,
+    *monitors.EACH
 )
 
 
+# (the name of each test, its seconds, and whether it is a long one)
+CLIENTS = {
+    recipes: ("recipes of kazoo", 100, False),
+    curator_trials.curator: ("recipes of Curator", 30, False),
+    c_trials.c_client: ("ZooKeeper's client in C", 10, False),
+    kazoo_trials.kazoo: ("kazoo's own tests", 150, True),
+    patroni_trials.patroni: ("Patroni", 90, True),
+}
+
+
 def tests(builds):
-    found = [Test("serve: recipes of kazoo", 100, lambda tally: recipes(builds, tally))]
-    trials = lambda tally: curator_trials.curator(builds, tally)
-    found.append(Test("serve: recipes of Curator", 30, trials))
+    comes_back = lambda _: lifetimes.restart(builds, builds.once("kazoo", with_kazoo))
+    found = [Test("serve: restart", 30, comes_back)]
+    for body, (name, seconds, is_long) in CLIENTS.items():
+        if builds.is_long or not is_long:
+            found.append(Test(f"serve: {name}", seconds, partial(body, builds)))
     found += [Test(f"serve: {it.__name__}", 10, lambda _, it=it: it(builds)) for it in EACH]
     body = lambda first: lambda _: hostile.pieces(builds, first)
     return found + [Test(f"serve: pieces from {it} on", 20, body(it)) for it in range(0, 1000, 250)]

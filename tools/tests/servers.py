@@ -14,7 +14,7 @@ from wire import Client, Ended, until
 
 # The last line that a server says before it serves.
 LAST = "zk: anyone who can connect may do everything: clients aren't authenticated\n"
-NOTED = re.compile(r"zk: a (?:batch took|connection is) .*\n|zk: metrics at .*\n")
+NOTED = re.compile(r"zk: (?:a batch took|a connection is|metrics at|the journal was|.* s so far).*\n")
 
 
 def free_port():

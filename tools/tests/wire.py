@@ -74,6 +74,9 @@ class Wire(contextlib.AbstractContextManager):
     def greet(self, **given):
         """Opens a session, or takes one up."""
         self.send(greeting(**given))
+        return self.greeted()
+
+    def greeted(self):
         reader = self.frame()
         return Greeted(*reader.numbers(">4xiq"), reader.buffer())
 

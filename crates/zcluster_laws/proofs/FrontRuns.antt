@@ -7,6 +7,7 @@ use Rattle.zcalls.specs.Cached.{CachedState}
 use Rattle.zcalls.specs.Lists.{Among}
 use Rattle.zlinearizability.proofs.legal_lemmas.lists.Members.{among_left, among_last, among_mid}
 use Rattle.zheads.specs.Heads.{Heads}
+use Rattle.zwatches.specs.declared.limits.WatchLimits.{WatchLimits}
 use Rattle.zresponses.specs.declared.clock.Clock.{Clock}
 use Rattle.zconnections.specs.buffers.Inputs.{InputView}
 use Rattle.zconnections.specs.buffers.Outbox.{ChunkView}
@@ -100,16 +101,16 @@ chunks_more : (sent held : List Reaction) (b : Reaction) → chunks_in (sent ++ 
 chunks_more sent held b =
     ap (λ l. chunks_in (sent ++ held) ++ l) (sym (append-nil b.chunks)) ∙ sym (chunks_both (sent ++ held) (b ∷ [])) ∙ ap chunks_in (sym (one_more sent held b))
 
-module _ (t : Tree) (secret : List ℕ) (times : Clock) where
+module _ (t : Tree) (limits : WatchLimits) (secret : List ℕ) (times : Clock) where
   -- what holds of the front of a head
   record IsFine (visible : List Visible) (p : Fronted) : Type 0 where
-    pub run : IsRun secret times p
+    pub run : IsRun limits secret times p
     pub none_left : p.front.tables.unsent ≡ []
-    pub held : (b : Reaction) → Among b p.held → IsReaction secret times b
+    pub held : (b : Reaction) → Among b p.held → IsReaction limits secret times b
     pub sent : (b : Reaction) → Among b p.sent → Among (Sent b) visible
 
   record AreFine (c : Cluster) : Type 0 where
-    pub sent : (b : Reaction) → Among (Sent b) c.visible → IsReaction secret times b
+    pub sent : (b : Reaction) → Among (Sent b) c.visible → IsReaction limits secret times b
     pub fronts : (s : ℕ) (p : Fronted) → c.fronts s ≡ Some p → IsFine c.visible p
 
   -- clients see more
@@ -121,15 +122,15 @@ module _ (t : Tree) (secret : List ℕ) (times : Clock) where
   fenced_fine : (c : Cluster) → AreFine c → AreFine (fenced c)
   fenced_fine c x = record { sent = x.sent; fronts = λ s p has. let f = fenced_front c s p has in x.fronts s p f.2 }
 
-  run_of : (p : Fronted) (x : IsRun secret times p)
-      → Run x.steps (beginning p.first secret times true) p.front (calls_in (p.sent ++ p.held)) (chunks_in (p.sent ++ p.held))
+  run_of : (p : Fronted) (x : IsRun limits secret times p)
+      → Run x.steps (beginning limits p.first secret times true) p.front (calls_in (p.sent ++ p.held)) (chunks_in (p.sent ++ p.held))
   run_of p x = record { runs = x.runs; calls = x.calls; gone = x.chunks }
 
   module _ (c : Cluster) (x : AreFine c) where
-    begins_fine : (s : ℕ) (new : Cluster) → BeginsAt t secret times s c new → AreFine new
+    begins_fine : (s : ℕ) (new : Cluster) → BeginsAt t limits secret times s c new → AreFine new
     begins_fine s new did =
-        let p : Fronted = record { first = did.m.plain; front = beginning did.m.plain secret times true; sent = []; held = [] } in
-        let run : IsRun secret times p = record { steps = []; runs = refl; calls = refl; chunks = refl } in
+        let p : Fronted = record { first = did.m.plain; front = beginning limits did.m.plain secret times true; sent = []; held = [] } in
+        let run : IsRun limits secret times p = record { steps = []; runs = refl; calls = refl; chunks = refl } in
         let fine : IsFine c.visible p = record { run = run; none_left = refl; held = λ b a. absurd a; sent = λ b a. absurd a } in
         let all : AreFine (with_front s p c) = record {
           sent = x.sent;
@@ -138,7 +139,7 @@ module _ (t : Tree) (secret : List ℕ) (times : Clock) where
         subst AreFine (sym did.is) all
 
     -- a reaction is sent
-    module _ (s : ℕ) (new : Cluster) (did : SendsAt t secret times s c new) where
+    module _ (s : ℕ) (new : Cluster) (did : SendsAt t limits secret times s c new) where
       abbrev released : Fronted
       released = record did.p { sent = did.p.sent ++ did.b ∷ []; held = did.more }
 
@@ -172,7 +173,7 @@ module _ (t : Tree) (secret : List ℕ) (times : Clock) where
           let all : AreFine (with_front s released (record c { visible = visible_then })) = record {
             sent = λ b a. elim (among_last (Sent b) c.visible (Sent did.b) a) [
               | inl old ↦ x.sent b old
-              | inr is ↦ subst (IsReaction secret times) (one_sent did.b b is) (had.held did.b (subst (Among did.b) (sym did.waits) (inl refl)))
+              | inr is ↦ subst (IsReaction limits secret times) (one_sent did.b b is) (had.held did.b (subst (Among did.b) (sym did.waits) (inl refl)))
             ];
             fronts = put_front c.fronts s released (λ z r. IsFine visible_then r) released_fine
                 (λ z r other has. more_visible c.visible (Sent did.b) r (x.fronts z r has));
@@ -180,7 +181,7 @@ module _ (t : Tree) (secret : List ℕ) (times : Clock) where
           subst AreFine (sym did.is) all
 
     -- an input is handled
-    module _ (s : ℕ) (input : InputView) (new : Cluster) (did : TakesAt t secret times s input c new) where
+    module _ (s : ℕ) (input : InputView) (new : Cluster) (did : TakesAt t limits secret times s input c new) where
       abbrev log : Log
       log = input_log input did.p.front did.v did.does
 
@@ -197,14 +198,14 @@ module _ (t : Tree) (secret : List ℕ) (times : Clock) where
       before = x.fronts s did.p did.has
 
       abbrev start : FrontView
-      start = beginning did.p.first secret times true
+      start = beginning limits did.p.first secret times true
 
       run : Run (before.run.steps ++ steps_of input did.v.tables.unsent) start (drained did.v) (calls_in (did.p.sent ++ did.p.held) ++ log)
           (chunks_in (did.p.sent ++ did.p.held) ++ did.v.tables.unsent)
       run = then_run before.run.steps (steps_of input did.v.tables.unsent) start did.p.front (drained did.v) (calls_in (did.p.sent ++ did.p.held)) log
           (chunks_in (did.p.sent ++ did.p.held)) did.v.tables.unsent (run_of did.p before.run) (input_run input did.p.front did.v did.does)
 
-      reacts : IsReaction secret times b
+      reacts : IsReaction limits secret times b
       reacts = record {
         steps = before.run.steps;
         old = did.p.front;
@@ -227,7 +228,7 @@ module _ (t : Tree) (secret : List ℕ) (times : Clock) where
         };
         none_left = refl;
         held = λ other a. elim (among_last other did.p.held b a)
-            [ inl old ↦ before.held other old | inr is ↦ subst (IsReaction secret times) is reacts ];
+            [ inl old ↦ before.held other old | inr is ↦ subst (IsReaction limits secret times) is reacts ];
         sent = λ other a. among_left (Sent other) c.visible (Handled b ∷ []) (before.sent other a);
       }
 
@@ -246,21 +247,21 @@ module _ (t : Tree) (secret : List ℕ) (times : Clock) where
     heads_fine : (h : Heads (CachedState Tree)) → AreFine (fenced (record c { heads = h }))
     heads_fine h = fenced_fine (record c { heads = h }) (record { sent = x.sent; fronts = x.fronts })
 
-    step_fine : (step : Step) (new : Cluster) → Does t secret times step c new → AreFine new
+    step_fine : (step : Step) (new : Cluster) → Does t limits secret times step c new → AreFine new
     step_fine (Begins s) new did = begins_fine s new did
     step_fine (Takes s input) new did = takes_fine s input new did
     step_fine (Sends s) new did = sends_fine s new did
     step_fine (Pads s update) new did = subst AreFine (sym did.is) (heads_fine did.heads)
     step_fine (Chain event) new did = subst AreFine (sym did.is) (heads_fine did.heads)
 
-  all_fine : (steps : List Step) (c new : Cluster) → AreFine c → Runs t secret times steps c new → AreFine new
+  all_fine : (steps : List Step) (c new : Cluster) → AreFine c → Runs t limits secret times steps c new → AreFine new
   all_fine [] c new x is = subst AreFine (sym is) x
   all_fine (step ∷ steps) c new x (middle, did, rest) = all_fine steps middle new (step_fine c x step middle did) rest
 
-  opening_fine : (servers : ℕ) → AreFine (opening_cluster t secret times servers)
+  opening_fine : (servers : ℕ) → AreFine (opening_cluster t limits secret times servers)
   opening_fine servers = record { sent = λ b a. absurd a; fronts = λ s p none. absurd (cc none) }
 
 pub every_cluster_front_runs : EveryClusterFrontRuns
-every_cluster_front_runs t secret times servers steps c runs =
-    let x = all_fine t secret times steps (opening_cluster t secret times servers) c (opening_fine t secret times servers) runs in
+every_cluster_front_runs t limits secret times servers steps c runs =
+    let x = all_fine t limits secret times steps (opening_cluster t limits secret times servers) c (opening_fine t limits secret times servers) runs in
     record { sent = x.sent; fronts = λ s p has. (x.fronts s p has).run; visible = λ s p has. (x.fronts s p has).sent }

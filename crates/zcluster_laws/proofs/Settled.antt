@@ -13,6 +13,7 @@ use Rattle.zlinearizability.proofs.legal_lemmas.lists.Members.{among_last}
 use Rattle.zheads.specs.Heads.{Note, Acknowledged, Heads, HeadEvent, InChain, has_left_sent, is_acknowledged, next}
 use Rattle.zheads.specs.OneLog.{state_of}
 use Rattle.zheads.proofs.Fits.{updates, updates_length}
+use Rattle.zwatches.specs.declared.limits.WatchLimits.{WatchLimits}
 use Rattle.zresponses.specs.declared.clock.Clock.{Clock}
 use Rattle.zconnections.specs.buffers.Inputs.{InputView}
 use Rattle.ztree_service.specs.log.Logs.{Log, IsOneTreesFrom, calls_of}
@@ -93,10 +94,10 @@ module _ (t0 : Tree) where
   need_is : (b : Reaction) (n : ℕ) → b.place ≡ n + length (updates_among (calls_of b.calls)) → needed n (calls_of b.calls) ≡ need b
   need_is b n is = ap (λ k. if ends_in_update (calls_of b.calls) then k else k + 1) (sym is)
 
-  module _ (secret : List ℕ) (times : Clock) (c : Cluster) (t : Account) (x : Good t0 c t) (y : AreSettled c) where
-    begins_settled : (s : ℕ) (new : Cluster) → BeginsAt t0 secret times s c new → AreSettled new
+  module _ (limits : WatchLimits) (secret : List ℕ) (times : Clock) (c : Cluster) (t : Account) (x : Good t0 c t) (y : AreSettled c) where
+    begins_settled : (s : ℕ) (new : Cluster) → BeginsAt t0 limits secret times s c new → AreSettled new
     begins_settled s new did =
-        let p : Fronted = record { first = did.m.plain; front = beginning did.m.plain secret times true; sent = []; held = [] } in
+        let p : Fronted = record { first = did.m.plain; front = beginning limits did.m.plain secret times true; sent = []; held = [] } in
         let all : AreSettled (with_front s p c) = record {
           quiet = y.quiet;
           noted = put_front c.fronts s p (λ z q. (b : Reaction) → Among b q.held → AreNoted t0 c.heads z (need b) b.calls)
@@ -106,13 +107,13 @@ module _ (t0 : Tree) where
         subst AreSettled (sym did.is) all
 
     -- all calls of the first reaction are acknowledged
-    released : (s : ℕ) (new : Cluster) (did : SendsAt t0 secret times s c new) → AreAcknowledged c.heads.seen did.b.calls
+    released : (s : ℕ) (new : Cluster) (did : SendsAt t0 limits secret times s c new) → AreAcknowledged c.heads.seen did.b.calls
     released s new did reported a =
         let b = did.b in
         let one = y.noted s did.p did.has b (subst (Among b) (sym did.waits) (inl refl)) reported a in
         let v = c.heads.world.servers s in
         let left : has_left_sent v one.note.need ≡ true = each_left v one.note.need (need b) one.need did.left in
-        let f = log_of t0 secret times c t x s did.p did.has in
+        let f = log_of t0 limits secret times c t x s did.p did.has in
         let live : c.heads.world.failed s ≡ false = x.holds.shows.failed s ∙ f.live in
         let is : is_acknowledged c.heads.world one.note ≡ true =
         ap (λ z. not (c.heads.world.failed z) && has_left_sent (c.heads.world.servers z) one.note.need) one.at ∙ (λ i. not (live i) && left i) in
@@ -124,7 +125,7 @@ module _ (t0 : Tree) where
         differ : (b : Bool) → b ≡ false → b ≡ true → ⊥
         differ b f t = cc
 
-    sends_settled : (s : ℕ) (new : Cluster) → SendsAt t0 secret times s c new → AreSettled new
+    sends_settled : (s : ℕ) (new : Cluster) → SendsAt t0 limits secret times s c new → AreSettled new
     sends_settled s new did =
         let q : Fronted = record did.p { sent = did.p.sent ++ did.b ∷ []; held = did.more } in
         let all : AreSettled (with_front s q (record c { visible = c.visible ++ Sent did.b ∷ [] })) = record {
@@ -138,13 +139,13 @@ module _ (t0 : Tree) where
         } in
         subst AreSettled (sym did.is) all
 
-    takes_settled : (s : ℕ) (input : InputView) (new : Cluster) → TakesAt t0 secret times s input c new → AreSettled new
+    takes_settled : (s : ℕ) (input : InputView) (new : Cluster) → TakesAt t0 limits secret times s input c new → AreSettled new
     takes_settled s input new did =
         let log = input_log input did.p.front did.v did.does in
         let b = reaction_of did.p input log (c.heads.world.servers s).last (did.heads.world.servers s).last did.v in
         let q : Fronted = record did.p { front = drained did.v; held = did.p.held ++ b ∷ [] } in
         let st = x.fronts s did.p did.has in
-        let f = log_of t0 secret times c t x s did.p did.has in
+        let f = log_of t0 limits secret times c t x s did.p did.has in
         let after = commits (plain t0) c.heads did.heads t x.holds s (calls_of log) f.live st.log st.has did.commits in
         let goes = every_step_goes_on (front.Takes input) did.p.front did.v st.few did.does in
         let replies : IsOneTreesFrom (state_of (plain t0) (updates st.log)) log = subst (λ p. IsOneTreesFrom p log) st.tree goes.0.0 in
@@ -171,7 +172,7 @@ module _ (t0 : Tree) where
         } in
         subst AreSettled (sym did.is) all
 
-    pub step_settled : (step : Step) (new : Cluster) → Does t0 secret times step c new → AreSettled new
+    pub step_settled : (step : Step) (new : Cluster) → Does t0 limits secret times step c new → AreSettled new
     step_settled (Begins s) new did = begins_settled s new did
     step_settled (Takes s input) new did = takes_settled s input new did
     step_settled (Sends s) new did = sends_settled s new did

@@ -20,6 +20,7 @@ use Rattle.zheads.specs.OneLog.{state_from, state_of}
 use Rattle.zheads.proofs.Fits.{updates, updates_length}
 use Rattle.zheads.proofs.Holds.{Holds, cut_account}
 use Rattle.zheads.proofs.OneTree.{account_next, holds_run}
+use Rattle.zwatches.specs.declared.limits.WatchLimits.{WatchLimits}
 use Rattle.zresponses.specs.declared.clock.Clock.{Clock}
 use Rattle.zconnections.specs.buffers.Inputs.{InputView}
 use Rattle.ztree_service.specs.log.Logs.{Log, Leads, calls_of}
@@ -40,7 +41,7 @@ use Rattle.zcluster_laws.proofs.Stands.{plain, Stands, Good, put_front, by_numbe
 pub same_log : (x y : List Entry) (found : ChainLog) → found ≡ Some x → found ≡ Some y → x ≡ y
 same_log x y found first second = let is : ◌≡◌ {A = ChainLog} (Some x) (Some y) = sym first ∙ second in cc is
 
-module _ (t0 : Tree) (secret : List ℕ) (times : Clock) where
+module _ (t0 : Tree) (limits : WatchLimits) (secret : List ℕ) (times : Clock) where
   abbrev own : Machine (CachedState Tree)
   own = machine_of (plain t0)
 
@@ -57,10 +58,10 @@ module _ (t0 : Tree) (secret : List ℕ) (times : Clock) where
         let st = x.fronts s p has in record { log = st.log; has = st.has; live = f.0.live; head = f.0.head }
 
     -- a front begins
-    begins_good : (s : ℕ) (new : Cluster) → BeginsAt t0 secret times s c new → GoodAfter t new
+    begins_good : (s : ℕ) (new : Cluster) → BeginsAt t0 limits secret times s c new → GoodAfter t new
     begins_good s new did =
         let f = has_log (plain t0) c.heads t x.holds s did.m did.is_head in
-        let p : Fronted = record { first = did.m.plain; front = beginning did.m.plain secret times true; sent = []; held = [] } in
+        let p : Fronted = record { first = did.m.plain; front = beginning limits did.m.plain secret times true; sent = []; held = [] } in
         let st : Stands t0 t s p = record {
           log = f.0.log;
           has = f.0.has;
@@ -69,7 +70,7 @@ module _ (t0 : Tree) (secret : List ℕ) (times : Clock) where
           rest = [];
           split = sym (append-nil (updates f.0.log));
           began = f.1;
-          few = every_front_keeps_few did.m.plain secret times true [] (beginning did.m.plain secret times true) refl;
+          few = every_front_keeps_few limits did.m.plain secret times true [] (beginning limits did.m.plain secret times true) refl;
           held = λ b a. absurd a;
         } in
         let good : Good t0 (with_front s p c) t = record {
@@ -83,7 +84,7 @@ module _ (t0 : Tree) (secret : List ℕ) (times : Clock) where
         (t, subst (λ y. Good t0 y t) (sym did.is) good, prefix_same t.committed)
 
     -- a reaction is sent
-    sends_good : (s : ℕ) (new : Cluster) → SendsAt t0 secret times s c new → GoodAfter t new
+    sends_good : (s : ℕ) (new : Cluster) → SendsAt t0 limits secret times s c new → GoodAfter t new
     sends_good s new did =
         let p = did.p in
         let b = did.b in
@@ -118,7 +119,7 @@ module _ (t0 : Tree) (secret : List ℕ) (times : Clock) where
         (t, subst (λ y. Good t0 y t) (sym did.is) good, prefix_same t.committed)
 
     -- an event of the chain
-    chain_good : (event : Event) (new : Cluster) → ChainDoes t0 secret times event c new → GoodAfter t new
+    chain_good : (event : Event) (new : Cluster) → ChainDoes t0 limits secret times event c new → GoodAfter t new
     chain_good event new did =
         let stays = did.happens.0 in
         let step : Stays × HeadEvent = (stays, InChain event) in
@@ -132,7 +133,7 @@ module _ (t0 : Tree) (secret : List ℕ) (times : Clock) where
         (later, subst (λ y. Good t0 y later) (sym did.is) good, run.1)
 
     -- a head appends an update that changes nothing
-    module _ (s : ℕ) (u : Update) (new : Cluster) (did : PadsAt t0 secret times s u c new) where
+    module _ (s : ℕ) (u : Update) (new : Cluster) (did : PadsAt t0 limits secret times s u c new) where
       found : (f : HasLog (plain t0) c.heads t s) × (did.state.plain ≡ state_of (plain t0) (updates f.log))
       found = let f = has_log (plain t0) c.heads t x.holds s did.state did.has in (f.0, f.1)
 
@@ -173,7 +174,7 @@ module _ (t0 : Tree) (secret : List ℕ) (times : Clock) where
               (λ other k. let st = x.fronts z p k in stands_still t0 t after.later z p st (after.others z other ∙ st.has)) has
 
     -- a front handles an input
-    module _ (s : ℕ) (input : InputView) (new : Cluster) (did : TakesAt t0 secret times s input c new) where
+    module _ (s : ℕ) (input : InputView) (new : Cluster) (did : TakesAt t0 limits secret times s input c new) where
       abbrev p : Fronted
       p = did.p
 
@@ -250,7 +251,7 @@ module _ (t0 : Tree) (secret : List ℕ) (times : Clock) where
           (handled_in_time t0 (updates t.committed) c.visible b x.served (omega arith) x.in_time) in
           (handled.later, subst (λ y. Good t0 y handled.later) (sym did.is) good, handled.committed)
 
-    pub step_good : (step : Step) (new : Cluster) → Does t0 secret times step c new → GoodAfter t new
+    pub step_good : (step : Step) (new : Cluster) → Does t0 limits secret times step c new → GoodAfter t new
     step_good (Begins s) new did = begins_good s new did
     step_good (Takes s input) new did = takes_good s input new did
     step_good (Sends s) new did = sends_good s new did

@@ -18,6 +18,7 @@ use Rattle.zprotocol.specs.server.Table.{has_room}
 use Rattle.zprotocol.specs.world.World.{World, at}
 use Rattle.zlinearizability.specs.Cuts.{Stays}
 use Rattle.zheads.specs.Heads.{Heads, HeadEvent, Append, Look, InChain, head_machine, next, opening_heads}
+use Rattle.zwatches.specs.declared.limits.WatchLimits.{WatchLimits}
 use Rattle.zresponses.specs.declared.clock.Clock.{Clock}
 use Rattle.zconnections.specs.buffers.Inputs.{InputView}
 use Rattle.zconnections.specs.buffers.Outbox.{ChunkView}
@@ -136,7 +137,7 @@ abbrev pub fenced : Cluster → Cluster
 fenced c = record c { fronts = λ s. if is_some (head_machine c.heads.world s) then c.fronts s else None }
 
 -- a cluster whose chain begins with this tree; its fronts have this secret and this clock
-module _ (t : Tree) (secret : List ℕ) (times : Clock) where
+module _ (t : Tree) (limits : WatchLimits) (secret : List ℕ) (times : Clock) where
   -- its machine
   abbrev pub machine : Machine (CachedState Tree)
   machine = cached_tree_from t
@@ -146,7 +147,7 @@ module _ (t : Tree) (secret : List ℕ) (times : Clock) where
     pub m : CachedState Tree
     pub is_head : head_machine old.heads.world s ≡ Some m
     pub has_none : old.fronts s ≡ None
-    pub is : new ≡ with_front s (record { first = m.plain; front = beginning m.plain secret times true; sent = []; held = [] }) old
+    pub is : new ≡ with_front s (record { first = m.plain; front = beginning limits m.plain secret times true; sent = []; held = [] }) old
 
   -- a front handles an input: the calls are committed, and the chunks wait; a head without a log
   -- number left takes no update, so its front handles no such input

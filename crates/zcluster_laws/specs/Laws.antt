@@ -9,6 +9,7 @@ use Rattle.zprotocol.specs.server.Machine.{plain_from}
 use Rattle.zlinearizability.specs.legal.Prefix.{IsPrefix}
 use Rattle.zheads.specs.Heads.{Note, Seen, Acknowledged}
 use Rattle.zheads.specs.OneLog.{IsOneLog, state_of}
+use Rattle.zwatches.specs.declared.limits.WatchLimits.{WatchLimits}
 use Rattle.zresponses.specs.declared.clock.Clock.{Clock}
 use Rattle.zconnections.specs.buffers.Outbox.{ChunkView}
 use Rattle.ztree_service.specs.log.Logs.{Log, Leads}
@@ -55,10 +56,10 @@ pub record Explains (t : Tree) (c : Cluster) (log : List Update) : Type 0 where
 -- however many there were. Later steps only make the log longer: what was sent remains in it.
 abbrev pub EveryClusterIsOneTree : Type 0
 EveryClusterIsOneTree =
-    (t : Tree) (secret : List ℕ) (times : Clock) (servers : ℕ) (steps : List Step) (c : Cluster)
-    → Runs t secret times steps (opening_cluster t secret times servers) c
+    (t : Tree) (limits : WatchLimits) (secret : List ℕ) (times : Clock) (servers : ℕ) (steps : List Step) (c : Cluster)
+    → Runs t limits secret times steps (opening_cluster t limits secret times servers) c
     → (log : List Update) × Explains t c log
-    × ((more : List Step) (later : Cluster) → Runs t secret times more c later
+    × ((more : List Step) (later : Cluster) → Runs t limits secret times more c later
     → (longer : List Update) × Explains t later longer × IsPrefix log longer)
 
 -- ---- the front of one head
@@ -83,20 +84,20 @@ chunks_in (b ∷ reactions) = b.chunks ++ chunks_in reactions
 
 -- A front makes a run, as the laws of one front have it. Its calls and its chunks are those of the
 -- reactions in order: first those whose chunks were sent, then those that wait
-pub record IsRun (secret : List ℕ) (times : Clock) (p : Fronted) : Type 0 where
+pub record IsRun (limits : WatchLimits) (secret : List ℕ) (times : Clock) (p : Fronted) : Type 0 where
   pub steps : List front.Step
-  pub runs : front.Runs steps (beginning p.first secret times true) p.front
-  pub calls : run_log steps (beginning p.first secret times true) p.front runs ≡ calls_in (p.sent ++ p.held)
-  pub chunks : gone_in steps (beginning p.first secret times true) p.front runs ≡ chunks_in (p.sent ++ p.held)
+  pub runs : front.Runs steps (beginning limits p.first secret times true) p.front
+  pub calls : run_log steps (beginning limits p.first secret times true) p.front runs ≡ calls_in (p.sent ++ p.held)
+  pub chunks : gone_in steps (beginning limits p.first secret times true) p.front runs ≡ chunks_in (p.sent ++ p.held)
 
 -- A reaction is a front's. From the tree that the front began with, steps led to a state without
 -- unsent chunks. There it handled the input, with these calls. The chunks and the tree are those of
 -- the state after it
-pub record IsReaction (secret : List ℕ) (times : Clock) (b : Reaction) : Type 0 where
+pub record IsReaction (limits : WatchLimits) (secret : List ℕ) (times : Clock) (b : Reaction) : Type 0 where
   pub steps : List front.Step
   pub old : FrontView
   pub new : FrontView
-  pub runs : front.Runs steps (beginning b.first secret times true) old
+  pub runs : front.Runs steps (beginning limits b.first secret times true) old
   pub none_left : old.tables.unsent ≡ []
   pub does : inputs.Does b.input old new
   pub calls : b.calls ≡ input_log b.input old new does
@@ -104,16 +105,16 @@ pub record IsReaction (secret : List ℕ) (times : Clock) (b : Reaction) : Type 
   pub tree : b.tree ≡ new.tree
 
 -- what the fronts of a cluster did, as the laws of one front have it
-pub record FrontsRun (secret : List ℕ) (times : Clock) (c : Cluster) : Type 0 where
+pub record FrontsRun (limits : WatchLimits) (secret : List ℕ) (times : Clock) (c : Cluster) : Type 0 where
   -- what was sent, of whatever head, is a front's reaction
-  pub sent : (b : Reaction) → Among (Sent b) c.visible → IsReaction secret times b
+  pub sent : (b : Reaction) → Among (Sent b) c.visible → IsReaction limits secret times b
   -- each front makes such a run, and clients saw what was sent of it
-  pub fronts : (s : ℕ) (p : Fronted) → c.fronts s ≡ Some p → IsRun secret times p
+  pub fronts : (s : ℕ) (p : Fronted) → c.fronts s ≡ Some p → IsRun limits secret times p
   pub visible : (s : ℕ) (p : Fronted) → c.fronts s ≡ Some p → (b : Reaction) → Among b p.sent → Among (Sent b) c.visible
 
 -- so it is whatever the steps of a cluster were: all laws of one front hold of the front at each
 -- head
 abbrev pub EveryClusterFrontRuns : Type 0
 EveryClusterFrontRuns =
-    (t : Tree) (secret : List ℕ) (times : Clock) (servers : ℕ) (steps : List Step) (c : Cluster)
-    → Runs t secret times steps (opening_cluster t secret times servers) c → FrontsRun secret times c
+    (t : Tree) (limits : WatchLimits) (secret : List ℕ) (times : Clock) (servers : ℕ) (steps : List Step) (c : Cluster)
+    → Runs t limits secret times steps (opening_cluster t limits secret times servers) c → FrontsRun limits secret times c

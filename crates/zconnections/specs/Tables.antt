@@ -1,5 +1,5 @@
 -- The state of a server for ZooKeeper's clients: connections with their unread bytes, sessions with
--- their connections, watches, and chunks to be sent. The source is the ZooKeeper Programmer's
+-- their connections, watches with their limits, and chunks to be sent. The source is the ZooKeeper Programmer's
 -- Guide, "ZooKeeper Sessions".
 use Rattle.std.specs.Prelude.{ℕ, Bool, true, false, List, [], ◌∷◌, ◌++◌, Option, None, Some, if◌then◌else◌}
 use Rattle.std.specs.Option.{option_map_or, option_and_then}
@@ -12,12 +12,14 @@ use Rattle.zconnections.specs.buffers.Outbox.{ChunkView}
 use Rattle.zconnections.specs.buffers.Outbox as outbox
 use Rattle.zconnections.specs.attachments.Attachments.{AttachmentsView, with_changed, with_seat, left, new_attachment}
 use Rattle.zwatches.specs.Watches.{Watches}
+use Rattle.zwatches.specs.declared.limits.WatchLimits.{WatchLimits}
 use Rattle.zwatches.specs.Events as watch
 
 pub record TablesView : Type 0 where
   pub streams : StreamRows
   pub attachments : AttachmentsView
   pub watches : Watches
+  pub limits : WatchLimits
   pub unsent : List ChunkView
 
 -- in this phase, bytes may still be sent on the connection

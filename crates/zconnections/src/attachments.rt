@@ -1,8 +1,8 @@
 //! Attachments of sessions to connections.
 //!
 //! A connection opens a session, takes one, or leaves it, and this crate stores what each session
-//! then has beside the tree. It lists the sessions that sent requests since the last `rest`: `rest`
-//! clears the flag of each session. `specs/Attachments.antt` defines it.
+//! then has beside the tree. It lists the sessions that sent requests since the last `rest` but one.
+//! `specs/Attachments.antt` defines it.
 
 mod attachment;
 mod attachments;

@@ -45,14 +45,14 @@ impl Tables {
         self.attachments.touch(session);
     }
 
-    /// Returns the sessions that sent a request since the last `rest`, in rising order.
+    /// Returns the sessions that sent a request since the last `rest` but one, in rising order.
     pub fn touched(&self) -> Result<Vec<SessionId>, Memory>
         ensures { IfOk result (λ ids. ids.items ≡ touched_ids self.now.attachments) }
     {
         self.attachments.touched()
     }
 
-    /// Clears the flag of a request for each session.
+    /// For each session, a request since the last `rest` is one before it.
     pub fn rest(&mut self)
         ensures { self.new ≡ record self.old { attachments = all_rested self.old.attachments } }
     {

@@ -8,9 +8,9 @@ use crate::attachments::Attachments;
 use crate::buffers::{Outbox, Streams};
 use std::alloc::Global;
 use std::marker::Model;
-use zwatches::Watches;
+use zwatches::{WatchLimits, Watches};
 
-/// The connections, the sessions, the watches, and the chunks to be sent.
+/// The connections, the sessions, the watches with their limits, and the chunks to be sent.
 ///
 /// After a call ran out of memory, the contracts promise nothing of the tables.
 #[derive(Drop)]
@@ -19,6 +19,7 @@ pub struct Tables {
     pub(crate) streams: Streams,
     pub(crate) attachments: Attachments,
     pub(crate) watches: Watches,
+    pub(crate) limits: WatchLimits,
     pub(crate) outbox: Outbox,
 }
 
@@ -34,17 +35,19 @@ impl Model for Tables {
       streams = t.streams;
       attachments = t.attachments;
       watches = t.watches;
+      limits = t.limits;
       unsent = t.outbox;
     } };
 }
 
 impl Tables {
-    /// Returns empty tables. Allocates nothing.
-    pub fn new(alloc: Global) -> Tables
+    /// Returns empty tables, with these limits of watches. Allocates nothing.
+    pub fn new(alloc: Global, limits: WatchLimits) -> Tables
         ensures { result ≡ record {
           streams = finite.empty;
           attachments = finite.empty;
           watches = sets.empty;
+          limits = limits;
           unsent = [];
         } }
     {
@@ -53,6 +56,7 @@ impl Tables {
             streams: Streams::new(alloc),
             attachments: Attachments::new(alloc),
             watches: Watches::new(alloc),
+            limits,
             outbox: Outbox::new(alloc),
         }
     }

@@ -13,21 +13,21 @@ use zpath::Path;
 use zwatches::{Kind, WatchFault};
 
 impl Tables {
-    /// Sets a watch. Setting one again does nothing and allocates nothing. After a fault nothing
-    /// has changed.
+    /// Sets a watch, if the limits allow one more. Setting one again does nothing and allocates
+    /// nothing. After a fault nothing has changed.
     pub fn watch(&mut self, connection: u32, kind: Kind, path: &Path) -> Result<(), WatchFault>
         ensures ok { OnOk result (self.new ≡ record self.old {
           watches = insert self.old.watches (watch path.now kind connection);
         }) }
         ensures err { OnErr result (self.new ≡ self.old) }
         ensures room { OnOk result
-            (is_full self.old.watches (watch path.now kind connection) ≡ false) }
+            (is_full self.old.limits self.old.watches (watch path.now kind connection) ≡ false) }
         ensures fault { IfErr result
-            (IsSetFault (is_full self.old.watches (watch path.now kind connection))) }
+            (IsSetFault (is_full self.old.limits self.old.watches (watch path.now kind connection))) }
         ensures again { contains self.old.watches (watch path.now kind connection) ≡ true
             → IsOk result }
     {
-        self.watches.set(connection, kind, path)
+        self.watches.set(self.limits, connection, kind, path)
     }
 
     /// Returns whether a watch waits for the deletion of the node at a path.

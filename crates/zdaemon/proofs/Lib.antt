@@ -1,3 +1,4 @@
 pub mod pipe_lemmas
+pub mod Bases
 pub mod Chunks
 pub mod Running

@@ -1,5 +1,6 @@
 pub mod pipe
 pub mod Asked
+pub mod Bases
 pub mod Tasks
 pub mod Faults
 pub mod Folder

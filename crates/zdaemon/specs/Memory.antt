@@ -1,5 +1,5 @@
 -- What a server in memory does between two of its states, in the words of its host.
-use Rattle.std.specs.Prelude.{◌≡◌, List, None, Some}
+use Rattle.std.specs.Prelude.{◌≡◌, None, Some}
 use Rattle.zfront.specs.Inputs.{Does, ServerView, without_first}
 use Rattle.zconnections.specs.buffers.Inputs.{InputView}
 use Rattle.zconnections.specs.buffers.Outbox.{ChunkView, first_of}

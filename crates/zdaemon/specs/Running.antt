@@ -18,6 +18,7 @@ use Rattle.zdurable.specs.declared.kept.DurableFront.{DurableFront}
 use Rattle.zdurable.specs.DurableFront.{IsServing, compacted_size, disk_of}
 use Rattle.zdurable.specs.Restored.{restored}
 use Rattle.zdaemon.specs.Asked.{IsAsked}
+use Rattle.zdaemon.specs.Bases.{base_at}
 use Rattle.zdaemon.specs.Tasks.{IsTask}
 use Rattle.zdaemon.specs.AtRest.{IsCompactionReported, IsExported, IsStatReported}
 use Rattle.zdaemon.specs.Folder.{IsMended, TakesIn, KeepsIn, ReportsIn, HasReportedIn}
@@ -36,10 +37,11 @@ GaveAfter secret source bytes = (length secret ≡ 32) × source.gave (secret ++
 
 -- ---- in memory
 
--- a new front end: an empty tree, at this time
+-- a new front end: an empty tree, at this time, with the base of zxids of this start, and with the
+-- limits that are asked for
 abbrev pub new_front : List ℕ → HostedSettings → ServerView
 new_front secret asked = record {
-  front = beginning opening_tree secret (record { tick = asked.tick; started = asked.now }) false;
+  front = beginning asked.limits opening_tree secret (record { tick = asked.tick; started = asked.now; base = base_at asked.now }) false;
   is_broken = false;
 }
 
@@ -58,13 +60,14 @@ module _ {R : Type 0} where
   abbrev pub IsOpened : SyncMode → FileDevice R → Type 0
   IsOpened mode device = (mode_of device ≡ mode) × (events_of device ≡ held (seen_of device) ∷ [])
 
-  -- a server begins with the tree of this device's file, at this time
+  -- a server begins with the tree of this device's file, at this time, with the limits that are asked
+  -- for
   pub record BeginsWith (device : FileDevice R) (secret : List ℕ) (asked : HostedSettings) (kept : FolderSettings) (first : DurableFront (FileDevice R)) : Type 0 where
     pub batches : List (List ℕ)
     pub tree : Tree
     pub stands : Represents kept.last batches (seen_of device)
     pub serving : IsServing seen_of MayLeaveOf kept.last batches tree first
-    pub front : first.front ≡ restored secret asked.tick asked.now tree
+    pub front : first.front ≡ restored asked.limits secret asked.tick asked.now tree
     pub measured : compacted_size first ≡ 0
 
   -- and that device has the mode that is asked for; where a sync had failed before, its journal is

@@ -16,12 +16,15 @@
 #![tactic(auto)]
 
 mod at_rest;
+mod base;
 mod fault;
 mod folder;
+pub mod laws;
 mod memory;
 mod mending;
 pub mod pipe;
 mod program;
+mod rows;
 mod tasks;
 mod words;
 

@@ -13,6 +13,7 @@ ghost use Rattle.zdaemon.specs.pipe.Messages.MessageView.{Keep};
 ghost use Rattle.zdaemon.specs.pipe.Serving.{ServesAll};
 
 use crate::at_rest::{compact, export, stat};
+use crate::base::base_at;
 use crate::fault::HostedFault;
 use crate::folder::InFolder;
 use crate::mending::{report_saved, write_anew};
@@ -175,8 +176,10 @@ fn in_memory(
     let clock = Clock {
         tick: asked.tick,
         started: asked.now,
+        base: base_at(asked.now),
     };
-    Ok(Front::new(alloc, LocalTree::new(alloc)?, secret, clock, false)?)
+    let tree = LocalTree::new(alloc)?;
+    Ok(Front::new(alloc, tree, secret, clock, asked.limits, false)?)
 }
 
 // Opens the server of a folder. Reports what its clients and its owner should know, and mends what
@@ -196,7 +199,8 @@ fn in_folder<R: Files<File = File> + Copy, F: Sink>(
     let device = FileDevice::open(alloc, files, folder, kept.mode)?;
     device.remove_unfinished();
     report_opening(alloc, device.mode(), device.waiting(), faults);
-    match DurableFront::open(alloc, device, kept.last, secret, asked.tick, asked.now) {
+    let (tick, now, limits) = (asked.tick, asked.now, asked.limits);
+    match DurableFront::open(alloc, device, kept.last, secret, tick, now, limits) {
         Ok(opened) => {
             let mut front = opened.kept;
             report_saved(alloc, front.device(), faults);

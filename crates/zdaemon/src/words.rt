@@ -2,10 +2,10 @@
 
 ghost use Rattle.std.specs.Prelude.{◌≡◌, IfErr, IfOk, IfSome};
 ghost use Rattle.zarguments.specs.Asked.{texts_of};
-ghost use Rattle.zdaemon.specs.Asked.{IsAsked, is_dash, mode_of, Spells, SpellsBytes};
+ghost use Rattle.zdaemon.specs.Asked.{IsAsked, is_dash, mode_of, Spells, SpellsBytes, SpellLimits};
 
 use zarguments::WordsFault;
-use zdurable::{ServerId, TickLength};
+use zdurable::{ServerId, TickLength, WatchLimits};
 use zjournal::file::SyncMode;
 
 /// What the words ask for.
@@ -15,6 +15,8 @@ pub struct HostedSettings {
     pub tick: TickLength,
     /// The time, in milliseconds since 1970.
     pub now: u64,
+    /// How many watches there may be.
+    pub limits: WatchLimits,
     /// The settings of a folder, if there is one.
     pub folder: Option<FolderSettings>,
 }
@@ -30,14 +32,15 @@ pub struct FolderSettings {
     pub long: usize,
 }
 
-/// Reads `NAME - TICK TIME`, for a server in memory: the milliseconds of a tick, and the time. Or
-/// reads `NAME FOLDER batch|never SERVERS TICK TIME JOURNAL`: also the number in the head of the
-/// folder's journal, and from how many MiB on it is compacted. All else is `BadWords`.
+/// Reads `NAME - TICK TIME WATCHES EACH`, for a server in memory: the milliseconds of a tick, the
+/// time, and how many watches there may be, of all connections together and of each. Or reads
+/// `NAME FOLDER batch|never SERVERS TICK TIME JOURNAL WATCHES EACH`: also the number in the head of
+/// the folder's journal, and from how many MiB on it is compacted. All else is `BadWords`.
 pub fn hosted_settings(words: &[&str]) -> Result<HostedSettings, WordsFault>
     ensures ok { IfOk result (IsAsked (texts_of words.now)) }
     ensures err { IfErr result (λ fault. fault ≡ WordsFault.BadWords) }
 {
-    let asked = if words.len() == 4 {
+    let asked = if words.len() == 6 {
         in_memory(words)
     } else {
         with_folder(words)
@@ -52,13 +55,19 @@ pub fn hosted_settings(words: &[&str]) -> Result<HostedSettings, WordsFault>
 fn in_memory(words: &[&str]) -> Option<HostedSettings>
     ensures { IfSome result (IsAsked (texts_of words.now)) }
 {
-    let [_, dash, tick, now] = words else {
+    let [_, dash, tick, now, most, each] = words else {
         return None;
     };
-    match (is_dash(dash), tick_of(tick), number_of(now)) {
-        (true, Some(tick), Some(now)) => Some(HostedSettings {
+    match (
+        is_dash(dash),
+        tick_of(tick),
+        number_of(now),
+        limits_of(most, each),
+    ) {
+        (true, Some(tick), Some(now), Some(limits)) => Some(HostedSettings {
             tick,
             now,
+            limits,
             folder: None,
         }),
         _ => None,
@@ -69,7 +78,7 @@ fn in_memory(words: &[&str]) -> Option<HostedSettings>
 fn with_folder(words: &[&str]) -> Option<HostedSettings>
     ensures { IfSome result (IsAsked (texts_of words.now)) }
 {
-    let [_, _, mode, servers, tick, now, journal] = words else {
+    let [_, _, mode, servers, tick, now, journal, most, each] = words else {
         return None;
     };
     match (
@@ -78,12 +87,16 @@ fn with_folder(words: &[&str]) -> Option<HostedSettings>
         tick_of(tick),
         number_of(now),
         bytes_of(journal),
+        limits_of(most, each),
     ) {
-        (Some(mode), Some(last), Some(tick), Some(now), Some(long)) => Some(HostedSettings {
-            tick,
-            now,
-            folder: Some(FolderSettings { mode, last, long }),
-        }),
+        (Some(mode), Some(last), Some(tick), Some(now), Some(long), Some(limits)) => {
+            Some(HostedSettings {
+                tick,
+                now,
+                limits,
+                folder: Some(FolderSettings { mode, last, long }),
+            })
+        }
         _ => None,
     }
 }
@@ -133,6 +146,19 @@ fn bytes_of(word: &str) -> Option<usize>
     match word.parse::<u32>() {
         Ok(count) => Some(count as usize * 1_048_576),
         Err(_) => None,
+    }
+}
+
+// How many watches there may be, of all connections together and of each.
+fn limits_of(most: &str, each: &str) -> Option<WatchLimits>
+    ensures { IfSome result (SpellLimits most.now each.now) }
+{
+    match (most.parse::<u32>(), each.parse::<u32>()) {
+        (Ok(most), Ok(each)) => Some(WatchLimits {
+            most: most as usize,
+            each: each as usize,
+        }),
+        _ => None,
     }
 }
 

@@ -12,17 +12,17 @@ use Rattle.zdurable.proofs.Logs.{tree-log}
 -- what is still to be stored leads from the tree that is durable to the front's own
 pub leads_to : (t : Tree) (v : FrontView) → HasKept t v → v.tree ≡ after t v.made
 leads_to t v has =
-    let leads = every_front_is_its_trees has.start has.secret has.times true has.steps v has.runs in
+    let leads = every_front_is_its_trees has.limits has.start has.secret has.times true has.steps v has.runs in
     sym leads.1
     ∙ tree-log (log_since t v has) has.start
-    ∙ ap (after has.start) (every_change_is_made has.start has.secret has.times has.steps v has.runs)
+    ∙ ap (after has.start) (every_change_is_made has.limits has.start has.secret has.times has.steps v has.runs)
     ∙ go_on has.start (kept_since t v has) v.made
     ∙ ap (λ (u : Tree). after u v.made) (sym has.all)
 
 pub what_is_kept_stands_in_a_log : WhatIsKeptStandsInALog
 what_is_kept_stands_in_a_log t v has before leaves = (
-  every_front_is_one_tree has.start has.secret has.times true before has.steps v leaves has.runs,
+  every_front_is_one_tree has.limits has.start has.secret has.times true before has.steps v leaves has.runs,
   has.all,
-  every_change_is_made has.start has.secret has.times has.steps v has.runs,
+  every_change_is_made has.limits has.start has.secret has.times has.steps v has.runs,
   leads_to t v has,
 )

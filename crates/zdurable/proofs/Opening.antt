@@ -9,6 +9,7 @@ use Rattle.zjournal.specs.declared.fault.PutError.{PutError}
 use Rattle.zjournal.specs.declared.fault.PutError.TheVariants as put
 use Rattle.zjournal.proofs.Moments.{joined_runs, weaker}
 use Rattle.zjournal.proofs.Readings.{files_have_one_reading}
+use Rattle.zwatches.specs.declared.limits.WatchLimits.{WatchLimits}
 use Rattle.zfront.specs.Front.{FrontView}
 use Rattle.zfront.specs.Inputs.{ServerView}
 use Rattle.zfront.specs.Restoring.{all_taken}
@@ -23,12 +24,12 @@ use Rattle.zsnapshots.specs.folder.Faults.{IsReadFault}
 use Rattle.zsnapshots.specs.folder.Texts.{IsNoText, IsTextOf}
 
 -- what was read is what is opened
-pub serves : {D : Type 0} (seen : D → List ℕ) (may_leave : D → List ℕ → Type 0) (secret : List ℕ) (tick now_ms servers m : ℕ) (file now : List ℕ) (t : Tree)
+pub serves : {D : Type 0} (seen : D → List ℕ) (may_leave : D → List ℕ → Type 0) (limits : WatchLimits) (secret : List ℕ) (tick now_ms servers m : ℕ) (file now : List ℕ) (t : Tree)
     (kept : DurableFront D) → m ≡ servers → now ≡ file → (read : List (List ℕ)) → Represents servers read file → IsTextOf t (joined read)
-    → kept.front ≡ restored secret tick now_ms t
+    → kept.front ≡ restored limits secret tick now_ms t
     → (batches : List (List ℕ)) → Represents m batches now → IsAtRest seen may_leave m batches kept.journal → journal.IsOpen kept.journal
     → Represents servers batches file × IsServing seen may_leave servers batches t kept
-serves seen may_leave secret tick now_ms servers m file now t kept m_is same read reads keeps front batches stands rest takes =
+serves seen may_leave limits secret tick now_ms servers m file now t kept m_is same read reads keeps front batches stands rest takes =
     let stand : Represents servers batches file = subst (λ k. Represents k batches file) m_is (subst (Represents m batches) same stands) in
     let one = files_have_one_reading servers file read batches reads stand in (
       stand,
@@ -38,6 +39,7 @@ serves seen may_leave secret tick now_ms servers m file now t kept m_is same rea
         sound = ap (λ (v : ServerView). v.is_broken) front;
         text = subst (IsTextOf t) (ap joined one) keeps;
         has = record {
+          limits = limits;
           start = t;
           secret = secret;
           times = clock_at tick now_ms t.time;

@@ -61,9 +61,10 @@ runs_more (next ∷ steps) step first v w runs does =
 
 keeps_more : (t : Tree) (step : Step) (v w : FrontView) → HasKept t v → Does step v w → HasKept (after t (took_at step v)) w
 keeps_more t step v w has does =
-    let first = beginning has.start has.secret has.times true in
+    let first = beginning has.limits has.start has.secret has.times true in
     let more = runs_more has.steps step first v w has.runs does in
     record {
+      limits = has.limits;
       start = has.start;
       secret = has.secret;
       times = has.times;

@@ -28,7 +28,7 @@ use crate::opened::Opened;
 use crate::restored::restored;
 use crate::writing::written;
 use std::alloc::Global;
-use zfront::{Front, Secret, TickLength};
+use zfront::{Front, Secret, TickLength, WatchLimits};
 use zjournal::{Device, Journal, PutError};
 use zprotocol::ServerId;
 use zsnapshots::folder::Found;
@@ -51,9 +51,9 @@ pub struct DurableFront<D: Device> {
 
 impl<D: Device> DurableFront<D> {
     /// Opens the service of a file that a crash may have left, or of a new one. Its front end
-    /// begins with the tree that the file holds. If reading fails, the file is unchanged. A crash
-    /// while opening leaves a file with the same tree. The tree's time is `now_ms` now, in
-    /// milliseconds since 1970. An `Err` returns the device.
+    /// begins with the tree that the file holds, and with these limits of watches. If reading
+    /// fails, the file is unchanged. A crash while opening leaves a file with the same tree. The
+    /// tree's time is `now_ms` now, in milliseconds since 1970. An `Err` returns the device.
     pub fn open(
         alloc: Global,
         device: D,
@@ -61,13 +61,14 @@ impl<D: Device> DurableFront<D> {
         secret: Secret,
         tick: TickLength,
         now_ms: u64,
+        limits: WatchLimits,
     ) -> Result<Opened<D>, (OpenFault, D)>
         // After a restart, a read returns what is durable.
         requires durable { Only (D.seen device) (D.may_leave device) }
         ensures serving { IfOk result (λ opened. (batches : List (List ℕ)) × (t : Tree)
             × Represents servers batches (D.seen device)
             × IsServing D.seen D.may_leave servers batches t opened.kept
-            × (opened.kept.front ≡ restored secret tick now_ms t)) }
+            × (opened.kept.front ≡ restored limits secret tick now_ms t)) }
         ensures open { IfOk result (λ opened. IsOpen opened.kept) }
         ensures sound { IfOk result (λ opened. IsSound D.seen D.may_leave opened.kept) }
         ensures measured { IfOk result (λ opened. compacted_size opened.kept ≡ 0) }
@@ -96,7 +97,7 @@ impl<D: Device> DurableFront<D> {
             had_passwords,
             ..
         } = found;
-        let front = match restored(alloc, tree, secret, tick, now_ms) {
+        let front = match restored(alloc, tree, secret, tick, now_ms, limits) {
             Ok(front) => front,
             Err(_) => return Err((OpenFault::Memory, device)),
         };

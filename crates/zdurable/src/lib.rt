@@ -5,7 +5,7 @@
 //! one.
 //!
 //! ```text
-//! let opened = DurableFront::open(alloc, device, ServerId::first(), secret, tick, now_ms)?;
+//! let opened = DurableFront::open(alloc, device, first, secret, tick, now_ms, limits)?;
 //! let Opened { mut kept, .. } = opened;
 //! kept.take(Input::Came(connection, bytes))?;
 //! kept.commit()?;    // what it changed is durable
@@ -42,7 +42,7 @@ pub use kept::DurableFront;
 pub use looking::{Looked, folder_stat, look};
 pub use opened::Opened;
 pub use stored::Stored;
-pub use zfront::{Chunk, Input, Secret, TickLength};
+pub use zfront::{Chunk, Input, Secret, TickLength, WatchLimits};
 pub use zprotocol::ServerId;
 pub use zsnapshots::export::FolderStat;
 pub use zsnapshots::folder::Found;

@@ -12,9 +12,9 @@ ghost use Rattle.zdurable.specs.Restored.{clock_at};
 
 /// With a tick of 500 ms, a service at tick 16 began eight seconds ago, whenever it was opened.
 pub fn times_go_on()
-    ensures now { clock_at 500 10000 16 ≡ record { tick = 500; started = 2000 } }
-    ensures new { clock_at 500 10000 0 ≡ record { tick = 500; started = 10000 } }
-    ensures early { clock_at 500 1000 16 ≡ record { tick = 500; started = 0 } }
+    ensures now { clock_at 500 10000 16 ≡ record { tick = 500; started = 2000; base = 0 } }
+    ensures new { clock_at 500 10000 0 ≡ record { tick = 500; started = 10000; base = 0 } }
+    ensures early { clock_at 500 1000 16 ≡ record { tick = 500; started = 0; base = 0 } }
 {}
 
 /// Without changes no block is written, and with changes one.

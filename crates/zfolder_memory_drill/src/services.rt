@@ -8,6 +8,7 @@ use crate::trees::Stage;
 use std::alloc::Global;
 use zdurable::{
     Compacted, DurableFault, DurableFront, Input, OpenFault, Opened, Secret, ServerId, TickLength,
+    WatchLimits,
 };
 use zjournal::{Device, OpenError};
 use ztesting::Ended;
@@ -23,7 +24,7 @@ pub(crate) fn service_is_opened(alloc: Global) -> Ended {
     let Some(file) = worked_file(alloc) else {
         return Ended::NotBegun;
     };
-    match DurableFront::open(alloc, file, ServerId::first(), secret(), tick, 0) {
+    match DurableFront::open(alloc, file, ServerId::first(), secret(), tick, 0, limits()) {
         Ok(Opened { kept, .. }) => {
             let found = stage_in(alloc, &kept.device().current().disk);
             drop(kept);
@@ -40,6 +41,11 @@ pub(crate) fn service_is_opened(alloc: Global) -> Ended {
 // Passwords are derived from this.
 fn secret() -> Secret {
     Secret::new([7; 32])
+}
+
+// No watch is set.
+fn limits() -> WatchLimits {
+    WatchLimits { most: 1, each: 1 }
 }
 
 // Returns whether memory ran out.
@@ -81,7 +87,7 @@ fn is_done(alloc: Global, act: Act) -> Ended {
     let Some(file) = worked_file(alloc) else {
         return Ended::NotBegun;
     };
-    let opened = DurableFront::open(alloc, file, ServerId::first(), secret(), tick, 0);
+    let opened = DurableFront::open(alloc, file, ServerId::first(), secret(), tick, 0, limits());
     let Ok(Opened { mut kept, .. }) = opened else {
         return Ended::NotBegun;
     };

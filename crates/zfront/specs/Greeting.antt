@@ -16,6 +16,7 @@ use Rattle.zjute.specs.declared.connecting.ConnectRequest.{ConnectRequest}
 use Rattle.zrequests.specs.Timeouts.{ticks_asked}
 use Rattle.zpasswords.specs.Passwords.{password_of}
 use Rattle.zconnections.specs.Tables.{TablesView, closed}
+use Rattle.zresponses.specs.Stats.{told}
 use Rattle.zresponses.specs.effects.Greeting.{welcomed, came_back, turned_away, is_ahead}
 use Rattle.zfront.specs.Front.{FrontView, with_tables, asked, replies_to}
 
@@ -48,7 +49,7 @@ returned greeting (negsuc n) c v = turned_away greeting c v.tables
 abbrev pub greeted_by : Result ConnectRequest Fault → ℕ → FrontView → FrontView
 greeted_by (Err fault) c v = with_tables (closed c v.tables) v
 greeted_by (Ok greeting) c v =
-    if is_ahead v.tree.zxid greeting then with_tables (closed c v.tables) v else
+    if is_ahead (told v.clock.base v.tree.zxid) greeting then with_tables (closed c v.tables) v else
     if int_eq greeting.session_id (pos 0) then with_session greeting c v else
     with_tables (returned greeting greeting.session_id c v) v
 

@@ -1,4 +1,5 @@
 pub mod Front
+pub mod Walks
 pub mod Requests
 pub mod Greeting
 pub mod Words

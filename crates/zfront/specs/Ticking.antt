@@ -1,5 +1,5 @@
--- The effect of a tick: sessions that sent a request are renewed, then time advances. The source is
--- the ZooKeeper Programmer's Guide, "ZooKeeper Sessions".
+-- The effect of a tick: sessions that sent a request since the last tick but one are renewed, then
+-- time advances. The source is the ZooKeeper Programmer's Guide, "ZooKeeper Sessions".
 use Rattle.std.specs.Prelude.{◌≡◌, ℕ, List, [], ◌∷◌, ◌++◌, map}
 use Rattle.zcalls.specs.declared.call.Call.{Call}
 use Rattle.zcalls.specs.declared.call.Call.TheVariants.{Update}
@@ -15,7 +15,7 @@ ping session = Update (Ping session)
 abbrev pub tick_calls : List ℕ → List Call
 tick_calls sessions = map ping sessions ++ Update Tick ∷ []
 
--- the flag of a request is cleared for each session
+-- for each session, a request since the last tick is one before it
 abbrev pub rested : FrontView → FrontView
 rested v = with_tables (record v.tables { attachments = all_rested v.tables.attachments }) v
 

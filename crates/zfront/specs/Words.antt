@@ -1,6 +1,6 @@
 -- The four letter words, which a client sends instead of a connect request. The source is the
 -- ZooKeeper Administrator's Guide, "The Four Letter Words". Latencies aren't returned.
-use Rattle.std.specs.Prelude.{ℕ, List, [], ◌∷◌, ◌++◌, codes, take, Option, None, Some, if◌then◌else◌}
+use Rattle.std.specs.Prelude.{ℕ, ◌+◌, ◌%◌, ◌^◌, List, [], ◌∷◌, ◌++◌, codes, take, Option, None, Some, if◌then◌else◌}
 use Rattle.std.specs.Str.{bytes_eq}
 use Rattle.std.specs.FinMap as finite
 use Rattle.std.specs.FinSet as sets
@@ -29,7 +29,7 @@ abbrev pub srvr_text : FrontView → List ℕ
 srvr_text v =
     codes "Zookeeper version: jellqupas-0.1.0\n"
     ++ (number_line (codes "Connections: ") (finite.len v.tables.streams)
-    ++ (number_line (codes "Zxid: ") v.tree.zxid
+    ++ (number_line (codes "Zxid: ") ((v.clock.base + v.tree.zxid) % 2 ^ 64)
     ++ codes "Mode: standalone\n"))
 
 -- the same for monitoring

@@ -21,6 +21,7 @@ use zconnections::buffers::{Chunk, Input};
 use zpasswords::Secret;
 use zresponses::Clock;
 use ztree_service::TreeService;
+use zwatches::WatchLimits;
 
 /// A front end for ZooKeeper's clients, over a service of one tree.
 ///
@@ -43,22 +44,24 @@ impl<T: TreeService> Model for Front<T> {
 }
 
 impl<T: TreeService + Drop> Front<T> {
-    /// Returns a front that begins with the service's tree. It derives the passwords of sessions
-    /// from the secret. If `is_kept`, it records its updates, and `take_made` returns them.
+    /// Returns a front that begins with the service's tree, and with these limits of watches. It
+    /// derives the passwords of sessions from the secret. If `is_kept`, it records its updates, and
+    /// `take_made` returns them.
     pub fn new(
         alloc: Global,
         service: T,
         secret: Secret,
         clock: Clock,
+        limits: WatchLimits,
         is_kept: bool,
     ) -> Result<Front<T>, Memory>
         ensures { IfOk result (λ f. f ≡ record {
-          front = beginning (T.tree service) secret clock is_kept;
+          front = beginning limits (T.tree service) secret clock is_kept;
           is_broken = false;
         }) }
     {
         Ok(Front {
-            inner: Inner::new(alloc, service, secret, clock, is_kept)?,
+            inner: Inner::new(alloc, service, secret, clock, limits, is_kept)?,
             is_broken: false,
         })
     }

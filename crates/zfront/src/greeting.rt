@@ -11,6 +11,7 @@ use zcalls::{Call, Reply, Update};
 use zjute::{ConnectRequest, ReadError, read_connect};
 use zrequests::{TickLength, ticks_asked};
 use zresponses::effects::{Granted, come_back, is_ahead, turn_away, welcome};
+use zresponses::told;
 use ztree::SessionId;
 use ztree_service::TreeService;
 
@@ -31,7 +32,7 @@ impl<T: TreeService> Inner<T> {
         ensures { OnOk result
             (self.new ≡ greeted_by (Read greeting.now) connection self.old) }
     {
-        if is_ahead(self.last_change()?, greeting) {
+        if is_ahead(told(&self.clock, self.last_change()?), greeting) {
             return self.tables.close(connection);
         }
         if greeting.session_id == 0 {

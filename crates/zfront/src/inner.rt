@@ -16,6 +16,7 @@ use zconnections::buffers::Input;
 use zpasswords::Secret;
 use zresponses::Clock;
 use ztree_service::TreeService;
+use zwatches::WatchLimits;
 
 // The service of the tree, the tables, and the recorded updates. After a call ran out of memory,
 // the contracts promise nothing of it.
@@ -56,12 +57,14 @@ impl<T: TreeService + Drop> Inner<T> {
         service: T,
         secret: Secret,
         clock: Clock,
+        limits: WatchLimits,
         is_kept: bool,
     ) -> Result<Inner<T>, Memory>
-        ensures { IfOk result (λ v. v ≡ beginning (T.tree service) secret clock is_kept) }
+        ensures { IfOk result
+            (λ v. v ≡ beginning limits (T.tree service) secret clock is_kept) }
     {
         let sessions = service.session_ids()?;
-        let tables = tables_of(alloc, &sessions)?;
+        let tables = tables_of(alloc, limits, &sessions)?;
         Ok(Inner {
             alloc,
             service,

@@ -24,6 +24,7 @@ mod reading;
 mod requests;
 mod rows;
 mod ticking;
+mod walking;
 mod word;
 mod words;
 
@@ -33,3 +34,4 @@ pub use zconnections::buffers::{Chunk, Input};
 pub use zpasswords::Secret;
 pub use zrequests::TickLength;
 pub use zresponses::Clock;
+pub use zwatches::WatchLimits;

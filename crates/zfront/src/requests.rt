@@ -7,19 +7,18 @@
 
 ghost use Rattle.std.specs.Prelude.{◌≡◌, OnOk};
 ghost use Rattle.zrequests.specs.Requests.{calls_in};
-ghost use Rattle.zresponses.specs.Answers.{failed};
 ghost use Rattle.zresponses.specs.effects.Answering.{answered, now_of};
-ghost use Rattle.zresponses.specs.effects.Replying.{replied};
 ghost use Rattle.zfront.specs.Front.{with_tables};
-ghost use Rattle.zfront.specs.Requests.{Acts, Makes, Serves};
+ghost use Rattle.zfront.specs.Requests.{Acts, ActsOr, Makes, Serves, Tells};
+ghost use Rattle.zfront.specs.Walks.{walked};
 
 use crate::inner::Inner;
 use zalloc::Memory;
 use zcalls::{Call, Reply};
-use zjute::{Body, Code, ReadError, Request, read_request};
+use zjute::{ReadError, Request, read_request};
 use zrequests::{Unasked, calls_of};
 use zresponses::effects::{Done, answer, reply};
-use zresponses::{Answer, Now};
+use zresponses::{Answer, Now, named, refused_answer, told};
 use ztree::SessionId;
 use ztree_service::TreeService;
 
@@ -36,7 +35,8 @@ impl<T: TreeService> Inner<T> {
         match read_request(self.alloc, bytes) {
             Ok(request) => {
                 self.tables.touch(session);
-                self.act(&request, session, connection)
+                let request = named(self.alloc, &self.clock, request)?;
+                self.act_or_walk(&request, session, connection)
             }
             Err(ReadError::Fault(_)) => self.tables.close(connection),
             Err(ReadError::Memory) => Err(Memory),
@@ -44,13 +44,33 @@ impl<T: TreeService> Inner<T> {
     }
 
     // Handles a request, after its session's flag is set.
+    fn act_or_walk(
+        &mut self,
+        request: &Request,
+        session: SessionId,
+        connection: u32,
+    ) -> Result<(), Memory>
+        ensures { OnOk result (ActsOr (walked session request.now.asked self.old.tree)
+            (calls_in self.old.clock.tick session request.now.asked) connection request.now
+            self.old self.new) }
+    {
+        match self.walk(session, &request.asked)? {
+            Some(answer) => self.tell(answer, request, connection),
+            None => self.act(request, session, connection),
+        }
+    }
+
+    // Handles a request that is no walk.
     fn act(&mut self, request: &Request, session: SessionId, connection: u32) -> Result<(), Memory>
         ensures { OnOk result (Acts (calls_in self.old.clock.tick session request.now.asked)
             connection request.now self.old self.new) }
     {
         match calls_of(self.alloc, self.clock.tick, session, &request.asked) {
             Ok(calls) => self.make(calls.as_slice(), request, connection),
-            Err(Unasked::Refused(code)) => self.refuse(code, request.xid, connection),
+            Err(Unasked::Refused(code)) => {
+                let answer = refused_answer(self.alloc, code, &request.asked)?;
+                self.tell(answer, request, connection)
+            }
             Err(Unasked::Memory) => Err(Memory),
         }
     }
@@ -88,16 +108,18 @@ impl<T: TreeService> Inner<T> {
         answer(self.alloc, &mut self.tables, &self.clock, &now, &done)
     }
 
-    // Sends the code with which a request is refused.
-    fn refuse(&mut self, code: Code, xid: i32, connection: u32) -> Result<(), Memory>
-        ensures { OnOk result (self.new ≡ with_tables
-            (replied self.old.tree.zxid connection xid (failed code) self.old.tables) self.old) }
+    // Sends an answer without a call.
+    fn tell(&mut self, answer: Answer, request: &Request, connection: u32) -> Result<(), Memory>
+        ensures { OnOk result (Tells answer connection request.now self.old self.new) }
     {
-        let zxid = self.last_change()?;
-        let answer = Answer {
-            code,
-            body: Body::Nothing,
-        };
-        reply(self.alloc, &mut self.tables, zxid, connection, xid, answer)
+        let zxid = told(&self.clock, self.last_change()?);
+        reply(
+            self.alloc,
+            &mut self.tables,
+            zxid,
+            connection,
+            request.xid,
+            answer,
+        )
     }
 }

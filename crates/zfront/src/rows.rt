@@ -2,7 +2,8 @@
 
 ghost use Rattle.std.specs.Prelude.{◌≡◌, ℕ, pos, negsuc, true, false, List, [], ◌∷◌, codes, None, Some};
 ghost use Rattle.std.specs.FinMap.{empty, get, insert};
-ghost use Rattle.ztree.specs.Tree.{Path, opening_tree};
+ghost use Rattle.ztree.specs.Tree.{Path, Tree, opening_tree};
+ghost use Rattle.ztree.specs.support.Samples.{some_stat};
 ghost use Rattle.ztree.specs.declared.session.Session.{Session};
 ghost use Rattle.zcalls.specs.declared.call.Call.{Call};
 ghost use Rattle.zcalls.specs.declared.call.Call.TheVariants.{Query, Update};
@@ -13,7 +14,12 @@ ghost use Rattle.zcalls.specs.declared.reply.Reply.{Reply};
 ghost use Rattle.zcalls.specs.declared.reply.Reply.TheVariants as reply;
 ghost use Rattle.zprotocol.specs.world.PlainTree.{serve};
 ghost use Rattle.zjute.specs.Frames.{next_of};
+ghost use Rattle.zjute.specs.declared.code.Code.TheVariants as code;
+ghost use Rattle.zjute.specs.declared.reply.Body.TheVariants as body;
+ghost use Rattle.zjute.specs.declared.request.Asked.TheVariants as asks;
+ghost use Rattle.zresponses.specs.Answers.{done, failed};
 ghost use Rattle.zresponses.specs.declared.clock.Clock.{Clock};
+ghost use Rattle.zwatches.specs.declared.limits.WatchLimits.{WatchLimits};
 ghost use Rattle.zpasswords.specs.Passwords.{password_of};
 ghost use Rattle.zconnections.specs.declared.buffers.phase.Phase.TheVariants.{Closing, Silent, Speaking};
 ghost use Rattle.zconnections.specs.attachments.Attachments.{restored_attachment};
@@ -26,6 +32,8 @@ ghost use Rattle.zfront.specs.Greeting.{opened, opening, returned};
 ghost use Rattle.zfront.specs.Reading.{is_too_long, keeps, word_asked};
 ghost use Rattle.zfront.specs.Restoring.{all_taken, beginning, no_tables, tables_of};
 ghost use Rattle.zfront.specs.Ticking.{tick_calls};
+ghost use Rattle.zfront.specs.Walks.{beginning_with, count_below, number_answer, number_below};
+ghost use Rattle.zfront.specs.Walks.{shows_owner, walked};
 ghost use Rattle.zfront.specs.Words.{text_of_word, word_in};
 
 /// The word at the beginning of the bytes. It counts only instead of a connect request.
@@ -39,6 +47,23 @@ pub fn words()
     ensures speaking { word_asked (Some (Speaking 7)) (codes "mntr") ≡ None }
     ensures closing { word_asked (Some Closing) (codes "mntr") ≡ None }
     ensures absent { word_asked None (codes "mntr") ≡ None }
+{}
+
+/// Walks: the texts that begin with another, and how many paths are strictly below one. A node is
+/// that of the session that its stat shows.
+pub fn walks()
+    ensures front { beginning_with (codes "/a") (codes "/" ∷ codes "/a" ∷ codes "/ab" ∷ [])
+        ≡ codes "/a" ∷ codes "/ab" ∷ [] }
+    ensures root { count_below (codes "/") (codes "/" ∷ codes "/a" ∷ codes "/a/b" ∷ []) ≡ 2 }
+    ensures below { count_below (codes "/a") (codes "/a" ∷ codes "/a/b" ∷ codes "/ab" ∷ []) ≡ 1 }
+    ensures number { number_answer (codes "/a") (codes "/" ∷ codes "/a" ∷ codes "/a/b" ∷ [])
+        ≡ done (body.Number (pos 1)) }
+    ensures no_node { number_answer (codes "/b") (codes "/" ∷ codes "/a" ∷ [])
+        ≡ failed code.NoNode }
+    ensures null { (t : Tree) → number_below None t ≡ failed code.MarshallingError }
+    ensures own { shows_owner 9 (reply.Exists some_stat) ≡ true }
+    ensures anothers { shows_owner 8 (reply.Exists some_stat) ≡ false }
+    ensures other { (t : Tree) → walked 9 asks.Ping t ≡ None }
 {}
 
 /// The answers to words.
@@ -59,8 +84,8 @@ pub fn ticks()
 
 /// A client asks for a session of 10,000 milliseconds, with a tick of 2,000.
 pub fn sessions_are_opened()
-    ensures call { opening 2000 greeting ≡ Update (Open 6) }
-    ensures below_0 { opening 2000 (record greeting { timeout = negsuc 0 }) ≡ Update (Open 1) }
+    ensures call { opening 2000 greeting ≡ Update (Open 5) }
+    ensures below_0 { opening 2000 (record greeting { timeout = negsuc 0 }) ≡ Update (Open 0) }
     ensures opened { (secret : List ℕ) (t : TablesView)
         → opened 2000 secret greeting 1 (reply.Opened 9 5 ∷ []) t
         ≡ welcomed 2000 greeting 9 5 (password_of secret 9) 1 t }
@@ -115,11 +140,12 @@ pub fn rests()
 
 /// The tables that a front begins with: sessions 7 and 9, without connections.
 pub fn sessions_are_restored()
-    ensures none { tables_of [] ≡ no_tables }
-    ensures two { tables_of (7 ∷ 9 ∷ []) ≡ record no_tables {
+    ensures none { (limits : WatchLimits) → tables_of limits [] ≡ no_tables limits }
+    ensures limits { (limits : WatchLimits) → (no_tables limits).limits ≡ limits }
+    ensures two { (limits : WatchLimits) → tables_of limits (7 ∷ 9 ∷ []) ≡ record (no_tables limits) {
       attachments = insert (insert empty 7 restored_attachment) 9 restored_attachment;
     } }
-    ensures new { (secret : List ℕ) (times : Clock)
-        → (beginning opening_tree secret times false).tree ≡ opening_tree }
+    ensures new { (limits : WatchLimits) (secret : List ℕ) (times : Clock)
+        → (beginning limits opening_tree secret times false).tree ≡ opening_tree }
     ensures taken { (v : FrontView) → (all_taken v).made ≡ [] }
 {}

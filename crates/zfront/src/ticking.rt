@@ -2,8 +2,9 @@
 //!
 //! # Why
 //!
-//! Sessions are renewed at ticks only, by one ping for each that sent a request. Deadlines are
-//! checked only there, so a call for each request would double the cost and change nothing.
+//! Sessions are renewed at ticks only, by one ping for each that sent a request since the last tick
+//! but one. Deadlines are checked only there, so a call for each request would double the cost and
+//! change nothing.
 
 ghost use Rattle.std.specs.Prelude.{◌≡◌, IfOk, OnOk};
 ghost use Rattle.zfront.specs.Ticking.{tick_calls, Ticks, TicksBy};
@@ -16,7 +17,7 @@ use ztree::SessionId;
 use ztree_service::TreeService;
 
 impl<T: TreeService> Inner<T> {
-    // Renews the sessions that sent a request since the last tick, then advances the time.
+    // Renews the sessions that sent a request since the last tick but one, then advances the time.
     pub(crate) fn tick(&mut self) -> Result<(), Memory>
         ensures { OnOk result (Ticks self.old self.new) }
     {
@@ -25,7 +26,7 @@ impl<T: TreeService> Inner<T> {
         self.make_tick(&calls)
     }
 
-    // Makes the calls of a tick, and clears the flag of a request for each session.
+    // Makes the calls of a tick. For each session, a request since the last tick is one before it.
     fn make_tick(&mut self, calls: &[Call]) -> Result<(), Memory>
         ensures { OnOk result (TicksBy calls.now self.old self.new) }
     {

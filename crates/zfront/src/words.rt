@@ -74,7 +74,7 @@ impl<T: TreeService> Inner<T> {
         out.push_str("Zookeeper version: jellqupas-0.1.0\n")?;
         write_number("Connections: ", self.tables.connections() as u64, out)?;
         let last = self.last_change()?;
-        write_number("Zxid: ", last.number(), out)?;
+        write_number("Zxid: ", self.clock.base.wrapping_add(last.number()), out)?;
         out.push_str("Mode: standalone\n")?;
         Ok(())
     }

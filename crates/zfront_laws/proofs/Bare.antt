@@ -14,6 +14,7 @@ use Rattle.zconnections.specs.buffers.Streams.{StreamRows, StreamView, phase_of}
 use Rattle.zconnections.specs.declared.attachments.attachment.Attachment.{Attachment}
 use Rattle.zconnections.specs.attachments.Attachments.{AttachmentsView, restored_attachment}
 use Rattle.zconnections.specs.Tables.{TablesView, connection_of}
+use Rattle.zwatches.specs.declared.limits.WatchLimits.{WatchLimits}
 use Rattle.zfront.specs.Restoring.{no_tables, seated, tables_of}
 use Rattle.zfront_laws.proofs.Seated.{Has, connection_in, same_number}
 
@@ -101,19 +102,19 @@ each_sits (session ∷ sessions) m id is = by (each_sits sessions (insert m sess
         )
     by later false same any = later any
 
-nobody_sits : {P : Type 0} (id : ℕ) (s : Attachment) → get no_tables.attachments id ≡ Some s → P
-nobody_sits id s there = absurd (none_some s (sym (finite.get-empty nat_cmp id) ∙ there))
+nobody_sits : {P : Type 0} (limits : WatchLimits) (id : ℕ) (s : Attachment) → get (no_tables limits).attachments id ≡ Some s → P
+nobody_sits limits id s there = absurd (none_some s (sym (finite.get-empty nat_cmp id) ∙ there))
 
 -- with no attachments before, no other session has one
-pub is_listed : (sessions : List ℕ) (id : ℕ) (s : Attachment) → get (tables_of sessions).attachments id ≡ Some s
+pub is_listed : (limits : WatchLimits) (sessions : List ℕ) (id : ℕ) (s : Attachment) → get (tables_of limits sessions).attachments id ≡ Some s
     → list_any (eq_by_cmp nat_cmp id) sessions ≡ true
-is_listed sessions = each_seat (λ id s. Listed id sessions) sessions finite.empty (λ id s there. nobody_sits id s there) (λ id listed. listed)
+is_listed limits sessions = each_seat (λ id s. Listed id sessions) sessions finite.empty (λ id s there. nobody_sits limits id s there) (λ id listed. listed)
 
-pub seats_bare : (sessions : List ℕ) → IsBare (tables_of sessions)
-seats_bare sessions = record {
+pub seats_bare : (limits : WatchLimits) (sessions : List ℕ) → IsBare (tables_of limits sessions)
+seats_bare limits sessions = record {
   streams = refl;
   watches = refl;
   unsent = refl;
-  apart = each_seat (λ id s. IsApart s) sessions finite.empty (λ id s there. nobody_sits id s there)
+  apart = each_seat (λ id s. IsApart s) sessions finite.empty (λ id s there. nobody_sits limits id s there)
       (λ id listed. record { free = refl; marked = refl });
 }

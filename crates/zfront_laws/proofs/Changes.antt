@@ -67,7 +67,7 @@ module _ (R : TablesView → TablesView → Type 0) (carry : Carries R) where
       carry.both t (absorbed call reply t) (absorbed_all calls replies (absorbed call reply t)) (absorbs call reply t)
       (absorbs_all calls replies (absorbed call reply t))
 
-  pub replies_to : (zxid : ℕ) (c : ℕ) (xid : ℤ) (answer : Answer) (t : TablesView) → R t (replied zxid c xid answer t)
+  pub replies_to : (zxid : ℤ) (c : ℕ) (xid : ℤ) (answer : Answer) (t : TablesView) → R t (replied zxid c xid answer t)
   replies_to zxid c xid answer t =
       elim (ends_connection answer.code) as (λ b. R t (if b then closed c (sent c (answer_frame zxid xid answer) t)
       else sent c (answer_frame zxid xid answer) t)) [

@@ -135,11 +135,11 @@ all_stand done (step ∷ steps) first old v ran few stood has =
     stands has.2)
 
 pub every_session_is_got : EverySessionIsGot
-every_session_is_got t secret times is_kept steps v c session runs speaks =
-    let first = beginning t secret times is_kept in
-    let bare = is_bare t secret times is_kept in
+every_session_is_got limits t secret times is_kept steps v c session runs speaks =
+    let first = beginning limits t secret times is_kept in
+    let bare = is_bare limits t secret times is_kept in
     let stood : Stands [] first first = record {
       silent = λ d silent. absurd (no_phase first.tables bare d Silent silent);
       speaks = λ d other has. absurd (no_phase first.tables bare d (Speaking other) has);
     } in
-    (all_stand [] steps first first v refl (is_few t secret times is_kept) stood runs).speaks c session speaks
+    (all_stand [] steps first first v refl (is_few limits t secret times is_kept) stood runs).speaks c session speaks

@@ -27,6 +27,7 @@ use Rattle.zprotocol.specs.world.PlainTree.{serve}
 use Rattle.zconnections.proofs.Closed.{nothing_behind}
 use Rattle.zconnections.specs.Tables.{TablesView, may_send, is_open, chunk, sent, with_chunk, closed, moved, attachment, taken_up}
 use Rattle.zresponses.specs.effects.Greeting.{session_reported, turned_away, given, came_back, is_ahead}
+use Rattle.zresponses.specs.Stats.{told}
 use Rattle.zfront.specs.Front.{FrontView, with_tables}
 use Rattle.zfront.specs.Greeting.{opening, opened, with_session, returned, greeted_by, greeted}
 use Rattle.zfront_laws.specs.Given.{Gains}
@@ -170,7 +171,7 @@ opens frame greeting c v spelled asks = by (serve v.tree 0 (opening v.clock.tick
 greets_by : (read : Result ConnectRequest Fault) (frame : List ℕ) (c : ℕ) (v : FrontView) → whole connect_request frame ≡ read
     → Becomes frame c v (greeted_by read c v).tables
 greets_by (Err fault) frame c v spelled = closes frame c v
-greets_by (Ok greeting) frame c v spelled = by (is_ahead v.tree.zxid greeting) (int_eq greeting.session_id (pos 0)) refl
+greets_by (Ok greeting) frame c v spelled = by (is_ahead (told v.clock.base v.tree.zxid) greeting) (int_eq greeting.session_id (pos 0)) refl
   where
     by : (ahead is_new : Bool) → int_eq greeting.session_id (pos 0) ≡ is_new → Becomes frame c v
         (if ahead then with_tables (closed c v.tables) v else if is_new then with_session greeting c v

@@ -81,30 +81,30 @@ every_step_makes_more step old new few kept does =
 -- ---- laws from a beginning on
 
 pub every_front_keeps_few : EveryFrontKeepsFew
-every_front_keeps_few t secret times is_kept steps v runs =
-    let few = is_few t secret times is_kept in
-    (run_goes steps (beginning t secret times is_kept) v few runs).few few
+every_front_keeps_few limits t secret times is_kept steps v runs =
+    let few = is_few limits t secret times is_kept in
+    (run_goes steps (beginning limits t secret times is_kept) v few runs).few few
 
 pub every_front_is_its_trees : EveryFrontIsItsTrees
-every_front_is_its_trees t secret times is_kept steps v runs =
-    (run_goes steps (beginning t secret times is_kept) v (is_few t secret times is_kept) runs).leads
+every_front_is_its_trees limits t secret times is_kept steps v runs =
+    (run_goes steps (beginning limits t secret times is_kept) v (is_few limits t secret times is_kept) runs).leads
 
 pub every_front_is_one_tree : EveryFrontIsOneTree
-every_front_is_one_tree t secret times is_kept before steps v left runs =
-    leads_more opening_tree t v.tree before (run_log steps (beginning t secret times is_kept) v runs) left
-    (every_front_is_its_trees t secret times is_kept steps v runs)
+every_front_is_one_tree limits t secret times is_kept before steps v left runs =
+    leads_more opening_tree t v.tree before (run_log steps (beginning limits t secret times is_kept) v runs) left
+    (every_front_is_its_trees limits t secret times is_kept steps v runs)
 
 pub every_change_is_made : EveryChangeIsMade
-every_change_is_made t secret times steps v runs =
-    (run_goes steps (beginning t secret times true) v (is_few t secret times true) runs).made refl
+every_change_is_made limits t secret times steps v runs =
+    (run_goes steps (beginning limits t secret times true) v (is_few limits t secret times true) runs).made refl
 
 pub every_front_is_seated : EveryFrontIsSeated
-every_front_is_seated t secret times is_kept steps v can runs =
-    ((run_goes steps (beginning t secret times is_kept) v (is_few t secret times is_kept) runs).seats (is_fine t secret times is_kept can)).seated
+every_front_is_seated limits t secret times is_kept steps v can runs =
+    ((run_goes steps (beginning limits t secret times is_kept) v (is_few limits t secret times is_kept) runs).seats (is_fine limits t secret times is_kept can)).seated
 
 pub who_speaks_is_alive : WhoSpeaksIsAlive
-who_speaks_is_alive t secret times is_kept at c d session can stands speaks =
-    let ran = run_goes stands.steps (beginning t secret times is_kept) stands.stood (is_few t secret times is_kept) stands.ran in
-    let stood = (empties c stands.stood).seats (ran.seats (is_fine t secret times is_kept can)) in
+who_speaks_is_alive limits t secret times is_kept at c d session can stands speaks =
+    let ran = run_goes stands.steps (beginning limits t secret times is_kept) stands.stood (is_few limits t secret times is_kept) stands.ran in
+    let stood = (empties c stands.stood).seats (ran.seats (is_fine limits t secret times is_kept can)) in
     let fine = (handles_all stands.frames c _ at stands.handled).seats stood in
     fine.alive session (has_seat at.tables d session fine.seated speaks)

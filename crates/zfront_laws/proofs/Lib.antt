@@ -5,6 +5,7 @@ pub mod Seated
 pub mod Cached
 pub mod Changes
 pub mod Lighter
+pub mod Walking
 pub mod Wishes
 mod Working
 pub mod Rising

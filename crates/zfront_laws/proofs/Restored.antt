@@ -6,6 +6,7 @@ use Rattle.std.specs.FinMap.{contains_key}
 use Rattle.ztree.specs.Tree.{Tree}
 use Rattle.zresponses.specs.declared.clock.Clock.{Clock}
 use Rattle.zconnections.specs.declared.buffers.phase.Phase.TheVariants.{Speaking}
+use Rattle.zwatches.specs.declared.limits.WatchLimits.{WatchLimits}
 use Rattle.zprotocol.specs.world.FromTree.{CanStart}
 use Rattle.zfront.specs.Front.{FrontView}
 use Rattle.zfront.specs.Restoring.{beginning}
@@ -16,12 +17,12 @@ use Rattle.zfront_laws.proofs.Held.{held-empty}
 use Rattle.zfront_laws.proofs.Seated.{Has}
 use Rattle.zfront_laws.proofs.Steps.{Fine}
 
-module _ (t : Tree) (secret : List ℕ) (times : Clock) (is_kept : Bool) where
+module _ (limits : WatchLimits) (t : Tree) (secret : List ℕ) (times : Clock) (is_kept : Bool) where
   abbrev v : FrontView
-  v = beginning t secret times is_kept
+  v = beginning limits t secret times is_kept
 
   pub is_bare : IsBare v.tables
-  is_bare = seats_bare (finite.keys t.sessions)
+  is_bare = seats_bare limits (finite.keys t.sessions)
 
   pub is_few : KeepsFew v
   is_few = omega (arith, held-empty)
@@ -31,12 +32,12 @@ module _ (t : Tree) (secret : List ℕ) (times : Clock) (is_kept : Bool) where
   sits id lives = each_sits (finite.keys t.sessions) finite.empty id (sym (finite.contains_key-keys t.sessions id) ∙ lives)
 
   pub lives : (id : ℕ) → Has v.tables.attachments id → contains_key t.sessions id ≡ true
-  lives id has = finite.contains_key-keys t.sessions id ∙ is_listed (finite.keys t.sessions) id has.0 has.1
+  lives id has = finite.contains_key-keys t.sessions id ∙ is_listed limits (finite.keys t.sessions) id has.0 has.1
 
   pub is_fine : CanStart t → Fine v
   is_fine can = record { seated = λ c session speaks. absurd (no_phase v.tables is_bare c (Speaking session) speaks); alive = lives; can = can }
 
 pub every_session_is_restored : EverySessionIsRestored
-every_session_is_restored t secret times is_kept session there =
-    let has = sits t secret times is_kept session there in
-    (has.0, has.1, ((is_bare t secret times is_kept).apart session has.0 has.1).free)
+every_session_is_restored limits t secret times is_kept session there =
+    let has = sits limits t secret times is_kept session there in
+    (has.0, has.1, ((is_bare limits t secret times is_kept).apart session has.0 has.1).free)

@@ -1,6 +1,6 @@
 -- A step at greetings and at requests.
 use Rattle.std.proofs.Common.{◌≡◌, ◌≢◌, ◌⊎◌, inl, inr, ◌∙◌, ℕ, ℤ, ◌+◌, ◌≤◌, Bool, true, false, List, [], ◌∷◌, Option, None, Some, Result}
-use Rattle.std.proofs.Common.{Ok, Err, refl, ap, arith}
+use Rattle.std.proofs.Common.{Ok, Err, refl, sym, ap, subst, arith}
 use Rattle.std.specs.Prelude.{pos, negsuc, nat_eq, unwrap_or, if◌then◌else◌}
 use Rattle.std.specs.Cmp.{nat_cmp_total}
 use Rattle.std.specs.FinMap.{get, insert, contains_key, nat_cmp-IsAntisymmetric}
@@ -14,7 +14,6 @@ use Rattle.zcodec.specs.declared.fault.Fault.{Fault}
 use Rattle.zcalls.specs.declared.call.Call.{Call}
 use Rattle.zcalls.specs.declared.reply.Reply.{Reply}
 use Rattle.zcalls.specs.declared.reply.Reply.TheVariants.{Opened}
-use Rattle.zjute.specs.Asking.{request}
 use Rattle.zjute.specs.Connecting.{connect_request}
 use Rattle.zjute.specs.declared.connecting.ConnectRequest.{ConnectRequest}
 use Rattle.zjute.specs.declared.request.Request.{Request}
@@ -22,8 +21,9 @@ use Rattle.zrequests.specs.Asking.{Meaning}
 use Rattle.zrequests.specs.Requests.{calls_in}
 use Rattle.zrequests.specs.Timeouts.{millis_reported, ticks_asked}
 use Rattle.zrequests.specs.declared.fault.Unasked.TheVariants.{Refused, Memory}
-use Rattle.zresponses.specs.Answers.{failed}
-use Rattle.zresponses.specs.Stats.{long_of}
+use Rattle.zresponses.specs.declared.answer.Answer.{Answer}
+use Rattle.zresponses.specs.Own.{refused_answer}
+use Rattle.zresponses.specs.Stats.{told, long_of}
 use Rattle.zpasswords.specs.Passwords.{password_of}
 use Rattle.zconnections.specs.buffers.Streams.{held_of}
 use Rattle.zconnections.specs.declared.buffers.phase.Phase.TheVariants.{Speaking}
@@ -38,7 +38,8 @@ use Rattle.zresponses.specs.effects.Greeting.{came_back, given, is_ahead, sessio
 use Rattle.zresponses.specs.effects.Replying.{replied}
 use Rattle.zfront.specs.Front.{FrontView, with_tables, asked, watched}
 use Rattle.zfront.specs.Greeting.{opening, opened, with_session, returned, greeted_by, greeted}
-use Rattle.zfront.specs.Requests.{touched_by, with_answer, Acts, Requests, Serves}
+use Rattle.zfront.specs.Requests.{touched_by, with_answer, Tells, Acts, ActsOr, Requests, Serves, request_in}
+use Rattle.zfront.specs.Walks.{walked}
 use Rattle.zfront_laws.specs.Logs.{done_by, greeting_calls, meant, request_calls}
 use Rattle.zfront_laws.specs.Seats.{IsSeated}
 use Rattle.zfront_laws.proofs.Calling.{made, makes}
@@ -49,18 +50,28 @@ use Rattle.zfront_laws.proofs.Rising.{new_id, sessions_last, step_adds}
 use Rattle.zfront_laws.proofs.Seated.{Has, connection_in}
 use Rattle.zfront_laws.proofs.Seated as seat
 use Rattle.zfront_laws.proofs.Steps.{Fine, Goes, below, both, retabled, tables_change}
+use Rattle.zfront_laws.proofs.Walking.{walks_call_nothing}
 use Rattle.zfront_laws.proofs.Working as working
 
 -- ---- requests
 
+tells : (answer : Answer) (c : ℕ) (r : Request) (old new : FrontView) → Tells answer c r old new → Goes [] [] old new
+tells answer c r old new is =
+    retabled (replied (told old.clock.base old.tree.zxid) c r.xid answer old.tables) old new is
+    (replies_to Lighter carries_lighter (told old.clock.base old.tree.zxid) c r.xid answer old.tables)
+
 acts : (meaning : Meaning (List Call)) (c : ℕ) (r : Request) (old new : FrontView) → Acts meaning c r old new
     → Goes [] (done_by (meant meaning) old) old new
-acts (Err (Refused code)) c r old new is =
-    retabled (replied old.tree.zxid c r.xid (failed code) old.tables) old new is
-    (replies_to Lighter carries_lighter old.tree.zxid c r.xid (failed code) old.tables)
+acts (Err (Refused code)) c r old new is = tells (refused_answer code r.asked) c r old new is
 acts (Err Memory) c r old new is = absurd is
 acts (Ok calls) c r old new has =
     makes calls (with_answer calls c r old).tables old new (working.answered_by Lighter carries_lighter calls c r old) (watched old) has
+
+acts_or : (walk : Option Answer) (meaning : Meaning (List Call)) → ((answer : Answer) → walk ≡ Some answer → meant meaning ≡ [])
+    → (c : ℕ) (r : Request) (old new : FrontView) → ActsOr walk meaning c r old new → Goes [] (done_by (meant meaning) old) old new
+acts_or (Some answer) meaning nothing c r old new is =
+    subst (λ calls. Goes [] (done_by calls old) old new) (sym (nothing answer refl)) (tells answer c r old new is)
+acts_or None meaning nothing c r old new has = acts meaning c r old new has
 
 requests : (read : Result Request Fault) (session c : ℕ) (old new : FrontView) → Requests read session c old new
     → Goes [] (done_by (request_calls read session old) old) old new
@@ -68,11 +79,12 @@ requests (Err fault) session c old new is = retabled (closed c old.tables) old n
 requests (Ok r) session c old new has =
     let middle = touched_by session old in
     both (retabled middle.tables old middle refl (as_many (held_of old.tables.streams), touched_kept session old.tables))
-    (acts (calls_in old.clock.tick session r.asked) c r middle new has)
+    (acts_or (walked session r.asked old.tree) (calls_in old.clock.tick session r.asked)
+    (walks_call_nothing old.clock.tick session r.asked old.tree) c r middle new has)
 
 pub serves : (bytes : List ℕ) (session c : ℕ) (old new : FrontView) → Serves bytes session c old new
-    → Goes [] (done_by (request_calls (whole request bytes) session old) old) old new
-serves bytes session c old new has = requests (whole request bytes) session c old new has
+    → Goes [] (done_by (request_calls (request_in old.clock.base bytes) session old) old) old new
+serves bytes session c old new has = requests (request_in old.clock.base bytes) session c old new has
 
 -- ---- a client comes back
 
@@ -218,7 +230,7 @@ module _ (greeting : ConnectRequest) (c : ℕ) (v : FrontView) where
 
 greets_by : (read : Result ConnectRequest Fault) (c : ℕ) (v : FrontView) → Goes [] (done_by (greeting_calls read v) v) v (greeted_by read c v)
 greets_by (Err fault) c v = retabled (closed c v.tables) v (with_tables (closed c v.tables) v) refl (closes c v.tables)
-greets_by (Ok greeting) c v = by (is_ahead v.tree.zxid greeting) (int_eq greeting.session_id (pos 0))
+greets_by (Ok greeting) c v = by (is_ahead (told v.clock.base v.tree.zxid) greeting) (int_eq greeting.session_id (pos 0))
   where
     by : (ahead is_new : Bool) → Goes [] (done_by (if ahead then [] else if is_new then opening v.clock.tick greeting ∷ [] else []) v) v
         (if ahead then with_tables (closed c v.tables) v else if is_new then with_session greeting c v

@@ -18,13 +18,14 @@ use Rattle.zresponses.specs.effects.Replying.{absorbed_all, replied}
 use Rattle.zresponses.specs.effects.Watching.{waiting, granted_all, first_fault}
 use Rattle.zresponses.specs.effects.Wishes.{wishes}
 use Rattle.zresponses.proofs.effects_lemmas.Granting.{grants_all}
+use Rattle.zresponses.specs.Stats.{told}
 use Rattle.zfront_laws.proofs.Changes.{Carries, absorbs_all, replies_to, sends}
 
 module _ (R : TablesView → TablesView → Type 0) (carry : Carries R) where
   waits : (c : ℕ) (kind : Kind) (path : Path) (t : TablesView) → R t (waiting c kind path t)
-  waits c kind path t = by (is_full t.watches (watch path kind c)) refl
+  waits c kind path t = by (is_full t.limits t.watches (watch path kind c)) refl
     where
-      by : (b : Bool) → is_full t.watches (watch path kind c) ≡ b → R t (waiting c kind path t)
+      by : (b : Bool) → is_full t.limits t.watches (watch path kind c) ≡ b → R t (waiting c kind path t)
       by true is = rw is (carry.none t)
       by false is = rw is (carry.watches (insert t.watches (watch path kind c)) t)
 
@@ -36,7 +37,7 @@ module _ (R : TablesView → TablesView → Type 0) (carry : Carries R) where
       let wanted = wishes request.asked calls replies in
       let granting = granted_all c wanted absorbing in
       let answer = answer_unless (first_fault c wanted absorbing) clock now request.asked calls replies in
-      carry.both t absorbing (replied now.zxid c request.xid answer granting) (absorbs_all R carry calls replies t)
-      (carry.both absorbing granting (replied now.zxid c request.xid answer granting)
+      carry.both t absorbing (replied (told clock.base now.zxid) c request.xid answer granting) (absorbs_all R carry calls replies t)
+      (carry.both absorbing granting (replied (told clock.base now.zxid) c request.xid answer granting)
       (grants_all R carry.none carry.both c (waits c) (λ e u. sends R carry c (event_frame e) u) (λ type path u. carry.watches (without_meant u.watches c type path) u) wanted absorbing)
-      (replies_to R carry now.zxid c request.xid answer granting))
+      (replies_to R carry (told clock.base now.zxid) c request.xid answer granting))

@@ -1,26 +1,28 @@
 -- What single changes of the tables carry is carried by all that becomes of requests and of ticks.
-use Rattle.std.proofs.Common.{◌≡◌, ℕ, Bool, true, false, List, Result, Ok, Err, sym, subst}
+use Rattle.std.proofs.Common.{◌≡◌, ℕ, Bool, true, false, List, Option, Result, Ok, Err, sym, subst}
+use Rattle.std.specs.Prelude.{None, Some}
 use Rattle.std.specs.List.{list_any}
-use Rattle.zcodec.specs.Readers.{whole}
 use Rattle.zcodec.specs.declared.fault.Fault.{Fault}
 use Rattle.ztree.specs.Tree.{Path}
 use Rattle.zcalls.specs.declared.call.Call.{Call}
 use Rattle.zcalls.specs.declared.reply.Reply.{Reply}
-use Rattle.zjute.specs.Asking.{request}
 use Rattle.zjute.specs.declared.request.Request.{Request}
 use Rattle.zrequests.specs.Asking.{Meaning}
 use Rattle.zrequests.specs.Requests.{calls_in}
 use Rattle.zrequests.specs.declared.fault.Unasked.TheVariants.{Refused, Memory}
-use Rattle.zresponses.specs.Answers.{failed}
+use Rattle.zresponses.specs.declared.answer.Answer.{Answer}
+use Rattle.zresponses.specs.Own.{refused_answer}
 use Rattle.zconnections.specs.attachments.Attachments.{touched_ids}
 use Rattle.zconnections.specs.Tables.{TablesView, closed}
 use Rattle.zresponses.specs.effects.Answering.{now_of}
 use Rattle.zresponses.specs.effects.Looking.{seen}
 use Rattle.zresponses.specs.effects.Replying.{replied}
+use Rattle.zresponses.specs.Stats.{told}
 use Rattle.zfront.specs.Front.{FrontView, with_tables, asked, replies_to, gone_from, swept, may_end, took_unnamed, looks, looked_if, watched}
 use Rattle.zfront.specs.Front.{tidied_if, tidied}
-use Rattle.zfront.specs.Requests.{touched_by, with_answer, Acts, Requests, Serves}
+use Rattle.zfront.specs.Requests.{touched_by, with_answer, Tells, Acts, ActsOr, Requests, Serves, request_in}
 use Rattle.zfront.specs.Ticking.{rested, tick_calls, Ticks}
+use Rattle.zfront.specs.Walks.{walked}
 use Rattle.zfront_laws.proofs.Changes.{Carries, replies_to as reported, sweeps_all, reports_all}
 use Rattle.zfront_laws.proofs.Wishes.{answers}
 
@@ -54,22 +56,30 @@ module _ (R : TablesView → TablesView → Type 0) (carry : Carries R) where
   pub answered_by : (calls : List Call) (c : ℕ) (r : Request) (v : FrontView) → From v (with_answer calls c r v)
   answered_by calls c r v = answers R carry v.clock (now_of (asked calls v).tree) c r calls (replies_to calls v) v.tables
 
+  tells : (answer : Answer) (c : ℕ) (r : Request) (old new : FrontView) → Tells answer c r old new → From old new
+  tells answer c r old new is =
+      becomes old (with_tables (replied (told old.clock.base old.tree.zxid) c r.xid answer old.tables) old) new is
+      (reported R carry (told old.clock.base old.tree.zxid) c r.xid answer old.tables)
+
   acts : (meaning : Meaning (List Call)) (c : ℕ) (r : Request) (old new : FrontView) → Acts meaning c r old new → From old new
-  acts (Err (Refused code)) c r old new is =
-      becomes old (with_tables (replied old.tree.zxid c r.xid (failed code) old.tables) old) new is
-      (reported R carry old.tree.zxid c r.xid (failed code) old.tables)
+  acts (Err (Refused code)) c r old new is = tells (refused_answer code r.asked) c r old new is
   acts (Err Memory) c r old new is = absurd is
   acts (Ok calls) c r old new has =
       joins old (with_answer calls c r old) new (answered_by calls c r old) (tidies calls (replies_to calls old) (watched old) (with_answer calls c r old) new has)
+
+  acts_or : (walk : Option Answer) (meaning : Meaning (List Call)) (c : ℕ) (r : Request) (old new : FrontView) → ActsOr walk meaning c r old new
+      → From old new
+  acts_or (Some answer) meaning c r old new is = tells answer c r old new is
+  acts_or None meaning c r old new has = acts meaning c r old new has
 
   requests : (read : Result Request Fault) (session c : ℕ) (old new : FrontView) → Requests read session c old new → From old new
   requests (Err fault) session c old new is = becomes old (with_tables (closed c old.tables) old) new is (carry.closes c old.tables)
   requests (Ok r) session c old new has =
       joins old (touched_by session old) new (carry.touches session old.tables)
-      (acts (calls_in old.clock.tick session r.asked) c r (touched_by session old) new has)
+      (acts_or (walked session r.asked old.tree) (calls_in old.clock.tick session r.asked) c r (touched_by session old) new has)
 
   pub serves : (bytes : List ℕ) (session c : ℕ) (old new : FrontView) → Serves bytes session c old new → From old new
-  serves bytes session c old new has = requests (whole request bytes) session c old new has
+  serves bytes session c old new has = requests (request_in old.clock.base bytes) session c old new has
 
   -- ticks
   pub ticks : (old new : FrontView) → Ticks old new → From old new

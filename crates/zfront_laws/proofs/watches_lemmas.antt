@@ -31,3 +31,4 @@ pub mod Greeting
 pub mod Ticking
 pub mod Coming
 pub mod Running
+pub mod Limited

@@ -19,6 +19,7 @@ use Rattle.zconnections.specs.buffers.Streams.{phase_of}
 use Rattle.zprotocol.specs.world.FromTree.{CanStart}
 use Rattle.zprotocol.specs.world.PlainTree.{serve}
 use Rattle.zresponses.specs.effects.Greeting.{given}
+use Rattle.zwatches.specs.declared.limits.WatchLimits.{WatchLimits}
 use Rattle.zfront.specs.Front.{FrontView}
 use Rattle.zfront.specs.Greeting.{opening}
 use Rattle.zfront.specs.Reading.{Comes, HandlesAll, emptied}
@@ -81,9 +82,9 @@ pub record HasGot (c session : ℕ) (steps : List Step) (first v : FrontView) : 
 -- whatever the steps of a front were, each connection that has a session got it that way
 abbrev pub EverySessionIsGot : Type 0
 EverySessionIsGot =
-    (t : Tree) (secret : List ℕ) (times : Clock) (is_kept : Bool) (steps : List Step) (v : FrontView) (c session : ℕ)
-    → Runs steps (beginning t secret times is_kept) v
-    → phase_of v.tables.streams c ≡ Some (Speaking session) → HasGot c session steps (beginning t secret times is_kept) v
+    (limits : WatchLimits) (t : Tree) (secret : List ℕ) (times : Clock) (is_kept : Bool) (steps : List Step) (v : FrontView) (c session : ℕ)
+    → Runs steps (beginning limits t secret times is_kept) v
+    → phase_of v.tables.streams c ≡ Some (Speaking session) → HasGot c session steps (beginning limits t secret times is_kept) v
 
 -- a front before it handles a frame: after steps, and after earlier frames of the same input
 pub record StandsBefore (c : ℕ) (first at : FrontView) : Type 0 where
@@ -97,7 +98,7 @@ pub record StandsBefore (c : ℕ) (first at : FrontView) : Type 0 where
 -- the tree. So no client acts for a session that ended
 abbrev pub WhoSpeaksIsAlive : Type 0
 WhoSpeaksIsAlive =
-    (t : Tree) (secret : List ℕ) (times : Clock) (is_kept : Bool) (at : FrontView) (c d session : ℕ)
-    → CanStart t → StandsBefore c (beginning t secret times is_kept) at
+    (limits : WatchLimits) (t : Tree) (secret : List ℕ) (times : Clock) (is_kept : Bool) (at : FrontView) (c d session : ℕ)
+    → CanStart t → StandsBefore c (beginning limits t secret times is_kept) at
     → phase_of at.tables.streams d ≡ Some (Speaking session)
     → finite.contains_key at.tree.sessions session ≡ true

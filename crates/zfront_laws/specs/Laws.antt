@@ -11,9 +11,10 @@ use Rattle.zrequests.specs.Laws.{CallIsFor}
 use Rattle.zresponses.specs.declared.clock.Clock.{Clock}
 use Rattle.ztree_service.specs.log.Logs.{Log, Leads, Leaves}
 use Rattle.zconnections.specs.Tables.{closed}
+use Rattle.zwatches.specs.declared.limits.WatchLimits.{WatchLimits}
 use Rattle.zfront.specs.Front.{FrontView, with_tables}
 use Rattle.zfront.specs.Restoring.{beginning}
-use Rattle.zfront.specs.Requests.{Serves, Makes, touched_by}
+use Rattle.zfront.specs.Requests.{Serves, Makes, request_in, touched_by}
 use Rattle.zfront_laws.specs.Runs.{Step, Does, KeepsFew, Runs}
 use Rattle.zfront_laws.specs.Logs.{step_log, run_log}
 
@@ -33,22 +34,22 @@ EveryRunGoesOn =
 -- a front stores few bytes, whatever tree it began with
 abbrev pub EveryFrontKeepsFew : Type 0
 EveryFrontKeepsFew =
-    (t : Tree) (secret : List ℕ) (times : Clock) (is_kept : Bool) (steps : List Step) (v : FrontView)
-    → Runs steps (beginning t secret times is_kept) v → KeepsFew v
+    (limits : WatchLimits) (t : Tree) (secret : List ℕ) (times : Clock) (is_kept : Bool) (steps : List Step) (v : FrontView)
+    → Runs steps (beginning limits t secret times is_kept) v → KeepsFew v
 
 -- the calls of all connections form one log: that of the steps, after any earlier log that left the
 -- first tree; its replies are those of one plain tree
 abbrev pub EveryFrontIsOneTree : Type 0
 EveryFrontIsOneTree =
-    (t : Tree) (secret : List ℕ) (times : Clock) (is_kept : Bool) (before : Log) (steps : List Step) (v : FrontView)
-    → Leaves before t → (runs : Runs steps (beginning t secret times is_kept) v)
-    → Leaves (before ++ run_log steps (beginning t secret times is_kept) v runs) v.tree
+    (limits : WatchLimits) (t : Tree) (secret : List ℕ) (times : Clock) (is_kept : Bool) (before : Log) (steps : List Step) (v : FrontView)
+    → Leaves before t → (runs : Runs steps (beginning limits t secret times is_kept) v)
+    → Leaves (before ++ run_log steps (beginning limits t secret times is_kept) v runs) v.tree
 
 -- whatever tree a front began with, the log since then is that tree's
 abbrev pub EveryFrontIsItsTrees : Type 0
 EveryFrontIsItsTrees =
-    (t : Tree) (secret : List ℕ) (times : Clock) (is_kept : Bool) (steps : List Step) (v : FrontView)
-    → (runs : Runs steps (beginning t secret times is_kept) v) → Leads t (run_log steps (beginning t secret times is_kept) v runs) v.tree
+    (limits : WatchLimits) (t : Tree) (secret : List ℕ) (times : Clock) (is_kept : Bool) (steps : List Step) (v : FrontView)
+    → (runs : Runs steps (beginning limits t secret times is_kept) v) → Leads t (run_log steps (beginning limits t secret times is_kept) v runs) v.tree
 
 -- the secret, the clock, and whether updates are recorded never change
 abbrev pub StaysAsItBegan : Type 0
@@ -67,5 +68,5 @@ abbrev pub RequestsAreForTheirSession : Type 0
 RequestsAreForTheirSession =
     (bytes : List ℕ) (session c : ℕ) (old new : FrontView) → Serves bytes session c old new
     → (new.tree ≡ old.tree)
-    ⊎ ((r : Request) × (calls : List Call) × (whole request bytes ≡ Ok r) × AllByRecursion (CallIsFor session) calls
+    ⊎ ((r : Request) × (calls : List Call) × (request_in old.clock.base bytes ≡ Ok r) × AllByRecursion (CallIsFor session) calls
     × Makes calls c r (touched_by session old) new)

@@ -5,7 +5,6 @@ use Rattle.std.specs.Ordering.{int_eq}
 use Rattle.zcodec.specs.Readers.{whole}
 use Rattle.zcodec.specs.declared.fault.Fault.{Fault}
 use Rattle.zcalls.specs.declared.call.Call.{Call}
-use Rattle.zjute.specs.Asking.{request}
 use Rattle.zjute.specs.Connecting.{connect_request}
 use Rattle.zjute.specs.declared.connecting.ConnectRequest.{ConnectRequest}
 use Rattle.zjute.specs.declared.request.Request.{Request}
@@ -19,11 +18,13 @@ use Rattle.zconnections.specs.declared.buffers.phase.Phase.TheVariants.{Silent, 
 use Rattle.ztree_service.specs.log.Logs.{Log}
 use Rattle.zconnections.specs.attachments.Attachments.{touched_ids}
 use Rattle.zconnections.specs.Tables.{is_open}
+use Rattle.zresponses.specs.Stats.{told}
 use Rattle.zresponses.specs.effects.Greeting.{is_ahead}
 use Rattle.zfront.specs.Front.{FrontView, replies_to}
 use Rattle.zfront.specs.Greeting.{opening}
 use Rattle.zfront.specs.Inputs as inputs
 use Rattle.zfront.specs.Reading.{HandlesAll, ComesBy, ComesIf, emptied, word_asked}
+use Rattle.zfront.specs.Requests.{request_in}
 use Rattle.zfront.specs.Ticking.{tick_calls}
 use Rattle.zfront_laws.specs.Runs.{Step, Takes, Sent, Took, Does, Runs}
 
@@ -33,7 +34,7 @@ use Rattle.zfront_laws.specs.Runs.{Step, Takes, Sent, Took, Does, Runs}
 abbrev pub greeting_calls : Result ConnectRequest Fault → FrontView → List Call
 greeting_calls (Err fault) v = []
 greeting_calls (Ok greeting) v =
-    if is_ahead v.tree.zxid greeting then [] else
+    if is_ahead (told v.clock.base v.tree.zxid) greeting then [] else
     if int_eq greeting.session_id (pos 0) then opening v.clock.tick greeting ∷ [] else []
 
 -- the calls of a request, unless it is refused
@@ -48,7 +49,7 @@ request_calls (Ok r) session v = meant (calls_in v.clock.tick session r.asked)
 -- the calls of a frame on a connection in this phase
 abbrev pub frame_calls : Option Phase → List ℕ → FrontView → List Call
 frame_calls (Some Silent) bytes v = greeting_calls (whole connect_request bytes) v
-frame_calls (Some (Speaking session)) bytes v = request_calls (whole request bytes) session v
+frame_calls (Some (Speaking session)) bytes v = request_calls (request_in v.clock.base bytes) session v
 frame_calls (Some Closing) bytes v = []
 frame_calls None bytes v = []
 

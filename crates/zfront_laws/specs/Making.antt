@@ -5,6 +5,7 @@ use Rattle.ztree.specs.Tree.{Tree}
 use Rattle.zcalls.specs.declared.call.Update.{Update}
 use Rattle.zresponses.specs.declared.clock.Clock.{Clock}
 use Rattle.zconnections.specs.declared.attachments.attachment.Attachment.{Attachment}
+use Rattle.zwatches.specs.declared.limits.WatchLimits.{WatchLimits}
 use Rattle.ztree_service.specs.log.Logs.{Log, calls_of}
 use Rattle.zfront.specs.Front.{FrontView, updates_among}
 use Rattle.zfront.specs.Restoring.{beginning}
@@ -37,12 +38,12 @@ EveryStepMakesMore =
 -- a front begins with each session of its tree, without a connection
 abbrev pub EverySessionIsRestored : Type 0
 EverySessionIsRestored =
-    (t : Tree) (secret : List ℕ) (times : Clock) (is_kept : Bool) (session : ℕ) → contains_key t.sessions session ≡ true
-    → (s : Attachment) × (get (beginning t secret times is_kept).tables.attachments session ≡ Some s) × (s.connection ≡ None)
+    (limits : WatchLimits) (t : Tree) (secret : List ℕ) (times : Clock) (is_kept : Bool) (session : ℕ) → contains_key t.sessions session ≡ true
+    → (s : Attachment) × (get (beginning limits t secret times is_kept).tables.attachments session ≡ Some s) × (s.connection ≡ None)
 
 -- the updates of the log are those taken and those still recorded: each once, in order
 abbrev pub EveryChangeIsMade : Type 0
 EveryChangeIsMade =
-    (t : Tree) (secret : List ℕ) (times : Clock) (steps : List Step) (v : FrontView)
-    → (runs : Runs steps (beginning t secret times true) v)
-    → updates_in (run_log steps (beginning t secret times true) v runs) ≡ took_in steps (beginning t secret times true) v runs ++ v.made
+    (limits : WatchLimits) (t : Tree) (secret : List ℕ) (times : Clock) (steps : List Step) (v : FrontView)
+    → (runs : Runs steps (beginning limits t secret times true) v)
+    → updates_in (run_log steps (beginning limits t secret times true) v runs) ≡ took_in steps (beginning limits t secret times true) v runs ++ v.made

@@ -11,6 +11,7 @@ use Rattle.zprotocol.specs.world.FromTree.{CanStart}
 use Rattle.zconnections.specs.Tables.{TablesView, connection_of, closed, ended, sent, attachment, taken_up}
 use Rattle.zconnections.specs.Sweeping.{swept_all}
 use Rattle.zconnections.specs.Reporting.{reported_all}
+use Rattle.zwatches.specs.declared.limits.WatchLimits.{WatchLimits}
 use Rattle.zfront.specs.Front.{FrontView}
 use Rattle.zfront.specs.Restoring.{beginning}
 use Rattle.zfront_laws.specs.Runs.{Step, Runs}
@@ -43,5 +44,5 @@ pub record SeatsAreKept : Type 0 where
 -- it holds of every front, whatever its steps, if a service can begin with the first tree
 abbrev pub EveryFrontIsSeated : Type 0
 EveryFrontIsSeated =
-    (t : Tree) (secret : List ℕ) (times : Clock) (is_kept : Bool) (steps : List Step) (v : FrontView)
-    → CanStart t → Runs steps (beginning t secret times is_kept) v → IsSeated v.tables
+    (limits : WatchLimits) (t : Tree) (secret : List ℕ) (times : Clock) (is_kept : Bool) (steps : List Step) (v : FrontView)
+    → CanStart t → Runs steps (beginning limits t secret times is_kept) v → IsSeated v.tables

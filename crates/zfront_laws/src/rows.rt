@@ -15,6 +15,7 @@ ghost use Rattle.zconnections.specs.declared.buffers.phase.Phase.TheVariants.{Cl
 ghost use Rattle.zconnections.specs.buffers.Inputs.InputView.{Opened, Came, Ended, Tick};
 ghost use Rattle.zconnections.specs.buffers.Streams.{phase_of};
 ghost use Rattle.zprotocol.specs.world.PlainTree.{serve};
+ghost use Rattle.zresponses.specs.Stats.{told};
 ghost use Rattle.zresponses.specs.effects.Greeting.{given, is_ahead};
 ghost use Rattle.zconnections.specs.Tables.{TablesView, connection_of};
 ghost use Rattle.zfront.specs.Front.{FrontView};
@@ -49,12 +50,12 @@ pub fn calls_are_logged()
 pub fn frames_call()
     ensures no_greeting { (fault : Fault) (v : FrontView) → greeting_calls (Err fault) v ≡ [] }
     ensures opens { (greeting : ConnectRequest) (v : FrontView) → greeting.session_id ≡ pos 0
-        → is_ahead v.tree.zxid greeting ≡ false
+        → is_ahead (told v.clock.base v.tree.zxid) greeting ≡ false
         → greeting_calls (Ok greeting) v ≡ opening v.clock.tick greeting ∷ [] }
     ensures names { (greeting : ConnectRequest) (v : FrontView) → greeting.session_id ≡ pos 7
         → greeting_calls (Ok greeting) v ≡ [] }
     ensures ahead { (greeting : ConnectRequest) (v : FrontView)
-        → is_ahead v.tree.zxid greeting ≡ true → greeting_calls (Ok greeting) v ≡ [] }
+        → is_ahead (told v.clock.base v.tree.zxid) greeting ≡ true → greeting_calls (Ok greeting) v ≡ [] }
     ensures no_request { (fault : Fault) (session : ℕ) (v : FrontView)
         → request_calls (Err fault) session v ≡ [] }
     ensures closing { (bytes : List ℕ) (v : FrontView) → frame_calls (Some Closing) bytes v ≡ [] }

@@ -5,7 +5,8 @@
 //! The one exception is the answer to the close of its session. An event has its cause in an
 //! answered call, in a check of the tree, or in a request that sets a watch again.
 //! `specs/Watching.antt` defines the allowed happenings, and `specs/Laws.antt` says that no others
-//! happen. The law is the contract of a function whose body does nothing.
+//! happen. `specs/Limits.antt` says how many watches there are at most. The laws are the contracts
+//! of functions whose bodies do nothing.
 
 pub mod laws;
 mod rows;

@@ -13,7 +13,7 @@ use Rattle.zjute.specs.declared.op.Op.TheVariants as op
 use Rattle.zjute.specs.declared.request.Asked.{Asked}
 use Rattle.zjute.specs.declared.request.Asked.TheVariants as asks
 use Rattle.zjute.specs.declared.request.Request.{Request}
-use Rattle.zjute.specs.Jute.{int, buffer, left}
+use Rattle.zjute.specs.Jute.{int, buffer, text, left}
 use Rattle.zjute.specs.Shapes.{with_number}
 use Rattle.zjute.specs.Requests.{create, create_ttl, at_version, look, set_data, set_acl, watches_at, add_watch, auth, set_watches, set_watches_2}
 use Rattle.zjute.specs.Parts.{parts, looks}
@@ -23,7 +23,7 @@ use Rattle.zjute.proofs.Signed.{is_int}
 use Rattle.zjute.proofs.Numbered.{has_number}
 use Rattle.zjute.proofs.Before.{IsFormBefore, Nothing, before, left_last, both_before, fields_before, last_takes, last_again}
 use Rattle.zjute.proofs.Tags.{TakesAt, takes_as, again_as, is_by_tag}
-use Rattle.zjute.proofs.Records.{is_buffer, is_create, is_create_ttl, is_at_version, is_look, is_set_data, is_set_acl, is_watches_at, is_add_watch, is_auth, is_set_watches, is_set_watches_2}
+use Rattle.zjute.proofs.Records.{is_buffer, is_text, is_create, is_create_ttl, is_at_version, is_look, is_set_data, is_set_acl, is_watches_at, is_add_watch, is_auth, is_set_watches, is_set_watches_2}
 use Rattle.zjute.proofs.Headers.{is_parts, is_looks}
 
 op_reports : (n : ℤ) → op_number (op_of n) ≡ n
@@ -65,7 +65,11 @@ takes op.MultiRead bytes y are e = takes_as Nothing asked_spelled op.MultiRead l
 takes op.Auth bytes y are e = takes_as Nothing asked_spelled op.Auth auth (λ x. asks.Auth x) (before Nothing auth is_auth) (λ x. refl) (λ x. refl) (λ x fits. fits) bytes y are e
 takes op.SetWatches bytes y are e = takes_as Nothing asked_spelled op.SetWatches set_watches (λ x. asks.SetWatches x) (before Nothing set_watches is_set_watches) (λ x. refl) (λ x. refl) (λ x fits. fits) bytes y are e
 takes op.SetWatches2 bytes y are e = takes_as Nothing asked_spelled op.SetWatches2 set_watches_2 (λ x. asks.SetWatches2 x) (before Nothing set_watches_2 is_set_watches_2) (λ x. refl) (λ x. refl) (λ x fits. fits) bytes y are e
+takes op.Sasl bytes y are e = takes_as Nothing asked_spelled op.Sasl text (λ x. asks.Sasl x) (before Nothing text is_text) (λ x. refl) (λ x. refl) (λ x fits. fits) bytes y are e
+takes op.GetEphemerals bytes y are e = takes_as Nothing asked_spelled op.GetEphemerals buffer (λ x. asks.GetEphemerals x) (before Nothing buffer is_buffer) (λ x. refl) (λ x. refl) (λ x fits. fits) bytes y are e
+takes op.GetAllChildrenNumber bytes y are e = takes_as Nothing asked_spelled op.GetAllChildrenNumber buffer (λ x. asks.GetAllChildrenNumber x) (before Nothing buffer is_buffer) (λ x. refl) (λ x. refl) (λ x fits. fits) bytes y are e
 takes op.AddWatch bytes y are e = takes_as Nothing asked_spelled op.AddWatch add_watch (λ x. asks.AddWatch x) (before Nothing add_watch is_add_watch) (λ x. refl) (λ x. refl) (λ x fits. fits) bytes y are e
+takes op.WhoAmI bytes y are e = takes_as Nothing asked_spelled op.WhoAmI empty (λ _. asks.WhoAmI) (before Nothing empty is_empty) (λ x. refl) (λ x. refl) (λ x fits. fits) bytes y are e
 takes op.CloseSession bytes y are e = takes_as Nothing asked_spelled op.CloseSession empty (λ _. asks.CloseSession) (before Nothing empty is_empty) (λ x. refl) (λ x. refl) (λ x fits. fits) bytes y are e
 takes (op.Other n) bytes y are e = takes_as Nothing asked_spelled (op.Other n) left (λ x. asks.Other n x) left_last (λ x. refl) (λ x. refl) (λ x fits. fits) bytes y are e
 
@@ -93,7 +97,11 @@ again (asks.MultiRead x) rest ends fits = again_as Nothing looks (λ x. asks.Mul
 again (asks.Auth x) rest ends fits = again_as Nothing auth (λ x. asks.Auth x) (before Nothing auth is_auth) x rest ends fits
 again (asks.SetWatches x) rest ends fits = again_as Nothing set_watches (λ x. asks.SetWatches x) (before Nothing set_watches is_set_watches) x rest ends fits
 again (asks.SetWatches2 x) rest ends fits = again_as Nothing set_watches_2 (λ x. asks.SetWatches2 x) (before Nothing set_watches_2 is_set_watches_2) x rest ends fits
+again (asks.Sasl x) rest ends fits = again_as Nothing text (λ x. asks.Sasl x) (before Nothing text is_text) x rest ends fits
+again (asks.GetEphemerals x) rest ends fits = again_as Nothing buffer (λ x. asks.GetEphemerals x) (before Nothing buffer is_buffer) x rest ends fits
+again (asks.GetAllChildrenNumber x) rest ends fits = again_as Nothing buffer (λ x. asks.GetAllChildrenNumber x) (before Nothing buffer is_buffer) x rest ends fits
 again (asks.AddWatch x) rest ends fits = again_as Nothing add_watch (λ x. asks.AddWatch x) (before Nothing add_watch is_add_watch) x rest ends fits
+again asks.WhoAmI rest ends fits = refl
 again asks.CloseSession rest ends fits = refl
 again (asks.Other n x) rest ends fits = again_as Nothing left (λ x. asks.Other n x) left_last x rest ends fits
 

@@ -4,11 +4,11 @@ use Rattle.zcodec.specs.Choices.{flag}
 use Rattle.zcodec.specs.Forms.{both}
 use Rattle.zcodec.specs.Laws.{IsForm}
 use Rattle.zcodec.proofs.Parts.{is_both, is_record}
-use Rattle.zcodec.proofs.Choices.{is_flag, is_sized, is_listed}
+use Rattle.zcodec.proofs.Choices.{is_flag, is_sized, is_listed, is_listed_or_null}
 use Rattle.zcodec.proofs.Choices as forms
 use Rattle.zjute.specs.declared.limits.TheConstants.{MAX_FRAME}
 use Rattle.zjute.specs.Jute.{int, long, buffer, text, texts}
-use Rattle.zjute.specs.Requests.{acl, acls, create, create_ttl, at_version, look, set_data, set_acl, watches_at, add_watch, auth, set_watches, set_watches_2}
+use Rattle.zjute.specs.Requests.{acl, acls_or_null, create, create_ttl, at_version, look, set_data, set_acl, watches_at, add_watch, auth, set_watches, set_watches_2}
 use Rattle.zjute.specs.Stats.{times, times_of, versions, versions_of, sizes, sizes_of, stat_of, stat}
 use Rattle.zjute.proofs.Signed.{is_int, is_long}
 
@@ -28,13 +28,13 @@ pub is_acl : IsForm acl
 unfolding acl
 is_acl = is_record _ _ _ (is_both int _ is_int (is_both buffer buffer is_buffer is_buffer)) (λ f. refl) (λ a. refl)
 
-pub is_acls : IsForm acls
-unfolding acls
-is_acls = is_listed MAX_FRAME acl (omega arith) is_acl
+pub is_acls : IsForm acls_or_null
+unfolding acls_or_null
+is_acls = is_listed_or_null MAX_FRAME acl (omega arith) is_acl
 
 pub is_create : IsForm create
 unfolding create
-is_create = is_record _ _ _ (is_both buffer _ is_buffer (is_both buffer _ is_buffer (is_both acls int is_acls is_int))) (λ f. refl) (λ c. refl)
+is_create = is_record _ _ _ (is_both buffer _ is_buffer (is_both buffer _ is_buffer (is_both acls_or_null int is_acls is_int))) (λ f. refl) (λ c. refl)
 
 pub is_create_ttl : IsForm create_ttl
 unfolding create_ttl
@@ -54,7 +54,7 @@ is_set_data = is_record _ _ _ (is_both buffer _ is_buffer (is_both buffer int is
 
 pub is_set_acl : IsForm set_acl
 unfolding set_acl
-is_set_acl = is_record _ _ _ (is_both buffer _ is_buffer (is_both acls int is_acls is_int)) (λ f. refl) (λ s. refl)
+is_set_acl = is_record _ _ _ (is_both buffer _ is_buffer (is_both acls_or_null int is_acls is_int)) (λ f. refl) (λ s. refl)
 
 pub is_watches_at : IsForm watches_at
 unfolding watches_at

@@ -8,7 +8,7 @@ use Rattle.zjute.specs.declared.op.Op.TheVariants as op
 use Rattle.zjute.specs.declared.request.Asked.{Asked}
 use Rattle.zjute.specs.declared.request.Request.{Request}
 use Rattle.zjute.specs.declared.request.Asked.TheVariants as asks
-use Rattle.zjute.specs.Jute.{neg, int, buffer, left}
+use Rattle.zjute.specs.Jute.{neg, int, buffer, text, left}
 use Rattle.zjute.specs.Shapes.{fields, Spelled, behind, read_as, by_tag, with_number}
 use Rattle.zjute.specs.Requests.{create, create_ttl, at_version, look, set_data, set_acl, watches_at, add_watch, auth, set_watches, set_watches_2}
 use Rattle.zjute.specs.Parts.{parts, looks}
@@ -36,16 +36,24 @@ op_number op.CreateTtl = pos 21
 op_number op.MultiRead = pos 22
 op_number op.Auth = pos 100
 op_number op.SetWatches = pos 101
+op_number op.Sasl = pos 102
+op_number op.GetEphemerals = pos 103
+op_number op.GetAllChildrenNumber = pos 104
 op_number op.SetWatches2 = pos 105
 op_number op.AddWatch = pos 106
+op_number op.WhoAmI = pos 107
 op_number op.CloseSession = neg 11
 op_number (op.Other n) = n
 
--- the kinds from 19 on, and below 0
+-- the kinds from 104 on, and below 0
+unfoldable pub last_ops : List Op
+last_ops =
+    op.GetAllChildrenNumber ∷ op.SetWatches2 ∷ op.AddWatch ∷ op.WhoAmI ∷ op.CloseSession ∷ []
+
 unfoldable pub late_ops : List Op
 late_ops =
-    op.CreateContainer ∷ op.CreateTtl ∷ op.MultiRead ∷ op.Auth ∷ op.SetWatches ∷
-    op.SetWatches2 ∷ op.AddWatch ∷ op.CloseSession ∷ []
+    op.CreateContainer ∷ op.CreateTtl ∷ op.MultiRead ∷ op.Auth ∷ op.SetWatches ∷ op.Sasl ∷
+    op.GetEphemerals ∷ last_ops
 
 unfoldable pub middle_ops : List Op
 middle_ops =
@@ -96,7 +104,11 @@ asked_at op.MultiRead = read_as looks (λ x. asks.MultiRead x)
 asked_at op.Auth = read_as auth (λ x. asks.Auth x)
 asked_at op.SetWatches = read_as set_watches (λ x. asks.SetWatches x)
 asked_at op.SetWatches2 = read_as set_watches_2 (λ x. asks.SetWatches2 x)
+asked_at op.Sasl = read_as text (λ x. asks.Sasl x)
+asked_at op.GetEphemerals = read_as buffer (λ x. asks.GetEphemerals x)
+asked_at op.GetAllChildrenNumber = read_as buffer (λ x. asks.GetAllChildrenNumber x)
 asked_at op.AddWatch = read_as add_watch (λ x. asks.AddWatch x)
+asked_at op.WhoAmI = read_as empty (λ _. asks.WhoAmI)
 asked_at op.CloseSession = read_as empty (λ _. asks.CloseSession)
 asked_at (op.Other n) = read_as left (λ bytes. asks.Other n bytes)
 
@@ -123,7 +135,11 @@ asked_spelled (asks.MultiRead x) = behind op.MultiRead looks x
 asked_spelled (asks.Auth x) = behind op.Auth auth x
 asked_spelled (asks.SetWatches x) = behind op.SetWatches set_watches x
 asked_spelled (asks.SetWatches2 x) = behind op.SetWatches2 set_watches_2 x
+asked_spelled (asks.Sasl x) = behind op.Sasl text x
+asked_spelled (asks.GetEphemerals x) = behind op.GetEphemerals buffer x
+asked_spelled (asks.GetAllChildrenNumber x) = behind op.GetAllChildrenNumber buffer x
 asked_spelled (asks.AddWatch x) = behind op.AddWatch add_watch x
+asked_spelled asks.WhoAmI = behind op.WhoAmI empty tt
 asked_spelled asks.CloseSession = behind op.CloseSession empty tt
 asked_spelled (asks.Other n bytes) = behind (op.Other n) left bytes
 

@@ -1,5 +1,5 @@
 -- Replies: a header (`ReplyHeader` of zookeeper.jute), and the record after it.
-use Rattle.std.specs.Prelude.{ℤ, pos, ℕ, List, [], ◌++◌, false}
+use Rattle.std.specs.Prelude.{ℤ, pos, ℕ, List, [], ◌++◌, None, false}
 use Rattle.std.specs.List.{flat_map}
 use Rattle.zjute.specs.declared.code.Code.{Code}
 use Rattle.zjute.specs.declared.code.Code.TheVariants as code
@@ -81,6 +81,9 @@ body_text (body.DataStat bytes s) = buffer.spell bytes ++ stat.spell s
 body_text (body.Names names) = texts.spell names
 body_text (body.NamesStat names s) = texts.spell names ++ stat.spell s
 body_text (body.AclsStat entries s) = acls.spell entries ++ stat.spell s
+body_text (body.Number n) = int.spell n
+body_text (body.Client scheme id) = int.spell (pos 1) ++ (text.spell scheme ++ text.spell id)
+body_text body.NoToken = buffer.spell None
 body_text (body.Results results) = results_text results
 
 unfoldable pub reply_text : Reply → List ℕ

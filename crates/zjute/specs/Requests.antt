@@ -1,7 +1,7 @@
 -- The records of requests: each encodes the fields of its zookeeper.jute record in order.
-use Rattle.std.specs.Prelude.{List}
+use Rattle.std.specs.Prelude.{List, Option}
 use Rattle.zcodec.specs.Forms.{Form, both}
-use Rattle.zcodec.specs.Choices.{listed, flag}
+use Rattle.zcodec.specs.Choices.{listed, listed_or_null, flag}
 use Rattle.zjute.specs.declared.limits.TheConstants.{MAX_FRAME}
 use Rattle.zjute.specs.declared.acl.Acl.{Acl}
 use Rattle.zjute.specs.declared.request.CreateRequest.{CreateRequest}
@@ -27,9 +27,13 @@ acl = fields (both int (both buffer buffer)) (λ a. (a.perms, (a.scheme, a.id)))
 unfoldable pub acls : Form (List Acl)
 acls = listed MAX_FRAME acl
 
+-- the same in a request; a count of -1 means null
+unfoldable pub acls_or_null : Form (Option (List Acl))
+acls_or_null = listed_or_null MAX_FRAME acl
+
 -- `CreateRequest`
 unfoldable pub create : Form CreateRequest
-create = fields (both buffer (both buffer (both acls int)))
+create = fields (both buffer (both buffer (both acls_or_null int)))
     (λ c. (c.path, (c.bytes, (c.acls, c.flags))))
     (λ f. record { path = f.0; bytes = f.1.0; acls = f.1.1.0; flags = f.1.1.1 })
 
@@ -54,7 +58,7 @@ set_data = fields (both buffer (both buffer int)) (λ s. (s.path, (s.bytes, s.ve
 
 -- `SetACLRequest`
 unfoldable pub set_acl : Form SetAcl
-set_acl = fields (both buffer (both acls int)) (λ s. (s.path, (s.acls, s.version)))
+set_acl = fields (both buffer (both acls_or_null int)) (λ s. (s.path, (s.acls, s.version)))
     (λ f. record { path = f.0; acls = f.1.0; version = f.1.1 })
 
 -- `CheckWatchesRequest` and `RemoveWatchesRequest`

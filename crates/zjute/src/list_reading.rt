@@ -4,14 +4,14 @@ ghost use Rattle.std.specs.Prelude.{◌≡◌, ◌≤◌};
 ghost use Rattle.zcodec.specs.Forms.{times};
 ghost use Rattle.zcodec.specs.Readers.{Gives};
 ghost use Rattle.zjute.specs.Jute.{text, texts};
-ghost use Rattle.zjute.specs.Requests.{acl, acls};
+ghost use Rattle.zjute.specs.Requests.{acl, acls_or_null};
 
 use crate::acl::{Acl, Acls};
 use crate::bytes::Texts;
 use crate::field_reading::{buffer_of, int_at, text_of};
 use crate::limits::MAX_FRAME;
 use std::alloc::Global;
-use zcodec::{Fault, ReadError, u32_at};
+use zcodec::{Fault, NULL, ReadError, u32_at};
 
 /// Reads a `vector<ustring>`.
 #[tactic(auto, unfolding(crate::specs::Jute::texts))]
@@ -40,16 +40,20 @@ fn counted_texts(alloc: Global, count: u32, bytes: &[u8]) -> Result<(Texts, &[u8
     Ok((Texts::within(texts), rest))
 }
 
-/// Reads a `vector<ACL>`.
-#[tactic(auto, unfolding(crate::specs::Requests::acls))]
-pub(crate) fn acls_of(alloc: Global, bytes: &[u8]) -> Result<(Acls, &[u8]), ReadError>
-    ensures { Gives (λ x. (x.0, x.1.now)) result (acls.read bytes.now) }
+/// Reads a `vector<ACL>`, which may be null.
+#[tactic(auto, unfolding(crate::specs::Requests::acls_or_null))]
+pub(crate) fn acls_of(alloc: Global, bytes: &[u8]) -> Result<(Option<Acls>, &[u8]), ReadError>
+    ensures { Gives (λ x. (x.0, x.1.now)) result (acls_or_null.read bytes.now) }
 {
     let (count, rest) = u32_at(bytes)?;
+    if count == NULL {
+        return Ok((None, rest));
+    }
     if count > MAX_FRAME {
         return Err(ReadError::Fault(Fault::Long));
     }
-    counted_acls(alloc, count, rest)
+    let (acls, rest) = counted_acls(alloc, count, rest)?;
+    Ok((Some(acls), rest))
 }
 
 // Reads that many entries.

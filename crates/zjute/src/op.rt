@@ -1,7 +1,7 @@
 //! The numbers of the kinds of request.
 
 ghost use Rattle.std.specs.Prelude.{◌≡◌};
-ghost use Rattle.zjute.specs.Asking.{op_of, op_among, middle_ops, late_ops};
+ghost use Rattle.zjute.specs.Asking.{op_of, op_among, middle_ops, late_ops, last_ops};
 
 /// The kind of a request (`ZooDefs.OpCode`).
 #[derive(Clone, Copy, PartialEq, Eq)]
@@ -48,10 +48,18 @@ pub(crate) enum Op {
     Auth,
     /// 101
     SetWatches,
+    /// 102
+    Sasl,
+    /// 103
+    GetEphemerals,
+    /// 104
+    GetAllChildrenNumber,
     /// 105
     SetWatches2,
     /// 106
     AddWatch,
+    /// 107
+    WhoAmI,
     /// -11
     CloseSession,
     /// Any other number.
@@ -95,7 +103,7 @@ impl Op {
         }
     }
 
-    // The kinds from 19 on, and below 0.
+    // The kinds from 19 on.
     #[tactic(auto, unfolding(crate::specs::Asking::late_ops))]
     fn among_late(number: i32) -> Op
         ensures { result ≡ op_among late_ops number }
@@ -106,8 +114,22 @@ impl Op {
             22 => Op::MultiRead,
             100 => Op::Auth,
             101 => Op::SetWatches,
+            102 => Op::Sasl,
+            103 => Op::GetEphemerals,
+            _ => Op::among_last(number),
+        }
+    }
+
+    // The kinds from 104 on, and below 0.
+    #[tactic(auto, unfolding(crate::specs::Asking::last_ops))]
+    fn among_last(number: i32) -> Op
+        ensures { result ≡ op_among last_ops number }
+    {
+        match number {
+            104 => Op::GetAllChildrenNumber,
             105 => Op::SetWatches2,
             106 => Op::AddWatch,
+            107 => Op::WhoAmI,
             -11 => Op::CloseSession,
             _ => Op::Other(number),
         }

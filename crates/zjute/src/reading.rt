@@ -4,7 +4,7 @@ ghost use Rattle.std.specs.Prelude.{◌≡◌, IfOk, Ok};
 ghost use Rattle.zcodec.specs.Readers.{Gives, whole};
 ghost use Rattle.zjute.specs.Asking.{asked_at, asked, request};
 
-use crate::field_reading::{buffer_of, int_at, left_of, whole_of};
+use crate::field_reading::{buffer_of, int_at, left_of, text_of, whole_of};
 use crate::op::Op;
 use crate::part_reading::{looks_of, parts_of};
 use crate::record_reading::{
@@ -96,8 +96,12 @@ fn case_of(alloc: Global, op: Op, bytes: &[u8]) -> Result<(Asked, &[u8]), ReadEr
         Op::MultiRead => asks!(MultiRead, looks_of(alloc, bytes)),
         Op::Auth => asks!(Auth, auth_of(alloc, bytes)),
         Op::SetWatches => asks!(SetWatches, set_watches_of(alloc, bytes)),
+        Op::Sasl => asks!(Sasl, text_of(alloc, bytes)),
+        Op::GetEphemerals => asks!(GetEphemerals, buffer_of(alloc, bytes)),
+        Op::GetAllChildrenNumber => asks!(GetAllChildrenNumber, buffer_of(alloc, bytes)),
         Op::SetWatches2 => asks!(SetWatches2, set_watches_2_of(alloc, bytes)),
         Op::AddWatch => asks!(AddWatch, add_watch_of(alloc, bytes)),
+        Op::WhoAmI => Ok((Asked::WhoAmI, bytes)),
         Op::CloseSession => Ok((Asked::CloseSession, bytes)),
         Op::Other(number) => match left_of(alloc, bytes) {
             Ok((it, rest)) => Ok((Asked::Other(number, it), rest)),

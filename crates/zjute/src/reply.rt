@@ -80,12 +80,18 @@ pub enum Body {
     Stat(StatRecord),
     /// Data and a stat (`GetDataResponse`); `None` is a null buffer.
     DataStat(Option<Bytes>, StatRecord),
-    /// Names (`GetChildrenResponse`).
+    /// Names (`GetChildrenResponse`), or paths (`GetEphemeralsResponse`).
     Names(Texts),
     /// Names and a stat (`GetChildren2Response`).
     NamesStat(Texts, StatRecord),
     /// An ACL and a stat (`GetACLResponse`).
     AclsStat(Acls, StatRecord),
+    /// A number (`GetAllChildrenNumberResponse`).
+    Number(i32),
+    /// The scheme and the id of the client: a list of one (`WhoAmIResponse`).
+    Client(Bytes, Bytes),
+    /// A null token (`SetSASLResponse`).
+    NoToken,
     /// The results of a multi or of a multiRead (`MultiResponse`).
     Results(Results),
 }

@@ -11,8 +11,8 @@ pub struct CreateRequest {
     pub path: Option<Bytes>,
     /// Its data; `None` is a null buffer.
     pub bytes: Option<Bytes>,
-    /// Its ACL.
-    pub acls: Acls,
+    /// Its ACL; `None` is a null list.
+    pub acls: Option<Acls>,
     /// The kind of node, by its number (`CreateMode`).
     pub flags: i32,
 }
@@ -62,8 +62,8 @@ pub struct SetDataRequest {
 pub struct SetAcl {
     /// The path of the node; `None` is a null string.
     pub path: Option<Bytes>,
-    /// Its new ACL.
-    pub acls: Acls,
+    /// Its new ACL; `None` is a null list.
+    pub acls: Option<Acls>,
     /// The expected version of the ACL, or -1 for any.
     pub version: i32,
 }
@@ -166,10 +166,19 @@ pub enum Asked {
     Auth(Auth),
     /// 101: set the watches of the previous connection again.
     SetWatches(SetWatches),
-    /// 105: the same, with persistent watches.
+    /// 102: a token of SASL, which isn't null (`GetSASLRequest`).
+    Sasl(Bytes),
+    /// 103: get the paths of the session's ephemeral nodes that begin with a text
+    /// (`GetEphemeralsRequest`).
+    GetEphemerals(Option<Bytes>),
+    /// 104: count the nodes below a path (`GetAllChildrenNumberRequest`).
+    GetAllChildrenNumber(Option<Bytes>),
+    /// 105: the same as 101, with persistent watches.
     SetWatches2(SetWatches2),
     /// 106: add a persistent watch.
     AddWatch(AddWatch),
+    /// 107: who the client is.
+    WhoAmI,
     /// -11: end the session.
     CloseSession,
     /// Any other number, with the remaining bytes as they are.

@@ -32,7 +32,8 @@ ghost use Rattle.zjute.specs.support.Sent.{created, refused, reported_data, repo
 ghost use Rattle.zjute.specs.support.Sent.{reported_acl, multi_done, multi_refused, multi_kinds};
 ghost use Rattle.zjute.specs.support.Sent.{created_bytes, refused_bytes, reported_data_bytes};
 ghost use Rattle.zjute.specs.support.Sent.{reported_null_bytes, reported_names_bytes, reported_acl_bytes};
-ghost use Rattle.zjute.specs.support.Sent.{watched, watched_bytes};
+ghost use Rattle.zjute.specs.support.Sent.{watched, watched_bytes, counted, counted_bytes};
+ghost use Rattle.zjute.specs.support.Sent.{named, named_bytes, no_token, no_token_bytes};
 ghost use Rattle.zjute.specs.support.Sent.{multi_done_bytes, multi_refused_bytes};
 ghost use Rattle.zjute.specs.support.Sent.{multi_kinds_bytes, event_bytes, data_changed};
 ghost use Rattle.zjute.specs.support.Sent.{some_stat, stat_bytes, connected_front, connected};
@@ -44,7 +45,11 @@ ghost use Rattle.zjute.specs.support.Rarer.{container_bytes, check_asked, check_
 ghost use Rattle.zjute.specs.support.Rarer.{remove_watches_asked, create_ttl_asked, create_container_asked};
 ghost use Rattle.zjute.specs.support.Rarer.{multi_read_asked, set_watches_asked};
 ghost use Rattle.zjute.specs.support.Rarer.{set_watches_2_asked, add_watch_asked};
-ghost use Rattle.zjute.specs.support.Rarer.{container_asked};
+ghost use Rattle.zjute.specs.support.Rarer.{container_asked, sasl_bytes, sasl_asked};
+ghost use Rattle.zjute.specs.support.Rarer.{get_ephemerals_bytes, get_ephemerals_asked};
+ghost use Rattle.zjute.specs.support.Rarer.{get_all_children_number_bytes};
+ghost use Rattle.zjute.specs.support.Rarer.{get_all_children_number_asked};
+ghost use Rattle.zjute.specs.support.Rarer.{who_am_i_bytes, who_am_i_asked};
 ghost use Rattle.zjute.specs.support.Numbers.{code_numbers, events, event_numbers, states};
 ghost use Rattle.zjute.specs.support.Numbers.{state_numbers};
 
@@ -104,6 +109,11 @@ pub fn rarer_requests_are_read()
     ensures set_watches_2 { whole request set_watches_2_bytes ≡ Ok set_watches_2_asked }
     ensures add_watch { whole request add_watch_bytes ≡ Ok add_watch_asked }
     ensures container { whole request container_bytes ≡ Ok container_asked }
+    ensures sasl { whole request sasl_bytes ≡ Ok sasl_asked }
+    ensures get_ephemerals { whole request get_ephemerals_bytes ≡ Ok get_ephemerals_asked }
+    ensures get_all_children_number { whole request get_all_children_number_bytes
+        ≡ Ok get_all_children_number_asked }
+    ensures who_am_i { whole request who_am_i_bytes ≡ Ok who_am_i_asked }
 {}
 
 /// The leftmost fault is returned. Null isn't empty.
@@ -113,6 +123,7 @@ pub fn faults_are_reported()
     ensures long_text { whole request (sent 6 (255 ∷ 255 ∷ 255 ∷ 254 ∷ [])) ≡ Err Long }
     ensures null_text { whole request (sent 6 (255 ∷ 255 ∷ 255 ∷ 255 ∷ []))
         ≡ Ok (asking 1 (asks.GetAcl None)) }
+    ensures null_token { whole request (sent 102 (255 ∷ 255 ∷ 255 ∷ 255 ∷ [])) ≡ Err Long }
     ensures empty_text { whole request (sent 6 (0 ∷ 0 ∷ 0 ∷ 0 ∷ []))
         ≡ Ok (asking 1 (asks.GetAcl (Some []))) }
     ensures flag { whole request (sent 3 (0 ∷ 0 ∷ 0 ∷ 1 ∷ 47 ∷ 2 ∷ [])) ≡ Err Invalid }
@@ -142,6 +153,9 @@ pub fn replies_are_spelled()
     ensures reported_names { reply_text reported_names ≡ reported_names_bytes }
     ensures reported_acl { reply_text reported_acl ≡ reported_acl_bytes }
     ensures watched { reply_text watched ≡ watched_bytes }
+    ensures counted { reply_text counted ≡ counted_bytes }
+    ensures named { reply_text named ≡ named_bytes }
+    ensures no_token { reply_text no_token ≡ no_token_bytes }
     ensures multi_done { reply_text multi_done ≡ multi_done_bytes }
     ensures multi_refused { reply_text multi_refused ≡ multi_refused_bytes }
     ensures multi_kinds { reply_text multi_kinds ≡ multi_kinds_bytes }

@@ -120,6 +120,13 @@ fn put_body(out: &mut Vec<u8>, body: &Body) -> Result<(), AllocError>
             put_acls(out, acls)?;
             put_stat(out, stat)
         }
+        Body::Number(number) => put_int(out, number),
+        Body::Client(scheme, id) => {
+            put_int(out, &1)?;
+            put_text(out, scheme)?;
+            put_text(out, id)
+        }
+        Body::NoToken => put_buffer(out, &None),
         Body::Results(results) => put_results(out, results),
     }
 }

@@ -1,5 +1,5 @@
 -- What each of some things means, from the left: one more of them, and lists one after the other.
-use Rattle.std.proofs.Common.{◌≡◌, ◌<◌, ◌+◌, inl, inr, ℕ, suc, List, [], ◌∷◌, ◌++◌, length, drop, Ok, Err, refl, sym, ap, ◌∙◌, append_assoc}
+use Rattle.std.proofs.Common.{◌≡◌, ◌<◌, ◌+◌, inl, inr, ℕ, List, [], ◌∷◌, ◌++◌, length, drop, Ok, Err, refl, sym, ap, ◌∙◌, append_assoc}
 use Rattle.std.proofs.Math.ListN.{get_or}
 use Rattle.std.proofs.lemmas.List.{drop_more, append-nil}
 use Rattle.zrequests.specs.declared.fault.Unasked.{Unasked}
@@ -18,17 +18,6 @@ pub one_more : {A B : Type 0} (means : A → Meaning B) (xs : List A) (i : ℕ) 
     → each_behind known means (drop i xs) ≡ each_behind (known ++ y ∷ []) means (drop (i + 1) xs)
 one_more means xs i x y known more is read =
     rw (drop_more xs i x more, ← is, read) (behind_known (each_in means (drop (i + 1) xs)) y known)
-
--- as many are read as there are
-pub each_in-length : {A B : Type 0} (means : A → Meaning B) (xs : List A) (ys : List B) → each_in means xs ≡ Ok ys → length ys ≡ length xs
-each_in-length means [] ys read = let none : [] ≡ ys = cc in ap length (sym none)
-each_in-length {A} {B} means (x ∷ xs) ys read = at (means x) (each_in means xs) (each_in-length means xs) read
-  where
-    at : (first : Meaning B) (rest : Meaning (List B)) → ((more : List B) → rest ≡ Ok more → length more ≡ length xs)
-        → then_means first (λ y. then_means rest (λ more. Ok (y ∷ more))) ≡ Ok ys → length ys ≡ length (x ∷ xs)
-    at (Err fault) rest counts read = cc
-    at (Ok y) (Err fault) counts read = cc
-    at (Ok y) (Ok more) counts read = let all : y ∷ more ≡ ys = cc in ap length (sym all) ∙ ap suc (counts more refl)
 
 -- with nothing known
 pub behind_nothing : {A B : Type 0} (means : A → Meaning B) (xs : List A) → each_behind [] means xs ≡ each_in means xs

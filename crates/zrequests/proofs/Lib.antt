@@ -1,4 +1,5 @@
 pub mod Each
 pub mod Plain
 pub mod Meanings
+pub mod Parts
 pub mod SessionCalls

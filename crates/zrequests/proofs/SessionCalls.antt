@@ -1,6 +1,6 @@
 -- A request's calls act for the session of its connection alone.
 use Rattle.std.proofs.Common.{◌≡◌, ℕ, List, [], ◌∷◌, Option, Ok, Err, refl}
-use Rattle.std.specs.Prelude.{ℤ, pos, nat_lt, length, Some, None}
+use Rattle.std.specs.Prelude.{ℤ, pos, nat_lt, length, Some, None, if◌then◌else◌}
 use Rattle.std.specs.List.{AllByRecursion}
 use Rattle.std.specs.Ordering.{int_eq}
 use Rattle.ztree.specs.Tree.{Path}
@@ -16,7 +16,7 @@ use Rattle.zcalls.specs.declared.call.Query.{Query as Question}
 use Rattle.zcalls.specs.declared.call.Query.TheVariants.{GetData, Exists, GetChildren}
 use Rattle.zcalls.specs.declared.call.Call.{Call}
 use Rattle.zcalls.specs.declared.call.Call.TheVariants.{Update, Query}
-use Rattle.zjute.specs.declared.code.Code.TheVariants.{BadArguments, InvalidAcl, MarshallingError, Unimplemented, AuthFailed}
+use Rattle.zjute.specs.declared.code.Code.TheVariants.{BadArguments, InvalidAcl, MarshallingError, AuthFailed}
 use Rattle.zjute.specs.declared.request.Asked.TheVariants as asked
 use Rattle.zjute.specs.declared.request.CreateRequest.{CreateRequest as AskedCreate}
 use Rattle.zjute.specs.declared.request.CreateTtl.{CreateTtl}
@@ -28,7 +28,7 @@ use Rattle.zjute.specs.WatchNumbers.{mode_of, type_of}
 use Rattle.zrequests.specs.declared.fault.Unasked.TheVariants.{Refused}
 use Rattle.zrequests.specs.declared.limits.TheConstants.{MAX_PATHS}
 use Rattle.zrequests.specs.Asking.{Meaning, then_means, each_in, path_in, data_in, has_open_acl, kind_in, ttl_in, timed_kind_in}
-use Rattle.zrequests.specs.Requests.{node_in, create_in, timed_create_in, delete_in, check_in, set_in, part_in, one, one_of_parts, multi_in, query_in, look_in, looks_in, watch_in, watched_in, all_watched_in, numbered_in, look_alone, create_alone}
+use Rattle.zrequests.specs.Requests.{node_in, create_in, timed_create_in, delete_in, check_in, set_in, part_in, one, one_of_parts, or_never, parts_in, multi_in, query_in, look_in, looks_in, watch_in, watched_in, all_watched_in, numbered_in, look_alone, create_alone}
 use Rattle.zrequests.proofs.Meanings.{choice, done, each_for, never, behind, through}
 use Rattle.zrequests.specs.Laws.{IsForSession, PartIsFor, CallIsFor, CallsAreForTheirSession}
 
@@ -81,6 +81,15 @@ module _ (session : ℕ) where
   part_for tick (of_multi.SetData set) = behind (PartIsFor session) (set_in set) (λ set. Ok (part.SetData set)) (λ set. done (PartIsFor session) (part.SetData set) tt)
   part_for tick (of_multi.Check at) = behind (PartIsFor session) (check_in at) (λ check. Ok (part.Check check)) (λ check. done (PartIsFor session) (part.Check check) tt)
 
+  parts_for : (tick : ℕ) (parts : List AskedPart) → AllByRecursion (PartIsFor session) (parts_in tick session parts)
+  parts_for tick [] = tt
+  parts_for tick (asked ∷ more) = at (part_in tick session asked) (part_for tick asked) (parts_for tick more)
+    where
+      at : (m : Meaning Part) → ((p : Part) → m ≡ Ok p → PartIsFor session p) → AllByRecursion (PartIsFor session) (parts_in tick session more)
+          → AllByRecursion (PartIsFor session) (or_never m (parts_in tick session more))
+      at (Ok p) for are = (for p refl, are)
+      at (Err why) for are = (tt, tt)
+
   one_for : (call : Call) → CallIsFor session call → (calls : List Call) → one call ≡ Ok calls → Calls calls
   one_for call is = done Calls (call ∷ []) (is, tt)
 
@@ -100,11 +109,9 @@ module _ (session : ℕ) where
   multi_for : (tick : ℕ) (parts : List AskedPart) (calls : List Call) → multi_in tick session parts ≡ Ok calls → Calls calls
   multi_for tick [] = done Calls [] tt
   multi_for tick (first ∷ parts) =
-      choice Calls (nat_lt MAX_PARTS (length (first ∷ parts))) (Err (Refused BadArguments)) (then_means (each_in (part_in tick session) (first ∷ parts)) one_of_parts)
-      (never Calls (Refused BadArguments))
-      (through (AllByRecursion (PartIsFor session)) Calls (each_in (part_in tick session) (first ∷ parts)) one_of_parts
-      (each_for (PartIsFor session) (part_in tick session) (part_for tick) (first ∷ parts))
-      (λ parts are. one_for (Update (act.Multi parts)) are))
+      let all = parts_in tick session (first ∷ parts) in
+      choice Calls (nat_lt MAX_PARTS (length (first ∷ parts))) (Err (Refused BadArguments)) (one_of_parts all)
+      (never Calls (Refused BadArguments)) (one_for (Update (act.Multi all)) (parts_for tick (first ∷ parts)))
 
   looks_for : (looks : List LookPart) (calls : List Call) → looks_in looks ≡ Ok calls → Calls calls
   looks_for looks =
@@ -141,11 +148,18 @@ calls_are_for_their_session tick session (asked.Auth auth) =
     choice (Calls session) _ (Ok []) (Err (Refused AuthFailed)) (done (Calls session) [] tt) (never (Calls session) (Refused AuthFailed))
 calls_are_for_their_session tick session asked.Ping = done (Calls session) [] tt
 calls_are_for_their_session tick session asked.CloseSession = one_for session (Update (act.Close session)) refl
-calls_are_for_their_session tick session (asked.SetAcl set) = never (Calls session) (Refused Unimplemented)
+calls_are_for_their_session tick session (asked.SetAcl set) =
+    behind (Calls session) (path_in set.path) (λ path. if has_open_acl set.acls then one (Query (Exists path)) else Err (Refused InvalidAcl))
+    (λ path. choice (Calls session) (has_open_acl set.acls) (one (Query (Exists path))) (Err (Refused InvalidAcl))
+    (one_for session (Query (Exists path)) tt) (never (Calls session) (Refused InvalidAcl)))
+calls_are_for_their_session tick session (asked.Sasl token) = done (Calls session) [] tt
+calls_are_for_their_session tick session (asked.GetEphemerals front) = done (Calls session) [] tt
+calls_are_for_their_session tick session (asked.GetAllChildrenNumber top) = done (Calls session) [] tt
+calls_are_for_their_session tick session asked.WhoAmI = done (Calls session) [] tt
 calls_are_for_their_session tick session (asked.CheckWatches at) = numbered_for session (type_of at.kind) at.path
 calls_are_for_their_session tick session (asked.RemoveWatches at) = numbered_for session (type_of at.kind) at.path
 calls_are_for_their_session tick session (asked.SetWatches2 set) =
     choice (Calls session) (nat_lt MAX_PATHS (length (all_watched_in set))) (Err (Refused BadArguments)) (each_in watch_in (all_watched_in set)) (never (Calls session) (Refused BadArguments))
     (each_for (CallIsFor session) watch_in (λ path. query_for session Exists (Some path)) (all_watched_in set))
 calls_are_for_their_session tick session (asked.AddWatch add) = numbered_for session (mode_of add.mode) add.path
-calls_are_for_their_session tick session (asked.Other kind bytes) = never (Calls session) (Refused Unimplemented)
+calls_are_for_their_session tick session (asked.Other kind bytes) = never (Calls session) _

@@ -67,9 +67,9 @@ is_text text (Some bytes) = bytes_eq bytes text
 abbrev pub is_open : Acl → Bool
 is_open acl = int_eq acl.perms ALL_PERMISSIONS && is_text (codes "world") acl.scheme && is_text (codes "anyone") acl.id
 
--- an ACL; only the open one is accepted
-abbrev pub has_open_acl : List Acl → Bool
-has_open_acl (acl ∷ []) = is_open acl
+-- an ACL; only the open one is accepted, and no null list
+abbrev pub has_open_acl : Option (List Acl) → Bool
+has_open_acl (Some (acl ∷ [])) = is_open acl
 has_open_acl acls = false
 
 -- the kind of a node created for a session, by its number (`CreateMode`)

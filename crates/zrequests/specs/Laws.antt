@@ -1,7 +1,7 @@
 -- Laws of the calls of requests. Each statement is the contract of a function in `src/laws.rt`.
-use Rattle.std.specs.Prelude.{◌≡◌, ℕ, ◌<◌, List, Some, Ok}
+use Rattle.std.specs.Prelude.{◌≡◌, ℕ, ◌<◌, true, is_err, List, Some, Ok}
 use Rattle.std.specs.FinMap.{get}
-use Rattle.std.specs.List.{AllByRecursion}
+use Rattle.std.specs.List.{AllByRecursion, list_any}
 use Rattle.ztree.specs.Tree.{Tree, Path}
 use Rattle.ztree.specs.declared.node.Node.{Node}
 use Rattle.zcalls.specs.Bounds.{IsBounded}
@@ -13,9 +13,11 @@ use Rattle.zcalls.specs.declared.call.Update.{Update as Act}
 use Rattle.zcalls.specs.declared.call.Update.TheVariants as act
 use Rattle.zcalls.specs.declared.call.Call.{Call}
 use Rattle.zcalls.specs.declared.call.Call.TheVariants.{Update, Query}
+use Rattle.zcalls.specs.Step.{step}
+use Rattle.zjute.specs.declared.part.PartRequest.{PartRequest as AskedPart}
 use Rattle.zjute.specs.declared.request.Asked.{Asked}
 use Rattle.zrequests.specs.declared.limits.TheConstants.{NO_VERSION}
-use Rattle.zrequests.specs.Requests.{calls_in}
+use Rattle.zrequests.specs.Requests.{calls_in, part_in, parts_in}
 
 -- a node of this lifetime belongs to the session, or to no session
 abbrev pub IsForSession : ℕ → Lifetime → Type 0
@@ -52,6 +54,13 @@ CallIsFor session (Query query) = Unit {0}
 abbrev pub CallsAreForTheirSession : Type 0
 CallsAreForTheirSession =
     (tick session : ℕ) (asked : Asked) (calls : List Call) → calls_in tick session asked ≡ Ok calls → AllByRecursion (CallIsFor session) calls
+
+-- a multi that has a part that is refused at once leaves the whole tree unchanged, whatever the tree
+-- and its other parts are
+abbrev pub RefusedPartsAreNeverDone : Type 0
+RefusedPartsAreNeverDone =
+    (t : Tree) (client tick session : ℕ) (parts : List AskedPart) → list_any (λ part. is_err (part_in tick session part)) parts ≡ true
+    → (step t client (act.Multi (parts_in tick session parts))).0 ≡ t
 
 -- no node has version `NO_VERSION`, in any tree that a machine holds
 abbrev pub NoNodeHasNoVersion : Type 0

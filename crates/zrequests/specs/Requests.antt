@@ -1,6 +1,7 @@
 -- The calls that each request makes. A request makes these calls, or is refused at once with a
 -- code. The kinds of requests are those of zookeeper.jute and of ZooKeeper's `ZooDefs.OpCode`.
-use Rattle.std.specs.Prelude.{ℕ, nat_lt, List, [], ◌∷◌, ◌++◌, length, codes, Option, None, Some, Ok, Err, if◌then◌else◌}
+use Rattle.std.specs.Prelude.{ℕ, ℤ, negsuc, nat_lt, List, [], ◌∷◌, ◌++◌, length, codes, Option, None, Some, Ok, Err, if◌then◌else◌}
+use Rattle.std.specs.Ordering.{int_eq}
 use Rattle.ztree.specs.Tree.{Path}
 use Rattle.zcalls.specs.declared.limits.TheConstants.{MAX_PARTS}
 use Rattle.zcalls.specs.declared.call.Kind.{Kind}
@@ -8,6 +9,7 @@ use Rattle.zcalls.specs.declared.call.Create.{Create}
 use Rattle.zcalls.specs.declared.call.Delete.{Delete}
 use Rattle.zcalls.specs.declared.call.SetData.{SetData}
 use Rattle.zcalls.specs.declared.call.Check.{Check}
+use Rattle.zcalls.specs.declared.call.Expected.TheVariants.{Any}
 use Rattle.zcalls.specs.declared.call.Part.{Part}
 use Rattle.zcalls.specs.declared.call.Part.TheVariants as part
 use Rattle.zcalls.specs.declared.call.Update.TheVariants as act
@@ -15,6 +17,7 @@ use Rattle.zcalls.specs.declared.call.Query.{Query as Question}
 use Rattle.zcalls.specs.declared.call.Query.TheVariants.{GetData, Exists, GetChildren}
 use Rattle.zcalls.specs.declared.call.Call.{Call}
 use Rattle.zcalls.specs.declared.call.Call.TheVariants.{Update, Query}
+use Rattle.zjute.specs.declared.code.Code.{Code}
 use Rattle.zjute.specs.declared.code.Code.TheVariants.{BadArguments, InvalidAcl, MarshallingError, Unimplemented, AuthFailed}
 use Rattle.zjute.specs.declared.request.Asked.{Asked}
 use Rattle.zjute.specs.declared.request.Asked.TheVariants as asked
@@ -22,6 +25,7 @@ use Rattle.zjute.specs.declared.request.CreateRequest.{CreateRequest as AskedCre
 use Rattle.zjute.specs.declared.request.CreateTtl.{CreateTtl}
 use Rattle.zjute.specs.declared.request.AtVersion.{AtVersion}
 use Rattle.zjute.specs.declared.request.SetDataRequest.{SetDataRequest as AskedSet}
+use Rattle.zjute.specs.declared.request.SetAcl.{SetAcl}
 use Rattle.zjute.specs.declared.request.SetWatches.{SetWatches}
 use Rattle.zjute.specs.declared.request.SetWatches2.{SetWatches2}
 use Rattle.zjute.specs.declared.request.Auth.{Auth}
@@ -93,6 +97,29 @@ part_in tick session (of_multi.Delete at) = part_of_delete at
 part_in tick session (of_multi.SetData set) = part_of_set set
 part_in tick session (of_multi.Check at) = part_of_check at
 
+-- the code of a part that is refused at once; whose session it is doesn't matter
+abbrev pub refusal_of : Meaning Part → Option Code
+refusal_of (Err (Refused why)) = Some why
+refusal_of other = None
+
+abbrev pub refused_in : ℕ → AskedPart → Option Code
+refused_in tick asked = refusal_of (part_in tick 0 asked)
+
+-- a part that every tree refuses: a delete of the root
+abbrev pub never_done : Part
+never_done = part.Delete (record { path = []; version = Any })
+
+-- a part, and those after it; in the place of one that is refused at once, one that is never done,
+-- and none after it
+abbrev pub or_never : Meaning Part → List Part → List Part
+or_never (Ok part) more = part ∷ more
+or_never (Err why) more = never_done ∷ []
+
+-- the parts of a multi, so that the tree refuses the first that it can't do
+abbrev pub parts_in : ℕ → ℕ → List AskedPart → List Part
+parts_in tick session [] = []
+parts_in tick session (asked ∷ more) = or_never (part_in tick session asked) (parts_in tick session more)
+
 -- a single call
 abbrev pub one : Call → Meaning (List Call)
 one call = Ok (call ∷ [])
@@ -107,7 +134,7 @@ multi_in tick session [] = Ok []
 multi_in tick session (part ∷ parts) =
     if nat_lt MAX_PARTS (length (part ∷ parts))
     then Err (Refused BadArguments)
-    else then_means (each_in (part_in tick session) (part ∷ parts)) one_of_parts
+    else one_of_parts (parts_in tick session (part ∷ parts))
 
 -- a query of a path
 abbrev pub query_in : (Path → Question) → Option (List ℕ) → Meaning Call
@@ -183,8 +210,17 @@ set_alone set = then_means (set_in set) (λ set. one (Update (act.SetData set)))
 abbrev pub check_alone : AtVersion → Meaning (List Call)
 check_alone at = then_means (check_in at) (λ check. one_of_parts (part.Check check ∷ []))
 
--- the calls of a request that changes no node; the rest is Unimplemented: writes of ACLs, and
--- requests unknown to ZooKeeper
+-- a write of an ACL: the path is checked first, then the ACL, then the node and its version
+abbrev pub set_acl_in : SetAcl → Meaning (List Call)
+set_acl_in set =
+    then_means (path_in set.path) (λ path.
+    if has_open_acl set.acls then one (Query (Exists path)) else Err (Refused InvalidAcl))
+
+-- another request: createSession, -10, is no client's, and the rest is unknown to ZooKeeper
+abbrev pub other_in : ℤ → Meaning (List Call)
+other_in number = Err (Refused (if int_eq number (negsuc 9) then MarshallingError else Unimplemented))
+
+-- the calls of a request that changes no node; what reads all nodes makes none
 abbrev pub reads_in : Asked → Meaning (List Call)
 reads_in (asked.Exists look) = look_alone Exists look.path
 reads_in (asked.GetData look) = look_alone GetData look.path
@@ -199,8 +235,9 @@ reads_in (asked.RemoveWatches at) = numbered_in (type_of at.kind) at.path
 reads_in (asked.AddWatch add) = numbered_in (mode_of add.mode) add.path
 reads_in (asked.Sync path) = sync_in path
 reads_in (asked.Auth auth) = auth_in auth
-reads_in asked.Ping = Ok []
-reads_in other = Err (Refused Unimplemented)
+reads_in (asked.SetAcl set) = set_acl_in set
+reads_in (asked.Other number bytes) = other_in number
+reads_in other = Ok []
 
 -- the calls of a request in order, from the milliseconds of a tick and the connection's session
 abbrev pub calls_in : ℕ → ℕ → Asked → Meaning (List Call)

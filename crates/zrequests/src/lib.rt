@@ -32,6 +32,7 @@ pub use calls::Calls;
 pub use codes::code_of;
 pub use fault::Unasked;
 pub use limits::{ALL_PERMISSIONS, NO_VERSION};
+pub use nodes::refused_part;
 pub use requests::calls_of;
 pub use tick::TickLength;
 pub use timeouts::{millis_reported, ticks_asked};

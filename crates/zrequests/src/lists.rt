@@ -1,8 +1,14 @@
 //! Lists in requests: the parts of a multi, those of a multiRead, the paths of watches.
+//!
+//! # Why
+//!
+//! Which part of a multi is refused first depends on the tree, also where one has a bad path or ACL.
+//! In the place of such a part comes one that the tree refuses. So the tree says which part it is,
+//! and `zresponses` reports that part's own code.
 
 ghost use Rattle.std.specs.Prelude.{◌≡◌, length, nat_lt, Ok, IfOk, IfErr, OnOk};
 ghost use Rattle.zrequests.specs.Asking.{IsUnasked, each_in, each_behind};
-ghost use Rattle.zrequests.specs.Requests.{part_in, look_in, watch_in, watched_in, watches_in};
+ghost use Rattle.zrequests.specs.Requests.{never_done, parts_in, look_in, watch_in, watched_in, watches_in};
 ghost use Rattle.zrequests.specs.Requests.{all_watched_in, all_watches_in};
 
 use crate::fault::Unasked;
@@ -11,24 +17,43 @@ use crate::nodes::part_of;
 use crate::tick::TickLength;
 use crate::words::{path_in_bytes, path_of};
 use std::alloc::Global;
-use zcalls::{Call, Part, Query, SessionId};
+use zalloc::Memory;
+use zcalls::{Call, Delete, Expected, Part, Query, SessionId};
 use zjute::{Bytes, Code, LookPart, SetWatches, SetWatches2};
+use zpath::Path;
 
-/// Reads the parts of a multi, from the left.
+/// Reads the parts of a multi, from the left. In the place of one that is refused at once comes one
+/// that is never done, and none after it.
 pub(crate) fn parts_of(
     alloc: Global,
     tick: TickLength,
     session: SessionId,
     parts: &[zjute::PartRequest],
-) -> Result<Vec<Part>, Unasked>
-    ensures found { IfOk result (λ read. each_in (part_in tick session) parts.now ≡ Ok read.items) }
-    ensures fault { IfErr result (IsUnasked (each_in (part_in tick session) parts.now)) }
+) -> Result<Vec<Part>, Memory>
+    ensures { IfOk result (λ read. read.items ≡ parts_in tick session parts.now) }
 {
     let mut read = Vec::new(alloc);
     for part in parts {
-        read.push(part_of(alloc, tick, session, part)?)?;
+        match part_of(alloc, tick, session, part) {
+            Ok(part) => read.push(part)?,
+            Err(Unasked::Refused(_)) => {
+                read.push(never_done())?;
+                return Ok(read);
+            }
+            Err(Unasked::Memory) => return Err(Memory),
+        }
     }
     Ok(read)
+}
+
+// Returns a part that every tree refuses.
+fn never_done() -> Part
+    ensures { result ≡ never_done }
+{
+    Part::Delete(Delete {
+        path: Path::root(),
+        version: Expected::Any,
+    })
 }
 
 /// Reads the parts of a multiRead, from the left.

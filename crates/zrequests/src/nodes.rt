@@ -4,11 +4,13 @@ ghost use Rattle.std.specs.Prelude.{◌≡◌, Ok, IfOk, IfErr};
 ghost use Rattle.zrequests.specs.Asking.{IsUnasked};
 ghost use Rattle.zrequests.specs.Requests.{node_in, create_in, timed_create_in, delete_in, check_in, set_in, part_in};
 ghost use Rattle.zrequests.specs.Requests.{part_of_create, part_of_delete, part_of_set, part_of_check};
+ghost use Rattle.zrequests.specs.Requests.{refused_in};
 
 use crate::fault::Unasked;
 use crate::tick::TickLength;
 use crate::words::{data_of, is_open_acl, kind_of, path_of, timed_kind_of, ttl_of, version_of};
 use std::alloc::Global;
+use zalloc::Memory;
 use zcalls::{Check, Create, Delete, Kind, Part, SessionId, SetData};
 use zjute::{AtVersion, Code, CreateTtl};
 
@@ -22,7 +24,7 @@ pub(crate) fn node_of(
     ensures fault { IfErr result (IsUnasked (node_in kind create.now)) }
 {
     let path = path_of(alloc, &create.path)?;
-    if !is_open_acl(create.acls.as_slice()) {
+    if !is_open_acl(&create.acls) {
         return Err(Unasked::Refused(Code::InvalidAcl));
     }
     let bytes = data_of(alloc, &create.bytes)?;
@@ -112,6 +114,21 @@ pub(crate) fn part_of(
         zjute::PartRequest::Delete(at) => delete_part(alloc, at),
         zjute::PartRequest::SetData(set) => set_part(alloc, set),
         zjute::PartRequest::Check(at) => check_part(alloc, at),
+    }
+}
+
+/// Returns the code of a part of a multi that is refused at once, or `None`.
+pub fn refused_part(
+    alloc: Global,
+    tick: TickLength,
+    part: &zjute::PartRequest,
+) -> Result<Option<Code>, Memory>
+    ensures { IfOk result (λ code. code ≡ refused_in tick part.now) }
+{
+    match part_of(alloc, tick, SessionId::new(0), part) {
+        Ok(_) => Ok(None),
+        Err(Unasked::Refused(code)) => Ok(Some(code)),
+        Err(Unasked::Memory) => Err(Memory),
     }
 }
 

@@ -4,6 +4,7 @@ ghost use Rattle.std.specs.Prelude.{◌≡◌, ◌<◌, ◌≤◌, [], ◌∷◌
 ghost use Rattle.zrequests.specs.Asking.{IsUnasked};
 ghost use Rattle.zrequests.specs.Requests.{calls_in, reads_in, create_in, timed_create_in, create_alone};
 ghost use Rattle.zrequests.specs.Requests.{delete_alone, set_alone, check_alone, one_of_parts};
+ghost use Rattle.zrequests.specs.Requests.{set_acl_in, other_in};
 ghost use Rattle.zrequests.specs.Requests.{multi_in, look_alone, children_in, looks_in};
 ghost use Rattle.zrequests.specs.Requests.{all_watches_in, numbered_in, watches_in, auth_in, sync_in};
 ghost use Rattle.zjute.specs.WatchNumbers.{mode_of, type_of};
@@ -16,11 +17,11 @@ use crate::fault::Unasked;
 use crate::lists::{all_watches_of, looks_of, parts_of, watches_of};
 use crate::nodes::{check_of, create_of, delete_of, set_of, timed_create_of};
 use crate::tick::TickLength;
-use crate::words::{is_text_of, path_of};
+use crate::words::{is_open_acl, is_text_of, path_of};
 use std::alloc::Global;
 use zcalls::{Call, MAX_PARTS, Multi, Part, Query, SessionId, Update};
 use zjute::{
-    AddMode, AddWatch, Asked, AtVersion, Auth, Bytes, Code, CreateTtl, Looks, Parts,
+    AddMode, AddWatch, Asked, AtVersion, Auth, Bytes, Code, CreateTtl, Looks, Parts, SetAcl,
     SetDataRequest, SetWatches, SetWatches2, WatchType, WatchesAt,
 };
 use zpath::Path;
@@ -70,8 +71,9 @@ fn reads(alloc: Global, asked: &Asked) -> Result<Calls, Unasked>
         Asked::AddWatch(add) => add_watch(alloc, add),
         Asked::Sync(path) => sync(alloc, path),
         Asked::Auth(auth) => say_who(alloc, auth),
-        Asked::Ping => Ok(Calls::none(alloc)),
-        _ => Err(Unasked::Refused(Code::Unimplemented)),
+        Asked::SetAcl(set) => set_acl(alloc, set),
+        Asked::Other(number, _) => other(*number),
+        _ => Ok(Calls::none(alloc)),
     }
 }
 
@@ -267,6 +269,28 @@ fn add_watch(alloc: Global, add: &AddWatch) -> Result<Calls, Unasked>
         Some(_) => exists(alloc, &add.path),
         None => Err(Unasked::Refused(Code::MarshallingError)),
     }
+}
+
+// Reads a write of an ACL.
+fn set_acl(alloc: Global, set: &SetAcl) -> Result<Calls, Unasked>
+    ensures found { IfOk result (λ calls. set_acl_in set.now ≡ Ok calls) }
+    ensures fault { IfErr result (IsUnasked (set_acl_in set.now)) }
+{
+    let path = path_of(alloc, &set.path)?;
+    if !is_open_acl(&set.acls) {
+        return Err(Unasked::Refused(Code::InvalidAcl));
+    }
+    one(alloc, Call::Query(Query::Exists(path)))
+}
+
+// Refuses another request.
+fn other(number: i32) -> Result<Calls, Unasked>
+    ensures { result ≡ other_in number }
+{
+    Err(Unasked::Refused(match number {
+        -10 => Code::MarshallingError,
+        _ => Code::Unimplemented,
+    }))
 }
 
 // Returns the close of the session.

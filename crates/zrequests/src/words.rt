@@ -9,7 +9,7 @@ use crate::tick::TickLength;
 use std::alloc::Global;
 use std::str;
 use zcalls::{Data, Expected, Kind, Lifetime, SessionId, Ttl};
-use zjute::{Acl, Bytes, Code};
+use zjute::{Acl, Acls, Bytes, Code};
 use zpath::{Path, PathFault};
 use ztree::DataFault;
 
@@ -77,11 +77,14 @@ pub(crate) fn is_text_of(text: &[u8], string: &Option<Bytes>) -> bool
     }
 }
 
-/// Returns whether the list is the open ACL.
-pub(crate) fn is_open_acl(acls: &[Acl]) -> bool
+/// Returns whether the list is the open ACL. A null list isn't.
+pub(crate) fn is_open_acl(acls: &Option<Acls>) -> bool
     ensures { result ≡ has_open_acl acls.now }
 {
-    match acls {
+    let Some(acls) = acls else {
+        return false;
+    };
+    match acls.as_slice() {
         [acl] => is_open_entry(acl),
         _ => false,
     }

@@ -18,7 +18,7 @@ use Rattle.zcalls.specs.declared.call.Update.TheVariants as act
 use Rattle.zcalls.specs.declared.change.ChangeReply.TheVariants as did
 use Rattle.zcalls.specs.declared.reply.Reply.{Reply}
 use Rattle.zcalls.specs.declared.reply.Reply.TheVariants as reply
-use Rattle.zcalls.specs.Part.{create_step, create_refusals, made_path, owner_of, term_of, counter_at, unless_refused}
+use Rattle.zcalls.specs.Part.{create_step, create_refusals, made_path, owner_of, term_of, unless_refused}
 use Rattle.zcalls.specs.Step.{step, is_exhausted, change_result}
 use Rattle.zcalls.proofs.Paths.{not_root, made-below_root}
 use Rattle.zresponses.specs.Stats.{made_stat}

@@ -1,5 +1,5 @@
 -- The answer to a request, from its calls and the replies to them.
-use Rattle.std.specs.Prelude.{ℕ, List, [], ◌∷◌, Option}
+use Rattle.std.specs.Prelude.{ℕ, List, [], ◌∷◌, codes, Option}
 use Rattle.std.specs.Option.{option_map_or}
 use Rattle.zcalls.specs.declared.call.Call.{Call}
 use Rattle.zcalls.specs.declared.call.Call.TheVariants as call
@@ -13,7 +13,7 @@ use Rattle.zjute.specs.declared.request.Asked.TheVariants as asked
 use Rattle.zresponses.specs.declared.clock.Clock.{Clock}
 use Rattle.zresponses.specs.declared.clock.Now.{Now}
 use Rattle.zresponses.specs.declared.answer.Answer.{Answer}
-use Rattle.zresponses.specs.Answers.{done, failed, answer_of, made_answer, acl_answer, children_answer}
+use Rattle.zresponses.specs.Answers.{done, failed, answer_of, made_answer, acl_answer, set_acl_answer, children_answer}
 use Rattle.zresponses.specs.Results.{multi_answer, looks_answer}
 
 -- the answer to a request that was done
@@ -52,6 +52,14 @@ multi_by clock now parts calls replies = done (body.Results [])
 abbrev pub sync_by : Option (List ℕ) → Answer
 sync_by path = option_map_or (λ text. done (body.Path text)) path was_done
 
+-- who a client is: no address is known, so it is anyone
+abbrev pub is_anyone : Answer
+is_anyone = done (body.Client (codes "world") (codes "anyone"))
+
+-- the answer to a token of SASL, which isn't configured: a null token
+abbrev pub without_token : Answer
+without_token = done body.NoToken
+
 -- the answer to a request, with the zxid and the tick after its calls
 abbrev pub answer_in : Clock → Now → Asked → List Call → List Reply → Answer
 answer_in clock now (asked.Create2 create) calls replies = made_by clock now calls replies
@@ -61,6 +69,7 @@ answer_in clock now (asked.Multi parts) calls replies = multi_by clock now parts
 answer_in clock now (asked.MultiRead looks) calls replies = looks_answer clock replies
 answer_in clock now (asked.GetChildren2 look) calls replies = by_two (children_answer clock) replies
 answer_in clock now (asked.GetAcl path) calls replies = by_first (acl_answer clock) replies
+answer_in clock now (asked.SetAcl set) calls replies = by_first (set_acl_answer clock set.version) replies
 answer_in clock now (asked.Sync path) calls replies = sync_by path
 answer_in clock now (asked.SetWatches set) calls replies = was_done
 answer_in clock now (asked.SetWatches2 set) calls replies = was_done
@@ -68,5 +77,7 @@ answer_in clock now (asked.CheckWatches at) calls replies = was_done
 answer_in clock now (asked.RemoveWatches at) calls replies = was_done
 answer_in clock now (asked.AddWatch add) calls replies = was_added
 answer_in clock now (asked.Auth auth) calls replies = was_done
+answer_in clock now (asked.Sasl token) calls replies = without_token
+answer_in clock now asked.WhoAmI calls replies = is_anyone
 answer_in clock now asked.Ping calls replies = was_done
 answer_in clock now other calls replies = by_first (answer_of clock) replies

@@ -1,6 +1,7 @@
 -- The answer for one reply of the service: a code, and the body after the header. The source is
 -- zookeeper.jute (`ReplyHeader`, and the responses), and ZooKeeper's `KeeperException.Code`.
-use Rattle.std.specs.Prelude.{◌∷◌, [], List, length, nat_lt, codes, Some, if◌then◌else◌}
+use Rattle.std.specs.Prelude.{ℤ, pos, negsuc, ◌||◌, ◌∷◌, [], List, length, nat_lt, codes, Some, if◌then◌else◌}
+use Rattle.std.specs.Ordering.{int_eq}
 use Rattle.zpath.specs.Grammar.{text_of}
 use Rattle.ztree.specs.Tree.{Name}
 use Rattle.ztree.specs.declared.node.Stat.{Stat}
@@ -53,14 +54,25 @@ abbrev pub made_answer : Clock → Now → Create → Reply → Answer
 made_answer clock now create (reply.Created path) = done (body.PathStat (text_of path) (stat_reported clock (made_stat now create)))
 made_answer clock now create reported = answer_of clock reported
 
--- the ACL of every node: the open one (`ZooDefs.Ids.OPEN_ACL_UNSAFE`)
+-- an ACL of anyone with these permissions
+abbrev pub acls_for_all : ℤ → List Acl
+acls_for_all perms = record { perms = perms; scheme = Some (codes "world"); id = Some (codes "anyone") } ∷ []
+
+-- the ACL of every node of the tree: the open one (`ZooDefs.Ids.OPEN_ACL_UNSAFE`)
 abbrev pub open_acls : List Acl
-open_acls = record { perms = ALL_PERMISSIONS; scheme = Some (codes "world"); id = Some (codes "anyone") } ∷ []
+open_acls = acls_for_all ALL_PERMISSIONS
 
 -- the answer to a request for a node's ACL, from its stat
 abbrev pub acl_answer : Clock → Reply → Answer
 acl_answer clock (reply.Exists stat) = done (body.AclsStat open_acls (stat_reported clock stat))
 acl_answer clock reported = answer_of clock reported
+
+-- the answer to a write of the open ACL at this version, from the node's stat. An ACL's version is
+-- always 0, and writing it isn't implemented
+abbrev pub set_acl_answer : Clock → ℤ → Reply → Answer
+set_acl_answer clock version (reply.Exists stat) =
+    failed (if int_eq version (negsuc 0) || int_eq version (pos 0) then code.Unimplemented else code.BadVersion)
+set_acl_answer clock version reported = answer_of clock reported
 
 -- names and a stat
 abbrev pub names_stat_answer : Clock → List Name → Stat → Answer

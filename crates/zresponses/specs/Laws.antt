@@ -1,5 +1,6 @@
--- Laws of the answers. The statement is the contract of a function in `src/laws.rt`.
-use Rattle.std.specs.Prelude.{◌≡◌, ℕ, Some}
+-- Laws of the answers. The statements are the contracts of the functions in `src/laws.rt`.
+use Rattle.std.specs.Prelude.{◌≡◌, ℕ, ◌+◌, ◌^◌, ◌<◌, ℤ, pos, int_lt, FitsSigned, Some}
+use Rattle.std.specs.Int.{w64}
 use Rattle.ztree.specs.Tree.{Tree, Path, stat_at}
 use Rattle.ztree.specs.Lawful.{IsLawful}
 use Rattle.zcalls.specs.declared.call.Create.{Create}
@@ -7,7 +8,8 @@ use Rattle.zcalls.specs.declared.call.Update.TheVariants as act
 use Rattle.zcalls.specs.declared.reply.Reply.TheVariants.{Created}
 use Rattle.zcalls.specs.Step.{step}
 use Rattle.zresponses.specs.declared.clock.Now.{Now}
-use Rattle.zresponses.specs.Stats.{made_stat}
+use Rattle.zresponses.specs.Naming.{named}
+use Rattle.zresponses.specs.Stats.{made_stat, told}
 
 -- the last zxid and the tick of a tree
 abbrev pub now_of : Tree → Now
@@ -23,3 +25,10 @@ MadeNodesHaveThisStat =
     (t : Tree) (client : ℕ) (create : Create) (path : Path)
     → IsLawful t → (step t client (act.Create create)).1 ≡ Created path
     → stat_at (after_create t client create).nodes path ≡ Some (made_stat (now_of (after_create t client create)) create)
+
+-- A zxid is told with the base added, if 63 bits hold that. One that a client names is before it by
+-- the tree's zxids where it is so by those that were told.
+pub record ZxidsAreToldFromTheBase : Type 0 where
+  pub value : (base zxid : ℕ) → base + zxid < 2 ^ 63 → told base zxid ≡ pos (base + zxid)
+  pub order : (base zxid : ℕ) (seen : ℤ) → base + zxid < 2 ^ 63 → FitsSigned w64 seen
+      → int_lt (named base seen) (pos zxid) ≡ int_lt seen (told base zxid)

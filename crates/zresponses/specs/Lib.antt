@@ -1,6 +1,8 @@
 pub mod effects
 pub mod Stats
 pub mod Answers
+pub mod Own
+pub mod Naming
 pub mod Results
 pub mod Answering
 pub mod Laws

@@ -1,6 +1,6 @@
 -- The stat in an answer. The source is `Stat` of zookeeper.jute and the ZooKeeper Programmer's
 -- Guide, "ZooKeeper Stat Structure". Times are counted in ticks from the service's start and
--- returned in milliseconds: that is this project's profile.
+-- returned in milliseconds, and zxids begin at a base: that is this project's profile.
 use Rattle.std.specs.Prelude.{ℕ, ◌+◌, ◌*◌, ◌%◌, ◌^◌, ℤ, pos}
 use Rattle.std.specs.Int.{w32, w64, cast_signed}
 use Rattle.ztree.specs.Tree.{new_node, stat_with}
@@ -19,24 +19,29 @@ int_of n = cast_signed w32 (n % 2 ^ 32)
 abbrev pub long_of : ℕ → ℤ
 long_of n = cast_signed w64 (n % 2 ^ 64)
 
+-- a zxid of the tree as clients are told it: with this base added
+abbrev pub told : ℕ → ℕ → ℤ
+told base zxid = long_of (base + zxid)
+
 -- the time of a tick, in milliseconds since 1970
 abbrev pub millis_at : Clock → ℕ → ℕ
 millis_at clock ticks = clock.started + ticks * clock.tick
 
--- the stat for a client; no node has an ACL of its own, so `aversion` is 0
+-- the stat for a client. No node has an ACL of its own, so `aversion` is 0. The owner of a container
+-- is a mark of the tree, its highest bit, and clients are told none
 abbrev pub stat_reported : Clock → Stat → ReportedStat
 stat_reported clock s = record {
-  czxid = long_of s.czxid;
-  mzxid = long_of s.mzxid;
+  czxid = told clock.base s.czxid;
+  mzxid = told clock.base s.mzxid;
   ctime = long_of (millis_at clock s.ctime);
   mtime = long_of (millis_at clock s.mtime);
   version = int_of s.version;
   cversion = int_of s.cversion;
   aversion = pos 0;
-  ephemeral_owner = long_of s.owner;
+  ephemeral_owner = long_of (s.owner % 2 ^ 63);
   data_length = int_of s.length;
   num_children = int_of s.children;
-  pzxid = long_of s.pzxid;
+  pzxid = told clock.base s.pzxid;
 }
 
 -- the stat of a node that a create has just made

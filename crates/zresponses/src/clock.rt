@@ -1,15 +1,23 @@
-//! The clock, and the last zxid and tick of a tree.
+//! The clock, the base of zxids, and the last zxid and tick of a tree.
+//!
+//! # Why
+//!
+//! A tree in memory begins anew with each start, and so do its zxids. A client that has seen more
+//! changes than the tree has is refused, as in ZooKeeper. So each start has a greater base, and
+//! clients of an earlier one are told that their session has expired.
 
 use zrequests::TickLength;
 use ztree::Zxid;
 
-/// How ticks become milliseconds since 1970.
+/// How ticks become milliseconds since 1970, and zxids those that clients are told.
 #[derive(Clone, Copy, Debug, PartialEq, Eq)]
 pub struct Clock {
     /// The length of a tick.
     pub tick: TickLength,
     /// When the service was started, in milliseconds since 1970.
     pub started: u64,
+    /// What is added to a zxid of the tree when it is told.
+    pub base: u64,
 }
 
 /// The last zxid and the tick of the tree.

@@ -5,7 +5,7 @@ ghost use Rattle.zrequests.specs.Codes as codes;
 ghost use Rattle.zjute.specs.declared.reply.PartResult.TheVariants as result_of;
 ghost use Rattle.zresponses.specs.Answers as reported;
 ghost use Rattle.zresponses.specs.Results as table;
-ghost use Rattle.zresponses.specs.Results.{part_results, refused_results};
+ghost use Rattle.zresponses.specs.Results.{part_code, part_results, refused_results};
 
 use crate::answer::Answer;
 use crate::answers::answer_of;
@@ -13,9 +13,9 @@ use crate::clock::{Clock, Now};
 use crate::results::{look_result, part_result};
 use std::alloc::Global;
 use zalloc::Memory;
-use zcalls::{Part, PartReply, Reply};
+use zcalls::{Part, PartReply, Refusal, Reply};
 use zjute::{Body, Code, PartResult, Results};
-use zrequests::code_of;
+use zrequests::{TickLength, code_of, refused_part};
 
 /// Returns the answer to a multi.
 pub(crate) fn multi_answer(
@@ -35,10 +35,30 @@ pub(crate) fn multi_answer(
             Ok(Answer::done(Body::Results(Results::new(results))))
         }
         Reply::MultiRefused(number, refusal) => {
-            let results = refused(alloc, parts.len(), *number, code_of(*refusal))?;
+            let code = part_code(alloc, clock.tick, asked, *number, *refusal)?;
+            let results = refused(alloc, asked.len(), *number, code)?;
             Ok(Answer::done(Body::Results(Results::new(results))))
         }
         _ => answer_of(alloc, clock, reply),
+    }
+}
+
+// Returns the code of the part that the tree refused.
+fn part_code(
+    alloc: Global,
+    tick: TickLength,
+    asked: &[zjute::PartRequest],
+    number: usize,
+    refusal: Refusal,
+) -> Result<Code, Memory>
+    ensures { IfOk result (λ code. code ≡ part_code tick asked.now number refusal) }
+{
+    let Some(part) = asked.get(number.saturating_sub(1)) else {
+        return Ok(code_of(refusal));
+    };
+    match refused_part(alloc, tick, part)? {
+        Some(code) => Ok(code),
+        None => Ok(code_of(refusal)),
     }
 }
 

@@ -4,7 +4,7 @@ ghost use Rattle.std.specs.Prelude.{◌≡◌};
 ghost use Rattle.zresponses.specs.Stats as reported;
 
 use crate::clock::{Clock, Now};
-use crate::numbers::long_of;
+use crate::numbers::{long_of, told};
 use zcalls::Create;
 use ztree::Stat;
 
@@ -33,17 +33,17 @@ pub fn stat_reported(clock: &Clock, stat: &Stat) -> zjute::StatRecord
     ensures { result ≡ reported.stat_reported clock.now stat.now }
 {
     zjute::StatRecord {
-        czxid: long_of(stat.czxid.number()),
-        mzxid: long_of(stat.mzxid.number()),
+        czxid: told(clock, stat.czxid),
+        mzxid: told(clock, stat.mzxid),
         ctime: time_of(clock, stat.ctime),
         mtime: time_of(clock, stat.mtime),
         version: int_of(stat.version),
         cversion: int_of(stat.cversion),
         aversion: 0,
-        ephemeral_owner: long_of(stat.owner),
+        ephemeral_owner: long_of(stat.owner % (1 << 63)),
         data_length: int_of(stat.length),
         num_children: int_of(stat.children),
-        pzxid: long_of(stat.pzxid.number()),
+        pzxid: told(clock, stat.pzxid),
     }
 }
 

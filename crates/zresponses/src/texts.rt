@@ -22,7 +22,7 @@ pub(crate) fn bytes_of(alloc: Global, bytes: &[u8]) -> Result<Bytes, Memory>
 }
 
 /// Returns the text of a path.
-pub(crate) fn path_reported(alloc: Global, path: &Path) -> Result<Bytes, Memory>
+pub fn path_reported(alloc: Global, path: &Path) -> Result<Bytes, Memory>
     ensures { IfOk result (λ reported. reported ≡ text_of path.now) }
 {
     // The text of a path is short.

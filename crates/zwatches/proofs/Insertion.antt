@@ -1,5 +1,5 @@
 -- A watch at its position among the rows.
-use Rattle.std.proofs.Common.{◌≡◌, ℕ, zero, suc, ◌<◌, ◌≤◌, Bool, true, false, List, [], ◌∷◌, ◌++◌, length, take, drop, leb, Result, Ok, Err, refl, sym, ap, subst, ◌∙◌, arith}
+use Rattle.std.proofs.Common.{◌≡◌, ℕ, zero, suc, ◌<◌, ◌≤◌, Bool, true, false, ◌||◌, List, [], ◌∷◌, ◌++◌, length, take, drop, leb, Result, Ok, Err, refl, sym, ap, subst, ◌∙◌, arith}
 use Rattle.std.specs.declared.cmp.Ordering.{Ordering}
 use Rattle.std.specs.declared.cmp.Ordering.TheVariants.{Less, Equal, Greater}
 use Rattle.std.specs.Ordering.{is_eq, eq_by_cmp, ordering_reverse, ordering_index}
@@ -13,12 +13,14 @@ use Rattle.std.proofs.lemmas.List.{take-append-drop}
 use Rattle.std.proofs.lemmas.List.Folds.{list_any-append}
 use Rattle.zwatches.specs.declared.watch.Watch.{Watch}
 use Rattle.zwatches.specs.declared.kind.Kind.{Kind}
-use Rattle.zwatches.specs.declared.limits.TheConstants.{MAX_WATCHES}
+use Rattle.zwatches.specs.declared.limits.WatchLimits.{WatchLimits}
 use Rattle.zwatches.specs.Watches.{Path, watch, watch_cmp, is_full}
 use Rattle.zwatches.specs.support.Groups.{AreRows, set_of, IsGap}
+use Rattle.zwatches.specs.support.Shares.{count_of}
 use Rattle.zwatches.proofs.Order.{watches_total, same_watch, watch_rises, non_decreasing}
 use Rattle.zwatches.proofs.Sets.{from_list-insert, len-from_list, or_true}
 use Rattle.zwatches.proofs.Places.{front_all, back_all}
+use Rattle.zwatches.proofs.Kept.{share-rows}
 
 module _ {K : Type 0} (P : K → Type 0) where
   all_with : (front back : List K) (x : K) → P x → AllByRecursion P (front ++ back) → AllByRecursion P (front ++ x ∷ back)
@@ -81,14 +83,18 @@ module _ (rows : List Watch) (w : Watch) (i : ℕ) (gap : IsGap rows w i) where
   set_with = from_list-insert watches_total same_watch (take i rows) (drop i rows) w ∙ ap (λ xs. insert (from_list {R = watch_cmp} xs) w) (take-append-drop i rows)
 
   -- whether there is room for it
-  full_is : AreRows rows → is_full (set_of rows) w ≡ leb MAX_WATCHES (length rows)
-  full_is sorted = rw (not_there, len-from_list watches_total rows sorted) refl
+  module _ (limits : WatchLimits) (sorted : AreRows rows) where
+    full_is : is_full limits (set_of rows) w ≡ (leb limits.most (length rows) || leb limits.each (count_of w.connection rows))
+    full_is = rw (not_there, len-from_list watches_total rows sorted, share-rows rows w.connection sorted) refl
 
-  pub full : AreRows rows → MAX_WATCHES ≤ length rows → is_full (set_of rows) w ≡ true
-  full sorted many = full_is sorted ∙ le-leb _ _ many
+    pub full_of_all : limits.most ≤ length rows → is_full limits (set_of rows) w ≡ true
+    full_of_all many = full_is ∙ ap (λ b. b || leb limits.each (count_of w.connection rows)) (le-leb _ _ many)
 
-  pub has_room : AreRows rows → length rows < MAX_WATCHES → is_full (set_of rows) w ≡ false
-  has_room sorted few = full_is sorted ∙ lt-leb _ _ few
+    pub full_of_own : limits.each ≤ count_of w.connection rows → is_full limits (set_of rows) w ≡ true
+    full_of_own many = full_is ∙ ap (λ b. leb limits.most (length rows) || b) (le-leb _ _ many) ∙ or_true (leb limits.most (length rows))
+
+    pub has_room : length rows < limits.most → count_of w.connection rows < limits.each → is_full limits (set_of rows) w ≡ false
+    has_room few own = full_is ∙ rw (lt-leb _ _ few, lt-leb _ _ own) refl
 
 pub rows_rise : (rows : List Watch) (w : Watch) → IsStrictlySortedBy watch_cmp rows → IsNonDecreasingBy (λ row. ordering_index (watch_cmp row w)) rows
 rows_rise rows w sorted = non_decreasing {R = watch_cmp} (λ row. ordering_index (watch_cmp row w)) (λ x y less. watch_rises x y w less) rows sorted

@@ -2,6 +2,9 @@ pub mod changes_lemmas
 pub mod Order
 pub mod Sets
 pub mod Places
+pub mod Counts
+pub mod Kept
+pub mod Within
 pub mod Insertion
 pub mod Reporting
 pub mod Above

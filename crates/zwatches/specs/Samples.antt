@@ -2,6 +2,7 @@
 use Rattle.std.specs.Prelude.{List, [], ◌∷◌}
 use Rattle.std.specs.FinSet.{from_list}
 use Rattle.zwatches.specs.declared.kind.Kind.TheVariants.{Data, Missing, Children, EachData, EachChildren, Recursive}
+use Rattle.zwatches.specs.declared.limits.WatchLimits.{WatchLimits}
 use Rattle.zwatches.specs.declared.watch.Watch.{Watch}
 use Rattle.zwatches.specs.Watches.{Path, Watches, watch}
 
@@ -42,3 +43,10 @@ lasting_rows =
 
 abbrev pub lasting_table : Watches
 lasting_table = from_list lasting_rows
+
+-- five watches of all connections, and two of each
+abbrev pub five_of_all : WatchLimits
+five_of_all = record { most = 5; each = 5 }
+
+abbrev pub two_each : WatchLimits
+two_each = record { most = 9; each = 2 }

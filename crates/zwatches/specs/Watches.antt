@@ -1,8 +1,8 @@
 -- The table of watches: a set of watches, each of a connection, a kind and a path. The source is
--- the ZooKeeper Programmer's Guide, section "ZooKeeper Watches". The limit is this project's
+-- the ZooKeeper Programmer's Guide, section "ZooKeeper Watches". The limits are this project's
 -- profile.
-use Rattle.std.specs.Prelude.{◌≡◌, ℕ, List, Bool, true, false, not, ◌&&◌, nat_le}
-use Rattle.std.specs.FinSet.{FinSet, contains, len}
+use Rattle.std.specs.Prelude.{◌≡◌, ℕ, List, Bool, true, false, not, ◌&&◌, ◌||◌, ◌==◌, nat_le}
+use Rattle.std.specs.FinSet.{FinSet, contains, len, retain}
 use Rattle.std.specs.Ordering.{nat_cmp, ordering_then}
 use Rattle.std.specs.declared.cmp.Ordering.{Ordering}
 use Rattle.zpath.specs.Grammar.{path_cmp}
@@ -10,7 +10,7 @@ use Rattle.zwatches.specs.declared.fault.WatchFault.{WatchFault}
 use Rattle.zwatches.specs.declared.fault.WatchFault.TheVariants.{Full, Memory}
 use Rattle.zwatches.specs.declared.kind.Kind.{Kind}
 use Rattle.zwatches.specs.declared.kind.Kind.TheVariants.{Data, Missing, Children, EachData, EachChildren, Recursive}
-use Rattle.zwatches.specs.declared.limits.TheConstants.{MAX_WATCHES}
+use Rattle.zwatches.specs.declared.limits.WatchLimits.{WatchLimits}
 use Rattle.zwatches.specs.declared.watch.Watch.{Watch}
 
 -- a path: its names from the root down
@@ -66,9 +66,15 @@ watch_cmp a b =
 abbrev pub Watches : Type 0
 Watches = FinSet watch_cmp
 
--- the watch isn't in the table, and there is no room for it
-abbrev pub is_full : Watches → Watch → Bool
-is_full table w = not (contains table w) && nat_le MAX_WATCHES (len table)
+-- how many watches a connection has
+abbrev pub share : Watches → ℕ → ℕ
+share table connection = len (retain table (λ w. w.connection == connection))
+
+-- the watch isn't in the table, and there is no room for it: there are as many as one limit allows,
+-- or as many of its connection as the other does
+abbrev pub is_full : WatchLimits → Watches → Watch → Bool
+is_full limits table w =
+    not (contains table w) && (nat_le limits.most (len table) || nat_le limits.each (share table w.connection))
 
 -- when each fault is returned: a full table is checked before memory is
 abbrev pub IsSetFault : Bool → WatchFault → Type 0

@@ -1,3 +1,4 @@
 -- For proofs and worked examples only.
 pub mod Codes
 pub mod Groups
+pub mod Shares

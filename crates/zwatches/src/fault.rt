@@ -10,7 +10,7 @@ use zalloc::Memory;
 /// Why a watch isn't set.
 #[derive(Clone, Copy, Debug, PartialEq, Eq, Error)]
 pub enum WatchFault {
-    /// There are `MAX_WATCHES` watches, and this one isn't among them.
+    /// There are as many watches as a limit allows, and this one isn't among them.
     #[error("there are too many watches")]
     Full,
     /// Out of memory.

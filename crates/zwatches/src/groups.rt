@@ -10,9 +10,11 @@ ghost use Rattle.zjute.specs.declared.event.EventKind.TheVariants.{NodeDeleted};
 ghost use Rattle.zwatches.specs.Events.{above, is_at, is_awaited, fired_at, reported, unfired};
 ghost use Rattle.zwatches.specs.Events.{without, Lists};
 ghost use Rattle.zwatches.specs.support.Groups.{AreRows, set_of, reported_by, found_by, kept, once_at};
+ghost use Rattle.zwatches.specs.support.Shares.{AreCounted};
 
 use crate::kind::Kind;
 use crate::search::rows_at;
+use crate::shares::Shares;
 use crate::watch::Watch;
 use std::alloc::Global;
 use zalloc::Memory;
@@ -173,44 +175,56 @@ fn remove_between(rows: &mut Vec<Watch>, first: usize, end: usize)
     drop(rows.drain(first..end));
 }
 
-// Removes the rows at a position.
-fn remove_at(rows: &mut Vec<Watch>, names: &[Name], kind: Kind)
-    requires { AreRows rows.old.items }
-    ensures { rows.new.items
+// Removes the rows at a position, and counts them no more.
+fn remove_at(rows: &mut Vec<Watch>, shares: &mut Shares, names: &[Name], kind: Kind)
+    requires rows { AreRows rows.old.items }
+    requires counted { AreCounted shares.old rows.old.items }
+    ensures counted { AreCounted shares.new rows.new.items }
+    ensures gone { rows.new.items
         ≡ filter (λ row. not (is_at (place names.now kind) row)) rows.old.items }
 {
     let (first, end) = rows_at(rows, names, kind);
+    shares.lower_all(&rows[first..end]);
     remove_between(rows, first, end);
 }
 
 // Removes the rows at the positions of an event that wait for one change.
-fn remove_each(rows: &mut Vec<Watch>, event: EventKind, names: &[Name])
-    requires { AreRows rows.old.items }
-    ensures { rows.new.items ≡ kept rows.old.items (once_at event names.now) }
+fn remove_each(rows: &mut Vec<Watch>, shares: &mut Shares, event: EventKind, names: &[Name])
+    requires rows { AreRows rows.old.items }
+    requires counted { AreCounted shares.old rows.old.items }
+    ensures counted { AreCounted shares.new rows.new.items }
+    ensures gone { rows.new.items ≡ kept rows.old.items (once_at event names.now) }
 {
     match event {
         EventKind::NodeCreated => {
-            remove_at(rows, names, Kind::Data);
-            remove_at(rows, names, Kind::Missing);
+            remove_at(rows, shares, names, Kind::Data);
+            remove_at(rows, shares, names, Kind::Missing);
         }
-        EventKind::NodeDataChanged => remove_at(rows, names, Kind::Data),
+        EventKind::NodeDataChanged => remove_at(rows, shares, names, Kind::Data),
         EventKind::NodeDeleted => {
-            remove_at(rows, names, Kind::Data);
-            remove_at(rows, names, Kind::Children);
+            remove_at(rows, shares, names, Kind::Data);
+            remove_at(rows, shares, names, Kind::Children);
         }
-        EventKind::NodeChildrenChanged => remove_at(rows, names, Kind::Children),
+        EventKind::NodeChildrenChanged => remove_at(rows, shares, names, Kind::Children),
         _ => {}
     }
 }
 
 // Removes the rows that an event fires, except those that stay.
-pub(crate) fn remove_fired(rows: &mut Vec<Watch>, event: EventKind, names: &[Name])
-    requires { AreRows rows.old.items }
+pub(crate) fn remove_fired(
+    rows: &mut Vec<Watch>,
+    shares: &mut Shares,
+    event: EventKind,
+    names: &[Name],
+)
+    requires rows { AreRows rows.old.items }
+    requires counted { AreCounted shares.old rows.old.items }
     ensures rows { AreRows rows.new.items }
+    ensures counted { AreCounted shares.new rows.new.items }
     ensures gone { set_of rows.new.items
         ≡ unfired (set_of rows.old.items) event names.now }
 {
-    remove_each(rows, event, names);
+    remove_each(rows, shares, event, names);
 }
 
 // Retains the rows of other connections.
@@ -220,11 +234,16 @@ fn keep_others(rows: &mut Vec<Watch>, connection: u32)
     rows.retain(|row| row.connection != connection);
 }
 
-// Removes the rows of a connection.
-pub(crate) fn remove_all(rows: &mut Vec<Watch>, connection: u32)
-    requires { AreRows rows.old.items }
+// Removes the rows of a connection. Looks at none if it has none.
+pub(crate) fn remove_all(rows: &mut Vec<Watch>, shares: &mut Shares, connection: u32)
+    requires rows { AreRows rows.old.items }
+    requires counted { AreCounted shares.old rows.old.items }
     ensures rows { AreRows rows.new.items }
+    ensures counted { AreCounted shares.new rows.new.items }
     ensures gone { set_of rows.new.items ≡ without (set_of rows.old.items) connection }
 {
-    keep_others(rows, connection);
+    if shares.of(connection) > 0 {
+        keep_others(rows, connection);
+        shares.forget(connection);
+    }
 }

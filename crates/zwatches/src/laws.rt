@@ -2,6 +2,7 @@
 
 ghost use Rattle.zwatches.specs.Laws.{ReportsWhoWaits, FiresOnce, FiresEachTime, CoversBelow};
 ghost use Rattle.zwatches.specs.Laws.{RemovesOwn};
+ghost use Rattle.zwatches.specs.Limits.{LimitsAreKept, SharesAreApart, SharesLast};
 
 /// An event notifies exactly the connections of the watches that it fires.
 pub fn who_waits_is_reported()
@@ -27,4 +28,20 @@ pub fn recursive_watches_cover_what_is_below()
 /// A request removes exactly the watches that it means, all of its own connection.
 pub fn requests_remove_their_own()
     ensures { RemovesOwn }
+{}
+
+/// A table begins within its limits, and stays there.
+pub fn limits_are_kept()
+    ensures { LimitsAreKept }
+{}
+
+/// Where there is room for a whole share of each connection that has watches, a connection's
+/// request is refused for its own watches alone.
+pub fn shares_are_apart()
+    ensures { SharesAreApart }
+{}
+
+/// What other connections set, remove and leave behind does nothing to a connection's share.
+pub fn shares_last()
+    ensures { SharesLast }
 {}

@@ -9,11 +9,12 @@
 //! that existed before whether its deletion is awaited, and checks which of those are gone.
 //!
 //! The rows of the table are sorted by path, kind and connection. A call finds its rows by binary
-//! search, and moves the rows after them.
+//! search, and moves the rows after them. How many watches a connection has is counted beside them,
+//! since there is a limit of each connection's watches, and one of all together.
 //!
 //! Contracts see a table as a set of watches (`specs/Watches.antt`). `specs/Events.antt` defines
-//! which watches an event fires and whom it notifies, and `specs/Removal.antt` which watches a
-//! request removes.
+//! which watches an event fires and whom it notifies, `specs/Removal.antt` which watches a request
+//! removes, and `specs/Limits.antt` what the limits come to.
 #![tactic(auto)]
 
 pub mod changes;
@@ -26,11 +27,12 @@ mod removal;
 mod rows;
 mod search;
 mod setting;
+mod shares;
 mod watch;
 mod watches;
 
 pub use fault::WatchFault;
 pub use kind::Kind;
-pub use limits::MAX_WATCHES;
+pub use limits::WatchLimits;
 pub use watch::Watch;
 pub use watches::Watches;

@@ -5,8 +5,10 @@ ghost use Rattle.std.specs.List.{filter, list_any};
 ghost use Rattle.zwatches.specs.Removal as table;
 ghost use Rattle.zwatches.specs.Removal.{without_meant};
 ghost use Rattle.zwatches.specs.support.Groups.{AreRows, set_of};
+ghost use Rattle.zwatches.specs.support.Shares.{AreCounted};
 
 use crate::kind::Kind;
+use crate::shares::Shares;
 use crate::watch::Watch;
 use zjute::WatchType;
 use zpath::Name;
@@ -62,14 +64,19 @@ fn keep_rest(rows: &mut Vec<Watch>, connection: u32, type_of: WatchType, names: 
 // Removes the rows that are meant.
 pub(crate) fn remove_meant(
     rows: &mut Vec<Watch>,
+    shares: &mut Shares,
     connection: u32,
     type_of: WatchType,
     names: &[Name],
 )
-    requires { AreRows rows.old.items }
+    requires rows { AreRows rows.old.items }
+    requires counted { AreCounted shares.old rows.old.items }
     ensures rows { AreRows rows.new.items }
+    ensures counted { AreCounted shares.new rows.new.items }
     ensures gone { set_of rows.new.items
         ≡ without_meant (set_of rows.old.items) connection type_of names.now }
 {
+    let before = rows.len();
     keep_rest(rows, connection, type_of, names);
+    shares.lower(connection, before.saturating_sub(rows.len()));
 }

@@ -8,14 +8,14 @@ ghost use Rattle.zwatches.specs.declared.fault.WatchFault.TheVariants.{Full, Mem
 ghost use Rattle.zjute.specs.declared.event.EventKind.TheVariants as event;
 ghost use Rattle.zjute.specs.declared.event.EventKind.TheVariants.{NodeCreated, NodeDeleted, NodeDataChanged, NodeChildrenChanged};
 ghost use Rattle.zwatches.specs.declared.kind.Kind.TheVariants.{Data, Missing, Children, EachData, EachChildren, Recursive};
-ghost use Rattle.zwatches.specs.declared.limits.TheConstants.{MAX_WATCHES};
 ghost use Rattle.zjute.specs.declared.watch_type.WatchType.TheVariants as typed;
-ghost use Rattle.zwatches.specs.Watches.{fires_once, place, watch, watch_cmp, IsSetFault};
+ghost use Rattle.zwatches.specs.Watches.{fires_once, is_full, place, share, watch, watch_cmp};
+ghost use Rattle.zwatches.specs.Watches.{IsSetFault};
 ghost use Rattle.zwatches.specs.Events.{above, fired_at, fires, is_awaited, reported, unfired};
 ghost use Rattle.zwatches.specs.Events.{without, Lists};
 ghost use Rattle.zwatches.specs.Removal.{has_meant, has_type, is_meant, without_meant};
 ghost use Rattle.zwatches.specs.Samples.{at_a, at_a_b, at_a_b_c, at_ab, at_b, some_table};
-ghost use Rattle.zwatches.specs.Samples.{lasting_table};
+ghost use Rattle.zwatches.specs.Samples.{lasting_table, five_of_all, two_each};
 
 /// Watches differ by path, by kind and by connection.
 pub fn watches_differ()
@@ -162,9 +162,16 @@ pub fn lists()
     ensures another { Lists [] (from_list {R = nat_cmp} (1 ∷ [])) → ⊥ }
 {}
 
-/// The limit, and when each fault is returned.
+/// How many watches there are of a connection, which one more is refused, and when each fault is
+/// returned.
 pub fn limits()
-    ensures most { MAX_WATCHES ≡ 10000 }
+    ensures two { share some_table 1 ≡ 2 }
+    ensures one { share some_table 2 ≡ 1 }
+    ensures none { share some_table 5 ≡ 0 }
+    ensures most { is_full five_of_all some_table (watch at_b Data 5) ≡ true }
+    ensures each { is_full two_each some_table (watch at_b Data 1) ≡ true }
+    ensures room { is_full two_each some_table (watch at_b Data 2) ≡ false }
+    ensures again { is_full two_each some_table (watch at_a Data 1) ≡ false }
     ensures full { IsSetFault false Full → ⊥ }
     ensures memory { IsSetFault true Memory → ⊥ }
 {}

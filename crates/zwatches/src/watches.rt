@@ -11,9 +11,11 @@ ghost use Rattle.zwatches.specs.Removal.{has_meant, without_meant};
 use crate::fault::WatchFault;
 use crate::groups::{awaits_end, remove_all, remove_fired, reported_of};
 use crate::kind::Kind;
+use crate::limits::WatchLimits;
 use crate::removal::{has_meant, remove_meant};
 use crate::search::count_of;
 use crate::setting::set_in;
+use crate::shares::Shares;
 use crate::watch::Watch;
 use std::alloc::Global;
 use std::marker::Model;
@@ -21,10 +23,12 @@ use zalloc::Memory;
 use zjute::{EventKind, WatchType};
 use zpath::Path;
 
-/// A set of watches, at most `MAX_WATCHES`.
+/// A set of watches.
 #[derive(Drop)]
 pub struct Watches {
     rows: Vec<Watch>,
+    // How many of the rows are of each connection.
+    shares: Shares,
     alloc: Global,
 }
 
@@ -32,6 +36,7 @@ impl Model for Watches {
     ghost use Rattle.zwatches.specs.Watches.{Watches as Table};
     ghost use Rattle.zwatches.specs.support.Codes.{coded_watches};
     ghost use Rattle.zwatches.specs.support.Groups.{AreRows, set_of};
+    ghost use Rattle.zwatches.specs.support.Shares.{AreCounted};
 
     ghost Value = { Table };
 
@@ -39,7 +44,8 @@ impl Model for Watches {
 
     ghost view = { λ table. set_of table.rows.items };
 
-    ghost invariant = { λ table. AreRows table.rows.items };
+    ghost invariant = { λ table. AreRows table.rows.items
+        × AreCounted table.shares table.rows.items };
 }
 
 impl Watches {
@@ -49,6 +55,7 @@ impl Watches {
     {
         Watches {
             rows: Vec::new(alloc),
+            shares: Shares::new(alloc),
             alloc,
         }
     }
@@ -60,18 +67,32 @@ impl Watches {
         count_of(&self.rows)
     }
 
-    /// Sets a watch. Setting one again does nothing and allocates nothing. After a fault nothing
-    /// has changed.
-    pub fn set(&mut self, connection: u32, kind: Kind, path: &Path) -> Result<(), WatchFault>
+    /// Sets a watch, if the limits allow one more. Setting one again does nothing and allocates
+    /// nothing. After a fault nothing has changed.
+    pub fn set(
+        &mut self,
+        limits: WatchLimits,
+        connection: u32,
+        kind: Kind,
+        path: &Path,
+    ) -> Result<(), WatchFault>
         ensures ok { OnOk result
             (self.new ≡ insert self.old (watch path.now kind connection)) }
         ensures err { OnErr result (self.new ≡ self.old) }
-        ensures room { OnOk result (is_full self.old (watch path.now kind connection) ≡ false) }
+        ensures room { OnOk result
+            (is_full limits self.old (watch path.now kind connection) ≡ false) }
         ensures fault { IfErr result
-            (IsSetFault (is_full self.old (watch path.now kind connection))) }
+            (IsSetFault (is_full limits self.old (watch path.now kind connection))) }
         ensures again { contains self.old (watch path.now kind connection) ≡ true → IsOk result }
     {
-        set_in(&mut self.rows, path, kind, connection)
+        set_in(
+            &mut self.rows,
+            &mut self.shares,
+            limits,
+            path,
+            kind,
+            connection,
+        )
     }
 
     /// Fires the watches of an event at a path. Removes those that wait for one change. Returns the
@@ -84,7 +105,7 @@ impl Watches {
         ensures err { OnErr result (self.new ≡ self.old) }
     {
         let connections = reported_of(self.alloc, &self.rows, event, path.names())?;
-        remove_fired(&mut self.rows, event, path.names());
+        remove_fired(&mut self.rows, &mut self.shares, event, path.names());
         Ok(connections)
     }
 
@@ -106,13 +127,14 @@ impl Watches {
     pub fn remove(&mut self, connection: u32, type_of: WatchType, path: &Path)
         ensures { self.new ≡ without_meant self.old connection type_of path.now }
     {
-        remove_meant(&mut self.rows, connection, type_of, path.names());
+        let names = path.names();
+        remove_meant(&mut self.rows, &mut self.shares, connection, type_of, names);
     }
 
     /// Removes all watches of a connection. Allocates nothing.
     pub fn forget(&mut self, connection: u32)
         ensures { self.new ≡ without self.old connection }
     {
-        remove_all(&mut self.rows, connection);
+        remove_all(&mut self.rows, &mut self.shares, connection);
     }
 }

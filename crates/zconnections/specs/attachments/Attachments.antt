@@ -1,6 +1,6 @@
 -- Attachments of sessions to connections: what a server stores of a session beside the tree. The
 -- source is the ZooKeeper Programmer's Guide, "ZooKeeper Sessions".
-use Rattle.std.specs.Prelude.{ℕ, true, false, List, None, Some, if◌then◌else◌, map, unwrap_or}
+use Rattle.std.specs.Prelude.{ℕ, true, false, ◌||◌, List, None, Some, if◌then◌else◌, map, unwrap_or}
 use Rattle.std.specs.Option.{option_map_or}
 use Rattle.std.specs.Ordering.{nat_cmp}
 use Rattle.std.specs.List.{filter_map}
@@ -14,13 +14,13 @@ AttachmentsView = FinMap nat_cmp Attachment
 -- the attachment of a session that a connection opens
 abbrev pub new_attachment : ℕ → Attachment
 new_attachment connection =
-    record { connection = Some connection; is_touched = false; made_ephemeral = false }
+    record { connection = Some connection; is_touched = true; was_touched = false; made_ephemeral = false }
 
 -- the attachment of a session that was opened earlier and has no connection now; it counts as one
--- that made an ephemeral node, since no one knows whether it did
+-- that sent a request just now and made an ephemeral node, since no one knows whether it did
 abbrev pub restored_attachment : Attachment
 restored_attachment =
-    record { connection = None; is_touched = false; made_ephemeral = true }
+    record { connection = None; is_touched = true; was_touched = false; made_ephemeral = true }
 
 -- attached to a connection, which sent a request just now
 abbrev pub taken_up : ℕ → Attachment → Attachment
@@ -38,9 +38,9 @@ with_ephemeral s = record s { made_ephemeral = true }
 abbrev pub left : Attachment → Attachment
 left s = record s { connection = None }
 
--- without a request since the last `rest`
+-- after a `rest`: a request since the last one is now before it
 abbrev pub rested : Attachment → Attachment
-rested s = record s { is_touched = false }
+rested s = record s { is_touched = false; was_touched = s.is_touched }
 
 -- the attachments after a connection has taken a session; an unknown session was opened earlier
 abbrev pub with_seat : AttachmentsView → ℕ → ℕ → AttachmentsView
@@ -50,9 +50,9 @@ with_seat m id connection = insert m id (taken_up connection (unwrap_or (get m i
 abbrev pub with_changed : (Attachment → Attachment) → AttachmentsView → ℕ → AttachmentsView
 with_changed change m id = option_map_or (λ s. insert m id (change s)) (get m id) m
 
--- the sessions with a request since the last `rest`, in the order of ids
+-- the sessions with a request since the last `rest` but one, in the order of ids
 abbrev pub touched_ids : AttachmentsView → List ℕ
-touched_ids m = filter_map (λ e. if e.1.is_touched then Some e.0 else None) (entries m)
+touched_ids m = filter_map (λ e. if e.1.is_touched || e.1.was_touched then Some e.0 else None) (entries m)
 
 -- the attachments, each after `rest`
 abbrev pub all_rested : AttachmentsView → AttachmentsView

@@ -69,7 +69,8 @@ impl Attachments {
     {
         let attachment = Attachment {
             connection: Some(connection),
-            is_touched: false,
+            is_touched: true,
+            was_touched: false,
             made_ephemeral: false,
         };
         self.table.insert(id, attachment)
@@ -149,14 +150,15 @@ impl Attachments {
         self.table.remove(id);
     }
 
-    /// Returns the ids of the sessions with a request since the last `rest`, in order; or `Memory`.
+    /// Returns the ids of the sessions with a request since the last `rest` but one, in order; or
+    /// `Memory`.
     pub fn touched(&self) -> Result<Vec<SessionId>, Memory>
         ensures { IfOk result (λ ids. ids.items ≡ touched_ids self.now) }
     {
         self.table.touched()
     }
 
-    /// Clears the flag of a request for each session.
+    /// For each session, a request since the last `rest` is one before it.
     pub fn rest(&mut self)
         ensures { self.new ≡ all_rested self.old }
     {

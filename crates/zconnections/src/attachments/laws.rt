@@ -2,7 +2,7 @@
 
 ghost use Rattle.zconnections.specs.attachments.Laws.{EachRests};
 
-/// `rest` leaves each session attached as it was, with nothing requested since.
+/// `rest` leaves each session attached as it was; what was requested since the last is before it.
 pub fn each_rests()
     ensures { EachRests }
 {}

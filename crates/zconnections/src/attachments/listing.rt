@@ -21,7 +21,7 @@ pub(crate) fn touched_among(
 {
     let mut ids = Vec::new(alloc);
     for (id, attachment) in table {
-        if attachment.is_touched {
+        if attachment.is_touched || attachment.was_touched {
             ids.push(SessionId::new(*id))?;
         }
     }

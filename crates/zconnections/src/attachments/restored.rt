@@ -11,7 +11,8 @@ pub(crate) fn restored() -> Attachment
 {
     Attachment {
         connection: None,
-        is_touched: false,
+        is_touched: true,
+        was_touched: false,
         made_ephemeral: true,
     }
 }

@@ -81,7 +81,7 @@ impl AttachmentTable {
         self.table.remove(&id.number());
     }
 
-    // Clears the flag of a request for each session. Allocates nothing.
+    // For each session, a request since the last `rest` is one before it. Allocates nothing.
     pub(crate) fn rest(&mut self)
         ensures { self.new ≡ all_rested self.old }
     {
@@ -106,12 +106,13 @@ impl AttachmentTable {
     }
 }
 
-// Returns the attachment without the flag of a request.
+// Returns the attachment after a `rest`.
 fn rested(attachment: Attachment) -> Attachment
     ensures { result ≡ rested attachment }
 {
     Attachment {
         is_touched: false,
+        was_touched: attachment.is_touched,
         ..attachment
     }
 }

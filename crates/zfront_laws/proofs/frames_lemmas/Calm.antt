@@ -269,7 +269,7 @@ module _ (c : ℕ) where
   waits : (d : ℕ) (kind : Kind) (path : Path) (t : TablesView) → Granting d t (waiting d kind path t)
   waits d kind path t own =
       let u = record t { watches = insert t.watches (watch path kind d) } in
-      elim (is_full t.watches (watch path kind d)) as (λ b. Calm c t (if b then t else u) × ((if b then t else u).streams ≡ t.streams)) [
+      elim (is_full t.limits t.watches (watch path kind d)) as (λ b. Calm c t (if b then t else u) × ((if b then t else u).streams ≡ t.streams)) [
         | true ↦ (same t, refl)
         | false ↦ (alike t u refl (free-waiting c d kind path t own), refl)
       ]

@@ -53,7 +53,7 @@ module _ (c : ℕ) where
       quietly Is Closes (closed c old.tables) old new it is (view-closed c old.tables) (free-closed c c old.tables free)
 
 -- an answer, and the close after it where its code ends the connection
-pub replies : (c zxid : ℕ) (xid : ℤ) (answer : Answer) (t : TablesView)
+pub replies : (c : ℕ) (zxid xid : ℤ) (answer : Answer) (t : TablesView)
     → (end : Talk) × IsCalm false end × (view c (replied zxid c xid answer t) ≡ run c (Answers (answer_frame zxid xid answer) end) (view c t))
     × (Free c t → Free c (replied zxid c xid answer t))
 replies c zxid xid answer t =

@@ -21,7 +21,7 @@ use Rattle.zjute.specs.Connecting.{connect_request}
 use Rattle.zjute.specs.declared.connecting.ConnectRequest.{ConnectRequest}
 use Rattle.zrequests.specs.Timeouts.{millis_reported}
 use Rattle.zresponses.specs.declared.clock.Clock.{Clock}
-use Rattle.zresponses.specs.Stats.{long_of}
+use Rattle.zresponses.specs.Stats.{told, long_of}
 use Rattle.ztree_service.specs.log.Logs.{Log}
 use Rattle.zpasswords.specs.Passwords.{password_of}
 use Rattle.zconnections.specs.declared.buffers.phase.Phase.{Phase}
@@ -236,7 +236,7 @@ module _ (c : ℕ) where
     greets_by : (read : Result ConnectRequest Fault) → whole connect_request bytes ≡ read → (v : FrontView) → IsSilent v.tables → Free c v.tables
         → Meeting c (bytes ∷ []) (done_by (greeting_calls read v) v) v (greeted_by read c v)
     greets_by (Err fault) reads v silent free = met_closed v.clock v.secret bytes v.tree [] v.tables silent free
-    greets_by (Ok greeting) reads v silent free = greets_unless greeting reads v silent free (is_ahead v.tree.zxid greeting)
+    greets_by (Ok greeting) reads v silent free = greets_unless greeting reads v silent free (is_ahead (told v.clock.base v.tree.zxid) greeting)
 
     meets : (old new : FrontView) → IsSilent old.tables → Free c old.tables → Handles bytes c old new
         → Meeting c (bytes ∷ []) (frame_log bytes c old) old new

@@ -90,11 +90,11 @@ away_where clock secret c log v (inl there) none =
 away_where clock secret c log v (inr away) none = away
 
 pub every_connection_is_answered : EveryConnectionIsAnswered
-every_connection_is_answered t secret times is_kept past before behind old v c left earlier once none stays later =
-    let first = beginning t secret times is_kept in
+every_connection_is_answered limits t secret times is_kept past before behind old v c left earlier once none stays later =
+    let first = beginning limits t secret times is_kept in
     let opened = inputs.opened c old in
-    let few = is_few t secret times is_kept in
-    let new = bare_away c first.tables (is_bare t secret times is_kept) in
+    let few = is_few limits t secret times is_kept in
+    let new = bare_away c first.tables (is_bare limits t secret times is_kept) in
     let begun = runs_before c times secret before past first old few (left.1, refl, refl) new.1 (inr new.0) earlier once in
     let now = run_log before first old earlier in
     let more = run_log behind opened v later in

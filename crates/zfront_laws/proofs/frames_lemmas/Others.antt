@@ -16,7 +16,6 @@ use Rattle.zcodec.specs.declared.fault.Fault.{Fault}
 use Rattle.zcalls.specs.declared.call.Call.{Call}
 use Rattle.zcalls.specs.declared.reply.Reply.{Reply}
 use Rattle.zcalls.specs.declared.reply.Reply.TheVariants.{Opened}
-use Rattle.zjute.specs.Asking.{request}
 use Rattle.zjute.specs.Connecting.{connect_request}
 use Rattle.zjute.specs.Frames.{next_of}
 use Rattle.zjute.specs.declared.connecting.ConnectRequest.{ConnectRequest}
@@ -28,8 +27,8 @@ use Rattle.zrequests.specs.declared.fault.Unasked.TheVariants.{Refused, Memory}
 use Rattle.zresponses.specs.declared.answer.Answer.{Answer}
 use Rattle.zresponses.specs.declared.clock.Clock.{Clock}
 use Rattle.zresponses.specs.declared.clock.Now.{Now}
-use Rattle.zresponses.specs.Answers.{failed}
-use Rattle.zresponses.specs.Stats.{long_of}
+use Rattle.zresponses.specs.Own.{refused_answer}
+use Rattle.zresponses.specs.Stats.{told, long_of}
 use Rattle.zconnections.specs.declared.buffers.phase.Phase.{Phase}
 use Rattle.zconnections.specs.declared.buffers.phase.Phase.TheVariants.{Silent, Speaking, Closing}
 use Rattle.zconnections.specs.buffers.Outbox.{ChunkView}
@@ -51,7 +50,8 @@ use Rattle.zfront.specs.Greeting.{opening, opened, with_session, returned, greet
 use Rattle.zfront.specs.Inputs as inputs
 use Rattle.zfront.specs.Reading.{HandlesIn, Handles, HandlesAll, Reads, is_too_long, kept, keeps, Keeps}
 use Rattle.zfront.specs.Reading.{word_asked, ComesBy, ComesBehind, ComesIf, Comes, emptied}
-use Rattle.zfront.specs.Requests.{touched_by, with_answer, Makes, Acts, Requests}
+use Rattle.zfront.specs.Requests.{touched_by, with_answer, Makes, Tells, Acts, ActsOr, Requests, request_in}
+use Rattle.zfront.specs.Walks.{walked}
 use Rattle.zfront.specs.Ticking.{tick_calls, rested, TicksBy, Ticks}
 use Rattle.zfront.specs.Words.{said, text_of_word}
 use Rattle.zfront_laws.specs.Runs.{KeepsFew}
@@ -84,7 +84,7 @@ module _ (c : ℕ) where
 
 -- frames of another connection
 module _ (c d : ℕ) (other : d ≢ c) where
-  reports_answer : (zxid : ℕ) (xid : ℤ) (answer : Answer) (t : TablesView) → Calm c t (replied zxid d xid answer t)
+  reports_answer : (zxid : ℤ) (xid : ℤ) (answer : Answer) (t : TablesView) → Calm c t (replied zxid d xid answer t)
   reports_answer zxid xid answer t =
       let u = sent d (answer_frame zxid xid answer) t in
       let sends = table.sends_elsewhere c d (answer_frame zxid xid answer) t other in
@@ -100,9 +100,9 @@ module _ (c d : ℕ) (other : d ≢ c) where
       let wished = wishes r.asked calls replies in
       let w = granted_all d wished u in
       let answer = answer_unless (first_fault d wished u) clock now r.asked calls replies in
-      table.both c t u (replied now.zxid d r.xid answer w) (table.absorbs_all c calls replies t)
-      (table.both c u w (replied now.zxid d r.xid answer w) (table.grants c d r.asked calls replies u (λ is. absurd (other is)))
-      (reports_answer now.zxid r.xid answer w))
+      table.both c t u (replied (told clock.base now.zxid) d r.xid answer w) (table.absorbs_all c calls replies t)
+      (table.both c u w (replied (told clock.base now.zxid) d r.xid answer w) (table.grants c d r.asked calls replies u (λ is. absurd (other is)))
+      (reports_answer (told clock.base now.zxid) r.xid answer w))
 
   makes : (calls : List Call) (r : Request) (old new : FrontView) → Makes calls d r old new → Calm c old.tables new.tables
   makes calls r old new has =
@@ -110,18 +110,25 @@ module _ (c d : ℕ) (other : d ≢ c) where
       front.both c old middle new (answers old.clock (now_of (asked calls old).tree) r calls (replies_to calls old) old.tables)
       (front.tidies c calls (replies_to calls old) (watched old) middle new has)
 
+  tells : (answer : Answer) (r : Request) (old new : FrontView) → Tells answer d r old new → Calm c old.tables new.tables
+  tells answer r old new is =
+      front.retabled c (replied (told old.clock.base old.tree.zxid) d r.xid answer old.tables) old new is (reports_answer (told old.clock.base old.tree.zxid) r.xid answer old.tables)
+
   acts : (meaning : Meaning (List Call)) (r : Request) (old new : FrontView) → Acts meaning d r old new → Calm c old.tables new.tables
-  acts (Err (Refused code)) r old new is =
-      front.retabled c (replied old.tree.zxid d r.xid (failed code) old.tables) old new is
-      (reports_answer old.tree.zxid r.xid (failed code) old.tables)
+  acts (Err (Refused code)) r old new is = tells (refused_answer code r.asked) r old new is
   acts (Err Memory) r old new is = absurd is
   acts (Ok calls) r old new has = makes calls r old new has
+
+  acts_or : (walk : Option Answer) (meaning : Meaning (List Call)) (r : Request) (old new : FrontView) → ActsOr walk meaning d r old new
+      → Calm c old.tables new.tables
+  acts_or (Some answer) meaning r old new is = tells answer r old new is
+  acts_or None meaning r old new has = acts meaning r old new has
 
   requests : (read : Result Request Fault) (session : ℕ) (old new : FrontView) → Requests read session d old new → Calm c old.tables new.tables
   requests (Err fault) session old new is = front.retabled c (closed d old.tables) old new is (table.closes c d old.tables)
   requests (Ok r) session old new has =
       front.both c old (touched_by session old) new (touches c session old)
-      (acts (calls_in old.clock.tick session r.asked) r (touched_by session old) new has)
+      (acts_or (walked session r.asked old.tree) (calls_in old.clock.tick session r.asked) r (touched_by session old) new has)
 
   -- greetings
   welcomes : (tick : ℕ) (greeting : ConnectRequest) (session ticks : ℕ) (password : List ℕ) (t : TablesView)
@@ -186,12 +193,12 @@ module _ (c d : ℕ) (other : d ≢ c) where
 
   greets_by : (read : Result ConnectRequest Fault) (v : FrontView) → Calm c v.tables (greeted_by read d v).tables
   greets_by (Err fault) v = table.closes c d v.tables
-  greets_by (Ok greeting) v = greets_unless (is_ahead v.tree.zxid greeting) greeting v
+  greets_by (Ok greeting) v = greets_unless (is_ahead (told v.clock.base v.tree.zxid) greeting) greeting v
 
   -- frames
   handles_in : (phase : Option Phase) (bytes : List ℕ) (old new : FrontView) → HandlesIn phase bytes d old new → Calm c old.tables new.tables
   handles_in (Some Silent) bytes old new is = front.becomes c old new (greeted bytes d old) is (greets_by (whole connect_request bytes) old)
-  handles_in (Some (Speaking session)) bytes old new has = requests (whole request bytes) session old new has
+  handles_in (Some (Speaking session)) bytes old new has = requests (request_in old.clock.base bytes) session old new has
   handles_in (Some Closing) bytes old new is = front.same c old new is
   handles_in None bytes old new is = front.same c old new is
 

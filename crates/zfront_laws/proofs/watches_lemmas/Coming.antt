@@ -5,6 +5,7 @@ use Rattle.std.specs.Prelude.{◌||◌, nat_lt, if◌then◌else◌}
 use Rattle.zcalls.specs.Lists.{Among}
 use Rattle.zjute.specs.Frames.{next_of}
 use Rattle.zjute.specs.declared.request.Asked.{Asked}
+use Rattle.zresponses.specs.declared.clock.Clock.{Clock}
 use Rattle.zconnections.specs.declared.buffers.phase.Phase.{Phase}
 use Rattle.zconnections.specs.declared.buffers.phase.Phase.TheVariants.{Silent, Speaking, Closing}
 use Rattle.zconnections.specs.buffers.Streams.{bytes_of, held_of, phase_of, with_bytes}
@@ -50,12 +51,12 @@ request_among (Some (Speaking session)) first frame frames among = inr among
 request_among (Some Closing) first frame frames among = inr among
 request_among None first frame frames among = inr among
 
--- the connection has each request among the frames
-abbrev AsksIn : Asking → ℕ → List (List ℕ) → Type 0
-AsksIn Asks c requests = (frame : List ℕ) (asks : Asked) → Among frame requests → IsRequest asks frame → Asks c asks
+-- the connection has each request among the frames, where zxids are told from this base
+abbrev AsksIn : Asking → ℕ → ℕ → List (List ℕ) → Type 0
+AsksIn Asks base c requests = (frame : List ℕ) (asks : Asked) → Among frame requests → IsRequest base asks frame → Asks c asks
 
 handles_in : {Asks : Asking} (phase : Option Phase) (bytes : List ℕ) (frames : List (List ℕ)) (c : ℕ) (old new : FrontView) (s : Scene)
-    → AsksIn Asks c (requests_in phase (bytes ∷ frames)) → phase_of old.tables.streams c ≡ phase
+    → AsksIn Asks old.clock.base c (requests_in phase (bytes ∷ frames)) → phase_of old.tables.streams c ≡ phase
     → Fine old → At old s → HandlesIn phase bytes c old new → Reaches Asks new s (done_by (frame_calls phase bytes old) old)
 handles_in (Some Silent) bytes frames c old new s mine is fine there same =
     becomes new (greeted bytes c old) s (done_by (frame_calls (Some Silent) bytes old) old) same (greets bytes c old s fine there)
@@ -65,19 +66,21 @@ handles_in (Some Closing) bytes frames c old new s mine is fine there same = unm
 handles_in None bytes frames c old new s mine is fine there same = unmoved old new s there same
 
 handles_all : {Asks : Asking} (frames : List (List ℕ)) (c : ℕ) (old new : FrontView) (s : Scene)
-    → AsksIn Asks c (requests_in (phase_of old.tables.streams c) frames) → Fine old → At old s → (has : HandlesAll frames c old new)
+    → AsksIn Asks old.clock.base c (requests_in (phase_of old.tables.streams c) frames) → Fine old → At old s → (has : HandlesAll frames c old new)
     → Reaches Asks new s (frames_log frames c old new has)
 handles_all [] c old new s mine fine there is = unmoved old new s there is
 handles_all (bytes ∷ frames) c old new s mine fine there has =
     let middle = has.1 in
     let phase = phase_of old.tables.streams c in
+    let handled = step.handles bytes c old middle has.2 in
     behind None None middle new s (frame_log bytes c old) (frames_log frames c middle new has.3)
     (handles_in phase bytes frames c old middle s mine refl fine there has.2)
     (λ next here.
     handles_all frames c middle new next
     (λ frame asks among is.
-    mine frame asks (request_among phase bytes frame frames (request_later (phase_of middle.tables.streams c) frame frames among)) is)
-    ((step.handles bytes c old middle has.2).seats fine) here has.3)
+    mine frame asks (request_among phase bytes frame frames (request_later (phase_of middle.tables.streams c) frame frames among))
+    (subst (λ (k : Clock). IsRequest k.base asks frame) handled.alike.1 is))
+    (handled.seats fine) here has.3)
 
 -- ---- what is stored
 
@@ -114,11 +117,12 @@ asked_silent (Some Closing) came word is = absurd (cc is)
 asked_silent None came word is = absurd (cc is)
 
 -- the connection has each request in these bytes
-abbrev AsksOf : Asking → ℕ → Option Phase → List ℕ → Type 0
-AsksOf Asks c phase came = (frames : List (List ℕ)) (rest : List ℕ) → Cuts came frames rest → AsksIn Asks c (requests_in phase frames)
+abbrev AsksOf : Asking → ℕ → ℕ → Option Phase → List ℕ → Type 0
+AsksOf Asks base c phase came =
+    (frames : List (List ℕ)) (rest : List ℕ) → Cuts came frames rest → AsksIn Asks base c (requests_in phase frames)
 
 comes_by : {Asks : Asking} (word : _) (came : List ℕ) (c : ℕ) (old new : FrontView) (s : Scene)
-    → AsksOf Asks c (phase_of old.tables.streams c) came → KeepsFew old → Fine old → At old s
+    → AsksOf Asks old.clock.base c (phase_of old.tables.streams c) came → KeepsFew old → Fine old → At old s
     → word_asked (phase_of old.tables.streams c) came ≡ word
     → (has : ComesBy word came c old new) → Reaches Asks new s (bytes_log word came c old new has)
 comes_by (Some word) came c old new s mine few fine there asks is =
@@ -132,7 +136,7 @@ comes_by None came c old new s mine few fine there asks has =
     (λ next here. becomes new (keeps has.0 c middle) next [] (step.keeps_now has.0 c middle new kept has.3) (keeps_rest has.0 c middle next here))
 
 comes_if : {Asks : Asking} (on : Bool) (bytes : List ℕ) (c : ℕ) (old new : FrontView) (s : Scene)
-    → AsksOf Asks c (phase_of old.tables.streams c) (bytes_of old.tables.streams c ++ bytes) → KeepsFew old → Fine old → At old s
+    → AsksOf Asks old.clock.base c (phase_of old.tables.streams c) (bytes_of old.tables.streams c ++ bytes) → KeepsFew old → Fine old → At old s
     → (has : ComesIf on bytes c old new) → Reaches Asks new s (came_log on bytes c old new has)
 comes_if false bytes c old new s mine few fine there is = unmoved old new s there is
 comes_if {Asks} true bytes c old new s mine few fine there has =
@@ -143,13 +147,21 @@ comes_if {Asks} true bytes c old new s mine few fine there has =
     behind None None v new s [] (came_log true bytes c old new has)
     (moves None old s v.tables there (bytes_move old.tables c []) (unchanged old.tables.attachments))
     (λ next here.
-    comes_by (word_asked (phase_of v.tables.streams c) came) came c v new next (subst (λ phase. AsksOf Asks c phase came) (sym same) mine)
+    comes_by (word_asked (phase_of v.tables.streams c) came) came c v new next (subst (λ phase. AsksOf Asks old.clock.base c phase came) (sym same) mine)
     (empty.few few) (empty.seats fine) here refl has)
 
 pub comes : (bytes : List ℕ) (c : ℕ) (old new : FrontView) (s : Scene) → KeepsFew old → Fine old → At old s
     → (has : Comes bytes c old new) → Reaches (Arriving c bytes s) new s (came_log (is_open old.tables c) bytes c old new has)
 comes bytes c old new s few fine there has =
     comes_if (is_open old.tables c) bytes c old new s
-    (subst (λ (t : TablesView). AsksOf (Arriving c bytes s) c (phase_of t.streams c) (bytes_of t.streams c ++ bytes)) there.tables
-    (λ frames rest cuts frame asks among is. (refl, frames, rest, cuts, frame, among, is)))
+    (subst (λ (t : TablesView). AsksOf (Arriving c bytes s) old.clock.base c (phase_of t.streams c) (bytes_of t.streams c ++ bytes)) there.tables
+    (λ frames rest cuts frame asks among is. (
+      refl,
+      frames,
+      rest,
+      cuts,
+      frame,
+      among,
+      subst (λ base. IsRequest base asks frame) (sym there.base) is,
+    )))
     few fine there has

@@ -63,7 +63,7 @@ module _ (s : Scene) (c : ℕ) (kind : Kind) (path : Path) where
 
   -- a watch in the table is the one that was set, or was there before
   stood : (w : Watch) → In (waiting c kind path t) w → (eq_by_cmp watch_cmp w mine ≡ true) ⊎ In t w
-  stood w = elim (is_full t.watches mine) as (λ b. In (if b then t else record t { watches = insert t.watches mine }) w
+  stood w = elim (is_full t.limits t.watches mine) as (λ b. In (if b then t else record t { watches = insert t.watches mine }) w
       → (eq_by_cmp watch_cmp w mine ≡ true) ⊎ In t w) [
         | true ↦ λ is. inr is
         | false ↦ λ is. insert_leaves t.watches mine w is
@@ -88,7 +88,7 @@ module _ (s : Scene) (c : ℕ) (kind : Kind) (path : Path) where
       by false is b there = before (other is (stood w stands))
 
   attachments_stay : (waiting c kind path t).attachments ≡ t.attachments
-  attachments_stay = elim (is_full t.watches mine) as (λ b. (if b then t else record t { watches = insert t.watches mine }).attachments ≡ t.attachments) [
+  attachments_stay = elim (is_full t.limits t.watches mine) as (λ b. (if b then t else record t { watches = insert t.watches mine }).attachments ≡ t.attachments) [
     | true ↦ refl
     | false ↦ refl
   ]
@@ -96,6 +96,7 @@ module _ (s : Scene) (c : ℕ) (kind : Kind) (path : Path) where
   waits : (v : FrontView) → At v s → IsRight kind path (tree_of s).nodes
       → At (with_tables (waiting c kind path v.tables) v) (after (Set c kind path) s)
   waits v there right = record {
+    base = there.base;
     tables = ap (waiting c kind path) there.tables;
     tree = there.tree;
     holds = record {

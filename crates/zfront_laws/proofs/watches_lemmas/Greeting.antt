@@ -27,6 +27,7 @@ use Rattle.zconnections.specs.Tables.{closed, moved, sent, attachment, taken_up}
 use Rattle.zconnections.specs.Sweeping.{made_one}
 use Rattle.zresponses.specs.effects.Frames.{response_frame}
 use Rattle.zresponses.specs.effects.Greeting.{session_reported, turned_away, given, came_back, is_ahead}
+use Rattle.zresponses.specs.Stats.{told}
 use Rattle.zfront.specs.Front.{FrontView, with_tables, asked}
 use Rattle.zfront.specs.Greeting.{opening, opened, with_session, returned, greeted_by, greeted}
 use Rattle.zfront_laws.specs.Logs.{done_by, greeting_calls}
@@ -161,7 +162,7 @@ greets_if false false greeting c v s fine there = returns greeting greeting.sess
 greets_by : {Asks : Asking} (read : Result ConnectRequest Fault) (c : ℕ) (v : FrontView) (s : Scene) → Fine v → At v s
     → Reaches Asks (greeted_by read c v) s (done_by (greeting_calls read v) v)
 greets_by (Err fault) c v s fine there = closes None v s c there
-greets_by (Ok greeting) c v s fine there = greets_if (is_ahead v.tree.zxid greeting) (int_eq greeting.session_id (pos 0)) greeting c v s fine there
+greets_by (Ok greeting) c v s fine there = greets_if (is_ahead (told v.clock.base v.tree.zxid) greeting) (int_eq greeting.session_id (pos 0)) greeting c v s fine there
 
 pub greets : {Asks : Asking} (bytes : List ℕ) (c : ℕ) (v : FrontView) (s : Scene) → Fine v → At v s
     → Reaches Asks (greeted bytes c v) s (done_by (greeting_calls (whole connect_request bytes) v) v)

@@ -37,12 +37,13 @@ module _ (to : StreamView → StreamView) (stays : (s : StreamView) → may_send
 
 -- other attachments
 pub attachments_move : (t : TablesView) (m : AttachmentsView) → IsMoved t (record t { attachments = m })
-attachments_move t m = record { watches = refl; unsent = refl; opens = λ c opens. opens }
+attachments_move t m = record { watches = refl; limits = refl; unsent = refl; opens = λ c opens. opens }
 
 -- other bytes
 pub bytes_move : (t : TablesView) (c : ℕ) (bytes : List ℕ) → IsMoved t (record t { streams = with_bytes t.streams c bytes })
 bytes_move t c bytes = record {
   watches = refl;
+  limits = refl;
   unsent = refl;
   opens = λ d opens. stays_open (λ s. record s { bytes = bytes }) (λ s is. is) t.streams c d opens;
 }
@@ -52,6 +53,7 @@ pub speaks_moves : (t : TablesView) (c session : ℕ) (m : AttachmentsView)
     → IsMoved t (record t { streams = with_phase t.streams c (Speaking session); attachments = m })
 speaks_moves t c session m = record {
   watches = refl;
+  limits = refl;
   unsent = refl;
   opens = λ d opens. stays_open (λ s. record s { phase = Speaking session }) (λ s is. refl) t.streams c d opens;
 }

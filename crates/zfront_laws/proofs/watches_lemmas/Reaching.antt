@@ -4,6 +4,7 @@ use Rattle.std.specs.Prelude.{◌⊎◌, ℤ, if◌then◌else◌}
 use Rattle.std.specs.FinSet.{contains}
 use Rattle.std.proofs.lemmas.List.{append-nil}
 use Rattle.ztree.specs.Tree.{Tree}
+use Rattle.zresponses.specs.Stats.{told}
 use Rattle.zresponses.specs.declared.answer.Answer.{Answer}
 use Rattle.ztree_service.specs.log.Logs.{Log}
 use Rattle.zconnections.specs.Tables.{TablesView, sent, closed}
@@ -20,8 +21,9 @@ use Rattle.zfront_laws.proofs.watches_lemmas.Owners.{OwnersAre}
 use Rattle.zfront_laws.proofs.watches_lemmas.Scenes.{happens_both}
 use Rattle.zfront_laws.proofs.watches_lemmas.Standing.{Fewer, closed_fewer, sent_watches, sent_attachments}
 
--- the server's tables and tree are those of the scene; the watches may know the nodes of an earlier front only
+-- the server's base, tables and tree are those of the scene; the watches may know the nodes of an earlier front only
 pub record AtIf (since : Option FrontView) (v : FrontView) (s : Scene) : Type 0 where
+  pub base : s.base ≡ v.clock.base
   pub tables : s.tables ≡ v.tables
   pub tree : tree_of s ≡ v.tree
   pub holds : Holds since (tree_of s) s.set_at s.tables
@@ -34,6 +36,7 @@ At v s = AtIf None v s
 pub shuts : (since : Option FrontView) (v : FrontView) (s : Scene) (to : TablesView → TablesView) → AtIf since v s → Fewer s.tables (to s.tables)
     → Keeps s.tables.attachments (to s.tables).attachments → AtIf since (with_tables (to v.tables) v) (record s { tables = to s.tables })
 shuts since v s to there fewer kept = record {
+  base = there.base;
   tables = ap to there.tables;
   tree = there.tree;
   holds = fewer_holds since (tree_of s) s.set_at s.tables (to s.tables) fewer
@@ -44,6 +47,7 @@ shuts since v s to there fewer kept = record {
 pub sends : (since : Option FrontView) (v : FrontView) (s : Scene) (c : ℕ) (bytes : List ℕ) → AtIf since v s
     → AtIf since (with_tables (sent c bytes v.tables) v) (record s { tables = sent c bytes s.tables })
 sends since v s c bytes there = record {
+  base = there.base;
   tables = ap (sent c bytes) there.tables;
   tree = there.tree;
   holds = fewer_holds since (tree_of s) s.set_at s.tables (sent c bytes s.tables)
@@ -114,6 +118,7 @@ module _ {Asks : Asking} where
       → Arrives Asks since (with_tables t v) s []
   moves_if since v s t there moved owners =
       once since (with_tables t v) s (Moved t) (after (Moved t) s) (subst (λ old. IsMoved old t) (sym there.tables) moved, refl) refl (record {
+        base = there.base;
         tables = refl;
         tree = there.tree;
         holds = fewer_holds since (tree_of s) s.set_at s.tables t
@@ -145,21 +150,21 @@ module _ {Asks : Asking} where
 
   -- an answer
   answers : (since : Option FrontView) (v : FrontView) (s : Scene) (c : ℕ) (xid : ℤ) (answer : Answer) → AtIf since v s → (HasReportedAll s c ⊎ IsClose s c)
-      → Arrives Asks since (with_tables (sent c (answer_frame v.tree.zxid xid answer) v.tables) v) s []
+      → Arrives Asks since (with_tables (sent c (answer_frame (told v.clock.base v.tree.zxid) xid answer) v.tables) v) s []
   answers since v s c xid answer there may =
-      sends_as since v s c (answer_frame v.tree.zxid xid answer) (Answered c xid answer) may
-      (ap (λ (t : Tree). record s { tables = sent c (answer_frame t.zxid xid answer) s.tables }) there.tree) there
+      sends_as since v s c (answer_frame (told v.clock.base v.tree.zxid) xid answer) (Answered c xid answer) may
+      (λ i. record s { tables = sent c (answer_frame (told (there.base i) (there.tree i).zxid) xid answer) s.tables }) there
 
   -- and after one that ends the connection it is closed
   pub replies : (since : Option FrontView) (v : FrontView) (s : Scene) (c : ℕ) (xid : ℤ) (answer : Answer) → AtIf since v s → (HasReportedAll s c ⊎ IsClose s c)
-      → Arrives Asks since (with_tables (replied v.tree.zxid c xid answer v.tables) v) s []
+      → Arrives Asks since (with_tables (replied (told v.clock.base v.tree.zxid) c xid answer v.tables) v) s []
   replies since v s c xid answer there may = elim (ends_connection answer.code) as (λ b. Arrives Asks since (with_tables (
       if b
-      then closed c (sent c (answer_frame v.tree.zxid xid answer) v.tables)
-      else sent c (answer_frame v.tree.zxid xid answer) v.tables
+      then closed c (sent c (answer_frame (told v.clock.base v.tree.zxid) xid answer) v.tables)
+      else sent c (answer_frame (told v.clock.base v.tree.zxid) xid answer) v.tables
       ) v) s []) [
         | true ↦
-            let t = sent c (answer_frame v.tree.zxid xid answer) v.tables in
+            let t = sent c (answer_frame (told v.clock.base v.tree.zxid) xid answer) v.tables in
             still since since (with_tables t v) (with_tables (closed c t) v) s [] (answers since v s c xid answer there may)
             (λ next here. closes since (with_tables t v) next c here)
         | false ↦ answers since v s c xid answer there may

@@ -1,8 +1,7 @@
 -- A server at a scene, where a request is done.
-use Rattle.std.proofs.Common.{◌≡◌, ◌∙◌, ℕ, true, false, List, [], ◌∷◌, Some, None, Result, Ok, Err, refl, sym, ap, subst, inl, inr, ◌++◌}
+use Rattle.std.proofs.Common.{◌≡◌, ◌∙◌, ℕ, true, false, List, [], ◌∷◌, Option, Some, None, Result, Ok, Err, refl, sym, ap, subst, inl, inr, ◌++◌}
 use Rattle.std.specs.Prelude.{◌⊎◌, ◌||◌, if◌then◌else◌}
 use Rattle.std.specs.List.{AllByRecursion, list_any}
-use Rattle.zcodec.specs.Readers.{whole}
 use Rattle.zcodec.specs.declared.fault.Fault.{Fault}
 use Rattle.ztree.specs.Lawful.{IsLawful}
 use Rattle.ztree.specs.Tree.{Tree}
@@ -19,7 +18,6 @@ use Rattle.zcalls.specs.declared.reply.Reply.TheVariants as reply
 use Rattle.zcalls.specs.Part.{owner_of}
 use Rattle.zcalls.specs.Step.{step}
 use Rattle.zwatches.specs.changes.Laws.{takes_away}
-use Rattle.zjute.specs.Asking.{request}
 use Rattle.zjute.specs.declared.request.Request.{Request}
 use Rattle.zjute.specs.declared.request.Asked.{Asked}
 use Rattle.zrequests.specs.Asking.{Meaning}
@@ -28,7 +26,7 @@ use Rattle.zrequests.specs.Requests.{calls_in}
 use Rattle.zrequests.specs.declared.fault.Unasked.TheVariants.{Refused, Memory}
 use Rattle.zrequests.proofs.SessionCalls.{calls_are_for_their_session}
 use Rattle.zresponses.specs.declared.answer.Answer.{Answer}
-use Rattle.zresponses.specs.Answers.{failed}
+use Rattle.zresponses.specs.Own.{refused_answer}
 use Rattle.ztree_service.specs.log.Logs.{tree_after}
 use Rattle.zconnections.specs.buffers.Streams.{phase_of}
 use Rattle.zconnections.specs.declared.buffers.phase.Phase.TheVariants.{Speaking}
@@ -39,8 +37,11 @@ use Rattle.zresponses.specs.effects.Replying.{absorbed_all, replied}
 use Rattle.zresponses.specs.effects.Frames.{answer_frame, ends_connection}
 use Rattle.zresponses.specs.effects.Watching.{granted_all, first_fault}
 use Rattle.zresponses.specs.effects.Wishes.{wishes}
+use Rattle.zresponses.specs.Stats.{told}
+use Rattle.zfront.specs.Requests.{request_in}
 use Rattle.zfront.specs.Front.{FrontView, with_tables, asked, replies_to, may_end, takes_nodes, tidied_if, watched}
-use Rattle.zfront.specs.Requests.{touched_by, with_answer, Makes, Acts, Requests, Serves}
+use Rattle.zfront.specs.Requests.{touched_by, with_answer, Makes, Tells, Acts, ActsOr, Requests, Serves}
+use Rattle.zfront.specs.Walks.{walked}
 use Rattle.zfront_laws.specs.Logs.{done_by, meant, request_calls}
 use Rattle.zfront_laws.proofs.Seated.{Has}
 use Rattle.zfront_laws.specs.watches.Laws.{IsRequest}
@@ -54,6 +55,7 @@ use Rattle.zfront_laws.proofs.watches_lemmas.Owners.{PartNames}
 use Rattle.zfront_laws.proofs.watches_lemmas.Reaching.{At, AtIf, Reaches, all_reported, becomes, behind, moves, replies, still, closes}
 use Rattle.zfront_laws.proofs.watches_lemmas.Renewing.{AsksIf, asks_if}
 use Rattle.zfront_laws.proofs.watches_lemmas.Scenes.{is_lawful}
+use Rattle.zfront_laws.proofs.Walking.{walks_call_nothing}
 use Rattle.zfront_laws.proofs.watches_lemmas.Sorting.{Sorts, sorts}
 use Rattle.zfront_laws.proofs.watches_lemmas.Standing.{sent_attachments}
 use Rattle.zfront_laws.proofs.watches_lemmas.Taking.{close_takes}
@@ -133,21 +135,21 @@ module _ (c : ℕ) (asks : Request) where
     answer = answer_unless None old.clock (now_of v.tree) asks.asked calls (reported ∷ [])
 
     abbrev answered : FrontView
-    answered = with_tables (replied v.tree.zxid c asks.xid answer old.tables) v
+    answered = with_tables (replied (told v.clock.base v.tree.zxid) c asks.xid answer old.tables) v
 
     no_wishes : with_tables (granted_and_answered old.clock (now_of v.tree) c asks calls (reported ∷ []) old.tables) v ≡ answered
     no_wishes =
-        ap (λ ws. with_tables (replied v.tree.zxid c asks.xid
+        ap (λ ws. with_tables (replied (told v.clock.base v.tree.zxid) c asks.xid
         (answer_unless (first_fault c ws old.tables) old.clock (now_of v.tree) asks.asked calls (reported ∷ [])) (granted_all c ws old.tables)) v)
         (no_watch (reported ∷ []))
 
     -- it is answered, and what it took away is reported
-    replied_keeps : (t : TablesView) → Keeps t.attachments (replied v.tree.zxid c asks.xid answer t).attachments
+    replied_keeps : (t : TablesView) → Keeps t.attachments (replied (told v.clock.base v.tree.zxid) c asks.xid answer t).attachments
     replied_keeps t =
-        let u = sent c (answer_frame v.tree.zxid asks.xid answer) t in
+        let u = sent c (answer_frame (told v.clock.base v.tree.zxid) asks.xid answer) t in
         elim (ends_connection answer.code) as (λ b. Keeps t.attachments (if b then closed c u else u).attachments) [
-          | true ↦ subst (λ m. Keeps m (closed c u).attachments) (sent_attachments c (answer_frame v.tree.zxid asks.xid answer) t) (closed_keeps c u)
-          | false ↦ subst (Keeps t.attachments) (sym (sent_attachments c (answer_frame v.tree.zxid asks.xid answer) t)) (unchanged t.attachments)
+          | true ↦ subst (λ m. Keeps m (closed c u).attachments) (sent_attachments c (answer_frame (told v.clock.base v.tree.zxid) asks.xid answer) t) (closed_keeps c u)
+          | false ↦ subst (Keeps t.attachments) (sym (sent_attachments c (answer_frame (told v.clock.base v.tree.zxid) asks.xid answer) t)) (unchanged t.attachments)
         ]
 
     ends : {Asks : Asking} → AtIf (Some old) v (next calls old s there) → Lost old v (takes_nodes reported)
@@ -267,17 +269,28 @@ module _ {Asks : Asking} (c session : ℕ) (asks : Request) (mine : Asks c asks.
       (update_names s.tables.attachments session sits u own) there
       (subst (λ cs. Makes cs c asks old new) is has))
 
+  tells : (answer : Answer) (old new : FrontView) (s : Scene) → At old s → Tells answer c asks old new → Reaches Asks new s []
+  tells answer old new s there is =
+      becomes new (with_tables (replied (told old.clock.base old.tree.zxid) c asks.xid answer old.tables) old) s [] is
+      (replies None old s c asks.xid answer there (inl (all_reported old s c there)))
+
   acts : (meaning : Meaning (List Call)) → ((calls : List Call) → meaning ≡ Ok calls
       → AsksIf asks.asked calls × Sorts asks.asked calls × AllByRecursion (CallIsFor session) calls)
       → (old new : FrontView) (s : Scene) → phase_of old.tables.streams c ≡ Some (Speaking session) → Has s.tables.attachments session
       → At old s → Acts meaning c asks old new → Reaches Asks new s (done_by (meant meaning) old)
-  acts (Err (Refused code)) each old new s speaks sits there is =
-      becomes new (with_tables (replied old.tree.zxid c asks.xid (failed code) old.tables) old) s [] is
-      (replies None old s c asks.xid (failed code) there (inl (all_reported old s c there)))
+  acts (Err (Refused code)) each old new s speaks sits there is = tells (refused_answer code asks.asked) old new s there is
   acts (Err Memory) each old new s speaks sits there has = absurd has
   acts (Ok calls) each old new s speaks sits there has =
       let sorted = each calls refl in
       makes calls sorted.0 sorted.1 sorted.2 old new s speaks sits there has
+
+  acts_or : (told : Option Answer) (meaning : Meaning (List Call)) → ((answer : Answer) → told ≡ Some answer → meant meaning ≡ [])
+      → ((calls : List Call) → meaning ≡ Ok calls → AsksIf asks.asked calls × Sorts asks.asked calls × AllByRecursion (CallIsFor session) calls)
+      → (old new : FrontView) (s : Scene) → phase_of old.tables.streams c ≡ Some (Speaking session) → Has s.tables.attachments session
+      → At old s → ActsOr told meaning c asks old new → Reaches Asks new s (done_by (meant meaning) old)
+  acts_or (Some answer) meaning nothing each old new s speaks sits there is =
+      subst (λ calls. Reaches Asks new s (done_by calls old)) (sym (nothing answer refl)) (tells answer old new s there is)
+  acts_or None meaning nothing each old new s speaks sits there has = acts meaning each old new s speaks sits there has
 
 -- a frame of a session
 requests : {Asks : Asking} (read : Result Request Fault) (session c : ℕ) (old new : FrontView) (s : Scene)
@@ -291,14 +304,15 @@ requests (Ok asks) session c old new s mine speaks sits there has =
     behind None None (touched_by session old) new s [] (done_by (request_calls (Ok asks) session old) old)
     (moves None old s t there (attachments_move old.tables (with_changed touched old.tables.attachments session)) kept)
     (λ next here.
-    acts c session asks (mine asks refl) (calls_in old.clock.tick session asks.asked)
+    acts_or c session asks (mine asks refl) (walked session asks.asked old.tree) (calls_in old.clock.tick session asks.asked)
+    (walks_call_nothing old.clock.tick session asks.asked old.tree)
     (λ calls is. (asks_if old.clock.tick session asks.asked calls is, sorts old.clock.tick session asks.asked calls is, calls_are_for_their_session old.clock.tick session asks.asked calls is))
     (touched_by session old) new next speaks
     (subst (λ (u : TablesView). Has u.attachments session) (sym here.tables) (kept.has session sits)) here has)
 
 pub serves : {Asks : Asking} (bytes : List ℕ) (session c : ℕ) (old new : FrontView) (s : Scene)
-    → ((asks : Asked) → IsRequest asks bytes → Asks c asks) → phase_of old.tables.streams c ≡ Some (Speaking session)
+    → ((asks : Asked) → IsRequest old.clock.base asks bytes → Asks c asks) → phase_of old.tables.streams c ≡ Some (Speaking session)
     → Has old.tables.attachments session → At old s → Serves bytes session c old new
-    → Reaches Asks new s (done_by (request_calls (whole request bytes) session old) old)
+    → Reaches Asks new s (done_by (request_calls (request_in old.clock.base bytes) session old) old)
 serves bytes session c old new s mine speaks sits there has =
-    requests (whole request bytes) session c old new s (λ asks reads. mine asks.asked (asks, reads, refl)) speaks sits there has
+    requests (request_in old.clock.base bytes) session c old new s (λ asks reads. mine asks.asked (asks, reads, refl)) speaks sits there has

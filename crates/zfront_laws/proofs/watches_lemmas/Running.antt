@@ -19,6 +19,7 @@ use Rattle.zconnections.specs.declared.attachments.attachment.Attachment.{Attach
 use Rattle.zconnections.specs.Sweeping.{made_one}
 use Rattle.zconnections.specs.Tables.{TablesView, session_in}
 use Rattle.zconnections.specs.Tables as tables
+use Rattle.zwatches.specs.declared.limits.WatchLimits.{WatchLimits}
 use Rattle.zfront.specs.Front.{FrontView}
 use Rattle.zfront.specs.Inputs as inputs
 use Rattle.zfront.specs.Inputs.{without_first}
@@ -84,7 +85,7 @@ brings Took old new s few fine there is =
       s,
       refl,
       sym (append-nil s.log),
-      record { tables = there.tables; tree = there.tree; holds = there.holds },
+      record { base = there.base; tables = there.tables; tree = there.tree; holds = there.holds },
     )
 
 brings_all : (steps : List Step) (old new : FrontView) (s : Scene) → KeepsFew old → Fine old → At old s → (runs : Runs steps old new)
@@ -108,15 +109,15 @@ no_watches : {P : Type 0} (t : TablesView) (w : Watch) → IsBare t → contains
 no_watches t w bare is =
     absurd (cc (sym (sets.contains-empty watch_cmp w) ∙ sym (ap (λ (table : Watches). contains table w) bare.watches) ∙ is))
 
-module _ (t : Tree) (secret : List ℕ) (times : Clock) (is_kept : Bool) (before : Log) (left : Leaves before t) where
+module _ (limits : WatchLimits) (t : Tree) (secret : List ℕ) (times : Clock) (is_kept : Bool) (before : Log) (left : Leaves before t) where
   abbrev v : FrontView
-  v = beginning t secret times is_kept
+  v = beginning limits t secret times is_kept
 
   abbrev opens : Scene
-  opens = opening_scene before v.tables
+  opens = opening_scene times.base before v.tables
 
   bare : IsBare v.tables
-  bare = is_bare t secret times is_kept
+  bare = is_bare limits t secret times is_kept
 
   can : CanStart t
   can = subst CanStart left.1 (can_start opens)
@@ -130,10 +131,11 @@ module _ (t : Tree) (secret : List ℕ) (times : Clock) (is_kept : Bool) (before
 
       by : IsOwner t.sessions n.owner → Marked v.tables.attachments n.owner
       by (inl nobody) = inl nobody
-      by (inr some) = inr (marks (sits t secret times is_kept n.owner some))
+      by (inr some) = inr (marks (sits limits t secret times is_kept n.owner some))
 
   begins : At v opens
   begins = record {
+    base = refl;
     tables = refl;
     tree = left.1;
     holds = record {
@@ -145,14 +147,14 @@ module _ (t : Tree) (secret : List ℕ) (times : Clock) (is_kept : Bool) (before
   }
 
 pub every_watch_is_reported : EveryWatchIsReported
-every_watch_is_reported t secret times is_kept before steps v left runs =
-    let first = beginning t secret times is_kept in
-    let done = brings_all steps first v (opening_scene before first.tables) (is_few t secret times is_kept)
-    (is_fine t secret times is_kept (can t secret times is_kept before left)) (begins t secret times is_kept before left) runs in (
+every_watch_is_reported limits t secret times is_kept before steps v left runs =
+    let first = beginning limits t secret times is_kept in
+    let done = brings_all steps first v (opening_scene times.base before first.tables) (is_few limits t secret times is_kept)
+    (is_fine limits t secret times is_kept (can limits t secret times is_kept before left)) (begins limits t secret times is_kept before left) runs in (
       done.0,
       done.1,
       done.3.tables,
       done.2,
-      subst (λ log. Leaves log v.tree) (sym done.2) (every_front_is_one_tree t secret times is_kept before steps v left runs),
+      subst (λ log. Leaves log v.tree) (sym done.2) (every_front_is_one_tree limits t secret times is_kept before steps v left runs),
       done.3.holds.seen,
     )

@@ -1,5 +1,5 @@
 -- What a request asks of the service: queries, or one update that sets no watch.
-use Rattle.std.proofs.Common.{◌≡◌, ℕ, List, [], ◌∷◌, Option, Ok, Err, refl, inl, inr}
+use Rattle.std.proofs.Common.{◌≡◌, ℕ, List, [], ◌∷◌, Option, Ok, Err, refl, inl, inr, if◌then◌else◌}
 use Rattle.std.specs.Prelude.{◌⊎◌, nat_lt, length, Some, None}
 use Rattle.ztree.specs.Tree.{Path}
 use Rattle.zcalls.specs.declared.limits.TheConstants.{MAX_PARTS}
@@ -11,7 +11,7 @@ use Rattle.zcalls.specs.declared.call.Query.TheVariants.{GetData, Exists, GetChi
 use Rattle.zcalls.specs.declared.call.Call.{Call}
 use Rattle.zcalls.specs.declared.call.Call.TheVariants.{Update, Query}
 use Rattle.zcalls.specs.declared.reply.Reply.{Reply}
-use Rattle.zjute.specs.declared.code.Code.TheVariants.{BadArguments, MarshallingError, Unimplemented, AuthFailed}
+use Rattle.zjute.specs.declared.code.Code.TheVariants.{BadArguments, InvalidAcl, MarshallingError, AuthFailed}
 use Rattle.zjute.specs.declared.request.Asked.{Asked}
 use Rattle.zjute.specs.declared.request.Asked.TheVariants as asked
 use Rattle.zjute.specs.WatchNumbers.{mode_of, type_of}
@@ -21,8 +21,8 @@ use Rattle.zjute.specs.declared.part.LookPart.TheVariants as of_look
 use Rattle.zrequests.specs.declared.fault.Unasked.{Unasked}
 use Rattle.zrequests.specs.declared.fault.Unasked.TheVariants.{Refused}
 use Rattle.zrequests.specs.declared.limits.TheConstants.{MAX_PATHS}
-use Rattle.zrequests.specs.Asking.{Meaning, then_means, each_in, path_in}
-use Rattle.zrequests.specs.Requests.{create_in, timed_create_in, delete_in, check_in, set_in, part_in, one, one_of_parts}
+use Rattle.zrequests.specs.Asking.{Meaning, each_in, has_open_acl, path_in}
+use Rattle.zrequests.specs.Requests.{create_in, timed_create_in, delete_in, check_in, set_in, parts_in, one, one_of_parts}
 use Rattle.zrequests.specs.Requests.{multi_in, query_in, look_in, looks_in, watch_in, watched_in, all_watched_in, numbered_in, look_alone, calls_in}
 use Rattle.zrequests.proofs.Meanings.{meant, unmeant, behind, choice, done, each_for, never, through}
 use Rattle.zresponses.specs.effects.Wishes.{wishes}
@@ -69,11 +69,9 @@ multi_sorts : (tick session : ℕ) (asks : Asked) → ((u : Act) (replies : List
     → (parts : List AskedPart) (calls : List Call) → multi_in tick session parts ≡ Ok calls → Sorts asks calls
 multi_sorts tick session asks no_watch [] = none asks
 multi_sorts tick session asks no_watch (first ∷ parts) =
-    choice (Sorts asks) (nat_lt MAX_PARTS (length (first ∷ parts))) (Err (Refused BadArguments)) (then_means
-    (each_in (part_in tick session) (first ∷ parts)) one_of_parts)
-    (refused asks (Refused BadArguments))
-    (behind (Sorts asks) (each_in (part_in tick session) (first ∷ parts)) one_of_parts
-    (λ parts. update asks (act.Multi parts) (no_watch (act.Multi parts))))
+    let all = act.Multi (parts_in tick session (first ∷ parts)) in
+    choice (Sorts asks) (nat_lt MAX_PARTS (length (first ∷ parts))) (Err (Refused BadArguments)) (one (Update all))
+    (refused asks (Refused BadArguments)) (update asks all (no_watch all))
 
 pub sorts : (tick session : ℕ) (asks : Asked) (calls : List Call) → calls_in tick session asks ≡ Ok calls → Sorts asks calls
 sorts tick session (asked.Create create) =
@@ -127,7 +125,15 @@ sorts tick session (asked.Auth auth) =
     choice (Sorts (asked.Auth auth)) _ (Ok []) (Err (Refused AuthFailed)) (none (asked.Auth auth)) (refused (asked.Auth auth) (Refused AuthFailed))
 sorts tick session asked.Ping = none asked.Ping
 sorts tick session asked.CloseSession = update asked.CloseSession (act.Close session) (λ replies. refl)
-sorts tick session (asked.SetAcl set) = refused (asked.SetAcl set) (Refused Unimplemented)
+sorts tick session (asked.SetAcl set) =
+    let asks = asked.SetAcl set in
+    behind (Sorts asks) (path_in set.path) (λ path. if has_open_acl set.acls then one (Query (Exists path)) else Err (Refused InvalidAcl))
+    (λ path. choice (Sorts asks) (has_open_acl set.acls) (one (Query (Exists path))) (Err (Refused InvalidAcl))
+    (done (Sorts asks) (Query (Exists path) ∷ []) (inl (tt, tt))) (refused asks (Refused InvalidAcl)))
+sorts tick session (asked.Sasl token) = none (asked.Sasl token)
+sorts tick session (asked.GetEphemerals front) = none (asked.GetEphemerals front)
+sorts tick session (asked.GetAllChildrenNumber top) = none (asked.GetAllChildrenNumber top)
+sorts tick session asked.WhoAmI = none asked.WhoAmI
 sorts tick session (asked.CheckWatches at) = numbered (asked.CheckWatches at) (type_of at.kind) at.path
 sorts tick session (asked.RemoveWatches at) = numbered (asked.RemoveWatches at) (type_of at.kind) at.path
 sorts tick session (asked.SetWatches2 set) =
@@ -136,4 +142,4 @@ sorts tick session (asked.SetWatches2 set) =
     (never AreQueries (Refused BadArguments))
     (each_for IsQuery watch_in (λ path. query_sorts Exists (Some path)) (all_watched_in set)))
 sorts tick session (asked.AddWatch add) = numbered (asked.AddWatch add) (mode_of add.mode) add.path
-sorts tick session (asked.Other kind bytes) = refused (asked.Other kind bytes) (Refused Unimplemented)
+sorts tick session (asked.Other kind bytes) = refused (asked.Other kind bytes) _

@@ -152,6 +152,7 @@ module _ (old v : FrontView) (s : Scene) (loses : (path : Path) → Loses v.tree
     happens = fired_happens Asks es s (may Asks);
     log = sym (append-nil s.log);
     there = record {
+      base = there.base;
       tables = ap (λ (t : Tree). reported_all (seen_now t paths) s.tables) there.tree ∙ ap (reported_all (seen_now v.tree paths)) there.tables;
       tree = there.tree;
       holds = told_holds old t s.set_at s.tables es
@@ -173,6 +174,7 @@ looks_if : {Asks : Asking} (due : Bool) (old v : FrontView) (s : Scene) → AtIf
     → Reaches Asks (looked_if due (watched old) v) s []
 looks_if false old v s there (inl same) =
     stays None v s (record {
+      base = there.base;
       tables = there.tables;
       tree = there.tree;
       holds = none_lost old (tree_of s) s.set_at s.tables (ap (λ (t : Tree). t.nodes) there.tree ∙ same) there.holds;

@@ -106,6 +106,7 @@ module _ (v : FrontView) (s : Scene) (u : Act) (there : At v s) where
     );
     log = refl;
     there = record {
+      base = there.base;
       tables = ap (absorbing u reported) there.tables;
       tree = goes ∙ ap (λ t. (step t 0 u).0) there.tree;
       holds = subst (λ t. Holds None t (knowing t.nodes es s.set_at) last.tables) (sym goes)
@@ -142,6 +143,7 @@ module _ (calls : List Call) (v : FrontView) (s : Scene) (there : At v s) where
   -- where the nodes are the same, nothing was taken
   pub nothing_taken : (tree_after v.tree calls).nodes ≡ v.tree.nodes → At (asked calls v) next
   nothing_taken same = record {
+    base = there.base;
     tables = there.tables;
     tree = goes_to;
     holds = still_holds (tree_of s) (tree_of next) s.set_at s.tables
@@ -152,6 +154,7 @@ module _ (calls : List Call) (v : FrontView) (s : Scene) (there : At v s) where
   pub taken : (took : Bool) → TakesTo v.tree (tree_after v.tree calls) took → AtIf (Some v) (asked calls v) next × Lost v (asked calls v) took
   taken took takes = (
     record {
+      base = there.base;
       tables = there.tables;
       tree = goes_to;
       holds = lost_holds (tree_of next).zxid v (tree_of s) (tree_of next) s.set_at s.tables there.tree there.tables loses there.holds;

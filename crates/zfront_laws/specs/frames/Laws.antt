@@ -9,6 +9,7 @@ use Rattle.zconnections.specs.buffers.Outbox.{ChunkView}
 use Rattle.zconnections.specs.buffers.Streams.{phase_of}
 use Rattle.ztree_service.specs.log.Logs.{Log, Leaves}
 use Rattle.zconnections.specs.Tables.{is_open}
+use Rattle.zwatches.specs.declared.limits.WatchLimits.{WatchLimits}
 use Rattle.zfront.specs.Front.{FrontView}
 use Rattle.zfront.specs.Inputs as inputs
 use Rattle.zfront.specs.Reading.{Cuts}
@@ -73,10 +74,10 @@ pub record Talks (times : Clock) (secret : List ℕ) (c : ℕ) (log : Log) (came
 -- call by call. It leaves the front's tree, and its replies are those of one plain tree.
 abbrev pub EveryConnectionIsAnswered : Type 0
 EveryConnectionIsAnswered =
-    (t : Tree) (secret : List ℕ) (times : Clock) (is_kept : Bool) (past : Log) (before behind : List Step) (old v : FrontView) (c : ℕ)
-    → Leaves past t → (earlier : Runs before (beginning t secret times is_kept) old)
-    → GivesOnce c before (beginning t secret times is_kept) old earlier
+    (limits : WatchLimits) (t : Tree) (secret : List ℕ) (times : Clock) (is_kept : Bool) (past : Log) (before behind : List Step) (old v : FrontView) (c : ℕ)
+    → Leaves past t → (earlier : Runs before (beginning limits t secret times is_kept) old)
+    → GivesOnce c before (beginning limits t secret times is_kept) old earlier
     → phase_of old.tables.streams c ≡ None → AllByRecursion (Stays c) behind → (later : Runs behind (inputs.opened c old) v)
-    → let log = past ++ (run_log before (beginning t secret times is_kept) old earlier ++ run_log behind (inputs.opened c old) v later) in
+    → let log = past ++ (run_log before (beginning limits t secret times is_kept) old earlier ++ run_log behind (inputs.opened c old) v later) in
     Leaves log v.tree
     × Talks times secret c log (came_on c behind (inputs.opened c old) v later) (went_on c behind (inputs.opened c old) v later) (is_open v.tables c)

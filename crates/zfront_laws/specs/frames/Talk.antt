@@ -2,7 +2,7 @@
 -- request, with events of watches between them. After a close nothing is sent. The sources are
 -- zookeeper.jute and the ZooKeeper Programmer's Guide, "ZooKeeper Sessions" and "ZooKeeper
 -- Watches".
-use Rattle.std.specs.Prelude.{◌≡◌, ◌⊎◌, ℕ, ◌≤◌, pos, Bool, true, false, List, [], ◌∷◌, ◌++◌, length, replicate, Option, Some, Ok, Err}
+use Rattle.std.specs.Prelude.{◌≡◌, ◌⊎◌, ℕ, ◌≤◌, pos, Bool, true, false, List, [], ◌∷◌, ◌++◌, length, replicate, Option, None, Some, Ok, Err}
 use Rattle.std.specs.Option.{MatchOption}
 use Rattle.zcodec.specs.Readers.{whole}
 use Rattle.std.specs.FinMap.{get}
@@ -10,7 +10,6 @@ use Rattle.ztree.specs.Tree.{Tree, opening_tree}
 use Rattle.ztree.specs.declared.session.Session.{Session}
 use Rattle.zcalls.specs.declared.call.Call.{Call}
 use Rattle.zcalls.specs.declared.reply.Reply.TheVariants.{Opened}
-use Rattle.zjute.specs.Asking.{request}
 use Rattle.zjute.specs.Connecting.{connect_request}
 use Rattle.zjute.specs.declared.code.Code.{Code}
 use Rattle.zjute.specs.declared.connecting.ConnectRequest.{ConnectRequest}
@@ -24,8 +23,8 @@ use Rattle.zwatches.specs.declared.changes.event.Event.{Event}
 use Rattle.zresponses.specs.declared.answer.Answer.{Answer}
 use Rattle.zresponses.specs.declared.clock.Clock.{Clock}
 use Rattle.zresponses.specs.declared.clock.Now.{Now}
-use Rattle.zresponses.specs.Answers.{failed}
-use Rattle.zresponses.specs.Stats.{long_of}
+use Rattle.zresponses.specs.Own.{refused_answer}
+use Rattle.zresponses.specs.Stats.{long_of, told}
 use Rattle.ztree_service.specs.log.Logs.{Log, calls_of, replies_of, tree_after}
 use Rattle.zpasswords.specs.Passwords.{password_of}
 use Rattle.zconnections.specs.buffers.Outbox.{ChunkView}
@@ -38,6 +37,8 @@ use Rattle.zresponses.specs.effects.Watching.{IsFaultOf}
 use Rattle.zresponses.specs.effects.Wishes.{wishes}
 use Rattle.zfront.specs.Front.{FrontView}
 use Rattle.zfront.specs.Greeting.{opening}
+use Rattle.zfront.specs.Requests.{request_in}
+use Rattle.zfront.specs.Walks.{walked}
 use Rattle.zfront.specs.Words.{word_in, text_of_word}
 
 -- what a front does on a connection: nothing more so far; it sends an event and continues; it
@@ -62,14 +63,20 @@ is_closed (Reports event talk) = is_closed talk
 is_closed (Answers bytes talk) = is_closed talk
 is_closed Closes = true
 
--- the answer to a request: the code of its refusal, without calls; or that of the replies to its
--- calls; only a request on watches may get an error since there was no room, or no watch
+-- the answer to a request. A refused one has no calls: it gets its code, or what it reads of the
+-- service's own nodes. Else the answer is that of the replies to its calls; only a request on
+-- watches may get an error since there was no room, or no watch
 abbrev pub Says : Meaning (List Call) → Clock → Now → Asked → Log → Answer → Type 0
-Says (Err (Refused code)) clock now asked part answer = (part ≡ []) × (answer ≡ failed code)
+Says (Err (Refused code)) clock now asked part answer = (part ≡ []) × (answer ≡ refused_answer code asked)
 Says (Err Memory) clock now asked part answer = ⊥
 Says (Ok calls) clock now asked part answer =
     (calls_of part ≡ calls)
     × ((fault : Option Code) × IsFaultOf (wishes asked calls (replies_of part)) fault × (answer ≡ answer_unless fault clock now asked calls (replies_of part)))
+
+-- the answer to a request that may be a walk: a walk has no calls
+abbrev pub SaysOr : Option Answer → Meaning (List Call) → Clock → Now → Asked → Log → Answer → Type 0
+SaysOr (Some walk) meaning clock now asked part answer = (part ≡ []) × (answer ≡ walk)
+SaysOr None meaning clock now asked part answer = Says meaning clock now asked part answer
 
 -- the tree after the calls of a log
 abbrev pub tree_behind : Tree → Log → Tree
@@ -85,16 +92,17 @@ pub record IsTurnedAway (bytes reported : List ℕ) : Type 0 where
 
 module _ (clock : Clock) (secret : List ℕ) where
   -- these bytes answer a request of this session, in a frame under its xid. Its calls with their
-  -- replies are the last of this log, and the header has the zxid of the tree after them
+  -- replies are the last of this log, and the header has the zxid of the tree after them, told from
+  -- the clock's base
   pub record IsAnswer (session : ℕ) (bytes reported : List ℕ) (tree : Tree) (log : Log) : Type 0 where
     pub asked : Request
     pub answer : Answer
     pub before : Log
     pub part : Log
-    pub reads : whole request bytes ≡ Ok asked
-    pub frames : reported ≡ answer_frame tree.zxid asked.xid answer
+    pub reads : request_in clock.base bytes ≡ Ok asked
+    pub frames : reported ≡ answer_frame (told clock.base tree.zxid) asked.xid answer
     pub stands : log ≡ before ++ part
-    pub says : Says (calls_in clock.tick session asked.asked) clock (now_of tree) asked.asked part answer
+    pub says : SaysOr (walked session asked.asked tree) (calls_in clock.tick session asked.asked) clock (now_of tree) asked.asked part answer
 
   -- each frame of a session has one answer, in order, and each answer has its frame. The calls of a
   -- request come in the log after those of earlier requests. Before a close, one frame may have no

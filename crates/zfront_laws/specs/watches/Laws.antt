@@ -1,10 +1,8 @@
 -- Laws of the watches of every front end. The functions of `src/laws.rt` promise them.
 use Rattle.std.specs.Prelude.{◌≡◌, ℕ, Bool, List, [], ◌∷◌, ◌++◌, drop, Option, Some, Ok}
 use Rattle.std.specs.FinMap as finite
-use Rattle.zcodec.specs.Readers.{whole}
 use Rattle.ztree.specs.Tree.{Tree}
 use Rattle.zcalls.specs.Lists.{Among}
-use Rattle.zjute.specs.Asking.{request}
 use Rattle.zjute.specs.declared.request.Asked.{Asked}
 use Rattle.zjute.specs.declared.request.Request.{Request}
 use Rattle.zresponses.specs.declared.clock.Clock.{Clock}
@@ -15,20 +13,22 @@ use Rattle.zconnections.specs.declared.buffers.phase.Phase.TheVariants.{Silent}
 use Rattle.zwatches.specs.declared.watch.Watch.{Watch}
 use Rattle.ztree_service.specs.log.Logs.{Log, Leaves}
 use Rattle.zconnections.specs.Tables.{TablesView, ended}
+use Rattle.zwatches.specs.declared.limits.WatchLimits.{WatchLimits}
 use Rattle.zfront.specs.Front.{FrontView}
 use Rattle.zfront.specs.Reading.{Cuts}
+use Rattle.zfront.specs.Requests.{request_in}
 use Rattle.zfront.specs.Restoring.{beginning}
 use Rattle.zfront_laws.specs.Logs.{run_log}
 use Rattle.zfront_laws.specs.Runs.{Step, Takes, Sent, Took, Runs}
 use Rattle.zfront_laws.specs.watches.Watching.{Scene, Happening, Asking, Happens, Stands, IsUnchanged}
 
--- the calls of this log were answered, and no watch was set
-abbrev pub opening_scene : Log → TablesView → Scene
-opening_scene log t = record { log = log; set_at = λ w. finite.empty; tables = t }
+-- zxids are told from this base, the calls of this log were answered, and no watch was set
+abbrev pub opening_scene : ℕ → Log → TablesView → Scene
+opening_scene base log t = record { base = base; log = log; set_at = λ w. finite.empty; tables = t }
 
--- the frame is a request with this record
-abbrev pub IsRequest : Asked → List ℕ → Type 0
-IsRequest asks frame = (r : Request) × (whole request frame ≡ Ok r) × (r.asked ≡ asks)
+-- the frame is a request with this record, where zxids are told from this base
+abbrev pub IsRequest : ℕ → Asked → List ℕ → Type 0
+IsRequest base asks frame = (r : Request) × (request_in base frame ≡ Ok r) × (r.asked ≡ asks)
 
 -- the requests among the frames of a connection in this phase: its first frame is none
 abbrev pub requests_in : Option Phase → List (List ℕ) → List (List ℕ)
@@ -40,7 +40,7 @@ requests_in phase frames = frames
 abbrev pub Arriving : ℕ → List ℕ → Scene → Asking
 Arriving c bytes s d asks =
     (d ≡ c) × (frames : List (List ℕ)) × (rest : List ℕ) × Cuts (bytes_of s.tables.streams c ++ bytes) frames rest
-    × (frame : List ℕ) × Among frame (requests_in (phase_of s.tables.streams c) frames) × IsRequest asks frame
+    × (frame : List ℕ) × Among frame (requests_in (phase_of s.tables.streams c) frames) × IsRequest s.base asks frame
 
 -- no connection has a request
 abbrev pub none_asked : Asking
@@ -67,9 +67,9 @@ BringsAll (step ∷ steps) s t = (middle : Scene) × Brings step s middle × Bri
 -- change.
 abbrev pub EveryWatchIsReported : Type 0
 EveryWatchIsReported =
-    (t : Tree) (secret : List ℕ) (times : Clock) (is_kept : Bool) (before : Log) (steps : List Step) (v : FrontView)
-    → Leaves before t → (runs : Runs steps (beginning t secret times is_kept) v)
-    → (s : Scene) × BringsAll steps (opening_scene before (beginning t secret times is_kept).tables) s
-    × (s.tables ≡ v.tables) × (s.log ≡ before ++ run_log steps (beginning t secret times is_kept) v runs)
+    (limits : WatchLimits) (t : Tree) (secret : List ℕ) (times : Clock) (is_kept : Bool) (before : Log) (steps : List Step) (v : FrontView)
+    → Leaves before t → (runs : Runs steps (beginning limits t secret times is_kept) v)
+    → (s : Scene) × BringsAll steps (opening_scene times.base before (beginning limits t secret times is_kept).tables) s
+    × (s.tables ≡ v.tables) × (s.log ≡ before ++ run_log steps (beginning limits t secret times is_kept) v runs)
     × Leaves s.log v.tree
     × ((w : Watch) → Stands s w → IsUnchanged s w)

@@ -34,6 +34,7 @@ use Rattle.zwatches.specs.declared.changes.event.Event.{Event}
 use Rattle.zwatches.specs.changes.Events.{events_of}
 use Rattle.zwatches.specs.changes.Laws.{data_at, children_at}
 use Rattle.zresponses.specs.Stats.{long_of}
+use Rattle.zresponses.specs.Stats as zxids
 use Rattle.zresponses.specs.declared.answer.Answer.{Answer}
 use Rattle.zprotocol.specs.world.PlainTree.{serve}
 use Rattle.ztree_service.specs.log.Logs.{Log, calls_of, tree_after}
@@ -50,9 +51,11 @@ use Rattle.zconnections.specs.Reporting.{event_frame, reported}
 use Rattle.zresponses.specs.effects.Frames.{answer_frame, response_frame}
 use Rattle.zresponses.specs.effects.Watching.{unwatched, waiting}
 
--- the log of answered calls, the tables, and the nodes that existed when each watch was set. For a
--- watch that stays, a node of which it was told is there as it was then
+-- the base from which zxids are told, the log of answered calls, the tables, and the nodes that
+-- existed when each watch was set. For a watch that stays, a node of which it was told is there as
+-- it was then
 pub record Scene : Type 0 where
+  pub base : ℕ
   pub log : Log
   pub set_at : Watch → Nodes
   pub tables : TablesView
@@ -113,7 +116,7 @@ after (Fired e) s = record s { set_at = told_now e s; tables = reported e s.tabl
 after (Set c kind path) s = record s { set_at = set_now (watch path kind c) s; tables = waiting c kind path s.tables }
 after (Dropped c type path) s = record s { tables = unwatched c type path s.tables }
 after (Missed c e) s = record s { tables = sent c (event_frame e) s.tables }
-after (Answered c xid answer) s = record s { tables = sent c (answer_frame (tree_of s).zxid xid answer) s.tables }
+after (Answered c xid answer) s = record s { tables = sent c (answer_frame (zxids.told s.base (tree_of s).zxid) xid answer) s.tables }
 after (Greeted c greeting timeout session password) s =
     record s { tables = sent c (response_frame greeting timeout session password) s.tables }
 after (Said c bytes) s = record s { tables = closed c (sent c bytes s.tables) }
@@ -178,9 +181,10 @@ IsGone s e = (e.kind ≡ NodeDeleted) × (get (tree_of s).nodes e.path ≡ None)
 abbrev pub LostChild : Scene → Event → Type 0
 LostChild s e = (e.kind ≡ NodeChildrenChanged) × (children_at (tree_of s).nodes e.path ≡ Some (tree_of s).zxid)
 
--- watches and queued chunks are unchanged, and no open connection is closed
+-- watches, their limits and queued chunks are unchanged, and no open connection is closed
 pub record IsMoved (old new : TablesView) : Type 0 where
   pub watches : new.watches ≡ old.watches
+  pub limits : new.limits ≡ old.limits
   pub unsent : new.unsent ≡ old.unsent
   pub opens : (c : ℕ) → is_open old c ≡ true → is_open new c ≡ true
 

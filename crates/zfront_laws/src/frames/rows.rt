@@ -1,23 +1,23 @@
 //! Worked examples of the definitions, as clauses. The functions do nothing.
 
-ghost use Rattle.std.specs.Prelude.{◌≡◌, ℕ, pos, true, false, List, [], ◌∷◌, ◌++◌, Some, Ok, Err};
+ghost use Rattle.std.specs.Prelude.{◌≡◌, ℕ, pos, true, false, List, [], ◌∷◌, ◌++◌, None, Some, Ok, Err};
 ghost use Rattle.std.specs.FinMap.{get};
-ghost use Rattle.zcodec.specs.Readers.{whole};
 ghost use Rattle.ztree.specs.Tree.{Tree, opening_tree};
+ghost use Rattle.zcalls.specs.declared.call.Call.{Call};
 ghost use Rattle.zcalls.specs.declared.reply.Reply.TheVariants.{Opened};
-ghost use Rattle.zjute.specs.Asking.{request};
 ghost use Rattle.zjute.specs.declared.connecting.ConnectRequest.{ConnectRequest};
 ghost use Rattle.zjute.specs.declared.code.Code.{Code};
 ghost use Rattle.zjute.specs.declared.request.Asked.{Asked};
+ghost use Rattle.zrequests.specs.Asking.{Meaning};
 ghost use Rattle.zrequests.specs.Timeouts.{millis_reported};
 ghost use Rattle.zrequests.specs.declared.fault.Unasked.TheVariants.{Refused};
 ghost use Rattle.zwatches.specs.declared.changes.event.Event.{Event};
 ghost use Rattle.zresponses.specs.declared.answer.Answer.{Answer};
 ghost use Rattle.zresponses.specs.declared.clock.Clock.{Clock};
 ghost use Rattle.zresponses.specs.declared.clock.Now.{Now};
-ghost use Rattle.zresponses.specs.Answers.{failed};
-ghost use Rattle.zresponses.specs.Stats.{long_of};
-ghost use Rattle.ztree_service.specs.log.Logs.{Log};
+ghost use Rattle.zresponses.specs.Own.{refused_answer};
+ghost use Rattle.zresponses.specs.Stats.{long_of, told};
+ghost use Rattle.ztree_service.specs.log.Logs.{Log, calls_of};
 ghost use Rattle.zpasswords.specs.Passwords.{password_of};
 ghost use Rattle.zconnections.specs.buffers.Outbox.{ChunkView};
 ghost use Rattle.zconnections.specs.Tables.{chunk, last_chunk};
@@ -26,8 +26,9 @@ ghost use Rattle.zresponses.specs.effects.Frames.{answer_frame, response_frame};
 ghost use Rattle.zresponses.specs.effects.Greeting.{given};
 ghost use Rattle.zfront.specs.Front.{FrontView};
 ghost use Rattle.zfront.specs.Greeting.{opening};
+ghost use Rattle.zfront.specs.Requests.{request_in};
 ghost use Rattle.zfront_laws.specs.frames.Talk.{IsOpened, IsReturned};
-ghost use Rattle.zfront_laws.specs.frames.Talk.{Answered, Answers, Closes, Greeted, IsAnswer, Says};
+ghost use Rattle.zfront_laws.specs.frames.Talk.{Answered, Answers, Closes, Greeted, IsAnswer, Says, SaysOr};
 ghost use Rattle.zfront_laws.specs.frames.Talk.{Quiet, SaysText, Talk, Reports, is_closed, chunks_of};
 ghost use Rattle.zfront_laws.specs.frames.Talk.{tree_behind};
 ghost use Rattle.zfront_laws.specs.frames.Laws.{on};
@@ -52,22 +53,35 @@ pub fn chunks_of_one_are_picked()
 pub fn answers_are_under_their_xid()
     ensures reads { (clock : Clock) (secret : List ℕ) (session : ℕ) (bytes reported : List ℕ)
         (tree : Tree) (log : Log) (answer : IsAnswer clock secret session bytes reported tree log)
-        → whole request bytes ≡ Ok answer.asked }
+        → request_in clock.base bytes ≡ Ok answer.asked }
     ensures xid { (clock : Clock) (secret : List ℕ) (session : ℕ) (bytes reported : List ℕ)
         (tree : Tree) (log : Log) (answer : IsAnswer clock secret session bytes reported tree log)
-        → reported ≡ answer_frame tree.zxid answer.asked.xid answer.answer }
+        → reported ≡ answer_frame (told clock.base tree.zxid) answer.asked.xid answer.answer }
     ensures stands { (clock : Clock) (secret : List ℕ) (session : ℕ) (bytes reported : List ℕ)
         (tree : Tree) (log : Log) (answer : IsAnswer clock secret session bytes reported tree log)
         → log ≡ answer.before ++ answer.part }
 {}
 
-/// A request that is refused at once gets its code, and makes no call.
+/// A request that is refused at once gets its code, or what it reads of the service's own nodes, and
+/// makes no call.
 pub fn a_refusal_makes_no_call()
     ensures answer { (code : Code) (clock : Clock) (now : Now) (asked : Asked) (part : Log)
         (answer : Answer) → Says (Err (Refused code)) clock now asked part answer
-        → answer ≡ failed code }
+        → answer ≡ refused_answer code asked }
     ensures calls { (code : Code) (clock : Clock) (now : Now) (asked : Asked) (part : Log)
         (answer : Answer) → Says (Err (Refused code)) clock now asked part answer → part ≡ [] }
+{}
+
+/// A walk gets the answer of the tree of that moment, and makes no call.
+pub fn a_walk_makes_no_call()
+    ensures answer { (walk answer : Answer) (meaning : Meaning (List Call)) (clock : Clock)
+        (now : Now) (asked : Asked) (part : Log)
+        → SaysOr (Some walk) meaning clock now asked part answer → answer ≡ walk }
+    ensures calls { (walk answer : Answer) (meaning : Meaning (List Call)) (clock : Clock)
+        (now : Now) (asked : Asked) (part : Log)
+        → SaysOr (Some walk) meaning clock now asked part answer → part ≡ [] }
+    ensures other { (answer : Answer) (clock : Clock) (now : Now) (asked : Asked) (part : Log)
+        → SaysOr None (Ok []) clock now asked part answer → calls_of part ≡ [] }
 {}
 
 /// Only before a close may a frame have no answer, and each answer has its frame.

@@ -1,6 +1,7 @@
-//! The law. Its body does nothing.
+//! The laws. Their bodies do nothing.
 
 ghost use Rattle.zfront_laws.specs.watches.Laws.{EveryWatchIsReported};
+ghost use Rattle.zfront_laws.specs.watches.Limits.{EveryFrontKeepsItsLimits};
 
 /// Whatever the steps of a front were, its effect on the tables is a list of allowed happenings. So
 /// a connection gets an answer only after events for all changes that its watches waited for. The
@@ -9,4 +10,10 @@ ghost use Rattle.zfront_laws.specs.watches.Laws.{EveryWatchIsReported};
 /// that of the steps.
 pub fn every_watch_is_reported()
     ensures { EveryWatchIsReported }
+{}
+
+/// Whatever the steps of a front were, it has the limits of watches that it began with, and its
+/// watches are within them.
+pub fn every_front_keeps_its_limits()
+    ensures { EveryFrontKeepsItsLimits }
 {}

@@ -2,11 +2,9 @@
 
 ghost use Rattle.std.specs.Prelude.{◌≡◌, ◌⊎◌, ℕ, ℤ, true, false, List, [], ◌∷◌, None, Some, Ok};
 ghost use Rattle.std.specs.FinMap.{get, insert};
-ghost use Rattle.zcodec.specs.Readers.{whole};
 ghost use Rattle.ztree.specs.declared.node.Node.{Node};
 ghost use Rattle.ztree.specs.Tree.{Nodes, has_node};
 ghost use Rattle.ztree.specs.support.Samples.{at_a, at_a_b};
-ghost use Rattle.zjute.specs.Asking.{request};
 ghost use Rattle.zjute.specs.Frames.{Whole, next_of};
 ghost use Rattle.zjute.specs.declared.request.Asked.TheVariants as asked;
 ghost use Rattle.zjute.specs.declared.request.Request.{Request};
@@ -29,6 +27,7 @@ ghost use Rattle.zconnections.specs.buffers.Inputs.InputView.{Opened};
 ghost use Rattle.zconnections.specs.buffers.Streams.{bytes_of, phase_of};
 ghost use Rattle.zconnections.specs.declared.buffers.phase.Phase.TheVariants.{Silent, Speaking};
 ghost use Rattle.zconnections.specs.Tables.{TablesView, is_open};
+ghost use Rattle.zfront.specs.Requests.{request_in};
 ghost use Rattle.zfront_laws.specs.Runs.{Sent, Took, Takes};
 ghost use Rattle.zfront_laws.specs.watches.Laws.{Arriving, Brings, none_asked, opening_scene};
 ghost use Rattle.zfront_laws.specs.watches.Laws.{requests_in};
@@ -101,7 +100,7 @@ pub fn what_is_missed()
 pub fn who_missed_it()
     ensures own { (s : Scene) (bytes frame : List ℕ) (r : Request) (set : SetWatches)
         → phase_of s.tables.streams 1 ≡ Some (Speaking 7) → bytes_of s.tables.streams 1 ≡ []
-        → next_of bytes ≡ Whole frame [] → whole request frame ≡ Ok r
+        → next_of bytes ≡ Whole frame [] → request_in s.base frame ≡ Ok r
         → r.asked ≡ asked.SetWatches set → Arriving 1 bytes s 1 (asked.SetWatches set) }
     ensures allowed { (s : Scene) (bytes : List ℕ) (set : SetWatches) (e : Event)
         → Arriving 1 bytes s 1 (asked.SetWatches set) → IsMissed set (tree_of s).nodes e.kind e.path
@@ -135,8 +134,10 @@ pub fn what_may_not_happen()
 /// A scene begins with the given log and tables. Taking updates leaves it unchanged. Opening a
 /// connection and sending a chunk make no call.
 pub fn what_opens()
-    ensures log { (log : Log) (t : TablesView) → (opening_scene log t).log ≡ log }
-    ensures tables { (log : Log) (t : TablesView) → (opening_scene log t).tables ≡ t }
+    ensures log { (base : ℕ) (log : Log) (t : TablesView)
+        → (opening_scene base log t).log ≡ log }
+    ensures tables { (base : ℕ) (log : Log) (t : TablesView)
+        → (opening_scene base log t).tables ≡ t }
     ensures taken { (s t : Scene) → Brings Took s t → t ≡ s }
     ensures there { (s t : Scene) → Brings (Takes (Opened 1)) s t → t.log ≡ s.log }
     ensures sent { (s t : Scene) → Brings Sent s t → t.log ≡ s.log }

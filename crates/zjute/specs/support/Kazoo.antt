@@ -54,7 +54,7 @@ create_bytes =
     []
 
 abbrev pub create_asked : Request
-create_asked = asking 7 (asks.Create (record { path = Some slash_a; bytes = Some hi; acls = open_acls; flags = pos 1 }))
+create_asked = asking 7 (asks.Create (record { path = Some slash_a; bytes = Some hi; acls = Some open_acls; flags = pos 1 }))
 
 -- a delete of /a at any version
 abbrev pub delete_bytes : List ℕ
@@ -130,7 +130,7 @@ set_acl_bytes =
     []
 
 abbrev pub set_acl_asked : Request
-set_acl_asked = asking 13 (asks.SetAcl (record { path = Some slash_a; acls = open_acls; version = neg 1 }))
+set_acl_asked = asking 13 (asks.SetAcl (record { path = Some slash_a; acls = Some open_acls; version = neg 1 }))
 
 -- a get of the children of /a
 abbrev pub get_children_bytes : List ℕ
@@ -215,7 +215,7 @@ create_2_bytes =
     []
 
 abbrev pub create_2_asked : Request
-create_2_asked = asking 18 (asks.Create2 (record { path = Some slash_a; bytes = Some hi; acls = open_acls; flags = pos 0 }))
+create_2_asked = asking 18 (asks.Create2 (record { path = Some slash_a; bytes = Some hi; acls = Some open_acls; flags = pos 0 }))
 
 -- the user of a digest, whose xid is -4
 abbrev pub auth_bytes : List ℕ

@@ -1,5 +1,5 @@
 -- What clients send that kazoo doesn't, by the records of zookeeper.jute, field by field.
-use Rattle.std.specs.Prelude.{pos, ℕ, List, [], ◌∷◌, Some, false}
+use Rattle.std.specs.Prelude.{pos, ℕ, List, [], ◌∷◌, None, Some, false}
 use Rattle.zjute.specs.declared.part.LookPart.TheVariants as look_part
 use Rattle.zjute.specs.declared.part.PartRequest.TheVariants as part
 use Rattle.zjute.specs.declared.request.Asked.TheVariants as asks
@@ -59,7 +59,7 @@ create_ttl_bytes =
     []
 
 abbrev pub create_ttl_asked : Request
-create_ttl_asked = asking 24 (asks.CreateTtl (record { create = record { path = Some slash_a; bytes = Some hi; acls = open_acls; flags = pos 5 }; ttl = pos 60000 }))
+create_ttl_asked = asking 24 (asks.CreateTtl (record { create = record { path = Some slash_a; bytes = Some hi; acls = Some open_acls; flags = pos 5 }; ttl = pos 60000 }))
 
 -- a create of the container /a (`CreateRequest`)
 abbrev pub create_container_bytes : List ℕ
@@ -68,12 +68,12 @@ create_container_bytes =
     0 ∷ 0 ∷ 0 ∷ 19 ∷  -- type 19: createContainer
     0 ∷ 0 ∷ 0 ∷ 2 ∷ 47 ∷ 97 ∷  -- path /a
     0 ∷ 0 ∷ 0 ∷ 2 ∷ 104 ∷ 105 ∷  -- data "hi"
-    0 ∷ 0 ∷ 0 ∷ 0 ∷  -- no ACL
+    255 ∷ 255 ∷ 255 ∷ 255 ∷  -- ACL: null
     0 ∷ 0 ∷ 0 ∷ 4 ∷  -- flags: container
     []
 
 abbrev pub create_container_asked : Request
-create_container_asked = asking 28 (asks.CreateContainer (record { path = Some slash_a; bytes = Some hi; acls = []; flags = pos 4 }))
+create_container_asked = asking 28 (asks.CreateContainer (record { path = Some slash_a; bytes = Some hi; acls = None; flags = pos 4 }))
 
 -- the data of /a and its children (`MultiTransactionRecord` of reads)
 abbrev pub multi_read_bytes : List ℕ
@@ -162,4 +162,47 @@ container_bytes =
     []
 
 abbrev pub container_asked : Request
-container_asked = asking 27 (asks.Multi (part.CreateContainer (record { path = Some slash_a; bytes = Some hi; acls = []; flags = pos 4 }) ∷ []))
+container_asked = asking 27 (asks.Multi (part.CreateContainer (record { path = Some slash_a; bytes = Some hi; acls = Some []; flags = pos 4 }) ∷ []))
+
+-- a token of SASL, "hi" (`GetSASLRequest`)
+abbrev pub sasl_bytes : List ℕ
+sasl_bytes =
+    0 ∷ 0 ∷ 0 ∷ 29 ∷  -- xid 29
+    0 ∷ 0 ∷ 0 ∷ 102 ∷  -- type 102: sasl
+    0 ∷ 0 ∷ 0 ∷ 2 ∷ 104 ∷ 105 ∷  -- token "hi"
+    []
+
+abbrev pub sasl_asked : Request
+sasl_asked = asking 29 (asks.Sasl hi)
+
+-- the ephemeral nodes of the session below /a (`GetEphemeralsRequest`)
+abbrev pub get_ephemerals_bytes : List ℕ
+get_ephemerals_bytes =
+    0 ∷ 0 ∷ 0 ∷ 30 ∷  -- xid 30
+    0 ∷ 0 ∷ 0 ∷ 103 ∷  -- type 103: getEphemerals
+    0 ∷ 0 ∷ 0 ∷ 2 ∷ 47 ∷ 97 ∷  -- prefix /a
+    []
+
+abbrev pub get_ephemerals_asked : Request
+get_ephemerals_asked = asking 30 (asks.GetEphemerals (Some slash_a))
+
+-- how many nodes are below /a (`GetAllChildrenNumberRequest`)
+abbrev pub get_all_children_number_bytes : List ℕ
+get_all_children_number_bytes =
+    0 ∷ 0 ∷ 0 ∷ 31 ∷  -- xid 31
+    0 ∷ 0 ∷ 0 ∷ 104 ∷  -- type 104: getAllChildrenNumber
+    0 ∷ 0 ∷ 0 ∷ 2 ∷ 47 ∷ 97 ∷  -- path /a
+    []
+
+abbrev pub get_all_children_number_asked : Request
+get_all_children_number_asked = asking 31 (asks.GetAllChildrenNumber (Some slash_a))
+
+-- who the client is
+abbrev pub who_am_i_bytes : List ℕ
+who_am_i_bytes =
+    0 ∷ 0 ∷ 0 ∷ 32 ∷  -- xid 32
+    0 ∷ 0 ∷ 0 ∷ 107 ∷  -- type 107: whoAmI
+    []
+
+abbrev pub who_am_i_asked : Request
+who_am_i_asked = asking 32 asks.WhoAmI

@@ -11,7 +11,7 @@ use Rattle.zjute.specs.declared.reply.Body.{Body}
 use Rattle.zjute.specs.declared.reply.Body.TheVariants as body
 use Rattle.zjute.specs.declared.reply.Reply.{Reply}
 use Rattle.zjute.specs.declared.stat.StatRecord.{StatRecord}
-use Rattle.zjute.specs.support.Kazoo.{slash_a, hi, open_acls, no_password}
+use Rattle.zjute.specs.support.Kazoo.{slash_a, hi, world, anyone, open_acls, no_password}
 
 abbrev pub some_stat : StatRecord
 some_stat = record { czxid = pos 1; mzxid = pos 2; ctime = pos 3; mtime = pos 4; version = pos 5; cversion = pos 6; aversion = pos 7; ephemeral_owner = pos 8; data_length = pos 9; num_children = pos 10; pzxid = pos 11 }
@@ -274,3 +274,41 @@ connected_front last =
 
 abbrev pub connected : Option Bool → ConnectResponse
 connected read_only = record { protocol_version = pos 0; timeout = pos 10000; session_id = pos 1193046; password = no_password; read_only = read_only }
+
+-- five nodes are below the path
+abbrev pub counted_bytes : List ℕ
+counted_bytes =
+    0 ∷ 0 ∷ 0 ∷ 31 ∷  -- xid 31
+    0 ∷ 0 ∷ 0 ∷ 0 ∷ 0 ∷ 0 ∷ 0 ∷ 9 ∷  -- zxid 9
+    0 ∷ 0 ∷ 0 ∷ 0 ∷  -- code 0: ok
+    0 ∷ 0 ∷ 0 ∷ 5 ∷  -- the number 5
+    []
+
+abbrev pub counted : Reply
+counted = answer 31 code.Ok (body.Number (pos 5))
+
+-- the client is world:anyone
+abbrev pub named_bytes : List ℕ
+named_bytes =
+    0 ∷ 0 ∷ 0 ∷ 32 ∷  -- xid 32
+    0 ∷ 0 ∷ 0 ∷ 0 ∷ 0 ∷ 0 ∷ 0 ∷ 9 ∷  -- zxid 9
+    0 ∷ 0 ∷ 0 ∷ 0 ∷  -- code 0: ok
+    0 ∷ 0 ∷ 0 ∷ 1 ∷  -- one client
+    0 ∷ 0 ∷ 0 ∷ 5 ∷ 119 ∷ 111 ∷ 114 ∷ 108 ∷ 100 ∷  -- its scheme: world
+    0 ∷ 0 ∷ 0 ∷ 6 ∷ 97 ∷ 110 ∷ 121 ∷ 111 ∷ 110 ∷ 101 ∷  -- its id: anyone
+    []
+
+abbrev pub named : Reply
+named = answer 32 code.Ok (body.Client world anyone)
+
+-- a token of SASL has no answer
+abbrev pub no_token_bytes : List ℕ
+no_token_bytes =
+    0 ∷ 0 ∷ 0 ∷ 29 ∷  -- xid 29
+    0 ∷ 0 ∷ 0 ∷ 0 ∷ 0 ∷ 0 ∷ 0 ∷ 9 ∷  -- zxid 9
+    0 ∷ 0 ∷ 0 ∷ 0 ∷  -- code 0: ok
+    255 ∷ 255 ∷ 255 ∷ 255 ∷  -- token: null
+    []
+
+abbrev pub no_token : Reply
+no_token = answer 29 code.Ok body.NoToken

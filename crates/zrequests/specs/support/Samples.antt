@@ -6,6 +6,7 @@ use Rattle.zjute.specs.declared.request.CreateRequest.{CreateRequest}
 use Rattle.zjute.specs.declared.request.CreateTtl.{CreateTtl}
 use Rattle.zjute.specs.declared.request.AtVersion.{AtVersion}
 use Rattle.zjute.specs.declared.request.SetDataRequest.{SetDataRequest}
+use Rattle.zjute.specs.declared.request.SetAcl.{SetAcl}
 use Rattle.zjute.specs.declared.request.Look.{Look}
 use Rattle.zrequests.specs.declared.fault.Unasked.TheVariants.{Refused}
 use Rattle.zrequests.specs.Asking.{Meaning}
@@ -36,7 +37,7 @@ text_a = Some (codes "/a")
 
 -- requests for /a
 abbrev pub create_a : CreateRequest
-create_a = record { path = text_a; bytes = None; acls = open_entry ∷ []; flags = pos 1 }
+create_a = record { path = text_a; bytes = None; acls = Some (open_entry ∷ []); flags = pos 1 }
 
 abbrev pub timed_a : CreateTtl
 timed_a = record { create = record create_a { flags = pos 5 }; ttl = pos 3000 }
@@ -46,6 +47,9 @@ at_version = record { path = text_a; version = negsuc 1 }
 
 abbrev pub set_a : SetDataRequest
 set_a = record { path = text_a; bytes = Some (7 ∷ []); version = negsuc 0 }
+
+abbrev pub set_acl_a : SetAcl
+set_acl_a = record { path = text_a; acls = Some (open_entry ∷ []); version = pos 0 }
 
 abbrev pub look_a : Look
 look_a = record { path = text_a; watch = false }

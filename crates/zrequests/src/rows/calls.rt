@@ -1,6 +1,6 @@
 //! The calls of requests of session 9, with a tick of 2,000 milliseconds.
 
-ghost use Rattle.std.specs.Prelude.{◌≡◌, [], ◌∷◌, pos, codes, None, Some, Ok, replicate};
+ghost use Rattle.std.specs.Prelude.{◌≡◌, [], ◌∷◌, pos, negsuc, codes, None, Some, Ok, replicate};
 ghost use Rattle.ztree.specs.support.Samples.{at_a};
 ghost use Rattle.zcalls.specs.Part.{named};
 ghost use Rattle.zcalls.specs.declared.call.Lifetime.TheVariants.{Ephemeral, WithTtl, Container};
@@ -13,10 +13,11 @@ ghost use Rattle.zjute.specs.declared.part.PartRequest.TheVariants as of_multi;
 ghost use Rattle.zjute.specs.declared.part.LookPart.TheVariants as of_look;
 ghost use Rattle.zjute.specs.declared.request.Asked.TheVariants as asked;
 ghost use Rattle.zrequests.specs.declared.limits.TheConstants.{NO_VERSION};
-ghost use Rattle.zrequests.specs.Requests.{calls_in};
-ghost use Rattle.zrequests.specs.support.Samples.{bad, unimplemented, invalid_acl, auth_failed, open_entry, text_a};
+ghost use Rattle.zjute.specs.declared.code.Code.TheVariants.{BadArguments, InvalidAcl};
+ghost use Rattle.zrequests.specs.Requests.{calls_in, parts_in, refused_in};
+ghost use Rattle.zrequests.specs.support.Samples.{bad, unimplemented, invalid_acl, auth_failed, text_a};
 ghost use Rattle.zrequests.specs.support.Samples.{marshalling};
-ghost use Rattle.zrequests.specs.support.Samples.{create_a, timed_a, at_version, set_a, look_a};
+ghost use Rattle.zrequests.specs.support.Samples.{create_a, timed_a, at_version, set_a, set_acl_a, look_a};
 
 /// Creates: an ephemeral of the session, a node with a TTL, and a container.
 #[tactic(auto, unfolding(zpath::specs::Faults::fault_of))]
@@ -27,7 +28,9 @@ pub fn calls_of_creates()
         (record { path = at_a; kind = named (Ephemeral 9); bytes = [] })) ∷ []) }
     ensures timed { calls_in 2000 9 (asked.CreateTtl timed_a) ≡ Ok (Update (act.Create
         (record { path = at_a; kind = named (WithTtl 2); bytes = [] })) ∷ []) }
-    ensures closed { calls_in 2000 9 (asked.Create (record create_a { acls = [] })) ≡ invalid_acl }
+    ensures closed { calls_in 2000 9 (asked.Create (record create_a { acls = Some [] }))
+        ≡ invalid_acl }
+    ensures null { calls_in 2000 9 (asked.Create (record create_a { acls = None })) ≡ invalid_acl }
     ensures no_path { calls_in 2000 9 (asked.Create (record create_a { path = None })) ≡ bad }
     ensures flag_4 { calls_in 2000 9 (asked.Create (record create_a { flags = pos 4 }))
         ≡ Ok (Update (act.Create
@@ -116,6 +119,31 @@ pub fn calls_of_multis()
         ≡ bad }
 {}
 
+/// The parts of a multi: one that is refused at once has a part in its place that no tree does, and
+/// none after it.
+#[tactic(auto, unfolding(zpath::specs::Faults::fault_of))]
+pub fn parts_of_multis()
+    ensures bad_path { parts_in 2000 9 (of_multi.SetData set_a
+        ∷ of_multi.SetData (record set_a { path = None }) ∷ of_multi.SetData set_a ∷ [])
+        ≡ part.SetData (record { path = at_a; bytes = 7 ∷ []; version = Any })
+        ∷ part.Delete (record { path = []; version = Any }) ∷ [] }
+    ensures its_code { refused_in 2000 (of_multi.SetData (record set_a { path = None }))
+        ≡ Some BadArguments }
+    ensures bad_acl { refused_in 2000 (of_multi.Create (record create_a { acls = None }))
+        ≡ Some InvalidAcl }
+    ensures no_code { refused_in 2000 (of_multi.SetData set_a) ≡ None }
+{}
+
+/// Writes of an ACL ask whether the node exists. The path comes first, then the ACL.
+#[tactic(auto, unfolding(zpath::specs::Faults::fault_of))]
+pub fn calls_of_acls()
+    ensures open { calls_in 2000 9 (asked.SetAcl set_acl_a) ≡ Ok (Query (Exists at_a) ∷ []) }
+    ensures null { calls_in 2000 9 (asked.SetAcl (record set_acl_a { acls = None }))
+        ≡ invalid_acl }
+    ensures no_path { calls_in 2000 9
+        (asked.SetAcl (record set_acl_a { path = None; acls = None })) ≡ bad }
+{}
+
 /// Requests of the session, and unsupported ones.
 pub fn calls_of_sessions()
     ensures close { calls_in 2000 9 asked.CloseSession ≡ Ok (Update (act.Close 9) ∷ []) }
@@ -131,10 +159,8 @@ pub fn calls_of_sessions()
       scheme = Some (codes "sasl");
       auth = None;
     })) ≡ auth_failed }
-    ensures acl { calls_in 2000 9 (asked.SetAcl (record {
-      path = text_a;
-      acls = open_entry ∷ [];
-      version = pos 0;
-    })) ≡ unimplemented }
     ensures other { calls_in 2000 9 (asked.Other (pos 16) []) ≡ unimplemented }
+    ensures create_session { calls_in 2000 9 (asked.Other (negsuc 9) []) ≡ marshalling }
+    ensures token { calls_in 2000 9 (asked.Sasl []) ≡ Ok [] }
+    ensures who { calls_in 2000 9 asked.WhoAmI ≡ Ok [] }
 {}

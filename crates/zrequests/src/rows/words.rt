@@ -38,13 +38,14 @@ pub fn versions_of_requests()
 
 /// ACLs: only the open one is accepted.
 pub fn acls_of_requests()
-    ensures open { has_open_acl (open_entry ∷ []) ≡ true }
-    ensures nobody { has_open_acl [] ≡ false }
-    ensures twice { has_open_acl (open_entry ∷ open_entry ∷ []) ≡ false }
-    ensures reads { has_open_acl (record open_entry { perms = pos 1 } ∷ []) ≡ false }
-    ensures digest { has_open_acl (record open_entry { scheme = Some (codes "digest") } ∷ [])
-        ≡ false }
-    ensures null { has_open_acl (record open_entry { id = None } ∷ []) ≡ false }
+    ensures open { has_open_acl (Some (open_entry ∷ [])) ≡ true }
+    ensures nobody { has_open_acl (Some []) ≡ false }
+    ensures twice { has_open_acl (Some (open_entry ∷ open_entry ∷ [])) ≡ false }
+    ensures reads { has_open_acl (Some (record open_entry { perms = pos 1 } ∷ [])) ≡ false }
+    ensures digest { has_open_acl
+        (Some (record open_entry { scheme = Some (codes "digest") } ∷ [])) ≡ false }
+    ensures null_id { has_open_acl (Some (record open_entry { id = None } ∷ [])) ≡ false }
+    ensures null { has_open_acl None ≡ false }
 {}
 
 /// Kinds of nodes that session 9 creates, by their numbers.
@@ -72,15 +73,15 @@ pub fn ttls_of_requests()
     ensures negative { ttl_in 2000 (negsuc 0) ≡ bad }
 {}
 
-/// Timeouts with a tick of 2,000 milliseconds: one tick more is asked for than is returned.
+/// Timeouts with a tick of 2,000 milliseconds: what is granted is returned.
 pub fn timeouts_of_requests()
-    ensures five { ticks_asked 2000 (pos 10000) ≡ 6 }
-    ensures part { ticks_asked 2000 (pos 10001) ≡ 7 }
-    ensures none { ticks_asked 2000 (pos 0) ≡ 1 }
-    ensures negative { ticks_asked 2000 (negsuc 4) ≡ 1 }
-    ensures reported { millis_reported 2000 6 ≡ pos 10000 }
-    ensures least { millis_reported 2000 2 ≡ pos 2000 }
-    ensures most { millis_reported 2000 20 ≡ pos 38000 }
+    ensures five { ticks_asked 2000 (pos 10000) ≡ 5 }
+    ensures part { ticks_asked 2000 (pos 10001) ≡ 6 }
+    ensures none { ticks_asked 2000 (pos 0) ≡ 0 }
+    ensures negative { ticks_asked 2000 (negsuc 4) ≡ 0 }
+    ensures reported { millis_reported 2000 5 ≡ pos 10000 }
+    ensures least { millis_reported 2000 2 ≡ pos 4000 }
+    ensures most { millis_reported 2000 20 ≡ pos 40000 }
     ensures bits { millis_reported 4294967295 20 ≡ pos 2147483647 }
 {}
 

@@ -25,7 +25,7 @@ earlier_alone (Some fault) = refl
 
 module _ (c : ℕ) (t : TablesView) where
   own : (w : Wish) (fault : Code) → fault_of c w t ≡ Some fault → may_get w ≡ Some fault
-  own (Waits kind path) fault = by (is_full t.watches (watch path kind c))
+  own (Waits kind path) fault = by (is_full t.limits t.watches (watch path kind c))
     where
       by : (b : Bool) → full_fault b ≡ Some fault → may_get (Waits kind path) ≡ Some fault
       by true is = is

@@ -12,6 +12,7 @@ use Rattle.zresponses.specs.declared.clock.Clock.{Clock}
 use Rattle.zresponses.specs.declared.clock.Now.{Now}
 use Rattle.zresponses.specs.Answers.{failed}
 use Rattle.zresponses.specs.Answering.{answer_in}
+use Rattle.zresponses.specs.Stats.{told}
 use Rattle.zconnections.specs.Tables.{TablesView}
 use Rattle.zresponses.specs.effects.Replying.{absorbed_all, replied}
 use Rattle.zresponses.specs.effects.Watching.{first_fault, granted_all}
@@ -30,7 +31,7 @@ answer_unless (Some fault) clock now asked calls replies = failed fault
 abbrev pub granted_and_answered : Clock → Now → ℕ → Request → List Call → List Reply → TablesView → TablesView
 granted_and_answered clock now c request calls replies t =
     let wished = wishes request.asked calls replies in
-    replied now.zxid c request.xid (answer_unless (first_fault c wished t) clock now request.asked calls replies) (granted_all c wished t)
+    replied (told clock.base now.zxid) c request.xid (answer_unless (first_fault c wished t) clock now request.asked calls replies) (granted_all c wished t)
 
 -- the events of its calls are sent first, then its watches are set or removed,
 -- then its answer is sent

@@ -11,26 +11,26 @@ use Rattle.zjute.specs.Frames.{frame}
 use Rattle.zjute.specs.Replies.{reply_text}
 use Rattle.zresponses.specs.declared.answer.Answer.{Answer}
 use Rattle.zresponses.specs.Answers.{failed}
-use Rattle.zresponses.specs.Stats.{long_of}
 
--- the answer to the request with this xid, after its header, which has the zxid of the tree
-abbrev pub answer_text : ℕ → ℤ → Answer → List ℕ
+-- the answer to the request with this xid, after its header, which has the zxid of the tree as
+-- clients are told it
+abbrev pub answer_text : ℤ → ℤ → Answer → List ℕ
 answer_text zxid xid answer =
-    reply_text (record { xid = xid; zxid = long_of zxid; code = answer.code; body = answer.body })
+    reply_text (record { xid = xid; zxid = zxid; code = answer.code; body = answer.body })
 
 -- the error for an answer that no frame can hold
 abbrev pub too_long : Answer
 too_long = failed code.MarshallingError
 
 -- the text of the answer, or of that error
-abbrev pub text_reported : ℕ → ℤ → Answer → List ℕ
+abbrev pub text_reported : ℤ → ℤ → Answer → List ℕ
 text_reported zxid xid answer =
     if nat_lt MAX_FRAME (length (answer_text zxid xid answer))
     then answer_text zxid xid too_long
     else answer_text zxid xid answer
 
 -- an answer as a frame
-abbrev pub answer_frame : ℕ → ℤ → Answer → List ℕ
+abbrev pub answer_frame : ℤ → ℤ → Answer → List ℕ
 answer_frame zxid xid answer = frame (text_reported zxid xid answer)
 
 -- after an answer with this code the connection is closed: the client's identity was refused

@@ -9,9 +9,9 @@ use Rattle.zrequests.specs.Timeouts.{millis_reported}
 use Rattle.zconnections.specs.Tables.{TablesView, sent, closed, attachment, taken_up}
 use Rattle.zresponses.specs.effects.Frames.{response_frame}
 
--- the client has seen changes that this tree doesn't have
-abbrev pub is_ahead : ℕ → ConnectRequest → Bool
-is_ahead zxid request = int_lt (long_of zxid) request.last_zxid_seen
+-- the client has seen changes that this tree doesn't have, whose last zxid is told as this
+abbrev pub is_ahead : ℤ → ConnectRequest → Bool
+is_ahead zxid request = int_lt zxid request.last_zxid_seen
 
 -- a connect response is sent, with the session and its timeout in milliseconds
 abbrev pub session_reported : ConnectRequest → ℕ → ℤ → List ℕ → ℕ → TablesView → TablesView

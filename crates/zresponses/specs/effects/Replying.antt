@@ -22,8 +22,8 @@ abbrev pub absorbed_all : List Call → List Reply → TablesView → TablesView
 absorbed_all (call ∷ calls) (reply ∷ replies) t = absorbed_all calls replies (absorbed call reply t)
 absorbed_all calls replies t = t
 
--- the answer to the request with this xid is sent
-abbrev pub replied : ℕ → ℕ → ℤ → Answer → TablesView → TablesView
+-- the answer to the request with this xid is sent, under this zxid
+abbrev pub replied : ℤ → ℕ → ℤ → Answer → TablesView → TablesView
 replied zxid c xid answer t =
     if ends_connection answer.code
     then closed c (sent c (answer_frame zxid xid answer) t)

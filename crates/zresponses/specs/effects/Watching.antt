@@ -19,7 +19,7 @@ use Rattle.zresponses.specs.declared.effects.wish.Wish.TheVariants.{Waits, Repor
 -- a watch is set, if there is room for it
 abbrev pub waiting : ℕ → Kind → Path → TablesView → TablesView
 waiting c kind path t =
-    if is_full t.watches (watch path kind c) then t else record t { watches = insert t.watches (watch path kind c) }
+    if is_full t.limits t.watches (watch path kind c) then t else record t { watches = insert t.watches (watch path kind c) }
 
 -- the watches of a connection at a path, of this type, are removed
 abbrev pub unwatched : ℕ → WatchType → Path → TablesView → TablesView
@@ -43,7 +43,7 @@ none_fault found = if found then None else Some NoWatcher
 
 -- why a wish isn't granted
 abbrev pub fault_of : ℕ → Wish → TablesView → Option Code
-fault_of c (Waits kind path) t = full_fault (is_full t.watches (watch path kind c))
+fault_of c (Waits kind path) t = full_fault (is_full t.limits t.watches (watch path kind c))
 fault_of c (Reports event) t = None
 fault_of c (Has type path) t = none_fault (has_meant t.watches c type path)
 fault_of c (Ends type path) t = none_fault (has_meant t.watches c type path)

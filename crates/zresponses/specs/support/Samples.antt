@@ -1,18 +1,21 @@
 -- Samples for the worked examples.
-use Rattle.std.specs.Prelude.{List, ℕ, [], ◌∷◌, pos, codes, Some, false, negsuc}
+use Rattle.std.specs.Prelude.{List, ℕ, [], ◌∷◌, pos, codes, Some, false}
 use Rattle.ztree.specs.support.Samples.{at_a_b}
 use Rattle.zcalls.specs.declared.call.Create.{Create}
 use Rattle.zcalls.specs.declared.call.Lifetime.TheVariants.{Ephemeral, WithTtl, Container}
 use Rattle.zcalls.specs.Part.{named, sequential}
 use Rattle.zjute.specs.declared.stat.StatRecord.{StatRecord as ReportedStat}
 use Rattle.zjute.specs.declared.request.CreateRequest.{CreateRequest as AskedCreate}
+use Rattle.zjute.specs.declared.request.AtVersion.{AtVersion}
+use Rattle.zjute.specs.declared.request.SetAcl.{SetAcl}
 use Rattle.zjute.specs.declared.request.Look.{Look}
+use Rattle.zresponses.specs.Answers.{open_acls}
 use Rattle.zresponses.specs.declared.clock.Clock.{Clock}
 use Rattle.zresponses.specs.declared.clock.Now.{Now}
 
--- a service that began at 1,000,000 milliseconds, with ticks of 2,000
+-- a service that began at 1,000,000 milliseconds, with ticks of 2,000 and no base of zxids
 abbrev pub clock : Clock
-clock = record { tick = 2000; started = 1000000 }
+clock = record { tick = 2000; started = 1000000; base = 0 }
 
 -- after change 20, at tick 21
 abbrev pub now : Now
@@ -63,16 +66,22 @@ reported_of_b = record {
 abbrev pub reported_of_timed : ReportedStat
 reported_of_timed = record reported_of_b { ephemeral_owner = pos 0; data_length = pos 0 }
 
--- the owner is `Long.MIN_VALUE`
-abbrev pub reported_of_container : ReportedStat
-reported_of_container = record reported_of_timed { ephemeral_owner = negsuc 9223372036854775807 }
-
 -- the text of /a/b, and requests for it
 abbrev pub text_a_b : List ℕ
 text_a_b = codes "/a/b"
 
 abbrev pub asked_b : AskedCreate
-asked_b = record { path = Some text_a_b; bytes = Some []; acls = []; flags = pos 3 }
+asked_b = record { path = Some text_a_b; bytes = Some []; acls = Some []; flags = pos 3 }
+
+abbrev pub at_b : AtVersion
+at_b = record { path = Some text_a_b; version = pos 7 }
+
+abbrev pub set_acl_b : SetAcl
+set_acl_b = record { path = Some text_a_b; acls = Some open_acls; version = pos 0 }
 
 abbrev pub look_b : Look
 look_b = record { path = Some text_a_b; watch = false }
+
+-- a read of this path
+abbrev pub look_of : List ℕ → Look
+look_of path = record { path = Some path; watch = false }

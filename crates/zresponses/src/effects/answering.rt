@@ -8,7 +8,7 @@ use crate::effects::absorbing::absorb_all;
 use crate::effects::replying::reply;
 use crate::effects::watching::grant_all;
 use crate::effects::wishes::wishes;
-use crate::{Clock, Now, answer_to};
+use crate::{Clock, Now, answer_to, told};
 use std::alloc::Global;
 use zalloc::Memory;
 use zcalls::{Call, Reply};
@@ -64,7 +64,7 @@ fn grant_and_answer(
     reply(
         alloc,
         tables,
-        now.zxid,
+        told(clock, now.zxid),
         done.connection,
         done.request.xid,
         answer,

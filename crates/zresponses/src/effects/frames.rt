@@ -11,7 +11,6 @@ ghost use Rattle.zresponses.specs.effects.Frames.{answer_text, too_long};
 ghost use Rattle.zjute.specs.Frames.{frame};
 
 use crate::Answer;
-use crate::numbers::long_of;
 use std::alloc::Global;
 use zalloc::Memory;
 use zjute::{
@@ -19,7 +18,6 @@ use zjute::{
     write_reply,
 };
 use zpasswords::Password;
-use ztree::Zxid;
 
 /// Returns whether an answer with this code closes the connection.
 pub(crate) fn ends_connection(code: Code) -> bool
@@ -28,10 +26,10 @@ pub(crate) fn ends_connection(code: Code) -> bool
     matches!(code, Code::AuthFailed)
 }
 
-/// Returns an answer as a frame. One that no frame can hold is replaced by an error.
+/// Returns an answer as a frame, with this zxid in its header. One that no frame can hold is replaced by an error.
 pub(crate) fn answer_frame(
     alloc: Global,
-    zxid: Zxid,
+    zxid: i64,
     xid: i32,
     answer: Answer,
 ) -> Result<Vec<u8>, Memory>
@@ -40,7 +38,7 @@ pub(crate) fn answer_frame(
     let Answer { code, body } = answer;
     let reported = zjute::Reply {
         xid,
-        zxid: long_of(zxid.number()),
+        zxid,
         code,
         body,
     };
@@ -52,12 +50,12 @@ pub(crate) fn answer_frame(
 }
 
 // Returns the error for an answer that no frame can hold.
-fn too_long_frame(alloc: Global, zxid: Zxid, xid: i32) -> Result<Vec<u8>, Memory>
+fn too_long_frame(alloc: Global, zxid: i64, xid: i32) -> Result<Vec<u8>, Memory>
     ensures { IfOk result (λ bytes. bytes.items ≡ frame (answer_text zxid xid too_long)) }
 {
     let reported = zjute::Reply {
         xid,
-        zxid: long_of(zxid.number()),
+        zxid,
         code: Code::MarshallingError,
         body: Body::Nothing,
     };

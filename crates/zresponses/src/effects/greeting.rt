@@ -12,13 +12,14 @@ use zconnections::Tables;
 use zjute::ConnectRequest;
 use zpasswords::Password;
 use zrequests::{TickLength, millis_reported};
-use ztree::{SessionId, Zxid};
+use ztree::SessionId;
 
-/// Returns whether a client has seen changes that the tree doesn't have.
-pub fn is_ahead(zxid: Zxid, request: &ConnectRequest) -> bool
+/// Returns whether a client has seen changes that the tree doesn't have, from the last zxid as
+/// clients are told it.
+pub fn is_ahead(zxid: i64, request: &ConnectRequest) -> bool
     ensures { result ≡ table.is_ahead zxid request.now }
 {
-    long_of(zxid.number()) < request.last_zxid_seen
+    zxid < request.last_zxid_seen
 }
 
 /// A session of the tree, which a client asks for.

@@ -8,14 +8,13 @@ use crate::effects::frames::{answer_frame, ends_connection};
 use std::alloc::Global;
 use zalloc::Memory;
 use zconnections::Tables;
-use ztree::Zxid;
 
-/// Sends the answer to the request with this xid. A client whose identity is refused gets that
+/// Sends the answer to the request with this xid, under this zxid. A client whose identity is refused gets that
 /// answer, and its connection is closed.
 pub fn reply(
     alloc: Global,
     tables: &mut Tables,
-    zxid: Zxid,
+    zxid: i64,
     connection: u32,
     xid: i32,
     answer: Answer,

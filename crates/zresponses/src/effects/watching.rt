@@ -88,7 +88,8 @@ fn wait(
 ) -> Result<Option<Code>, Memory>
     ensures waits { OnOk result (tables.new ≡ waiting connection kind path.now tables.old) }
     ensures fault { IfOk result (λ fault. fault
-        ≡ full_fault (is_full tables.old.watches (watch path.now kind connection))) }
+        ≡ full_fault (is_full tables.old.limits tables.old.watches
+        (watch path.now kind connection))) }
 {
     match tables.watch(connection, kind, path) {
         Ok(()) => Ok(None),

@@ -9,10 +9,12 @@ ghost use Rattle.zcalls.specs.declared.reply.Reply.TheVariants as reply;
 ghost use Rattle.zjute.specs.declared.code.Code.TheVariants as code;
 ghost use Rattle.zjute.specs.declared.part.PartRequest.TheVariants as asked;
 ghost use Rattle.zjute.specs.declared.reply.PartResult.TheVariants as result_of;
-ghost use Rattle.zresponses.specs.Results.{refused_results, part_result, look_result};
-ghost use Rattle.zresponses.specs.support.Samples.{clock, now, reported_stat, create_b, reported_of_b, text_a_b, asked_b};
+ghost use Rattle.zresponses.specs.Results.{refused_results, part_code, part_result, look_result};
+ghost use Rattle.zresponses.specs.support.Samples.{clock, now, reported_stat, create_b, reported_of_b, text_a_b, asked_b, at_b};
 
-/// The results of a refused multi of four parts: none was done.
+/// The results of a refused multi of four parts: none was done. A part that is refused at once has
+/// its own code, and not the tree's.
+#[tactic(auto, unfolding(zpath::specs::Faults::fault_of))]
 pub fn refused_multis()
     ensures first { refused_results 4 1 code.NoNode ≡ result_of.Error code.NoNode
         ∷ result_of.Error code.RuntimeInconsistency ∷ result_of.Error code.RuntimeInconsistency
@@ -20,6 +22,10 @@ pub fn refused_multis()
     ensures third { refused_results 4 3 code.BadVersion ≡ result_of.Error code.Ok
         ∷ result_of.Error code.Ok ∷ result_of.Error code.BadVersion
         ∷ result_of.Error code.RuntimeInconsistency ∷ [] }
+    ensures at_once { part_code 2000 (asked.Create asked_b ∷ asked.Create asked_b ∷ []) 2
+        BadVersion ≡ code.InvalidAcl }
+    ensures by_the_tree { part_code 2000 (asked.Check at_b ∷ asked.Create asked_b ∷ []) 1
+        BadVersion ≡ code.BadVersion }
     ensures last { refused_results 2 2 code.NoNode
         ≡ result_of.Error code.Ok ∷ result_of.Error code.NoNode ∷ [] }
 {}

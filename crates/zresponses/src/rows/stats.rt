@@ -4,7 +4,7 @@ ghost use Rattle.std.specs.Prelude.{◌≡◌, pos, negsuc};
 ghost use Rattle.ztree.specs.support.Samples.{some_stat};
 ghost use Rattle.zresponses.specs.Stats.{int_of, long_of, millis_at, stat_reported, made_stat};
 ghost use Rattle.zresponses.specs.support.Samples.{clock, now, reported_stat, create_b, timed_b, container_b};
-ghost use Rattle.zresponses.specs.support.Samples.{reported_of_b, reported_of_timed, reported_of_container};
+ghost use Rattle.zresponses.specs.support.Samples.{reported_of_b, reported_of_timed};
 
 /// Numbers in 32 and in 64 bits.
 pub fn numbers_in_bits()
@@ -17,10 +17,10 @@ pub fn numbers_in_bits()
     ensures time { millis_at clock 21 ≡ 1042000 }
 {}
 
-/// The eleven fields of a stat. A node with a TTL has no owner, and a container that of ZooKeeper.
+/// The eleven fields of a stat. A node with a TTL or a container has no owner.
 pub fn stats_that_are_reported()
     ensures stat { stat_reported clock some_stat ≡ reported_stat }
     ensures made { stat_reported clock (made_stat now create_b) ≡ reported_of_b }
     ensures timed { stat_reported clock (made_stat now timed_b) ≡ reported_of_timed }
-    ensures container { stat_reported clock (made_stat now container_b) ≡ reported_of_container }
+    ensures container { stat_reported clock (made_stat now container_b) ≡ reported_of_timed }
 {}

@@ -4,6 +4,7 @@ use Rattle.std.specs.Coded.{Coded, code_by, coded×, coded_ℕ, coded_list}
 use Rattle.std.specs.FinSet as sets
 use Rattle.zwatches.specs.declared.kind.Kind.{Kind}
 use Rattle.zwatches.specs.declared.kind.Kind.TheVariants.{Data, Missing, Children, EachData, EachChildren, Recursive}
+use Rattle.zwatches.specs.declared.limits.WatchLimits.{WatchLimits}
 use Rattle.zwatches.specs.declared.watch.Watch.{Watch}
 use Rattle.zwatches.specs.Watches.{Path, Watches, kind_number, watch}
 
@@ -32,3 +33,7 @@ coded_watch =
 
 abbrev pub coded_watches : Coded Watches
 coded_watches = sets.code coded_watch
+
+abbrev pub coded_limits : Coded WatchLimits
+coded_limits =
+    code_by (ℕ × ℕ) (coded× coded_ℕ coded_ℕ) (λ l. (l.most, l.each)) (λ p. record { most = p.0; each = p.1 }) (λ _. refl)

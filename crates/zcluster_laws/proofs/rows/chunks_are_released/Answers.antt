@@ -8,14 +8,14 @@ use Rattle.zcluster_laws.proofs.rows.chunks_are_released.Goals as goal
 
 pub returns-clause-waits : goal.returns-clause-waits
 unfolding all_tables
-returns-clause-waits c t secret times u r p new did =
+returns-clause-waits c t limits secret times u r p new did =
     let b = reaction ((call.Update u, r) ∷ []) 0 1 in
     let same = first_is (record p { held = b ∷ [] }) did.p b did.b [] did.more did.has refl did.waits in
     is_not (subst (λ x. have_left_sent ((heads_after t (appended u)).world.servers 1) (need x) ≡ true) same did.left)
 
 pub returns-clause-released : goal.returns-clause-released
 unfolding all_tables
-returns-clause-released c t secret times u r p =
+returns-clause-released c t limits secret times u r p =
     let b = reaction ((call.Update u, r) ∷ []) 0 1 in
     let q : Fronted = record p { held = b ∷ [] } in
     let h = heads_after t (alone u) in (
@@ -26,7 +26,7 @@ returns-clause-released c t secret times u r p =
 
 pub returns-clause-query : goal.returns-clause-query
 unfolding all_tables
-returns-clause-query c t secret times u q r s p new did =
+returns-clause-query c t limits secret times u q r s p new did =
     let b = reaction ((call.Update u, r) ∷ (call.Query q, s) ∷ []) 0 1 in
     let same = first_is (record p { held = b ∷ [] }) did.p b did.b [] did.more did.has refl did.waits in
     is_not (subst (λ x. have_left_sent ((heads_after t (alone u)).world.servers 1) (need x) ≡ true) same did.left)

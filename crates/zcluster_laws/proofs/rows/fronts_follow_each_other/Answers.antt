@@ -6,8 +6,8 @@ use Rattle.zcluster_laws.proofs.rows.fronts_follow_each_other.Goals as goal
 
 pub returns-clause-had : goal.returns-clause-had
 unfolding all_tables
-returns-clause-had c t secret times u new did = ap (tree_at 2) did.is ∙ sym (ap plain_of did.is_head) ∙ ap Some (first_entry t u)
+returns-clause-had c t limits secret times u new did = ap (tree_at 2) did.is ∙ sym (ap plain_of did.is_head) ∙ ap Some (first_entry t u)
 
 pub returns-clause-lacked : goal.returns-clause-lacked
 unfolding all_tables
-returns-clause-lacked c t secret times u new did = ap (tree_at 2) did.is ∙ sym (ap plain_of did.is_head)
+returns-clause-lacked c t limits secret times u new did = ap (tree_at 2) did.is ∙ sym (ap plain_of did.is_head)

@@ -1,4 +1,4 @@
-use Rattle.std.proofs.Common.{◌∷◌, [], inr, ℕ, List, Option, sym, subst}
+use Rattle.std.proofs.Common.{◌∷◌, [], inr, Option, sym, subst}
 use Rattle.zdevices.specs.Device.{Between, sink_run, source_run}
 use Rattle.zjournal.specs.file.File.{seen_of, MayLeaveOf}
 use Rattle.zfront.specs.Inputs.{ServerView}

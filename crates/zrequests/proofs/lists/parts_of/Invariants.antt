@@ -1,7 +1,7 @@
-use Rattle.std.proofs.Common.{◌≡◌, drop}
-use Rattle.zrequests.specs.Asking.{each_in, each_behind}
-use Rattle.zrequests.specs.Requests.{part_in}
+use Rattle.std.proofs.Common.{◌≡◌, ◌++◌, drop}
+use Rattle.zrequests.specs.Requests.{parts_in}
 use Rattle.zrequests.proofs.lists.parts_of.Given as goal
 
+-- those so far and those of the parts that are left are all
 abbrev pub invariant-loop-part : goal.invariant-loop-part
-invariant-loop-part l = each_in (part_in l.tick l.session) l.parts ≡ each_behind l.read.items (part_in l.tick l.session) (drop l.part-index l.parts)
+invariant-loop-part l = l.read.items ++ parts_in l.tick l.session (drop l.part-index l.parts) ≡ parts_in l.tick l.session l.parts

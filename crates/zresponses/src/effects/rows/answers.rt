@@ -48,24 +48,24 @@ pub fn calls_are_absorbed()
 
 /// An answer is sent. After AuthFailed the connection is closed.
 pub fn answers_are_reported()
-    ensures done { (t : TablesView) → replied 8 1 (pos 9) (done body.Nothing) t
-        ≡ sent 1 (answer_frame 8 (pos 9) (done body.Nothing)) t }
-    ensures auth { (t : TablesView) → replied 8 1 (pos 9) (failed code.AuthFailed) t
-        ≡ closed 1 (sent 1 (answer_frame 8 (pos 9) (failed code.AuthFailed)) t) }
+    ensures done { (t : TablesView) → replied (pos 8) 1 (pos 9) (done body.Nothing) t
+        ≡ sent 1 (answer_frame (pos 8) (pos 9) (done body.Nothing)) t }
+    ensures auth { (t : TablesView) → replied (pos 8) 1 (pos 9) (failed code.AuthFailed) t
+        ≡ closed 1 (sent 1 (answer_frame (pos 8) (pos 9) (failed code.AuthFailed)) t) }
 {}
 
 /// Wishes are granted, if there is room.
 pub fn wishes_are_granted()
-    ensures waits { (t : TablesView) → is_full t.watches (watch at_a Data 1) ≡ false
+    ensures waits { (t : TablesView) → is_full t.limits t.watches (watch at_a Data 1) ≡ false
         → granted 1 (Waits Data at_a) t
         ≡ record t { watches = insert t.watches (watch at_a Data 1) } }
-    ensures room { (t : TablesView) → is_full t.watches (watch at_a Data 1) ≡ false
+    ensures room { (t : TablesView) → is_full t.limits t.watches (watch at_a Data 1) ≡ false
         → fault_of 1 (Waits Data at_a) t ≡ None }
-    ensures full { (t : TablesView) → is_full t.watches (watch at_a Data 1) ≡ true
+    ensures full { (t : TablesView) → is_full t.limits t.watches (watch at_a Data 1) ≡ true
         → granted 1 (Waits Data at_a) t ≡ t }
     ensures reports { (t : TablesView) → granted 1 (Reports (event NodeCreated at_a)) t
         ≡ sent 1 (event_frame (event NodeCreated at_a)) t }
-    ensures no_room { (t : TablesView) → is_full t.watches (watch at_a Data 1) ≡ true
+    ensures no_room { (t : TablesView) → is_full t.limits t.watches (watch at_a Data 1) ≡ true
         → first_fault 1 (Waits Data at_a ∷ []) t ≡ Some code.SystemError }
     ensures none { (t : TablesView) → first_fault 1 [] t ≡ None }
     ensures order { (t : TablesView)
@@ -94,25 +94,25 @@ pub fn watches_are_ended()
 pub fn requests_are_answered()
     ensures now { (t : Tree) → now_of (record t { zxid = 8; time = 4 }) ≡ now }
     ensures ping { (t : TablesView) → answered clock now 1 (request_9 asked.Ping) [] [] t
-        ≡ replied 8 1 (pos 9) (done body.Nothing) t }
+        ≡ replied (pos 8) 1 (pos 9) (done body.Nothing) t }
     ensures events { (t : TablesView) → answered clock now 1
         (request_9 (asked.Delete (record { path = (look_a false).path; version = pos 0 })))
         (Update (act.Delete delete_a_b) ∷ []) (reply.Deleted ∷ []) t
-        ≡ replied 8 1 (pos 9) (done body.Nothing) (reported_all gone_a_b t) }
-    ensures full { (t : TablesView) → is_full t.watches (watch at_a Data 1) ≡ true
+        ≡ replied (pos 8) 1 (pos 9) (done body.Nothing) (reported_all gone_a_b t) }
+    ensures full { (t : TablesView) → is_full t.limits t.watches (watch at_a Data 1) ≡ true
         → answered clock now 1 (request_9 (asked.Exists (look_a true))) (exists_a ∷ [])
         (reply.Exists some_stat ∷ []) t
-        ≡ replied 8 1 (pos 9) (failed code.SystemError) t }
-    ensures added { (t : TablesView) → is_full t.watches (watch at_a Recursive 1) ≡ false
+        ≡ replied (pos 8) 1 (pos 9) (failed code.SystemError) t }
+    ensures added { (t : TablesView) → is_full t.limits t.watches (watch at_a Recursive 1) ≡ false
         → answered clock now 1 (request_9 (asked.AddWatch (add_a 1))) (exists_a ∷ [])
         (reply.Exists some_stat ∷ []) t
-        ≡ replied 8 1 (pos 9) (done (body.Error code.Ok)) (record t {
+        ≡ replied (pos 8) 1 (pos 9) (done (body.Error code.Ok)) (record t {
           watches = insert t.watches (watch at_a Recursive 1);
         }) }
     ensures removed { (t : TablesView) → has_meant t.watches 1 typed.Any at_a ≡ true
         → answered clock now 1 (request_9 (asked.RemoveWatches (watches_a 3))) (exists_a ∷ [])
         (reply.Exists some_stat ∷ []) t
-        ≡ replied 8 1 (pos 9) (done body.Nothing) (record t {
+        ≡ replied (pos 8) 1 (pos 9) (done body.Nothing) (record t {
           watches = without_meant t.watches 1 typed.Any at_a;
         }) }
 {}

@@ -1,6 +1,6 @@
 //! Answers as frames.
 
-ghost use Rattle.std.specs.Prelude.{◌≡◌, ◌<◌, ℕ, ℤ, pos, true, false, [], ◌∷◌, ◌++◌, length, None, Some};
+ghost use Rattle.std.specs.Prelude.{◌≡◌, ◌<◌, ℤ, pos, true, false, [], ◌∷◌, ◌++◌, length, None, Some};
 ghost use Rattle.zjute.specs.Jute.{neg};
 ghost use Rattle.zjute.specs.declared.limits.TheConstants.{MAX_FRAME};
 ghost use Rattle.zjute.specs.declared.code.Code.TheVariants as code;
@@ -14,7 +14,7 @@ ghost use Rattle.zresponses.specs.effects.support.Samples.{greeting, some_passwo
 /// The answer to a ping, after change 8: its xid is -2.
 #[tactic(auto, unfolding(zjute::specs::Replies::reply_text, zjute::specs::Jute::int, zjute::specs::Jute::long))]
 pub fn a_ping_is_answered()
-    ensures frame { answer_frame 8 (neg 2) (done body.Nothing)
+    ensures frame { answer_frame (pos 8) (neg 2) (done body.Nothing)
         ≡ 0 ∷ 0 ∷ 0 ∷ 16 ∷ 255 ∷ 255 ∷ 255 ∷ 254 ∷ 0 ∷ 0 ∷ 0 ∷ 0 ∷ 0 ∷ 0 ∷ 0 ∷ 8
         ∷ 0 ∷ 0 ∷ 0 ∷ 0 ∷ [] }
 {}
@@ -22,7 +22,7 @@ pub fn a_ping_is_answered()
 /// An answer that no frame can hold.
 pub fn long_answers()
     ensures error { too_long ≡ failed code.MarshallingError }
-    ensures reported { (zxid : ℕ) (xid : ℤ) (answer : Answer)
+    ensures reported { (zxid xid : ℤ) (answer : Answer)
         → MAX_FRAME < length (answer_text zxid xid answer)
         → text_reported zxid xid answer ≡ answer_text zxid xid too_long }
 {}

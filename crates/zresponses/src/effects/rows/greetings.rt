@@ -10,15 +10,15 @@ ghost use Rattle.zresponses.specs.effects.support.Samples.{greeting, some_passwo
 
 /// A client is ahead of a tree whose last change is 8 if it has seen change 9.
 pub fn clients_that_are_ahead()
-    ensures behind { is_ahead 8 greeting ≡ false }
-    ensures level { is_ahead 8 (record greeting { last_zxid_seen = pos 8 }) ≡ false }
-    ensures ahead { is_ahead 8 (record greeting { last_zxid_seen = pos 9 }) ≡ true }
+    ensures behind { is_ahead (pos 8) greeting ≡ false }
+    ensures level { is_ahead (pos 8) (record greeting { last_zxid_seen = pos 8 }) ≡ false }
+    ensures ahead { is_ahead (pos 8) (record greeting { last_zxid_seen = pos 9 }) ≡ true }
 {}
 
 /// A new session, and a response without one.
 pub fn clients_are_welcomed()
     ensures welcome { (t : TablesView) → welcomed 2000 greeting 9 5 some_password 1 t
-        ≡ sent 1 (response_frame greeting (pos 8000) (pos 9) some_password)
+        ≡ sent 1 (response_frame greeting (pos 10000) (pos 9) some_password)
         (attachment 9 1 t) }
     ensures away { (t : TablesView) → turned_away greeting 1 t
         ≡ closed 1 (sent 1 (response_frame greeting (pos 0) (pos 0) (replicate 16 0)) t) }

@@ -6,10 +6,10 @@ use Rattle.zwatches.specs.support.Groups.{AreRows}
 use Rattle.zwatches.proofs.Reporting.{kept_sorted}
 use Rattle.zwatches.proofs.groups.remove_each.Goals as goal
 
-pub remove_at-requires-in-NodeCreated : goal.remove_at-requires-in-NodeCreated
-remove_at-requires-in-NodeCreated c =
-    subst AreRows (sym c.remove_at.ensures) (kept_sorted c.args.rows.now.items (λ row. not (is_at (place c.args.names.now Data) row)) c.requires)
+pub remove_at-requires-in-NodeCreated-clause-rows : goal.remove_at-requires-in-NodeCreated-clause-rows
+remove_at-requires-in-NodeCreated-clause-rows c =
+    subst AreRows (sym c.remove_at.ensures.gone) (kept_sorted c.args.rows.now.items (λ row. not (is_at (place c.args.names.now Data) row)) c.requires.rows)
 
-pub remove_at-requires-in-NodeDeleted-2 : goal.remove_at-requires-in-NodeDeleted-2
-remove_at-requires-in-NodeDeleted-2 c =
-    subst AreRows (sym c.remove_at-in-NodeDeleted.ensures) (kept_sorted c.args.rows.now.items (λ row. not (is_at (place c.args.names.now Data) row)) c.requires)
+pub remove_at-requires-in-NodeDeleted-2-clause-rows : goal.remove_at-requires-in-NodeDeleted-2-clause-rows
+remove_at-requires-in-NodeDeleted-2-clause-rows c =
+    subst AreRows (sym c.remove_at-in-NodeDeleted.ensures.gone) (kept_sorted c.args.rows.now.items (λ row. not (is_at (place c.args.names.now Data) row)) c.requires.rows)

@@ -51,7 +51,7 @@ returns-in-Ok-open-clause-serving g c =
       is_open = true;
     } in
     let keeps = c.in-Ok.ensures.keeps in
-    let is = serves g.D.Device.seen g.D.Device.may_leave c.args.secret c.args.tick c.args.now_ms c.args.servers c.number.result
+    let is = serves g.D.Device.seen g.D.Device.may_leave c.args.limits c.args.secret c.args.tick c.args.now_ms c.args.servers c.number.result
     (g.D.Device.seen c.args.device) (g.D.Device.seen c.look.new.device) c.in-Ok.it.found.tree.tree kept
     c.number.ensures.same c.look.ensures.seen keeps.batches keeps.stands keeps.text
     c.in-Ok-restored.ensures opened.0 opened.1 opened.2 opened.3 in
@@ -68,7 +68,7 @@ returns-in-Ok-open-clause-sound g c is_open =
       is_open = true;
     } in
     let keeps = c.in-Ok.ensures.keeps in
-    let is = serves g.D.Device.seen g.D.Device.may_leave c.args.secret c.args.tick c.args.now_ms c.args.servers c.number.result
+    let is = serves g.D.Device.seen g.D.Device.may_leave c.args.limits c.args.secret c.args.tick c.args.now_ms c.args.servers c.number.result
     (g.D.Device.seen c.args.device) (g.D.Device.seen c.look.new.device) c.in-Ok.it.found.tree.tree kept
     c.number.ensures.same c.look.ensures.seen keeps.batches keeps.stands keeps.text
     c.in-Ok-restored.ensures opened.0 opened.1 opened.2 opened.3 in

@@ -1,4 +1,5 @@
-use Rattle.std.proofs.Common.{codes, ap, subst, ◌∙◌}
+use Rattle.std.proofs.Common.{codes, ap, subst, ◌∙◌, ◌+◌, ◌%◌}
+use Rattle.std.specs.Prelude.{◌^◌}
 use Rattle.std.specs.FinMap as finite
 use Rattle.zscript_text.specs.Texts.{Writes}
 use Rattle.zfront.specs.Front.{FrontView}
@@ -14,7 +15,9 @@ returns g c =
     let end = c.push_str-2.new.self in
     let connections = subst (λ n. Writes one two (number_line (codes "Connections: ") n)) (c.connections.ensures
     ∙ ap (λ (v : FrontView). finite.len v.tables.streams) c.self.view_is) c.in_ok-write_number.ensures in
-    let zxid = subst (λ n. Writes two three (number_line (codes "Zxid: ") n)) (c.number.ensures ∙ c.in_ok-last.ensures)
-    c.in_ok-write_number-2.ensures in
+    let last = c.number.ensures ∙ c.in_ok-last.ensures in
+    let told = ap (λ n. (c.self.inside.clock.base + n) % 2 ^ 64) last
+    ∙ ap (λ (v : FrontView). (v.clock.base + c.args.self.now.tree.zxid) % 2 ^ 64) c.self.view_is in
+    let zxid = subst (λ n. Writes two three (number_line (codes "Zxid: ") n)) told c.in_ok-write_number-2.ensures in
     writes_more c.args.out.now one end _ _ c.in_ok-push_str.ensures.bytes
     (writes_more one two end _ _ connections (writes_more two three end _ _ zxid c.in_ok-push_str-2.ensures.bytes))
