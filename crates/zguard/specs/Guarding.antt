@@ -1,7 +1,7 @@
 -- The guard before a server for ZooKeeper's clients: what passes of the bytes of each connection,
 -- and what is sent before it is closed. The source is the ZooKeeper Administrator's Guide
 -- (`enforce.auth.enabled`). The limit on stored bytes is this project's profile.
-use Rattle.std.specs.Prelude.{ℕ, ◌-◌, Bool, true, false, nat_lt, List, [], ◌∷◌, ◌++◌, length, take, replicate, Option, None, Some, if◌then◌else◌}
+use Rattle.std.specs.Prelude.{ℕ, ◌-◌, Bool, true, false, nat_lt, List, [], ◌++◌, length, take, replicate, Option, Some, if◌then◌else◌}
 use Rattle.std.specs.FinMap.{FinMap, empty, get, insert, remove}
 use Rattle.std.specs.Option.{option_map, option_map_or}
 use Rattle.std.specs.Ordering.{nat_cmp}

@@ -1,7 +1,7 @@
 -- What a frame of a stranger brings: a connection that has yet to give a login. The sources are
 -- zookeeper.jute (`RequestHeader`, `AuthPacket`, `ReplyHeader`) and the ZooKeeper Administrator's
 -- Guide, "Authentication & Authorization Options" (`enforce.auth.enabled`).
-use Rattle.std.specs.Prelude.{◌≡◌, ℕ, ℤ, pos, Bool, true, false, ◌&&◌, nat_lt, List, [], ◌∷◌, length, drop, codes, bytes_eq, Option, None, Some, Result, Ok, Err, if◌then◌else◌}
+use Rattle.std.specs.Prelude.{ℕ, ℤ, pos, Bool, false, ◌&&◌, nat_lt, List, [], length, drop, codes, bytes_eq, Option, None, Some, Result, Ok, Err, if◌then◌else◌}
 use Rattle.std.specs.Ordering.{int_eq}
 use Rattle.zcodec.specs.declared.fault.Fault.{Fault}
 use Rattle.zcodec.specs.Forms.{both}

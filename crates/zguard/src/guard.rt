@@ -73,7 +73,8 @@ impl Guard {
                 let heard = hear_stranger(self.alloc, &self.logins, none, unread)?;
                 Ok(self.keep(connection, heard))
             }
-            Some(Standing::Refused) | None => Ok(Passed::These(Vec::new(self.alloc))),
+            Some(Standing::Refused) => Ok(Passed::These(Vec::new(self.alloc))),
+            None => Ok(Passed::These(Vec::new(self.alloc))),
         }
     }
 
