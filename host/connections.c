@@ -12,6 +12,7 @@
 #include "monitors.h"
 #include "notes.h"
 #include "start.h"
+#include "strangers.h"
 
 enum {
     /* The bytes to be sent, and those of unfinished requests, of all connections together. If
@@ -180,7 +181,8 @@ void take(void) {
         it->is_touched = true;
         held += count;
         if (next == LAST_ONE) {
-            it->state = LAST, it->until = now() + PATIENCE;
+            if (count) it->late = refused_at(it->socket, it->out + it->count - count, count);
+            it->state = LAST, it->until = (it->late ? it->late : now()) + PATIENCE;
             unfinished -= it->part, it->part = 0;
         }
         bound_owed();
@@ -196,7 +198,7 @@ static void forget_sent(struct connection *it) {
 
 void send_on(uint32_t number) {
     struct connection *it = &all[number];
-    if (!is_there(it)) return;
+    if (!is_there(it) || it->late > now()) return;
     while (owed(it)) {
         ssize_t sent = send(it->socket, it->out + it->sent, owed(it), MSG_NOSIGNAL);
         if (sent < 0 && errno == EINTR) continue;

@@ -50,8 +50,8 @@ struct connection {
     /* The word of a monitor's connection (monitors.h), or 0. */
     int word;
     struct seen seen;
-    /* When it is closed, in milliseconds; 0 for never. */
-    uint64_t until;
+    /* When it is closed, in milliseconds; 0 for never. Before `late` nothing is sent on it. */
+    uint64_t until, late;
     /* The events that it waits for. */
     uint32_t events;
     bool is_touched;

@@ -3,7 +3,10 @@
    A block is a commit byte, its content, and a byte 0. It is written whole, then its commit byte is
    set, and then the next block is begun. So the bytes that the file has when it is opened are whole
    blocks, but for the last one, which may be unfinished. Its commit byte may be set while they are
-   copied, and its end isn't among them. So the copy ends with the last block that is there whole. */
+   copied, and its end isn't among them. So the copy ends with the last block that is there whole.
+
+   A compaction gives the name to a new file, and then cuts the old one to nothing. So a file that
+   has no name any more once it is copied may have been cut meanwhile, and the new one is copied. */
 #define _GNU_SOURCE
 #include <errno.h>
 #include <fcntl.h>
@@ -21,8 +24,8 @@
 #include <unistd.h>
 #include "start.h"
 
-/* The folder of the copy, and the copy. */
-static char place[PATH_MAX], copy[PATH_MAX + 16];
+/* The journal, the folder of its copy, and the copy. */
+static char *journal, place[PATH_MAX], copy[PATH_MAX + 16];
 
 /* Copies so many bytes, or those that there are. Returns whether it could. */
 static bool is_copied(int from, int to, off_t left) {
@@ -60,32 +63,51 @@ static void remove_copy(void) {
     rmdir(place);
 }
 
-/* The folder's journal if a server uses it, or -1. */
-static int used_journal(const char *folder) {
-    char *path;
-    if (asprintf(&path, "%s/journal", folder) < 0) stop(1, "out of memory");
-    int file = open(path, O_RDONLY | O_CLOEXEC);
-    free(path);
+/* Makes the folder of the copy. */
+static void make_place(void) {
+    const char *top = getenv("TMPDIR");
+    snprintf(place, sizeof place, "%s/jellqupas-XXXXXX", top && *top ? top : "/tmp");
+    if (!mkdtemp(place)) stop(3, "%s: %s", place, strerror(errno));
+    snprintf(copy, sizeof copy, "%s/journal", place);
+}
+
+/* Makes the copy of the file anew. */
+static void make_copy(int from) {
+    struct stat found;
+    int to = open(copy, O_RDWR | O_CREAT | O_TRUNC | O_CLOEXEC, 0600);
+    bool is_made = to >= 0 && !fstat(from, &found) && is_copied(from, to, found.st_size) &&
+                   is_cut(to) && !close(to);
+    int why = errno;
+    if (!is_made) remove_copy(), stop(3, "%s: %s", copy, strerror(why));
+}
+
+/* The journal if a server uses it, or -1. */
+static int used_journal(void) {
+    int file = open(journal, O_RDONLY | O_CLOEXEC);
     if (file >= 0 && flock(file, LOCK_SH | LOCK_NB) && errno == EWOULDBLOCK) return file;
     if (file >= 0) close(file);
     return -1;
 }
 
+/* Whether the file still has the journal's name. */
+static bool has_name(int file) {
+    struct stat own, named;
+    return !fstat(file, &own) && !stat(journal, &named) && own.st_dev == named.st_dev &&
+           own.st_ino == named.st_ino;
+}
+
 const char *copied(const char *folder) {
-    struct stat found;
-    const char *top = getenv("TMPDIR");
-    int from = used_journal(folder), to = -1;
-    if (from < 0) return NULL;
-    snprintf(place, sizeof place, "%s/jellqupas-XXXXXX", top && *top ? top : "/tmp");
-    if (!mkdtemp(place)) stop(3, "%s: %s", place, strerror(errno));
-    snprintf(copy, sizeof copy, "%s/journal", place);
-    bool is_made = !fstat(from, &found) &&
-                   (to = open(copy, O_RDWR | O_CREAT | O_EXCL | O_CLOEXEC, 0600)) >= 0 &&
-                   is_copied(from, to, found.st_size) && is_cut(to) && !close(to);
-    int why = errno;
-    if (!is_made) remove_copy(), stop(3, "%s: %s", copy, strerror(why));
-    close(from);
-    return place;
+    int from;
+    if (asprintf(&journal, "%s/journal", folder) < 0) stop(1, "out of memory");
+    while ((from = used_journal()) >= 0) {
+        if (!*place) make_place();
+        make_copy(from);
+        bool is_it = has_name(from);
+        close(from);
+        if (is_it) return place;
+    }
+    if (*place) remove_copy();
+    return NULL;
 }
 
 _Noreturn void end_after(char *const words[]) {

@@ -15,6 +15,8 @@
    - Chunks. They come after front_keep, and all are taken before any other input. A connection's
      chunks are sent on it in order, each whole; or else the connection is closed, and nothing
      more is sent. After a last chunk it is closed.
+   - Logins. If some are given, a last chunk with bytes is the refusal of a connection that gave
+     none of them, and may be sent late.
    - The secret. Passwords of sessions are derived from it, and a client that gives a session's
      password has the session. So no one must be able to guess it. A folder's secret is the same
      at each opening.
@@ -40,8 +42,8 @@ enum next {
     LAST_ONE
 };
 
-/* Starts the child, and gives it the secret. It returns once the front is open, or ends the process
-   if a signal comes on `signals` before that. */
+/* Starts the child, and gives it the secret and the logins. It returns once the front is open, or
+   ends the process if a signal comes on `signals` before that. */
 void front_open(const struct words *words, const uint8_t secret[SECRET], int signals);
 
 /* A client has connected, and has this number. */

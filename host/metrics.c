@@ -50,6 +50,7 @@ static void put_counts(void) {
         "connections_refused", "accepts_failed", "closed_unread", "closed_long_requests",
         "slow_batches", "compactions"};
     put_one("counter", "jellqupas_connections_accepted", counts.accepted);
+    put_one("counter", "jellqupas_strangers_refused", counts.strangers);
     put_one("counter", "jellqupas_bytes_received", counts.received);
     put_one("counter", "jellqupas_bytes_sent", counts.sent);
     put_one("counter", "jellqupas_packets_received", counts.requests);

@@ -117,6 +117,7 @@ static void tell_mntr(char *said) {
     put_count("zk_bytes_received_count", counts.received);
     /* (not ZooKeeper's, but readers of `mntr` want each name to begin so) */
     put_count("zk_max_connections", places);
+    put_count("zk_strangers_refused", counts.strangers);
     put_count("zk_journal_bytes", journal_bytes());
     put_count("zk_compacted_journal_bytes", journal_compacted());
 }

@@ -28,10 +28,11 @@ enum {
     LONG = 2000
 };
 
-/* What was counted since the start. Times are of batches, in microseconds: `latency_us` has them
-   once for each request. `outstanding` are the requests of the last batch but one. */
+/* What was counted since the start. `strangers` are connections that were refused, since they gave
+   no login. Times are of batches, in microseconds: `latency_us` has them once for each request.
+   `outstanding` are the requests of the last batch but one. */
 struct counts {
-    uint64_t accepted, received, sent, requests, chunks, ticks, batches, outstanding;
+    uint64_t accepted, strangers, received, sent, requests, chunks, ticks, batches, outstanding;
     uint64_t batch_us, latency_us, shortest_us, longest_us;
     uint64_t noted[KINDS];
 };

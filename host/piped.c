@@ -20,6 +20,7 @@
 #include "child.h"
 #include "front.h"
 #include "journal.h"
+#include "logins.h"
 #include "notes.h"
 
 /* The tags of records, and their limits. */
@@ -185,9 +186,22 @@ static void start_child(const struct words *words) {
     child_start(&child, folder ? in_folder : in_memory);
 }
 
+/* Sends the text of the logins, if there are some. */
+static void send_logins(uint8_t *text, size_t size) {
+    *put(1) = text != NULL;
+    if (text) put_number((uint32_t)size), memcpy(put(size), text, size);
+    send_to_child(inputs, count);
+    explicit_bzero(inputs, count);
+    free(text);
+    count = 0;
+}
+
 void front_open(const struct words *words, const uint8_t secret[SECRET], int signals) {
+    size_t size = 0;
+    uint8_t *logins = words->auth ? logins_in(words->auth, &size) : NULL;
     start_child(words);
     send_to_child(secret, SECRET);
+    send_logins(logins, size);
     wait_for_child("opening", signals);
     take_head();
 }

@@ -168,6 +168,7 @@ static void look(void) {
     epoll_ctl(events, EPOLL_CTL_MOD, listener, &event);
     for (uint32_t i = 1; i <= places; i++) {
         if (all[i].until && now() >= all[i].until) shut(i);
+        if (all[i].late && now() >= all[i].late) send_on(i);
     }
     metrics_look();
     finish();
@@ -193,6 +194,7 @@ static const char FEWER[] =
     "zk: %u connections are served at once: no more descriptors may be opened\n";
 static const char OPEN_TO_ALL[] =
     "zk: anyone who can connect may do everything: clients aren't authenticated\n";
+static const char TO_LOGINS[] = "zk: calls are made by who gives a login of %s alone\n";
 
 /* Prints where it listens, and what remains once it ends. */
 static void say(const struct words *words, unsigned port) {
@@ -201,7 +203,8 @@ static void say(const struct words *words, unsigned port) {
     if (words->data) fprintf(stderr, "zk: acknowledged changes are stored in %s\n", words->data);
     else fputs("zk: all is in memory: when it ends, nothing is left\n", stderr);
     if (!words->connections && places < PLACES) fprintf(stderr, FEWER, places);
-    fputs(OPEN_TO_ALL, stderr);
+    if (words->auth) fprintf(stderr, TO_LOGINS, words->auth);
+    else fputs(OPEN_TO_ALL, stderr);
 }
 
 static const char A_COPY[] = "zk: the folder is in use: this is of a copy of it, as it is now\n";

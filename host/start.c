@@ -116,6 +116,7 @@ static const char USAGE[] =
     "Serves ZooKeeper's clients, until SIGINT or SIGTERM comes.\n\n"
     "  --listen ADDRESS:PORT    where it listens (127.0.0.1:2181); port 0 is any that is free\n"
     "  --open                   lets it listen where other machines reach it\n"
+    "  --auth FILE              serves only who gives one of the logins in this file\n"
     "  --tick MS                the milliseconds of a tick, 10 to 3600000 (2000)\n"
     "  --data DIR               stores its state in this folder\n"
     "  --sync batch|never       whether a reply waits for the disk (batch)\n"
@@ -135,7 +136,8 @@ static const char NO_CHAIN[] = "--servers isn't taken: this is one server, witho
 static const char MORE[] = "--watches-each isn't '%ld': it is more than --watches";
 
 static const char CLOSED[] =
-    "--listen %s: other machines reach it, and anyone there may do everything; --open allows that";
+    "--listen %s: other machines reach it, and anyone there may do everything; --open allows that, "
+    "or --auth names who may";
 
 /* The program of an installed host, ../libexec/jellqupas/zk_serve from its own folder, or NULL. */
 static const char *installed(void) {
@@ -182,7 +184,7 @@ struct words understood(char **words) {
     const struct place places[] = {
         {.name = "--data", .text = &found.data}, {.name = "--program", .text = &found.program},
         {.name = "--listen", .text = &found.listen}, {.name = "--sync", .text = &found.sync},
-        {.name = "--metrics", .text = &found.metrics},
+        {.name = "--metrics", .text = &found.metrics}, {.name = "--auth", .text = &found.auth},
         {.name = "--journal", .number = &found.journal, .least = 1, .most = 1048576},
         {.name = "--connections", .number = &found.connections, .least = 1, .most = 1000000},
         {.name = "--watches", .number = &found.watches, .least = 1, .most = 1000000000},
@@ -210,7 +212,7 @@ struct words understood(char **words) {
     if (strcmp(found.sync, "batch") && strcmp(found.sync, "never")) {
         stop(2, "--sync isn't '%s'", found.sync);
     }
-    if (!found.is_open && !is_loopback(found.listen)) stop(2, CLOSED, found.listen);
+    if (!found.is_open && !found.auth && !is_loopback(found.listen)) stop(2, CLOSED, found.listen);
     if (found.each > found.watches) stop(2, MORE, found.each);
     if (!found.each) found.each = (found.watches + 9) / 10;
     if (found.task && !found.data) stop(2, "%s needs --data", found.task);

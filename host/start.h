@@ -33,11 +33,12 @@ socklen_t read_address(const char *text, union address *to);
 
 /* What the words ask for. `program` is the one that serves. `data` is its folder, or NULL,
    and `servers` the number in its journal's head. `metrics` is where its counts can be read, or
-   NULL. `connections` are served at once; 0 is as many as it can. There are at most so many
-   `watches`, and so many of `each` connection. `is_open` allows addresses that others reach. `task`
-   is what is done with the folder in the place of serving, or NULL. */
+   NULL. `auth` is the file of logins, or NULL: then clients need none. `connections` are served at
+   once; 0 is as many as it can. There are at most so many `watches`, and so many of `each`
+   connection. `is_open` allows addresses that others reach. `task` is what is done with the folder
+   in the place of serving, or NULL. */
 struct words {
-    const char *listen, *metrics, *data, *sync, *program, *task;
+    const char *listen, *metrics, *auth, *data, *sync, *program, *task;
     long tick, journal, connections, watches, each;
     int servers;
     bool is_open;

@@ -69,7 +69,7 @@ OPTIONS = {
     },
     "serve": {
         "--data": folder, "--tick": number(10, 3600000), "--listen": address,
-        "--metrics": address, "--connections": number(1, 10**6),
+        "--metrics": address, "--auth": folder, "--connections": number(1, 10**6),
         "--watches": number(1, 10**9), "--watches-each": number(1, 10**9),
         "--journal": number(1, 1048576), "--sync": str,
     },

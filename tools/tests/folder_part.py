@@ -254,6 +254,22 @@ def copies(builds):
     want_same(os.listdir(spare), [], "what is left")
 
 
+def renewed(builds):
+    """A compaction amid a copy: the new file is copied."""
+    old, new, (host, of) = new_folder(builds), new_folder(builds), words_of(builds)[:2]
+    for folder, data in ((old, b"old"), (new, b"new")):
+        with Server(builds, folder) as server, server.client() as it:
+            it.create("/a", data)
+    library = builds.compiled("renewed.so", ["tools/tests/renewed.c"], ["-shared", "-fPIC"])
+    words = ["env", f"LD_PRELOAD={library}", "ASAN_OPTIONS=verify_asan_link_order=0",
+             f"NEW={new}/journal", f"OLD={old}/journal", host, "export", of, "--data", old]
+    with open(f"{old}/journal", "rb") as first, open(f"{new}/journal", "rb") as second:
+        fcntl.flock(first, fcntl.LOCK_EX), fcntl.flock(second, fcntl.LOCK_EX)
+        status, out, said = ended(words)
+    want((status, "of a copy" in said) == (0, True), f"{status} {out} {said}")
+    want_same(base64.b64decode(out.split()[-1]), b"new", "what was copied")
+
+
 def not_opened(builds):
     """Folders in use, that aren't there, or are damaged: refused with a line, and untouched."""
     folder = new_folder(builds)
@@ -333,7 +349,8 @@ def synced(builds):
 
 
 def tests(builds):
-    each = (restart, secret, of_before, shortening, export, copies, not_opened, full_disk, synced)
+    each = (restart, secret, of_before, shortening, export, copies, renewed, not_opened,
+            full_disk, synced)
     found = [Test(f"folder: {it.__name__}", 8, lambda _, it=it: it(builds)) for it in each]
     found += mending.tests(builds) + compactions.tests(builds)
     return found + [Test(f"folder: {LIVES} kills, {it}", 30, lambda _, it=it: kills(builds, it))

@@ -12,8 +12,9 @@ from pathlib import Path
 
 import documents
 import installing
+import logins
 import serving
-from frames import greeting
+from frames import AUTH, AUTH_XID, OK, greeting
 from report import Skipped, Test, want, want_same
 from serve_part import with_kazoo
 from servers import Server, ended, free_port, new_folder, until
@@ -124,7 +125,7 @@ def tunnel(folder, text, port):
 
 
 def tls(builds):
-    """The recipe of the guide: who has a certificate is served, and who hasn't isn't."""
+    """The recipe of the guide, with logins: who has a certificate is served, and no one else."""
     needed("stunnel4", "stunnel"), needed("openssl")
     folder, text = tempfile.mkdtemp(dir=builds.room), documents.read("docs/GUIDE.md")
     text = text.partition("\n### TLS\n")[2].partition("\n## ")[0]
@@ -135,11 +136,13 @@ def tls(builds):
     of_client = of_client.replace("zk.example.org:2281", f"127.0.0.1:{outer}")
     at = lambda port: of_client.replace("127.0.0.1:2181", f"127.0.0.1:{port}")
     wrong = at(other).replace("checkHost = zk", "checkHost = other")
-    with Server(builds) as server:
+    with logins.Guarded(builds) as server:
         of_server = of_server.replace("127.0.0.1:2181", server.at)
         of_server = of_server.replace("accept = 2281", f"accept = 127.0.0.1:{outer}")
         with tunnel(folder, of_server, outer) as to:
             with tunnel(folder, at(inner), inner) as it, Client(it) as client:
+                given = client.ask(AUTH, logins.auth_body("ann:secret"), AUTH_XID)
+                want_same(given.code, OK, "a login through both")
                 client.create("/a", b"x" * 60000)
                 want_same(len(client.get("/a")[0]), 60000, "through both")
             with tunnel(folder, wrong, other) as it, Wire(it) as wire:

@@ -9,7 +9,8 @@ from report import Test, want, want_same
 from servers import Server, new_folder, program
 from wire import Ended, until
 
-BLOCKS, PAIRS, SECRET = 20, 20, b"s" * 32
+# (what a server is sent first: a secret, and that there are no logins)
+BLOCKS, PAIRS, SECRET = 20, 20, b"s" * 32 + b"\0"
 # What each byte is changed to.
 CHANGES = (lambda it: it ^ 1, lambda it: 0, lambda it: 1, lambda it: 255, lambda it: (it + 1) % 256)
 ANEW = "zk: data: the disk failed before: the journal is written anew\n"

@@ -21,7 +21,8 @@ COUNTS = (
     "zk_avg_latency", "zk_min_latency", "zk_max_latency", "zk_packets_received", "zk_packets_sent",
     "zk_num_alive_connections", "zk_outstanding_requests", "zk_global_sessions", "zk_watch_count",
     "zk_open_file_descriptor_count", "zk_max_file_descriptor_count", "zk_uptime",
-    "zk_connection_rejected", "zk_bytes_received_count", "zk_max_connections", "zk_journal_bytes",
+    "zk_connection_rejected", "zk_bytes_received_count", "zk_max_connections",
+    "zk_strangers_refused", "zk_journal_bytes",
     "zk_compacted_journal_bytes",
 )
 STATE = ("latency min/avg/max", "received", "sent", "connections", "outstanding", "zxid", "mode")

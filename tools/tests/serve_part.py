@@ -18,6 +18,7 @@ import curator_trials
 import hostile
 import kazoo_trials
 import lifetimes
+import logins
 import monitors
 import patroni_trials
 from frames import *
@@ -314,7 +315,7 @@ EACH = (
     asking.limits, asking.sessions, clock, drill, many, readers, silence, words, asking.requests,
     asking.watches, asking.persistent, asking.walks, asking.own_nodes, hostile.frames, addresses,
     ends, four_letters, metrics, secrets, late, unfinished, chunks, lifetimes.timeouts,
-    *monitors.EACH
+    *monitors.EACH, *logins.EACH
 )
 
 
@@ -335,5 +336,7 @@ def tests(builds):
         if builds.is_long or not is_long:
             found.append(Test(f"serve: {name}", seconds, partial(body, builds)))
     found += [Test(f"serve: {it.__name__}", 10, lambda _, it=it: it(builds)) for it in EACH]
+    with_logins = lambda _: logins.kazoo(builds, builds.once("kazoo", with_kazoo))
+    found.append(Test("serve: logins of kazoo", 20, with_logins))
     body = lambda first: lambda _: hostile.pieces(builds, first)
     return found + [Test(f"serve: pieces from {it} on", 20, body(it)) for it in range(0, 1000, 250)]

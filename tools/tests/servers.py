@@ -13,8 +13,10 @@ from report import Failed, want, want_same
 from wire import Client, Ended, until
 
 # The last line that a server says before it serves.
-LAST = "zk: anyone who can connect may do everything: clients aren't authenticated\n"
-NOTED = re.compile(r"zk: (?:a batch took|a connection is|metrics at|the journal was|.* s so far).*\n")
+LAST = re.compile(r"zk: (?:anyone who can connect|calls are made by who gives) .*\n")
+NOTED = re.compile(
+    r"zk: (?:a batch took|a connection is|metrics at|the journal was|.* s so far"
+    r"|refused a connection).*\n")
 
 
 def free_port():
@@ -54,7 +56,7 @@ class Server:
             [*wrap, *(own or words_of(builds, folder, sync)), "--tick", str(tick), *words],
             stdin=none, stdout=none, stderr=self.error, env=ENVIRONMENT,
         )
-        until(lambda: LAST in self.said() or self.ran.poll() is not None, 60)
+        until(lambda: LAST.search(self.said()) or self.ran.poll() is not None, 60)
         self.at = self.said().partition("listening on ")[2].split("\n")[0]
         if not self.at:
             self.ran.kill()
@@ -110,5 +112,5 @@ class Server:
         if sent:
             self.ran.send_signal(sent)
         want(until(lambda: self.ran.poll() is not None, 60) or self.kill(), "it ends")
-        got = self.ran.returncode, NOTED.sub("", self.said().partition(LAST)[2])
+        got = self.ran.returncode, NOTED.sub("", LAST.split(self.said())[-1])
         want_same(got, (status, said), "the server's end")

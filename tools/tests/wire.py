@@ -27,8 +27,10 @@ class Ended(Exception):
 class Wire(contextlib.AbstractContextManager):
     """A connection."""
 
-    def __init__(self, address, room=None):
+    def __init__(self, address, room=None, of=""):
         self.socket = socket.socket()
+        if of:
+            self.socket.bind((of, 0))
         if room:
             self.socket.setsockopt(socket.SOL_SOCKET, socket.SO_RCVBUF, room)
         self.socket.settimeout(60)

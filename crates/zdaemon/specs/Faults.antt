@@ -11,10 +11,17 @@ use Rattle.zjournal.specs.declared.fault.OpenError.{OpenError}
 use Rattle.zjournal.specs.declared.fault.OpenError.TheVariants as file
 use Rattle.zdurable.specs.declared.fault.OpenFault.{OpenFault}
 use Rattle.zdurable.specs.declared.fault.OpenFault.TheVariants as opening
+use Rattle.zlogins.specs.declared.fault.LoginsFault.{LoginsFault}
+use Rattle.zlogins.specs.declared.fault.LoginsFault.TheVariants as logins
 use Rattle.zdaemon.specs.declared.pipe.fault.ServeFault.{ServeFault}
 use Rattle.zdaemon.specs.declared.pipe.fault.ServeFault.TheVariants as serving
 use Rattle.zdaemon.specs.declared.fault.HostedFault.{HostedFault}
-use Rattle.zdaemon.specs.declared.fault.HostedFault.TheVariants.{Words, Folder, Service, Serve, Missing, Script}
+use Rattle.zdaemon.specs.declared.fault.HostedFault.TheVariants.{Words, Logins, Folder, Service, Serve, Missing, Script}
+
+-- a text that has no logins is 2
+abbrev pub logins_status : LoginsFault → ℕ
+logins_status logins.Memory = 1
+logins_status fault = 2
 
 -- a folder that isn't opened is 3; a disk that failed is 4
 abbrev pub folder_status : FileFault → ℕ
@@ -40,6 +47,7 @@ serve_status fault = 1
 
 abbrev pub hosted_fault_status : HostedFault → ℕ
 hosted_fault_status (Words fault) = words_fault_status fault
+hosted_fault_status (Logins fault) = logins_status fault
 hosted_fault_status (Folder fault) = folder_status fault
 hosted_fault_status (Service fault) = service_status fault
 hosted_fault_status (Serve fault) = serve_status fault
@@ -60,16 +68,19 @@ serve_fault_text serving.Ended = codes "data: the service has ended"
 abbrev pub memory_line : List ℕ
 memory_line = codes "zk: memory"
 
--- memory ran out while a folder was opened
+-- memory ran out while logins were read or a folder was opened
 abbrev pub is_of_memory : HostedFault → Bool
+is_of_memory (Logins logins.Memory) = true
 is_of_memory (Folder folder.Memory) = true
 is_of_memory (Service opening.Memory) = true
 is_of_memory (Service (opening.Journal file.Memory)) = true
 is_of_memory fault = false
 
--- any other fault. None: what is wrong with a file's content has many texts
+-- any other fault. None: what is wrong with a file's content has many texts, and so has what is
+-- wrong with logins
 abbrev pub other_line_of : HostedFault → Option (List ℕ)
 other_line_of (Words fault) = Some (words_fault_text fault)
+other_line_of (Logins fault) = None
 other_line_of (Folder fault) = Some (codes "zk: data: " ++ fault_text fault)
 other_line_of (Service fault) = None
 other_line_of (Serve fault) = Some (codes "zk: " ++ serve_fault_text fault)

@@ -6,4 +6,6 @@ pub mod Faults
 pub mod Folder
 pub mod AtRest
 pub mod Memory
+pub mod Guarded
 pub mod Running
+pub mod Strangers

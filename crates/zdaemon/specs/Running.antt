@@ -22,18 +22,17 @@ use Rattle.zdaemon.specs.Bases.{base_at}
 use Rattle.zdaemon.specs.Tasks.{IsTask}
 use Rattle.zdaemon.specs.AtRest.{IsCompactionReported, IsExported, IsStatReported}
 use Rattle.zdaemon.specs.Folder.{IsMended, TakesIn, KeepsIn, ReportsIn, HasReportedIn}
+use Rattle.zdaemon.specs.Guarded.{AreLogins, IsShort, ServesBehind, logins_told}
 use Rattle.zdaemon.specs.Memory.{TakesInMemory, KeepsInMemory, ReportsInMemory, HasReportedInMemory}
 use Rattle.zdaemon.specs.declared.folder.InFolder.{InFolder}
 use Rattle.zdaemon.specs.declared.tasks.Task.{Task}
 use Rattle.zdaemon.specs.declared.tasks.Task.TheVariants.{Compact, Export, Stat}
 use Rattle.zdaemon.specs.declared.words.FolderSettings.{FolderSettings}
 use Rattle.zdaemon.specs.declared.words.HostedSettings.{HostedSettings}
-use Rattle.zdaemon.specs.pipe.Messages.{Keep}
-use Rattle.zdaemon.specs.pipe.Serving.{ServesAll}
 
--- the source gave the secret, 32 bytes, and these bytes after it
-abbrev pub GaveAfter : List ℕ → SourceRun → List ℕ → Type 0
-GaveAfter secret source bytes = (length secret ≡ 32) × source.gave (secret ++ bytes)
+-- the source gave the secret, 32 bytes, what there is of logins, and these bytes after it
+abbrev pub GaveAfter : List ℕ → Option (List ℕ) → SourceRun → List ℕ → Type 0
+GaveAfter secret text source bytes = (length secret ≡ 32) × IsShort text × source.gave (secret ++ (logins_told text ++ bytes))
 
 -- ---- in memory
 
@@ -45,12 +44,12 @@ new_front secret asked = record {
   is_broken = false;
 }
 
--- the source gave a secret and then messages, up to its end; the sink took what a new front end
--- answers
+-- the source gave a secret, logins or none, and then messages, up to its end; the sink took what a
+-- new front end answers, behind a guard with the logins
 abbrev pub ServedInMemory : HostedSettings → SourceRun → SinkRun → Type 0
 ServedInMemory asked source sink =
-    (secret : List ℕ) × (last : ServerView)
-    × ServesAll TakesInMemory KeepsInMemory ReportsInMemory HasReportedInMemory (Keep ∷ []) (GaveAfter secret source) sink.took (new_front secret asked) last
+    (secret : List ℕ) × (text : Option (List ℕ)) × (logins : Option (List (List ℕ))) × AreLogins text logins
+    × ServesBehind TakesInMemory KeepsInMemory ReportsInMemory HasReportedInMemory logins (GaveAfter secret text source) sink.took (new_front secret asked)
     × source.ended
 
 module _ {R : Type 0} where
@@ -85,8 +84,9 @@ module _ (R : Type 0) where
   -- the same as in memory, by a front end that begins with a file's content
   abbrev pub ServedFolder : HostedSettings → FolderSettings → SourceRun → SinkRun → Type 0
   ServedFolder asked kept source sink =
-      (secret : List ℕ) × (first last : InFolder (FileDevice R)) × BeginsInFolder secret asked kept first
-      × ServesAll (TakesIn seen_of MayLeaveOf) (KeepsIn seen_of MayLeaveOf) ReportsIn HasReportedIn (Keep ∷ []) (GaveAfter secret source) sink.took first last
+      (secret : List ℕ) × (text : Option (List ℕ)) × (logins : Option (List (List ℕ))) × AreLogins text logins
+      × (first : InFolder (FileDevice R)) × BeginsInFolder secret asked kept first
+      × ServesBehind (TakesIn seen_of MayLeaveOf) (KeepsIn seen_of MayLeaveOf) ReportsIn HasReportedIn logins (GaveAfter secret text source) sink.took first
       × source.ended
 
   -- by whether a folder is asked for

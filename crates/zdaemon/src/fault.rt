@@ -7,6 +7,7 @@ use std::fmt;
 use thiserror::Error;
 use zarguments::WordsFault;
 use zdurable::OpenFault;
+use zguard::LoginsFault;
 use zjournal::OpenError;
 use zjournal::file::FileFault;
 
@@ -15,6 +16,8 @@ use zjournal::file::FileFault;
 pub enum HostedFault {
     /// Its words aren't understood, or there is no memory for them.
     Words(WordsFault),
+    /// The host's text of logins is none.
+    Logins(LoginsFault),
     /// The folder isn't opened.
     Folder(FileFault),
     /// The service isn't opened.
@@ -31,13 +34,15 @@ impl HostedFault {
     ghost use Rattle.zdaemon.specs.Faults.{hosted_fault_status, is_of_memory};
 
     /// Returns the exit status that a program ends with. 1: memory ran out, or the input or the
-    /// output failed. 2: its words. 3: a folder that isn't opened, has no journal, or is a
-    /// script's. 4: a disk that failed, or a journal that is full.
+    /// output failed. 2: its words, or the logins. 3: a folder that isn't opened, has no journal,
+    /// or is a script's. 4: a disk that failed, or a journal that is full.
     pub fn status(self) -> u8
         ensures { result ≡ hosted_fault_status self }
     {
         match self {
             HostedFault::Words(fault) => fault.status(),
+            HostedFault::Logins(LoginsFault::Memory) => 1,
+            HostedFault::Logins(_) => 2,
             HostedFault::Folder(FileFault::Memory) => 1,
             HostedFault::Folder(FileFault::Io) => 4,
             HostedFault::Folder(_) => 3,
@@ -55,7 +60,8 @@ impl HostedFault {
         ensures { result ≡ is_of_memory self }
     {
         match self {
-            HostedFault::Folder(FileFault::Memory)
+            HostedFault::Logins(LoginsFault::Memory)
+            | HostedFault::Folder(FileFault::Memory)
             | HostedFault::Service(OpenFault::Memory)
             | HostedFault::Service(OpenFault::Journal(OpenError::Memory)) => true,
             _ => false,
@@ -74,6 +80,7 @@ impl fmt::Display for HostedFault {
         }
         match self {
             HostedFault::Words(fault) => f.write_str(fault.text()),
+            HostedFault::Logins(fault) => write!(f, "zk: --auth: {fault}"),
             HostedFault::Folder(fault) => write!(f, "zk: data: {fault}"),
             HostedFault::Service(fault) => write!(f, "zk: data: {fault}"),
             HostedFault::Serve(fault) => write!(f, "zk: {fault}"),
@@ -92,6 +99,16 @@ impl From<WordsFault> for HostedFault {
 
     fn from(fault: WordsFault) -> HostedFault {
         HostedFault::Words(fault)
+    }
+}
+
+impl From<LoginsFault> for HostedFault {
+    ghost use Rattle.zdaemon.specs.declared.fault.HostedFault.TheVariants as fault;
+
+    ghost from_gives = { λ cause e. e ≡ fault.Logins cause };
+
+    fn from(fault: LoginsFault) -> HostedFault {
+        HostedFault::Logins(fault)
     }
 }
 

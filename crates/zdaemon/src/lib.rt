@@ -6,6 +6,8 @@
 //! it does a task on a folder that no server has open: it compacts its journal, exports its tree as
 //! a script, or prints its size.
 //!
+//! If the host names logins, a guard is put before the front end (`Guarded`).
+//!
 //! A front end in memory, and one with a folder in an `InFolder`, are services for
 //! `crate::pipe::serve_all`. The inputs up to a demand are a batch, and it is committed before a
 //! chunk of it is sent.
@@ -19,6 +21,7 @@ mod at_rest;
 mod base;
 mod fault;
 mod folder;
+mod guarded;
 pub mod laws;
 mod memory;
 mod mending;
@@ -30,5 +33,6 @@ mod words;
 
 pub use fault::HostedFault;
 pub use folder::InFolder;
+pub use guarded::Guarded;
 pub use program::hosted_command;
 pub use words::{FolderSettings, HostedSettings, hosted_settings};

@@ -1,6 +1,7 @@
 //! A run of the program, without its devices.
 
 ghost use Rattle.std.specs.Prelude.{◌≡◌, ◌≤◌, ◌<◌, [], ◌∷◌, IfOk, OnOk};
+ghost use Rattle.std.specs.Option.{option_map};
 ghost use Rattle.zarguments.specs.Asked.{texts_of};
 ghost use Rattle.zdevices.specs.Device.{Between, sink_run, source_run};
 ghost use Rattle.zjournal.specs.declared.file.mode.SyncMode.TheVariants.{Batch};
@@ -8,6 +9,7 @@ ghost use Rattle.zjournal.specs.file.File.{seen_of, MayLeaveOf};
 ghost use Rattle.zjournal.specs.Device.{Only};
 ghost use Rattle.zdaemon.specs.Faults.{HasFailed, IsTold};
 ghost use Rattle.zdaemon.specs.Folder.{IsGood};
+ghost use Rattle.zdaemon.specs.Guarded.{AreLogins, ServesBehind};
 ghost use Rattle.zdaemon.specs.Running.{BeginsInFolder, HasDone, HasRun, IsOpened, new_front};
 ghost use Rattle.zdaemon.specs.pipe.Messages.MessageView.{Keep};
 ghost use Rattle.zdaemon.specs.pipe.Serving.{ServesAll};
@@ -16,8 +18,9 @@ use crate::at_rest::{compact, export, stat};
 use crate::base::base_at;
 use crate::fault::HostedFault;
 use crate::folder::InFolder;
+use crate::guarded::Guarded;
 use crate::mending::{report_saved, write_anew};
-use crate::pipe::{Secret, ServeFault, Service, read_secret, serve_all};
+use crate::pipe::{Secret, ServeFault, Service, read_logins, read_secret, serve_all};
 use crate::tasks::{Task, task_of};
 use crate::words::{FolderSettings, HostedSettings, hosted_settings};
 use std::alloc::Global;
@@ -28,6 +31,7 @@ use zarguments::{WordsFault, tell};
 use zdevices::{Sink, Source};
 use zdurable::{DurableFront, ServerId};
 use zfront::{Clock, Front};
+use zguard::{Logins, LoginsFault};
 use zjournal::file::{FileDevice, FileFault, SyncMode};
 use ztree_service::LocalTree;
 
@@ -37,7 +41,8 @@ const LONG: usize = 1_048_576;
 /// Does what the words ask for, reports a fault on `faults`, and returns the exit status: 0 if the
 /// source has ended, or that of the fault (`HostedFault::status`).
 ///
-/// The words are those of `hosted_settings`. Then the secret is read first, and messages after it.
+/// The words are those of `hosted_settings`. Then the secret is read first, then what there is of
+/// logins, and then messages.
 /// With `NAME FOLDER compact SERVERS` it compacts the journal of the folder, with this number in
 /// its head, and prints its length on the sink. With `export` instead it writes the lines that make
 /// the tree, and with `stat` the size of the folder.
@@ -91,15 +96,30 @@ fn run<R: Files<File = File> + Copy, S: Source, K: Sink, F: Sink>(
     }
     let asked = hosted_settings(words)?;
     let secret = read_secret(source)?;
+    let text = read_logins(alloc, source)?;
+    let logins = logins_of(alloc, text)?;
     let settings = asked.folder;
     match settings {
-        None => serve(alloc, in_memory(alloc, asked, secret)?, source, sink)?,
+        None => {
+            let front = in_memory(alloc, asked, secret)?;
+            serve_behind(alloc, logins, front, source, sink)?;
+        }
         Some(kept) => {
             let service = in_folder(alloc, files, folder, asked, kept, secret, faults)?;
-            serve(alloc, service, source, sink)?;
+            serve_behind(alloc, logins, service, source, sink)?;
         }
     }
     Ok(())
+}
+
+// Returns the logins of a text, if there is one.
+fn logins_of(alloc: Global, text: Option<Vec<u8>>) -> Result<Option<Logins>, LoginsFault>
+    ensures { IfOk result (AreLogins (option_map (λ text. text.items) text)) }
+{
+    match text {
+        Some(text) => Ok(Some(Logins::read(alloc, &text)?)),
+        None => Ok(None),
+    }
 }
 
 // Opens the file of a folder, which is not made if it is missing.
@@ -144,6 +164,25 @@ fn do_task<R: Files<File = File> + Copy, K: Sink, F: Sink>(
         Task::Stat => stat(alloc, &mut device, last, sink, faults)?,
     }
     Ok(())
+}
+
+// Takes all messages (`serve`), behind a guard if there are logins.
+fn serve_behind<V: Service + Drop, S: Source, K: Sink>(
+    alloc: Global,
+    logins: Option<Logins>,
+    service: V,
+    source: &mut S,
+    sink: &mut K,
+) -> Result<(), HostedFault>
+    requires sound { V.is_sound service }
+    ensures all { OnOk result (ServesBehind V.took V.kept V.reported V.has_reported logins
+        (Between S.gave source.old source.new) (Between K.took sink.old sink.new) service) }
+    ensures ended { OnOk result (S.has_ended source.new) }
+{
+    match logins {
+        Some(logins) => serve(alloc, Guarded::new(alloc, service, logins), source, sink),
+        None => serve(alloc, service, source, sink),
+    }
 }
 
 // Takes all messages (`crate::pipe::serve_all`).

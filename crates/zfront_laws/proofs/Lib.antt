@@ -7,7 +7,7 @@ pub mod Changes
 pub mod Lighter
 pub mod Walking
 pub mod Wishes
-mod Working
+pub mod Working
 pub mod Rising
 mod Living
 pub mod Steps
@@ -18,9 +18,9 @@ pub mod Bare
 pub mod Restored
 pub mod Inputs
 pub mod Sessions
-mod Quiet
-mod Greeted
-mod Handled
-mod Given
+pub mod Quiet
+pub mod Greeted
+pub mod Handled
+pub mod Given
 mod Heard
 mod Got

@@ -1,9 +1,9 @@
 //! The program of `zk serve`: it holds the tree, and makes it durable in a folder if one is named.
 //! Its host has the sockets.
 //!
-//! It takes a secret and messages from its standard input, and writes answers to its standard
-//! output, as the crate `zdaemon::pipe` defines them. The host starts it, with the words that
-//! `hosted_settings` reads.
+//! It takes a secret, logins and messages from its standard input, and writes answers to its
+//! standard output, as the crate `zdaemon::pipe` defines them. The host starts it, with the words
+//! that `hosted_settings` reads.
 //!
 //! # Why
 //! `std::fs` needs the runtime that a program's `main` gets, and a static library has none. So the

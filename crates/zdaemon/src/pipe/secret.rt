@@ -4,6 +4,7 @@ ghost use Rattle.std.specs.Prelude.{◌≡◌, IfErr, IfOk, length};
 ghost use Rattle.zdevices.specs.Device.{Between};
 
 use crate::pipe::fault::ServeFault;
+use crate::pipe::filling::fill;
 use zdevices::Source;
 use zpasswords::Secret;
 
@@ -15,15 +16,6 @@ pub fn read_secret<S: Source>(source: &mut S) -> Result<Secret, ServeFault>
         → S.has_ended source.new) }
 {
     let mut bytes = [0; 32];
-    let mut count = 0;
-    while count < 32 {
-        let Ok(more) = source.read(&mut bytes[count..]) else {
-            return Err(ServeFault::Read);
-        };
-        if more == 0 {
-            return Err(ServeFault::NoInput);
-        }
-        count += more;
-    }
+    fill(source, &mut bytes)?;
     Ok(Secret::new(bytes))
 }

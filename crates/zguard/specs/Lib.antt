@@ -1,0 +1,4 @@
+pub mod Judging
+pub mod Guarding
+pub mod Laws
+pub mod support

@@ -1,0 +1,3 @@
+pub mod Logins
+pub mod Reading
+pub mod support
