@@ -59,6 +59,31 @@ impl Nodes {
         Some(row.children.len())
     }
 
+    /// Returns the paths of the nodes that a session owns, in their order; or `Memory`. One that may
+    /// not own nodes owns none. The cost depends on the number of these nodes.
+    pub fn owned(&self, owner: u64) -> Result<Vec<Path>, Memory>
+        ensures owned { IfOk result (λ paths. 0 < owner → IsSome (get self.now.owners owner)
+            → paths.items ≡ ephemerals self.now.nodes owner) }
+        ensures gone { IfOk result (λ paths.
+            get self.now.owners owner ≡ None → paths.items ≡ []) }
+    {
+        owned_paths(self.alloc, &self.slots, &self.owners, owner)
+    }
+
+    /// Returns the number of nodes that sessions own.
+    pub fn owned_count(&self) -> usize
+        ensures { result ≡ owned_count self.now.nodes }
+    {
+        self.owned_count
+    }
+
+    /// Returns the bytes of the data of all nodes.
+    pub fn data_count(&self) -> u64
+        ensures { result ≡ data_count self.now.nodes }
+    {
+        self.data_count
+    }
+
     /// Returns the Id of some node that the session owns, or `None` if it owns none.
     pub fn first_owned(&self, owner: u64) -> Option<Id>
         requires somebody { 0 < owner }
