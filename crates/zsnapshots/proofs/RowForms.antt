@@ -13,10 +13,10 @@ use Rattle.zwire.specs.records.Fields.{path, content, long}
 use Rattle.zwire.proofs.records_lemmas.Fields.{is_path, is_content}
 use Rattle.zwire.specs.declared.limits.TheConstants.{MAX_FRAME}
 use Rattle.zwire.specs.declared.fault.FrameFault.{FrameFault}
-use Rattle.zwire.specs.Fields.{call_number, log_number, client, three, four}
+use Rattle.zwire.specs.Fields.{call_number, log_number, client, three, five}
 use Rattle.zwire.specs.Replies.{reply}
 use Rattle.zwire.specs.Frames.{IsFaultOf}
-use Rattle.zwire.proofs.Fields.{is_call_number, is_log_number, is_client, is_three, is_four}
+use Rattle.zwire.proofs.Fields.{is_call_number, is_log_number, is_client, is_three, is_five}
 use Rattle.zwire.proofs.Replies.{is_reply}
 use Rattle.zwire.proofs.Frames.{is_framed, found_in, only_in, faults_stay, beginning_is_cut}
 use Rattle.ztree.specs.declared.limits.TheConstants.{MAX_TTL}
@@ -67,7 +67,7 @@ is_term = is_made long term_number term_from HasValidTtl is_u64 (λ n t fits e. 
 
 is_node : IsForm node
 unfolding node
-is_node = is_record _ _ _ (is_both three _ is_three (is_both four _ is_four (is_both (both long long) (both term content) (is_both long long is_u64 is_u64) (is_both term content is_term is_content)))) (λ f. refl) (λ n. refl)
+is_node = is_record _ _ _ (is_both three _ is_three (is_both five _ is_five (is_both (both long long) (both term content) (is_both long long is_u64 is_u64) (is_both term content is_term is_content)))) (λ f. refl) (λ n. refl)
 
 pub is_node_text : IsForm node_text
 unfolding node_text
