@@ -23,7 +23,7 @@ use Rattle.ztree.specs.declared.limits.TheConstants.{MAX_TTL}
 use Rattle.ztree.specs.declared.term.Term.{Term}
 use Rattle.ztree.specs.declared.term.Term.TheVariants.{Unlimited, Timed, Container}
 use Rattle.zsnapshots.specs.declared.limits.TheConstants.{CONTAINER}
-use Rattle.zsnapshots.specs.Rows.{clocks, totals, header_text, HasValidTtl, term_number, term_from, term, node, node_text, session, session_text, kept, reply_text, row, IsReadAs}
+use Rattle.zsnapshots.specs.Rows.{clocks, totals, limits, header_text, HasValidTtl, term_number, term_from, term, node, node_text, session, session_text, kept, reply_text, row, IsReadAs}
 use Rattle.zsnapshots.specs.Laws.{AreRows}
 
 is_clocks : IsForm clocks
@@ -32,9 +32,13 @@ is_clocks = is_both log_number (both long long) is_log_number (is_both long long
 is_totals : IsForm totals
 is_totals = is_both (number w32) (both (number w32) (number w32)) is_u32 (is_both (number w32) (number w32) is_u32 is_u32)
 
+is_limits : IsForm limits
+unfolding limits
+is_limits = is_record _ _ _ is_three (λ f. refl) (λ l. refl)
+
 pub is_header : IsForm header_text
 unfolding header_text
-is_header = is_record _ _ _ (is_both clocks totals is_clocks is_totals) (λ f. refl) (λ h. refl)
+is_header = is_record _ _ _ (is_both clocks _ is_clocks (is_both limits totals is_limits is_totals)) (λ f. refl) (λ h. refl)
 
 -- ---- terms
 
