@@ -1,8 +1,8 @@
 -- The sequential step: what each call does to the tree, and its reply. This is the sequential
 -- specification: the service as one machine that does one call after the other. The source is the
 -- ZooKeeper Programmer's Guide, "ZooKeeper Sessions" (a timeout is 2 to 20 ticks unless limits are
--- chosen), "Ephemeral Nodes", "TTL Nodes" and "ZooKeeper access control using ACLs". Which client a session belongs to, when a TTL expires, and the limits are
--- this project's profile.
+-- chosen), "Ephemeral Nodes", "TTL Nodes" and "ZooKeeper access control using ACLs". Which client a
+-- session belongs to, when a TTL expires, and the limits are this project's profile.
 use Rattle.std.specs.Prelude.{ℕ, ◌+◌, ◌-◌, Bool, Option, None, Some, Result, Ok, Err, if◌then◌else◌, nat_le, nat_lt, ◌||◌, false, List, length, codes}
 use Rattle.std.specs.FinMap as finite
 use Rattle.ztree.specs.Stale.{stale_nodes}
