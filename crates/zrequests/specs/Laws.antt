@@ -66,6 +66,7 @@ RefusedPartsAreNeverDone =
     → list_any (λ part. is_err (part_in terms session part)) parts ≡ true
     → (step t client (act.Multi (parts_in terms session parts))).0 ≡ t
 
--- no node has version `NO_VERSION`, in any tree that a machine holds
+-- no node has version `NO_VERSION`, and no access control list has, in any tree that a machine holds
 abbrev pub NoNodeHasNoVersion : Type 0
-NoNodeHasNoVersion = (t : Tree) (path : Path) (n : Node) → IsBounded t → get t.nodes path ≡ Some n → n.version < NO_VERSION
+NoNodeHasNoVersion =
+    (t : Tree) (path : Path) (n : Node) → IsBounded t → get t.nodes path ≡ Some n → (n.version < NO_VERSION) × (n.aversion < NO_VERSION)

@@ -111,10 +111,7 @@ pub(crate) fn set_acl_of(alloc: Global, set: &SetAclRequest) -> Result<SetAcl, U
     if !is_open_acl(&set.acls) {
         return Err(Unasked::Refused(Code::InvalidAcl));
     }
-    Ok(SetAcl {
-        path,
-        version: version_of(set.version),
-    })
+    Ok(SetAcl::new(path, version_of(set.version)))
 }
 
 /// Reads a part of a multi.
@@ -160,7 +157,8 @@ fn create_part(
     session: SessionId,
     create: &zjute::CreateRequest,
 ) -> Result<Part, Unasked>
-    ensures found { IfOk result (λ read. part_of_create (create_in terms session create.now) ≡ Ok read) }
+    ensures found { IfOk result
+        (λ read. part_of_create (create_in terms session create.now) ≡ Ok read) }
     ensures fault { IfErr result (IsUnasked (part_of_create (create_in terms session create.now))) }
 {
     Ok(Part::Create(create_of(alloc, terms, session, create)?))
