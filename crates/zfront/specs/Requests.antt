@@ -53,7 +53,7 @@ ActsOr None meaning c r old new = Acts meaning c r old new
 abbrev pub Requests : Result Request Fault → ℕ → ℕ → FrontView → FrontView → Type 0
 Requests (Err fault) session c old new = new ≡ with_tables (closed c old.tables) old
 Requests (Ok r) session c old new =
-    ActsOr (walked session r.asked old.tree) (calls_in old.clock.tick session r.asked) c r (touched_by session old) new
+    ActsOr (walked session r.asked old.tree) (calls_in old.clock.terms session r.asked) c r (touched_by session old) new
 
 -- what was read, as the tree has it
 abbrev pub as_named : ℕ → Result Request Fault → Result Request Fault

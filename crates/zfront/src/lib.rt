@@ -32,6 +32,6 @@ pub use front::Front;
 pub use zalloc::Memory;
 pub use zconnections::buffers::{Chunk, Input};
 pub use zpasswords::Secret;
-pub use zrequests::TickLength;
+pub use zrequests::{Terms, TickLength};
 pub use zresponses::Clock;
 pub use zwatches::WatchLimits;

@@ -96,7 +96,7 @@ pub fn sessions_are_opened()
 /// A client comes back to session 7. The tree must have it, and the client must give its password.
 pub fn clients_come_back()
     ensures there { (v : FrontView) (s : Session) → get v.tree.sessions 7 ≡ Some s
-        → returned greeting (pos 7) 1 v ≡ came_back v.clock.tick greeting 7 s.timeout
+        → returned greeting (pos 7) 1 v ≡ came_back v.clock.terms.tick greeting 7 s.timeout
         (password_of v.secret 7) 1 v.tables }
     ensures ended { (v : FrontView) → get v.tree.sessions 7 ≡ None
         → returned greeting (pos 7) 1 v ≡ turned_away greeting 1 v.tables }
