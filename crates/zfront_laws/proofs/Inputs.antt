@@ -8,7 +8,6 @@ use Rattle.zconnections.specs.buffers.Streams as streams
 use Rattle.zconnections.specs.attachments.Attachments.{touched_ids}
 use Rattle.ztree_service.proofs.log_lemmas.Incarnations.{leads_more}
 use Rattle.zconnections.specs.Tables as tables
-use Rattle.ztree.specs.Tree.{opening_tree}
 use Rattle.zfront.specs.Front.{FrontView, asked, watched}
 use Rattle.zfront.specs.Inputs as inputs
 use Rattle.zfront.specs.Inputs.{without_first}
@@ -90,8 +89,8 @@ every_front_is_its_trees limits t secret times is_kept steps v runs =
     (run_goes steps (beginning limits t secret times is_kept) v (is_few limits t secret times is_kept) runs).leads
 
 pub every_front_is_one_tree : EveryFrontIsOneTree
-every_front_is_one_tree limits t secret times is_kept before steps v left runs =
-    leads_more opening_tree t v.tree before (run_log steps (beginning limits t secret times is_kept) v runs) left
+every_front_is_one_tree limits t secret times is_kept start before steps v left runs =
+    leads_more start t v.tree before (run_log steps (beginning limits t secret times is_kept) v runs) left
     (every_front_is_its_trees limits t secret times is_kept steps v runs)
 
 pub every_change_is_made : EveryChangeIsMade

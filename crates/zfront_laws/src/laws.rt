@@ -26,10 +26,10 @@ pub fn every_front_keeps_few()
     ensures { EveryFrontKeepsFew }
 {}
 
-/// Whatever the steps of a front were, all its calls form one log, after any earlier log that left
-/// the first tree. The replies are those of one plain tree that serves these calls in order, so no
-/// connection sees another tree. With or without an earlier log, the log since the beginning is
-/// that of the first tree.
+/// Whatever the steps of a front were, all its calls form one log, after any earlier log that led
+/// from some tree to the first one. The replies are those of one plain tree that serves these calls
+/// in order, so no connection sees another tree. With or without an earlier log, the log since the
+/// beginning is that of the first tree.
 pub fn every_front_is_one_tree()
     ensures log { EveryFrontIsOneTree }
     ensures since { EveryFrontIsItsTrees }

@@ -192,7 +192,7 @@ module _ (c : ℕ) (asks : Request) where
       tidied = is ∙ ap (tidied_if true (reported ∷ []) (watched old)) (no_wishes u old new s no_watch there)
 
       took : AtIf (Some old) (asked (Update u ∷ []) old) then_scene × Lost old (asked (Update u ∷ []) old) (takes_nodes reported)
-      took = taken (Update u ∷ []) old s there (takes_nodes reported) (close_takes old.tree session (subst IsLawful there.tree (is_lawful s)))
+      took = taken (Update u ∷ []) old s there (takes_nodes reported) (close_takes old.tree session (subst IsLawful there.tree (is_lawful s there.settled)))
 
       by : ((step old.tree 0 u).0 ≡ old.tree) ⊎ ((step old.tree 0 u).1 ≡ reply.Closed) → Reaches Asks new s (done_by (Update u ∷ []) old)
       by (inl same) =

@@ -37,7 +37,7 @@ module _ (sessions : List ℕ) (old new : FrontView) (s : Scene) (there : At old
   v = asked calls old
 
   lawful : (more : List Call) → IsLawful (tree_after old.tree more)
-  lawful more = (trees_can_start_again old.tree more (subst CanStart there.tree (can_start s))).lawful
+  lawful more = (trees_can_start_again old.tree more (subst CanStart there.tree (can_start s there.settled))).lawful
 
   took : AtIf (Some old) v (next calls old s there) × Lost old v (list_any takes_nodes reported)
   took = taken calls old s there (list_any takes_nodes reported) (tick_taken sessions old.tree lawful)

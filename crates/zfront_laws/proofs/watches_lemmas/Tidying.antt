@@ -65,7 +65,7 @@ forgets since id v s gone there =
     (λ all path n found. mark n.owner (owned_there v.tree.sessions n.owner (lawful.owners path n found)) (all path n found))
   where
     lawful : IsLawful v.tree
-    lawful = subst IsLawful there.tree (is_lawful s)
+    lawful = subst IsLawful there.tree (is_lawful s there.settled)
 
     mark : (owner : ℕ) → (owner ≡ 0) ⊎ (finite.contains_key v.tree.sessions owner ≡ true) → Marked v.tables.attachments owner
         → Marked (finite.remove v.tables.attachments id) owner
@@ -152,6 +152,7 @@ module _ (old v : FrontView) (s : Scene) (loses : (path : Path) → Loses v.tree
     happens = fired_happens Asks es s (may Asks);
     log = sym (append-nil s.log);
     there = record {
+      settled = there.settled;
       base = there.base;
       tables = ap (λ (t : Tree). reported_all (seen_now t paths) s.tables) there.tree ∙ ap (reported_all (seen_now v.tree paths)) there.tables;
       tree = there.tree;
@@ -174,6 +175,7 @@ looks_if : {Asks : Asking} (due : Bool) (old v : FrontView) (s : Scene) → AtIf
     → Reaches Asks (looked_if due (watched old) v) s []
 looks_if false old v s there (inl same) =
     stays None v s (record {
+      settled = there.settled;
       base = there.base;
       tables = there.tables;
       tree = there.tree;

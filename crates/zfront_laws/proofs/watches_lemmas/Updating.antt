@@ -5,7 +5,7 @@ use Rattle.std.specs.Prelude.{◌⊎◌, ◌||◌, map, nat_le, if◌then◌else
 use Rattle.std.specs.List.{list_any}
 use Rattle.std.specs.FinMap as finite
 use Rattle.ztree.specs.Lawful.{IsLawful}
-use Rattle.ztree.specs.Tree.{Tree, Nodes, Path, opening_tree, with_next_zxid}
+use Rattle.ztree.specs.Tree.{Tree, Nodes, Path, with_next_zxid}
 use Rattle.ztree.specs.Sessions.{with_session, without_session, with_renewed_session}
 use Rattle.ztree.specs.declared.limits.TheConstants.{MAX_SESSIONS}
 use Rattle.zcalls.specs.Lists.{Among}
@@ -55,7 +55,7 @@ module _ (v : FrontView) (s : Scene) (u : Act) (there : At v s) where
   right = ap (λ t. (step t 0 u).1) (sym there.tree)
 
   goes : tree_of (after (Served (Update u) reported) s) ≡ (step (tree_of s) 0 u).0
-  goes = last_tree s.log opening_tree (Update u) reported
+  goes = last_tree s.log s.start (Update u) reported
 
   abbrev middle : TablesView
   middle = record s.tables { attachments = noted u reported s.tables.attachments }
@@ -67,7 +67,7 @@ module _ (v : FrontView) (s : Scene) (u : Act) (there : At v s) where
   second = after (Moved middle) (after (Served (Update u) reported) s)
 
   lawful : IsLawful (step (tree_of s) 0 u).0
-  lawful = subst IsLawful goes (is_lawful (after (Served (Update u) reported) s))
+  lawful = subst IsLawful goes (is_lawful (after (Served (Update u) reported) s) there.settled)
 
   -- what the watch knows after some of the events
   abbrev known : List Event → Watch → Nodes
@@ -76,7 +76,7 @@ module _ (v : FrontView) (s : Scene) (u : Act) (there : At v s) where
   changed : (first : List Event) (e : Event) (t : TablesView) (w : Watch) → Among e es → (AreApart es → IsNowhere e.path first) → In s.tables w
       → fires e.kind e.path w ≡ true → HasChanged (record second { set_at = known first; tables = t }) w
   changed first e t w among apart stands fired =
-      by (has_changed s u e w (s.set_at w) (known first w) lawful (subst (λ r. Among e (events_of u r)) right among) fired
+      by (has_changed s there.settled u e w (s.set_at w) (known first w) lawful (subst (λ r. Among e (events_of u r)) right among) fired
       (there.holds.right w stands) (there.holds.seen w stands)
       (told_once (tree_of second).nodes first w (s.set_at w))
       (λ all. told_all_leaves (tree_of second).nodes w e.path first (s.set_at w) (untold_nowhere first w e.path
@@ -106,6 +106,7 @@ module _ (v : FrontView) (s : Scene) (u : Act) (there : At v s) where
     );
     log = refl;
     there = record {
+      settled = there.settled;
       base = there.base;
       tables = ap (absorbing u reported) there.tables;
       tree = goes ∙ ap (λ t. (step t 0 u).0) there.tree;
@@ -143,6 +144,7 @@ module _ (calls : List Call) (v : FrontView) (s : Scene) (there : At v s) where
   -- where the nodes are the same, nothing was taken
   pub nothing_taken : (tree_after v.tree calls).nodes ≡ v.tree.nodes → At (asked calls v) next
   nothing_taken same = record {
+    settled = there.settled;
     base = there.base;
     tables = there.tables;
     tree = goes_to;
@@ -154,6 +156,7 @@ module _ (calls : List Call) (v : FrontView) (s : Scene) (there : At v s) where
   pub taken : (took : Bool) → TakesTo v.tree (tree_after v.tree calls) took → AtIf (Some v) (asked calls v) next × Lost v (asked calls v) took
   taken took takes = (
     record {
+      settled = there.settled;
       base = there.base;
       tables = there.tables;
       tree = goes_to;

@@ -6,7 +6,7 @@ use Rattle.std.specs.Prelude.{◌≡◌, ◌⊎◌, ℕ, ◌≤◌, pos, Bool, t
 use Rattle.std.specs.Option.{MatchOption}
 use Rattle.zcodec.specs.Readers.{whole}
 use Rattle.std.specs.FinMap.{get}
-use Rattle.ztree.specs.Tree.{Tree, opening_tree}
+use Rattle.ztree.specs.Tree.{Tree}
 use Rattle.ztree.specs.declared.session.Session.{Session}
 use Rattle.zcalls.specs.declared.call.Call.{Call}
 use Rattle.zcalls.specs.declared.reply.Reply.TheVariants.{Opened}
@@ -149,14 +149,14 @@ module _ (clock : Clock) (secret : List ℕ) where
   Greeted session tree log frames Closes = length frames ≤ 1
 
   -- only a text is sent, then the close, and no frame is answered. The text is that of a front with
-  -- this clock, this secret, and the tree after a prefix of the log
-  abbrev pub SaysText : (FrontView → List ℕ) → Log → List (List ℕ) → Talk → Type 0
-  SaysText text log frames talk =
-      (frames ≡ []) × ((v : FrontView) × (front behind : Log) × (log ≡ front ++ behind) × (v.tree ≡ tree_behind opening_tree front)
+  -- this clock, this secret, and the tree after a prefix of the log, which begins with this tree
+  abbrev pub SaysText : Tree → (FrontView → List ℕ) → Log → List (List ℕ) → Talk → Type 0
+  SaysText start text log frames talk =
+      (frames ≡ []) × ((v : FrontView) × (front behind : Log) × (log ≡ front ++ behind) × (v.tree ≡ tree_behind start front)
       × (v.clock ≡ clock) × (v.secret ≡ secret) × (talk ≡ Answers (text v) Closes))
 
-  -- the chunks of a connection, from the leading frames of its bytes. If these begin with a four
-  -- letter word, its text is sent instead of a connect response
-  abbrev pub IsTalk : List ℕ → Log → List (List ℕ) → Talk → Type 0
-  IsTalk came log frames talk =
-      MatchOption (word_in came) ((session : ℕ) × Greeted session opening_tree log frames talk) (λ word. SaysText (text_of_word word) log frames talk)
+  -- the chunks of a connection, from the leading frames of its bytes, where the log begins with this
+  -- tree. If these begin with a four letter word, its text is sent instead of a connect response
+  abbrev pub IsTalk : Tree → List ℕ → Log → List (List ℕ) → Talk → Type 0
+  IsTalk start came log frames talk =
+      MatchOption (word_in came) ((session : ℕ) × Greeted session start log frames talk) (λ word. SaysText start (text_of_word word) log frames talk)
