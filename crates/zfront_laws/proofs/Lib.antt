@@ -9,6 +9,7 @@ pub mod Walking
 pub mod Wishes
 pub mod Working
 pub mod Rising
+pub mod Starts
 mod Living
 pub mod Steps
 pub mod Calling

@@ -79,8 +79,8 @@ requests (Err fault) session c old new is = retabled (closed c old.tables) old n
 requests (Ok r) session c old new has =
     let middle = touched_by session old in
     both (retabled middle.tables old middle refl (as_many (held_of old.tables.streams), touched_kept session old.tables))
-    (acts_or (walked session r.asked old.tree) (calls_in old.clock.tick session r.asked)
-    (walks_call_nothing old.clock.tick session r.asked old.tree) c r middle new has)
+    (acts_or (walked session r.asked old.tree) (calls_in old.clock.terms session r.asked)
+    (walks_call_nothing old.clock.terms session r.asked old.tree) c r middle new has)
 
 pub serves : (bytes : List ℕ) (session c : ℕ) (old new : FrontView) → Serves bytes session c old new
     → Goes [] (done_by (request_calls (request_in old.clock.base bytes) session old) old) old new
@@ -129,10 +129,10 @@ takes_up session c v there = tables_change (taken_up session c t) v
     }
 
 comes_back : (greeting : ConnectRequest) (session ticks : ℕ) (c : ℕ) (v : FrontView) → contains_key v.tree.sessions session ≡ true
-    → Goes [] [] v (with_tables (came_back v.clock.tick greeting session ticks (password_of v.secret session) c v.tables) v)
+    → Goes [] [] v (with_tables (came_back v.clock.terms.tick greeting session ticks (password_of v.secret session) c v.tables) v)
 comes_back greeting session ticks c v there =
     let password = password_of v.secret session in
-    let timeout = millis_reported v.clock.tick ticks in
+    let timeout = millis_reported v.clock.terms.tick ticks in
     let bytes = response_frame greeting timeout (long_of session) password in
     let middle = with_tables (taken_up session c v.tables) v in
     elim (pointwise nat_eq (given greeting) password) as
@@ -149,7 +149,7 @@ returns greeting (negsuc n) c v = turns_away greeting c v
 returns greeting (pos session) c v = by (get v.tree.sessions session) refl
   where
     by : (o : Option Session) → get v.tree.sessions session ≡ o → Goes [] [] v
-        (with_tables (option_map_or (λ s. came_back v.clock.tick greeting session s.timeout (password_of v.secret session) c v.tables)
+        (with_tables (option_map_or (λ s. came_back v.clock.terms.tick greeting session s.timeout (password_of v.secret session) c v.tables)
         o (turned_away greeting c v.tables)) v)
     by None is = turns_away greeting c v
     by (Some s) is = comes_back greeting session s.timeout c v (is_there (get v.tree.sessions session) s is)
@@ -166,13 +166,13 @@ no_attachment m id bound is low = by (get m id) refl
 
 module _ (greeting : ConnectRequest) (c : ℕ) (v : FrontView) where
   abbrev ticks_wanted : ℕ
-  ticks_wanted = ticks_asked v.clock.tick greeting.timeout
+  ticks_wanted = ticks_asked v.clock.terms.tick greeting.timeout
 
   abbrev the_call : Call
-  the_call = opening v.clock.tick greeting
+  the_call = opening v.clock.terms.tick greeting
 
   abbrev the_tables : List Reply → TablesView
-  the_tables replies = opened v.clock.tick v.secret greeting c replies v.tables
+  the_tables replies = opened v.clock.terms.tick v.secret greeting c replies v.tables
 
   lasts : (id : ℕ) → Fine v → Has v.tables.attachments id → contains_key (serve v.tree 0 the_call).0.sessions id ≡ true
   lasts id fine has = sessions_last (the_call ∷ []) v.tree id refl (fine.alive id has)
@@ -203,7 +203,7 @@ module _ (greeting : ConnectRequest) (c : ℕ) (v : FrontView) where
       u = attachment session c t
 
       bytes : List ℕ
-      bytes = response_frame greeting (millis_reported v.clock.tick ticks) (long_of session) (password_of v.secret session)
+      bytes = response_frame greeting (millis_reported v.clock.terms.tick ticks) (long_of session) (password_of v.secret session)
 
       reporting : Lighter u (sent c bytes u)
       reporting = sends Lighter carries_lighter c bytes u
@@ -232,7 +232,7 @@ greets_by : (read : Result ConnectRequest Fault) (c : ℕ) (v : FrontView) → G
 greets_by (Err fault) c v = retabled (closed c v.tables) v (with_tables (closed c v.tables) v) refl (closes c v.tables)
 greets_by (Ok greeting) c v = by (is_ahead (told v.clock.base v.tree.zxid) greeting) (int_eq greeting.session_id (pos 0))
   where
-    by : (ahead is_new : Bool) → Goes [] (done_by (if ahead then [] else if is_new then opening v.clock.tick greeting ∷ [] else []) v) v
+    by : (ahead is_new : Bool) → Goes [] (done_by (if ahead then [] else if is_new then opening v.clock.terms.tick greeting ∷ [] else []) v) v
         (if ahead then with_tables (closed c v.tables) v else if is_new then with_session greeting c v
         else with_tables (returned greeting greeting.session_id c v) v)
     by true is_new = retabled (closed c v.tables) v (with_tables (closed c v.tables) v) refl (closes c v.tables)

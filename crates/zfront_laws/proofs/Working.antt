@@ -76,7 +76,7 @@ module _ (R : TablesView → TablesView → Type 0) (carry : Carries R) where
   requests (Err fault) session c old new is = becomes old (with_tables (closed c old.tables) old) new is (carry.closes c old.tables)
   requests (Ok r) session c old new has =
       joins old (touched_by session old) new (carry.touches session old.tables)
-      (acts_or (walked session r.asked old.tree) (calls_in old.clock.tick session r.asked) c r (touched_by session old) new has)
+      (acts_or (walked session r.asked old.tree) (calls_in old.clock.terms session r.asked) c r (touched_by session old) new has)
 
   pub serves : (bytes : List ℕ) (session c : ℕ) (old new : FrontView) → Serves bytes session c old new → From old new
   serves bytes session c old new has = requests (request_in old.clock.base bytes) session c old new has

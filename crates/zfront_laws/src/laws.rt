@@ -8,6 +8,7 @@ ghost use Rattle.zfront_laws.specs.Laws.{StaysAsItBegan};
 ghost use Rattle.zfront_laws.specs.Making.{EveryChangeIsMade, EverySessionIsRestored};
 ghost use Rattle.zfront_laws.specs.Making.{EveryStepMakesMore};
 ghost use Rattle.zfront_laws.specs.Seats.{EveryFrontIsSeated, OneSpeaks, SeatsAreKept};
+ghost use Rattle.zfront_laws.specs.Starts.{InitialTreesAreSettled, SettledTreesCanStart};
 
 /// The log of each step leads from the tree before it to the tree after it, with that tree's
 /// replies. A step is an input, the sending of a chunk, or the taking of recorded updates.
@@ -96,4 +97,15 @@ pub fn every_session_is_restored()
 /// The updates of a front's log are those taken and those still recorded: each once, in order.
 pub fn every_change_is_made()
     ensures { EveryChangeIsMade }
+{}
+
+/// The initial tree is settled, within any limits that a tree can have. So every law here holds of
+/// a front that begins with it.
+pub fn initial_trees_are_settled()
+    ensures { InitialTreesAreSettled }
+{}
+
+/// A service can begin with a settled tree.
+pub fn settled_trees_can_start()
+    ensures { SettledTreesCanStart }
 {}

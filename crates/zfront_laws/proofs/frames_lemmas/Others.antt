@@ -128,7 +128,7 @@ module _ (c d : ℕ) (other : d ≢ c) where
   requests (Err fault) session old new is = front.retabled c (closed d old.tables) old new is (table.closes c d old.tables)
   requests (Ok r) session old new has =
       front.both c old (touched_by session old) new (touches c session old)
-      (acts_or (walked session r.asked old.tree) (calls_in old.clock.tick session r.asked) r (touched_by session old) new has)
+      (acts_or (walked session r.asked old.tree) (calls_in old.clock.terms session r.asked) r (touched_by session old) new has)
 
   -- greetings
   welcomes : (tick : ℕ) (greeting : ConnectRequest) (session ticks : ℕ) (password : List ℕ) (t : TablesView)
@@ -166,10 +166,10 @@ module _ (c d : ℕ) (other : d ≢ c) where
   returns : (greeting : ConnectRequest) (id : ℤ) (v : FrontView) → Calm c v.tables (returned greeting id d v)
   returns greeting (pos session) v =
       elim (finite.get v.tree.sessions session) as
-      (λ o. Calm c v.tables (option_map_or (λ s. came_back v.clock.tick greeting session s.timeout (password_of v.secret session) d v.tables)
+      (λ o. Calm c v.tables (option_map_or (λ s. came_back v.clock.terms.tick greeting session s.timeout (password_of v.secret session) d v.tables)
       o (turned_away greeting d v.tables))) [
         | None ↦ turns_away greeting v.tables
-        | Some s ↦ comes_back v.clock.tick greeting session s.timeout (password_of v.secret session) v.tables
+        | Some s ↦ comes_back v.clock.terms.tick greeting session s.timeout (password_of v.secret session) v.tables
       ]
   returns greeting (negsuc n) v = turns_away greeting v.tables
 
@@ -182,7 +182,7 @@ module _ (c d : ℕ) (other : d ≢ c) where
   greets_if : (is_new : Bool) (greeting : ConnectRequest) (v : FrontView)
       → Calm c v.tables (if is_new then with_session greeting d v else with_tables (returned greeting greeting.session_id d v) v).tables
   greets_if true greeting v =
-      opens_by v.clock.tick v.secret greeting (replies_to (opening v.clock.tick greeting ∷ []) v) v.tables
+      opens_by v.clock.terms.tick v.secret greeting (replies_to (opening v.clock.terms.tick greeting ∷ []) v) v.tables
   greets_if false greeting v = returns greeting greeting.session_id v
 
   greets_unless : (ahead : Bool) (greeting : ConnectRequest) (v : FrontView)

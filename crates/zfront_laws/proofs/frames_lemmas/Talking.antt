@@ -138,7 +138,7 @@ module _ (clock : Clock) (secret : List ℕ) where
               more ++ one.0,
               one.1,
               one.2,
-              ap (λ (l : Log). more ++ l) one.3 ∙ sym (append_assoc more one.0 ((opening clock.tick a.greeting, Opened session one.1) ∷ [])),
+              ap (λ (l : Log). more ++ l) one.3 ∙ sym (append_assoc more one.0 ((opening clock.terms.tick a.greeting, Opened session one.1) ∷ [])),
               one.4,
             )
         by (inr other) = inr other

@@ -217,6 +217,8 @@ module _ (c : ℕ) (asks : Request) where
       updates (act.Delete delete) old new s no_watch there refl names is
   makes_update session (act.SetData set) for no_watch old new s speaks names there is =
       updates (act.SetData set) old new s no_watch there refl names is
+  makes_update session (act.SetAcl set) for no_watch old new s speaks names there is =
+      updates (act.SetAcl set) old new s no_watch there refl names is
   makes_update session (act.Multi parts) for no_watch old new s speaks names there is =
       updates (act.Multi parts) old new s no_watch there refl names is
   makes_update session (act.Open ticks) for no_watch old new s speaks names there is = absurd for
@@ -250,6 +252,7 @@ update_names m session has (act.Create create) for = lifetime_names m session ha
 update_names m session has (act.Multi parts) for = parts_names m session has parts for
 update_names m session has (act.Delete delete) for = tt
 update_names m session has (act.SetData set) for = tt
+update_names m session has (act.SetAcl set) for = tt
 update_names m session has (act.Open ticks) for = tt
 update_names m session has (act.Ping id) for = tt
 update_names m session has (act.Close id) for = tt
@@ -304,9 +307,9 @@ requests (Ok asks) session c old new s mine speaks sits there has =
     behind None None (touched_by session old) new s [] (done_by (request_calls (Ok asks) session old) old)
     (moves None old s t there (attachments_move old.tables (with_changed touched old.tables.attachments session)) kept)
     (λ next here.
-    acts_or c session asks (mine asks refl) (walked session asks.asked old.tree) (calls_in old.clock.tick session asks.asked)
-    (walks_call_nothing old.clock.tick session asks.asked old.tree)
-    (λ calls is. (asks_if old.clock.tick session asks.asked calls is, sorts old.clock.tick session asks.asked calls is, calls_are_for_their_session old.clock.tick session asks.asked calls is))
+    acts_or c session asks (mine asks refl) (walked session asks.asked old.tree) (calls_in old.clock.terms session asks.asked)
+    (walks_call_nothing old.clock.terms session asks.asked old.tree)
+    (λ calls is. (asks_if old.clock.terms session asks.asked calls is, sorts old.clock.terms session asks.asked calls is, calls_are_for_their_session old.clock.terms session asks.asked calls is))
     (touched_by session old) new next speaks
     (subst (λ (u : TablesView). Has u.attachments session) (sym here.tables) (kept.has session sits)) here has)
 

@@ -26,14 +26,14 @@ use Rattle.ztree_service.proofs.log_lemmas.Logs.{last_tree}
 use Rattle.zconnections.specs.Tables.{TablesView}
 use Rattle.zconnections.specs.Reporting.{reported_all}
 use Rattle.zfront_laws.specs.watches.Watching.{Scene, Happening, Asking, Served, Fired, tree_of, after, May, Happens}
+use Rattle.zfront_laws.proofs.Starts.{settled_trees_can_start}
 use Rattle.zfront_laws.proofs.watches_lemmas.Holding.{knowing}
 use Rattle.zfront_laws.proofs.watches_lemmas.Standing.{Fewer, reported_leaves}
 use Rattle.zfront_laws.proofs.watches_lemmas.Telling.{AreApart, IsNowhere}
 
 -- a service can begin with the tree of a scene: it is lawful
 pub can_start : (s : Scene) → IsSettled s.start → CanStart (tree_of s)
-can_start s settled =
-    trees_can_start_again s.start (calls_of s.log) (record { lawful = settled.lawful; granted = settled.bounded.sessions })
+can_start s settled = trees_can_start_again s.start (calls_of s.log) (settled_trees_can_start s.start settled)
 
 pub is_lawful : (s : Scene) → IsSettled s.start → IsLawful (tree_of s)
 is_lawful s settled = (can_start s settled).lawful

@@ -7,7 +7,6 @@ use Rattle.std.specs.FinMap as finite
 use Rattle.ztree.specs.Lawful.{IsLawful}
 use Rattle.ztree.specs.Tree.{Tree, Nodes, Path, with_next_zxid}
 use Rattle.ztree.specs.Sessions.{with_session, without_session, with_renewed_session}
-use Rattle.ztree.specs.declared.limits.TheConstants.{MAX_SESSIONS}
 use Rattle.zcalls.specs.Lists.{Among}
 use Rattle.zcalls.specs.declared.call.Call.{Call}
 use Rattle.zcalls.specs.declared.call.Call.TheVariants.{Update}
@@ -220,9 +219,9 @@ opens_so t false false why other did is = is
 pub open_leaves : (t : Tree) (ticks : ℕ) → (step t 0 (act.Open ticks)).0.nodes ≡ t.nodes
 unfolding step
 open_leaves t ticks =
-    opens_so t (is_exhausted t (act.Open ticks)) (nat_le MAX_SESSIONS (finite.len t.sessions)) (reply.Refused Exhausted)
+    opens_so t (is_exhausted t (act.Open ticks)) (nat_le t.limits.sessions (finite.len t.sessions)) (reply.Refused Exhausted)
     (reply.Refused TooManySessions)
-    (with_next_zxid (with_session t 0 (granted_timeout ticks)), reply.Opened (t.zxid + 1) (granted_timeout ticks)) refl
+    (with_next_zxid (with_session t 0 (granted_timeout t.limits.timeout ticks)), reply.Opened (t.zxid + 1) (granted_timeout t.limits.timeout ticks)) refl
 
 -- ---- what the calls of a tick take away
 

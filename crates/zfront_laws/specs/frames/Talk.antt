@@ -102,7 +102,7 @@ module _ (clock : Clock) (secret : List ℕ) where
     pub reads : request_in clock.base bytes ≡ Ok asked
     pub frames : reported ≡ answer_frame (told clock.base tree.zxid) asked.xid answer
     pub stands : log ≡ before ++ part
-    pub says : SaysOr (walked session asked.asked tree) (calls_in clock.tick session asked.asked) clock (now_of tree) asked.asked part answer
+    pub says : SaysOr (walked session asked.asked tree) (calls_in clock.terms session asked.asked) clock (now_of tree) asked.asked part answer
 
   -- each frame of a session has one answer, in order, and each answer has its frame. The calls of a
   -- request come in the log after those of earlier requests. Before a close, one frame may have no
@@ -122,14 +122,14 @@ module _ (clock : Clock) (secret : List ℕ) where
   abbrev pub IsOpened : ℕ → ConnectRequest → Log → List ℕ → Type 0
   IsOpened session greeting log reported =
       (before : Log) × (ticks : ℕ) × (greeting.session_id ≡ pos 0)
-      × (log ≡ before ++ (opening clock.tick greeting, Opened session ticks) ∷ [])
-      × (reported ≡ response_frame greeting (millis_reported clock.tick ticks) (long_of session) (password_of secret session))
+      × (log ≡ before ++ (opening clock.terms.tick greeting, Opened session ticks) ∷ [])
+      × (reported ≡ response_frame greeting (millis_reported clock.terms.tick ticks) (long_of session) (password_of secret session))
 
   abbrev pub IsReturned : ℕ → ConnectRequest → Tree → List ℕ → Type 0
   IsReturned session greeting tree reported =
       (sits : Session) × (greeting.session_id ≡ pos session) × (get tree.sessions session ≡ Some sits)
       × (given greeting ≡ password_of secret session)
-      × (reported ≡ response_frame greeting (millis_reported clock.tick sits.timeout) (long_of session) (given greeting))
+      × (reported ≡ response_frame greeting (millis_reported clock.terms.tick sits.timeout) (long_of session) (given greeting))
 
   -- these bytes are the connect response that gives this session
   pub record IsWelcome (session : ℕ) (bytes reported : List ℕ) (tree : Tree) (log : Log) : Type 0 where

@@ -117,13 +117,13 @@ pub fn the_greeting_is_answered_first()
 pub fn a_session_is_reported_that_is_there()
     ensures opened { (clock : Clock) (secret : List ℕ) (session : ℕ) (greeting : ConnectRequest)
         (log : Log) (reported : List ℕ) (has : IsOpened clock secret session greeting log reported)
-        → log ≡ has.0 ++ (opening clock.tick greeting, Opened session has.1) ∷ [] }
+        → log ≡ has.0 ++ (opening clock.terms.tick greeting, Opened session has.1) ∷ [] }
     ensures asks { (clock : Clock) (secret : List ℕ) (session : ℕ) (greeting : ConnectRequest)
         (log : Log) (reported : List ℕ) → IsOpened clock secret session greeting log reported
         → greeting.session_id ≡ pos 0 }
     ensures password { (clock : Clock) (secret : List ℕ) (session : ℕ) (greeting : ConnectRequest)
         (log : Log) (reported : List ℕ) (has : IsOpened clock secret session greeting log reported)
-        → reported ≡ response_frame greeting (millis_reported clock.tick has.1) (long_of session)
+        → reported ≡ response_frame greeting (millis_reported clock.terms.tick has.1) (long_of session)
         (password_of secret session) }
     ensures returned { (clock : Clock) (secret : List ℕ) (session : ℕ) (greeting : ConnectRequest)
         (tree : Tree) (reported : List ℕ) (has : IsReturned clock secret session greeting tree reported)
