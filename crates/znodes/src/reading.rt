@@ -1,12 +1,14 @@
 //! Reading the nodes.
 
-ghost use Rattle.std.specs.Prelude.{◌≡◌, ◌≢◌, ◌<◌, [], Some, is_some, IfOk, IfSome, IfNone, OnSome, IsSome};
-ghost use Rattle.std.specs.FinMap.{keys};
+ghost use Rattle.std.specs.Prelude.{◌≡◌, ◌≢◌, ◌<◌, [], None, Some, is_some, IfOk, IfSome, IfNone, OnSome, IsSome};
+ghost use Rattle.std.specs.FinMap.{get, keys};
 ghost use Rattle.std.specs.Option.{option_copied};
+ghost use Rattle.ztree.specs.Counts.{owned_count, data_count};
 ghost use Rattle.ztree.specs.Tree.{has_node, ephemerals};
 ghost use Rattle.znodes.specs.NodesView.{path_of, node_of, AtPath, AtNode, IsUnder, child_count_of};
 
 use crate::nodes::Nodes;
+use crate::paths::owned_paths;
 use crate::row::Row;
 use zalloc::Memory;
 use zpath::Path;
@@ -74,14 +76,14 @@ impl Nodes {
     pub fn owned_count(&self) -> usize
         ensures { result ≡ owned_count self.now.nodes }
     {
-        self.owned_count
+        self.counts.owned
     }
 
     /// Returns the bytes of the data of all nodes.
     pub fn data_count(&self) -> u64
         ensures { result ≡ data_count self.now.nodes }
     {
-        self.data_count
+        self.counts.bytes
     }
 
     /// Returns the Id of some node that the session owns, or `None` if it owns none.

@@ -9,6 +9,7 @@ ghost use Rattle.znodes.specs.support.Rows.{timed_links};
 ghost use Rattle.znodes.specs.support.Reading.{is_stale_row, AreStaleOf, AddsStale};
 
 use crate::nodes::Nodes;
+use crate::paths::sorted_paths;
 use crate::row::Row;
 use std::alloc::Global;
 use zalloc::Memory;

@@ -52,6 +52,7 @@ impl Nodes {
         let Some(row) = self.slots.get_mut(id) else {
             unreachable!()
         };
+        self.counts.change(&row.node.bytes, &content.bytes);
         let before = Content {
             bytes: mem::replace(&mut row.node.bytes, content.bytes),
             mzxid: row.node.mzxid,

@@ -1,14 +1,15 @@
 //! Other limits for a store's tree.
 
-ghost use Rattle.std.specs.Prelude.{◌≡◌, ◌≤◌, None, IfErr, IfOk, OnOk, OnErr};
+ghost use Rattle.std.specs.Prelude.{◌≡◌, ◌≤◌, None, IfErr, OnOk, OnErr};
 ghost use Rattle.ztree.specs.Lawful.{AllSessions};
 ghost use Rattle.zstore.specs.Limiting.{IsFaultOf};
 ghost use Rattle.zstore.specs.Restored.{with_limits, FitsWithin};
 ghost use Rattle.zstore.specs.StoreView.{KeepsIds};
+ghost use Rattle.zstore.specs.support.Timeouts.{HasTimeoutWithin};
 
 use crate::limit_fault::LimitFault;
 use crate::store::Store;
-use ztree::TreeLimits;
+use ztree::{SessionId, TreeLimits};
 
 impl Store {
     /// Sets the limits of the tree, and gives up the savepoint. Refuses limits within which the tree
@@ -30,24 +31,35 @@ impl Store {
         if self.sessions() > limits.sessions {
             return Err(LimitFault::Sessions(self.sessions()));
         }
-        self.are_timeouts_within(limits.timeout)?;
+        self.are_timeouts_within(limits)?;
         self.limits = limits;
         self.log.stop(&mut self.nodes);
         Ok(())
     }
 
-    // Fails with the timeout of a session that is greater, if there is one.
-    fn are_timeouts_within(&self, greatest: u64) -> Result<(), LimitFault>
-        ensures within { OnOk result (AllSessions (λ id s. s.timeout ≤ greatest) self.now.tree.sessions) }
-        ensures fault { IfErr result (IsFaultOf self.now.tree (record self.now.tree.limits { timeout = greatest })) }
+    // Fails with the timeout of a session that is above the limit, if there is one.
+    fn are_timeouts_within(&self, limits: TreeLimits) -> Result<(), LimitFault>
+        ensures within { OnOk result
+            (AllSessions (λ id s. s.timeout ≤ limits.timeout) self.now.tree.sessions) }
+        ensures fault { IfErr result (IsFaultOf self.now.tree limits) }
     {
-        for id in self.session_ids()? {
-            if let Some(session) = self.session(id) {
-                if session.timeout > greatest {
-                    return Err(LimitFault::Timeout(session.timeout));
-                }
-            }
+        let ids = self.session_ids()?;
+        for id in &ids {
+            self.is_timeout_within(*id, limits)?;
         }
         Ok(())
+    }
+
+    // Fails with the session's timeout, if it is above the limit.
+    fn is_timeout_within(&self, id: SessionId, limits: TreeLimits) -> Result<(), LimitFault>
+        ensures within { OnOk result (HasTimeoutWithin self.now.tree.sessions limits.timeout id) }
+        ensures fault { IfErr result (IsFaultOf self.now.tree limits) }
+    {
+        match self.session(id) {
+            Some(session) if session.timeout > limits.timeout => {
+                Err(LimitFault::Timeout(session.timeout))
+            }
+            _ => Ok(()),
+        }
     }
 }

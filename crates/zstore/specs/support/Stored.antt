@@ -44,9 +44,9 @@ pub record NamesNodes (nodes : Nodes) (places : Places) : Type 0 where
 -- the tree is lawful, its keys are paths, and the Ids name its nodes
 pub record IsKept (nodes : Nodes) (places : Places) (sessions : Sessions) (time zxid : ℕ)
     (limits : TreeLimits) : Type 0 where
-    pub lawful : IsLawful (tree_of nodes sessions time zxid limits)
-    pub paths : HasPaths nodes
-    pub named : NamesNodes nodes places
+  pub lawful : IsLawful (tree_of nodes sessions time zxid limits)
+  pub paths : HasPaths nodes
+  pub named : NamesNodes nodes places
 
 -- those may own nodes who have a session
 abbrev pub AreOwners : Owners → Sessions → Type 0
