@@ -1,3 +1,4 @@
+pub mod Acls
 pub mod Changing
 pub mod Creating
 pub mod Dated

@@ -9,7 +9,7 @@ ghost use Rattle.zcalls.specs.Part.{has_no_owner, is_owned, has_other_version, h
 ghost use Rattle.zops.specs.support.Ready.{IsReadyForPart};
 ghost use Rattle.zops.specs.support.Stops.{IsDone, IsStop, IsFirst};
 ghost use Rattle.zops.specs.support.Names.{name_refusal};
-ghost use Rattle.zops.specs.support.Steps.{ReportsWhether, is_parent};
+ghost use Rattle.zops.specs.support.Steps.{Gives, ReportsWhether, is_parent};
 
 use crate::session_calls::is_gone;
 use crate::stop::Stop;
@@ -186,10 +186,12 @@ pub(crate) fn set(store: &mut Store, set: &SetData) -> Result<ChangeReply, Stop>
     }
 }
 
-/// Counts a write of a node's access control list. On an error the store is unchanged.
+/// Counts a write of a node's access control list, and gives up the savepoint. On an error the store
+/// is unchanged.
 pub(crate) fn set_acl(store: &mut Store, set: &SetAcl) -> Result<ChangeReply, Stop>
     requires ready { IsReadyForPart store.old }
-    ensures done { IfOk result (IsDone (acl_step store.old.tree set.now) store.old store.new) }
+    ensures done { IfOk result (Gives (acl_step store.old.tree set.now) store.new) }
+    ensures given { store.new.given ≡ store.old.given }
     ensures stopped { IfErr result (IsStop (acl_step store.old.tree set.now)) }
     ensures same { OnErr result (store.new ≡ store.old) }
 {

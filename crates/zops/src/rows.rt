@@ -28,12 +28,12 @@ pub fn dates()
     ensures mtime { IsDated 3 4 some_node → ⊥ }
 {}
 
-/// Which replies are cached: those to updates. A multi has at most 64 parts.
+/// Which replies are cached: those to updates. A multi has at most 1,024 parts.
 pub fn cached_replies()
     ensures deleted { IsOfUpdate Deleted }
     ensures refused { IsOfUpdate (Refused NoNode) }
-    ensures multi { IsOfUpdate (Multi (replicate 64 Checked)) }
-    ensures too_many { IsOfUpdate (Multi (replicate 65 Checked)) → ⊥ }
+    ensures multi { IsOfUpdate (Multi (replicate 1024 Checked)) }
+    ensures too_many { IsOfUpdate (Multi (replicate 1025 Checked)) → ⊥ }
     ensures names { IsOfUpdate (Children []) → ⊥ }
     ensures content { IsOfUpdate (DataOf [] (stat_with some_node 0)) → ⊥ }
     ensures exists { IsOfUpdate (Exists (stat_with some_node 0)) → ⊥ }

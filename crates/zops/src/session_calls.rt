@@ -58,6 +58,7 @@ pub(crate) fn open(store: &mut Store, client: ClientId, ticks: u64) -> Result<Re
     if store.sessions() >= store.limits().sessions {
         return Ok(Reply::Refused(Refusal::TooManySessions));
     }
+    store.keeps_lawful();
     let timeout = granted(store.limits().timeout, ticks);
     store.open_session(client, timeout)?;
     store.raise();

@@ -75,7 +75,7 @@ returns-then-nodes-ge-MAX_NODES-clause-stopped c =
     let there = ap (has_node nodes) below.parent ∙ sym c.in-Some-find.ensures.node in
     let owned = ap (node_has is_owned nodes) below.parent ∙ sym (c.is_ephemeral.ensures c.in-Some.above c.in-Some-find.ensures.found) ∙ c.if-is_ephemeral.false in
     let free = sym c.find-2.ensures.node ∙ sym c.is_some.ensures ∙ c.if-is_some.false in
-    let many = at_least 4096 _ (rw c.nodes.ensures at c.if-nodes-ge-MAX_NODES.true) in
+    let many = at_least c.args.store.now.tree.limits.nodes _ (rw c.nodes.ensures at c.if-nodes-ge-MAX_NODES.true) in
     let owner = sym c.has_no_owner.ensures ∙ c.if-has_no_owner.false in
     created-refused c.args.store.now.tree c.args.client c.args.create.now _
     (full c.args.store.now.tree c.args.client c.args.create.now owner below.root there owned c.in_ok-made.made c.in_ok-made.ensures.made c.in_ok-made.ensures.allowed free many)
@@ -103,7 +103,7 @@ returns-clause-done c =
     let there = ap (has_node nodes) below.parent ∙ sym c.in-Some-find.ensures.node in
     let owned = ap (node_has is_owned nodes) below.parent ∙ sym (c.is_ephemeral.ensures c.in-Some.above c.in-Some-find.ensures.found) ∙ c.if-is_ephemeral.false in
     let free = sym c.find-2.ensures.node ∙ sym c.is_some.ensures ∙ c.if-is_some.false in
-    let few = less_than 4096 _ (rw c.nodes.ensures at c.if-nodes-ge-MAX_NODES.false) in
+    let few = less_than c.args.store.now.tree.limits.nodes _ (rw c.nodes.ensures at c.if-nodes-ge-MAX_NODES.false) in
     let owner = sym c.has_no_owner.ensures ∙ c.if-has_no_owner.false in
     let t = c.args.store.now.tree in
     let create = c.args.create.now in

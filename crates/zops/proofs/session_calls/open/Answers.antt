@@ -10,9 +10,10 @@ pub returns-clause-left : goal.returns-clause-left
 returns-clause-left c =
     let t = c.args.store.now.tree in
     let ticks = c.args.ticks in
+    let least = c.keeps_lawful.ensures.allowed.least_timeout in
     let now = c.raise.ensures.tree ∙ ap with_next_zxid c.in_ok-open_session.ensures.tree ∙ ap (λ timeout. with_next_zxid (with_session t c.args.client timeout)) c.granted-timeout.ensures in
     record {
-      bounded = subst IsBounded (sym now) (opened_bounded t c.args.client (granted_timeout ticks) c.requires.steady.bounded c.requires.zxid (granted-least ticks) (granted-most ticks));
+      bounded = subst IsBounded (sym now) (opened_bounded t c.args.client (granted_timeout t.limits.timeout ticks) c.requires.steady.bounded c.requires.zxid (granted-least t.limits.timeout ticks least) (granted-most t.limits.timeout ticks least));
       given = let same = c.raise.ensures.same.1 in let more = c.in_ok-open_session.ensures.same.1 in omega (arith, same, more);
     }
 
