@@ -1,5 +1,5 @@
 -- The open ACL, as a list of at least one entry.
-use Rattle.std.proofs.Common.{◌≡◌, Bool, true, false, eqb, List, [], ◌∷◌, length, Some, refl, sym, ◌∙◌}
+use Rattle.std.proofs.Common.{◌≡◌, Bool, false, eqb, List, [], ◌∷◌, length, Some, refl, sym, ◌∙◌}
 use Rattle.std.specs.List.{list_all}
 use mathlib.Core.Bool.{true≢false}
 use Rattle.zjute.specs.declared.acl.Acl.{Acl}
