@@ -1,6 +1,6 @@
 -- A request's calls act for the session of its connection alone.
 use Rattle.std.proofs.Common.{◌≡◌, ℕ, List, [], ◌∷◌, Option, Ok, Err, refl}
-use Rattle.std.specs.Prelude.{ℤ, pos, nat_lt, length, Some, None, if◌then◌else◌}
+use Rattle.std.specs.Prelude.{ℤ, pos, nat_lt, length, Some, None}
 use Rattle.std.specs.List.{AllByRecursion}
 use Rattle.std.specs.Ordering.{int_eq}
 use Rattle.ztree.specs.Tree.{Path}

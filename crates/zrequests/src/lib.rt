@@ -6,10 +6,10 @@
 //! parts.
 //!
 //! `calls_of` returns the calls that a request makes, or why it makes none (`calls_in`,
-//! `specs/Requests.antt`). Its `Terms` are what the server accepts, chosen when it starts. `code_of`
-//! returns the error code for a refusal. `ticks_asked` and `millis_reported` convert session
-//! timeouts to ticks and back. All of it is pure: it knows no connection, no session but the one
-//! given, and no state of the service.
+//! `specs/Requests.antt`). Its `Terms` are what the server accepts, chosen when it starts.
+//! `code_of` returns the error code for a refusal. `ticks_asked` and `millis_reported` convert
+//! session timeouts to ticks and back. All of it is pure: it knows no connection, no session but the
+//! one given, and no state of the service.
 //!
 //! # Why
 //!
