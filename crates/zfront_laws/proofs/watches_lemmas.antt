@@ -9,6 +9,7 @@ pub mod Moving
 pub mod Keeping
 pub mod Owning
 pub mod Holding
+pub mod Away
 pub mod Scenes
 pub mod Seeing
 pub mod Single

@@ -61,6 +61,7 @@ use Rattle.zfront_laws.proofs.watches_lemmas.Standing.{sent_attachments}
 use Rattle.zfront_laws.proofs.watches_lemmas.Taking.{close_takes}
 use Rattle.zfront_laws.proofs.watches_lemmas.Tidying.{Gone, Lost, tidies}
 use Rattle.zfront_laws.proofs.watches_lemmas.Updating.{absorbs, behind_calls, close_does, next, nothing_taken, taken}
+use Rattle.zfront_laws.proofs.watches_lemmas.Watched.{watched_covers}
 use Rattle.zfront_laws.proofs.watches_lemmas.Wished.{wishes_grant}
 use Rattle.zfront_laws.proofs.watches_lemmas.Wishing.{AreOf, AreQueries, served_are_of}
 
@@ -160,7 +161,7 @@ module _ (c : ℕ) (asks : Request) where
         (behind_calls calls old s there (tidied_if true (reported ∷ []) (watched old) answered)
         (behind (Some old) None answered (tidied_if true (reported ∷ []) (watched old) answered) (next calls old s there) [] []
         (replies (Some old) v (next calls old s there) c asks.xid answer here may)
-        (λ last this. tidies (reported ∷ []) old answered last this (still_lost lost))))
+        (λ last this. tidies (reported ∷ []) old answered (watched old) (watched_covers old answered.tree) last this (still_lost lost))))
       where
         why : (takes_nodes reported ≡ true) ⊎ Gone v → (list_any takes_nodes (reported ∷ []) ≡ true) ⊎ Gone answered
         why (inl some) = inl (ap (λ b. b || false) some)

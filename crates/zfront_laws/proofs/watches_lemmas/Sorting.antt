@@ -1,5 +1,5 @@
 -- What a request asks of the service: queries, or one update that sets no watch.
-use Rattle.std.proofs.Common.{◌≡◌, ℕ, List, [], ◌∷◌, Option, Ok, Err, refl, inl, inr, if◌then◌else◌}
+use Rattle.std.proofs.Common.{◌≡◌, ℕ, List, [], ◌∷◌, Option, Ok, Err, refl, inl, inr}
 use Rattle.std.specs.Prelude.{◌⊎◌, nat_lt, length, Some, None}
 use Rattle.ztree.specs.Tree.{Path}
 use Rattle.zcalls.specs.declared.call.Part.TheVariants as part

@@ -19,6 +19,7 @@ use Rattle.zfront_laws.proofs.watches_lemmas.Moving.{attachments_move}
 use Rattle.zfront_laws.proofs.watches_lemmas.Reaching.{At, AtIf, Reaches, becomes, behind, moves}
 use Rattle.zfront_laws.proofs.watches_lemmas.Scenes.{can_start}
 use Rattle.zfront_laws.proofs.watches_lemmas.Tidying.{Gone, Lost, tidies}
+use Rattle.zfront_laws.proofs.watches_lemmas.Watched.{watched_covers}
 use Rattle.zfront_laws.proofs.watches_lemmas.Updating.{behind_calls, next, taken, tick_taken}
 
 -- a tick may end sessions
@@ -58,7 +59,7 @@ module _ (sessions : List ℕ) (old new : FrontView) (s : Scene) (there : At old
       (behind_calls calls old s there done
       (behind (Some old) None (rested v) done (next calls old s there) [] []
       (moves (Some old) v (next calls old s there) t took.0 (attachments_move v.tables t.attachments) (rested_keeps v.tables.attachments))
-      (λ last here. tidies reported old (rested v) last here (still_lost took.1))))
+      (λ last here. tidies reported old (rested v) (watched old) (watched_covers old v.tree) last here (still_lost took.1))))
 
 pub ticks : {Asks : Asking} (old new : FrontView) (s : Scene) → At old s → Ticks old new → Reaches Asks new s (done_by (tick_calls (touched_ids old.tables.attachments)) old)
 ticks old new s there has = ticks_by (touched_ids old.tables.attachments) old new s there has

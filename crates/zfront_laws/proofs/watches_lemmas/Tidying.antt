@@ -20,7 +20,7 @@ use Rattle.zconnections.specs.Tables.{TablesView, closed, connection_of, moved}
 use Rattle.zconnections.specs.Reporting.{reported_all}
 use Rattle.zconnections.specs.Sweeping.{forgotten, is_gone, made_one, some_made_one, swept_all}
 use Rattle.zconnections.specs.Sweeping as tables
-use Rattle.zfront.specs.Front.{FrontView, with_tables, gone_from, swept, takes_nodes, took_unnamed, watched, looked, looked_if, tidied_if}
+use Rattle.zfront.specs.Front.{FrontView, with_tables, gone_from, swept, takes_nodes, took_unnamed, looked, looked_if, tidied_if}
 use Rattle.zfront_laws.specs.watches.Watching.{Scene, Asking, Fired, tree_of, May, IsSameAt}
 use Rattle.zfront_laws.proofs.watches_lemmas.Changing.{seen_same}
 use Rattle.zfront_laws.proofs.watches_lemmas.Holding.{knowing, none_lost, told_holds}
@@ -34,7 +34,7 @@ use Rattle.zfront_laws.proofs.watches_lemmas.Standing.{Fewer, In}
 use Rattle.zfront_laws.proofs.watches_lemmas.Taking.{Loses, loses_nothing}
 use Rattle.zfront_laws.proofs.watches_lemmas.Telling.{AreApart, IsNowhere, told_all_leaves, untold_nowhere}
 use Rattle.zfront_laws.proofs.watches_lemmas.Told.{look_told}
-use Rattle.zfront_laws.proofs.watches_lemmas.Watched.{watched_once, watched_there}
+use Rattle.zfront_laws.proofs.watches_lemmas.Watched.{Covers}
 
 -- what is read of a node is there where it is
 there_read : {X : Type 0} (f : Node → X) (o : Option Node) → is_some (option_map f o) ≡ is_some o
@@ -94,12 +94,9 @@ sweeps since (id ∷ ids) v s all there =
 
 -- ---- a look
 
-module _ (old v : FrontView) (s : Scene) (loses : (path : Path) → Loses v.tree.zxid old.tree.nodes v.tree.nodes path) (there : AtIf (Some old) v s) where
+module _ (old v : FrontView) (paths : List Path) (covers : Covers old v.tree paths) (s : Scene) (loses : (path : Path) → Loses v.tree.zxid old.tree.nodes v.tree.nodes path) (there : AtIf (Some old) v s) where
   abbrev t : Tree
   t = tree_of s
-
-  abbrev paths : List Path
-  paths = watched old
 
   abbrev es : List Event
   es = seen_now t paths
@@ -140,8 +137,8 @@ module _ (old v : FrontView) (s : Scene) (loses : (path : Path) → Loses v.tree
           inl (
             inr (deleted, none),
             λ w stands fired. inl (
-                changed e w first (fewer w stands) fired (watched_there old e.path cause.1) none
-                (apart (seen_apart t paths (watched_once old)))),
+                changed e w first (fewer w stands) fired (covers.there e.path cause.1) none
+                (apart (seen_apart t paths covers.once))),
           )
       by (inr lost) = inr lost
 
@@ -158,7 +155,7 @@ module _ (old v : FrontView) (s : Scene) (loses : (path : Path) → Loses v.tree
       tree = there.tree;
       holds = told_holds old t s.set_at s.tables es
           (λ w stands unfired right same.
-          look_told old t (subst (λ (t : Tree). (path : Path) → Loses t.zxid old.tree.nodes t.nodes path) (sym there.tree) loses) w
+          look_told old t paths (subst (λ (t : Tree). Covers old t paths) (sym there.tree) covers) (subst (λ (t : Tree). (path : Path) → Loses t.zxid old.tree.nodes t.nodes path) (sym there.tree) loses) w
           (there.holds.none w stands) (s.set_at w) unfired right same)
           there.holds;
     };
@@ -170,10 +167,10 @@ Lost old v took =
     (v.tree.nodes ≡ old.tree.nodes)
     ⊎ (((path : Path) → Loses v.tree.zxid old.tree.nodes v.tree.nodes path) × ((took ≡ true) ⊎ Gone v))
 
-looks_if : {Asks : Asking} (due : Bool) (old v : FrontView) (s : Scene) → AtIf (Some old) v s
+looks_if : {Asks : Asking} (due : Bool) (old v : FrontView) (paths : List Path) → Covers old v.tree paths → (s : Scene) → AtIf (Some old) v s
     → (v.tree.nodes ≡ old.tree.nodes) ⊎ (((path : Path) → Loses v.tree.zxid old.tree.nodes v.tree.nodes path) × (due ≡ true))
-    → Reaches Asks (looked_if due (watched old) v) s []
-looks_if false old v s there (inl same) =
+    → Reaches Asks (looked_if due paths v) s []
+looks_if false old v paths covers s there (inl same) =
     stays None v s (record {
       settled = there.settled;
       base = there.base;
@@ -181,19 +178,19 @@ looks_if false old v s there (inl same) =
       tree = there.tree;
       holds = none_lost old (tree_of s) s.set_at s.tables (ap (λ (t : Tree). t.nodes) there.tree ∙ same) there.holds;
     })
-looks_if false old v s there (inr (loses, due)) = absurd (true≢false (sym due))
-looks_if true old v s there (inl same) =
-    looks_by old v s
+looks_if false old v paths covers s there (inr (loses, due)) = absurd (true≢false (sym due))
+looks_if true old v paths covers s there (inl same) =
+    looks_by old v paths covers s
     (λ path. subst (λ nodes. Loses v.tree.zxid old.tree.nodes nodes path) (sym same) (loses_nothing v.tree.zxid old.tree.nodes path)) there
-looks_if true old v s there (inr (loses, due)) = looks_by old v s loses there
+looks_if true old v paths covers s there (inr (loses, due)) = looks_by old v paths covers s loses there
 
 -- after calls that ended sessions
-pub tidies : {Asks : Asking} (reported : List Reply) (old v : FrontView) (s : Scene) → AtIf (Some old) v s
-    → Lost old v (list_any takes_nodes reported) → Reaches Asks (tidied_if true reported (watched old) v) s []
-tidies reported old v s there lost =
-    still (Some old) None (swept v) (tidied_if true reported (watched old) v) s []
+pub tidies : {Asks : Asking} (reported : List Reply) (old v : FrontView) (paths : List Path) → Covers old v.tree paths → (s : Scene)
+    → AtIf (Some old) v s → Lost old v (list_any takes_nodes reported) → Reaches Asks (tidied_if true reported paths v) s []
+tidies reported old v paths covers s there lost =
+    still (Some old) None (swept v) (tidied_if true reported paths v) s []
     (sweeps (Some old) (gone_from v) v s (all_gone v.tree.sessions v.tables.attachments) there)
-    (λ next here. looks_if (took_unnamed reported v) old (swept v) next here (due lost))
+    (λ next here. looks_if (took_unnamed reported v) old (swept v) paths covers next here (due lost))
   where
     due : Lost old v (list_any takes_nodes reported)
         → (v.tree.nodes ≡ old.tree.nodes) ⊎ (((path : Path) → Loses v.tree.zxid old.tree.nodes v.tree.nodes path) × (took_unnamed reported v ≡ true))

@@ -3,7 +3,7 @@ use Rattle.std.proofs.Common.{◌≡◌, ◌≢◌, ◌∙◌, Bool, true, false
 use Rattle.std.proofs.Math.Bool.{or-true}
 use mathlib.Core.Bool.{true≢false}
 use lib.Dec.{T}
-use Rattle.std.specs.Prelude.{◌||◌, map, if◌then◌else◌}
+use Rattle.std.specs.Prelude.{◌⊎◌, ◌||◌, map, if◌then◌else◌}
 use Rattle.std.specs.List.{AllByRecursion, filter, list_any}
 use Rattle.std.specs.Ordering.{eq_by_cmp, is_lt}
 use Rattle.std.specs.Cmp.{tied_itself}
@@ -16,7 +16,7 @@ use Rattle.std.proofs.lemmas.List.Folds.{list_any-from_Any}
 use Rattle.std.proofs.lemmas.Map.Views.{Contains-from_any}
 use Rattle.zpath.specs.Grammar.{path_cmp}
 use Rattle.ztree.specs.declared.node.Node.{Node}
-use Rattle.ztree.specs.Tree.{Path, has_node}
+use Rattle.ztree.specs.Tree.{Path, Tree, has_node}
 use Rattle.ztree.proofs.Maps.{tied, tied_same}
 use Rattle.ztree.proofs.Sorted.{both_parts, is_less, paths_total, same_path}
 use Rattle.zcalls.specs.Lists.{Among}
@@ -123,3 +123,19 @@ module _ (test : Path → Bool) where
 
 pub watched_once : (v : FrontView) → AreDistinct (watched v)
 watched_once v = distinct (is_awaited v.tables.watches NodeDeleted) (finite.entries v.tree.nodes) (entries_sorted v.tree.nodes)
+
+-- ---- paths at which a look finds all
+
+-- each was a node, and is there once; and each awaited node of then is among them, or is as it was
+pub record Covers (old : FrontView) (t : Tree) (paths : List Path) : Type 0 where
+  pub there : (q : Path) → Among q paths → has_node old.tree.nodes q ≡ true
+  pub once : AreDistinct paths
+  pub all : (w : Watch) (q : Path) → In old.tables w → fires NodeDeleted q w ≡ true → has_node old.tree.nodes q ≡ true
+      → Among q paths ⊎ (finite.get t.nodes q ≡ finite.get old.tree.nodes q)
+
+pub watched_covers : (old : FrontView) (t : Tree) → Covers old t (watched old)
+watched_covers old t = record {
+  there = watched_there old;
+  once = watched_once old;
+  all = λ w q stands fired there. inl (watched_here old w q stands fired there);
+}
