@@ -25,7 +25,10 @@ COUNTS = (
     "zk_strangers_refused", "zk_journal_bytes",
     "zk_compacted_journal_bytes",
 )
-STATE = ("latency min/avg/max", "received", "sent", "connections", "outstanding", "zxid", "mode")
+STATE = (
+    "latency min/avg/max", "received", "sent", "connections", "outstanding", "zxid", "mode",
+    "node count",
+)
 TOLD_COMPACTION = re.compile(r"zk: the journal was compacted: (\d+) bytes before, (\d+) after, ")
 
 
@@ -63,6 +66,7 @@ def monitors(builds):
         numbers = {name: float(found[name]) for name in COUNTS}
         for name, wanted in (
             ("zk_num_alive_connections", 3), ("zk_global_sessions", 2), ("zk_watch_count", 2),
+            ("zk_znode_count", 2), ("zk_ephemerals_count", 0), ("zk_approximate_data_size", 0),
             ("zk_packets_received", 6), ("zk_packets_sent", 5), ("zk_outstanding_requests", 0),
             ("zk_max_connections", MOST), ("zk_journal_bytes", os.path.getsize(f"{folder}/journal")),
         ):
