@@ -15,7 +15,7 @@ import mending
 import sources
 from frames import *
 from report import Failed, Test, want, want_same
-from servers import Server, ended, new_folder, program, serving, until, words_of
+from servers import PROFILE, Server, ended, new_folder, program, serving, until, words_of
 from wire import NO_SESSION, Ended, greeted, refused
 
 LIVES = 10
@@ -182,7 +182,7 @@ def of_before(builds):
     with open(f"{folder}/journal", "wb") as file:
         file.write(base64.b64decode(OF_BEFORE))
     for has_note, version in ((True, 1), (False, 2)):
-        with Server(builds, folder) as server, server.client() as it:
+        with Server(builds, folder, PROFILE) as server, server.client() as it:
             want_same(it.get("/a")[0], b"hi", "its node")
             want_same(note in server.said(), has_note, "the note")
             it.session = 1
@@ -238,12 +238,13 @@ def other_limits(builds):
         want_same(ended([*words_of(builds, folder, "batch"), *words]), (3, "", said), word)
         with open(f"{folder}/journal", "rb") as file:
             want_same(file.read(), before, f"the file after too few {word}")
-    for words, count in ((few, 0), (("--nodes=11", *few[1:]), 1), ((), 5)):
+    for words, count in ((few, 0), (("--nodes=11", *few[1:]), 1), (few[2:], 5)):
         with Server(builds, folder, words) as server, server.client(of=it) as again:
             want_same(again.session, it.session, "the session lives on")
             for number in range(count):
                 again.create(f"/m{number}-{count}")
-            want_same(refused(again.create, "/more"), SYSTEM if words else None, f"{words}")
+            found = refused(again.create, "/more")
+            want_same(found, None if words == few[2:] else SYSTEM, f"with {words}")
         want_same(at_rest(builds, folder, "compact")[0], 0, "compact")
     want(size() < 10000, f"{size()} bytes")
 
