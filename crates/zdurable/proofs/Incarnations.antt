@@ -116,7 +116,7 @@ parts_stand servers (incarnation ∷ incarnations) file last t end (found, finds
     let later = parts_stand servers incarnations left last own.0 end rest own.2 ends in
     let part : Part = record { limits = incarnation.limits; log = own.1.log } in
     let woven : IsWoven (incarnation ∷ []) own.1.log (updates_in own.1.log) =
-        subst (λ (es : List Entry). IsWoven (incarnation ∷ []) own.1.log es) (sym own.1.updates) own.1.woven in
+    subst (λ (es : List Entry). IsWoven (incarnation ∷ []) own.1.log es) (sym own.1.updates) own.1.woven in
     record {
       parts = part ∷ later.parts;
       are = (part, later.parts, refl, refl, woven, later.are);
@@ -161,13 +161,13 @@ one_more t middle last incarnation incarnations same own rest =
     let unreported = own.woven.2 in
     let none = own.woven.8 in
     let log_is : own.log ≡ incarnation.reported ++ unreported =
-        own.woven.6
-        ∙ ap (λ (later : Log). incarnation.reported ++ (unreported ++ later)) none.0
-        ∙ ap (λ (log : Log). incarnation.reported ++ log) (append-nil unreported) in
+    own.woven.6
+    ∙ ap (λ (later : Log). incarnation.reported ++ (unreported ++ later)) none.0
+    ∙ ap (λ (log : Log). incarnation.reported ++ log) (append-nil unreported) in
     let entries_are : own.entries ≡ incarnation.kept ++ acted =
-        own.woven.7
-        ∙ ap (λ (more : List Entry). incarnation.kept ++ (acted ++ more)) none.1
-        ∙ ap (λ (es : List Entry). incarnation.kept ++ es) (append-nil acted) in
+    own.woven.7
+    ∙ ap (λ (more : List Entry). incarnation.kept ++ (acted ++ more)) none.1
+    ∙ ap (λ (es : List Entry). incarnation.kept ++ es) (append-nil acted) in
     record {
       log = own.log ++ rest.log;
       entries = own.entries ++ rest.entries;
@@ -201,7 +201,7 @@ stands limits servers (incarnation ∷ incarnations) file last t end held within
     let lived_so : IsIncarnation servers t incarnation left = subst (λ u. IsIncarnation servers u incarnation left) same lived in
     let own = part_of servers t incarnation left lived_so in
     let still : own.0.limits ≡ limits =
-        ap (λ (u : Tree). u.limits) own.1.tree ∙ after_limits own.1.entries (with_limits t incarnation.limits) ∙ within.0 in
+    ap (λ (u : Tree). u.limits) own.1.tree ∙ after_limits own.1.entries (with_limits t incarnation.limits) ∙ within.0 in
     one_more t own.0 end incarnation incarnations (within.0 ∙ sym held) own.1
     (stands limits servers incarnations left last own.0 end still within.1 rest own.2 ends)
 

@@ -69,7 +69,7 @@ module _ {D : Type 0} (seen : D → List ℕ) (may_leave : D → List ℕ → Ty
   opens now same served served_is false says batches stands are measured =
       let one = files_have_one_reading servers file read batches reads (subst (Represents servers batches) same stands) in
       let keeps : IsTextOf (with_limits found limits) (joined next) =
-          subst (λ (u : Tree). IsTextOf u (joined next)) (own_limits found limits says) (subst (IsTextOf found) (ap joined (one ∙ sym are)) text) in (
+      subst (λ (u : Tree). IsTextOf u (joined next)) (own_limits found limits says) (subst (IsTextOf found) (ap joined (one ∙ sym are)) text) in (
         record {
           found = found;
           batches = read;
