@@ -44,7 +44,7 @@ fn is_same(one: TreeLimits, other: TreeLimits) -> bool
     ensures yes { result ≡ true → one ≡ other }
     ensures no { result ≡ false → one ≢ other }
 {
-    one == other
+    one.nodes == other.nodes && one.sessions == other.sessions && one.timeout == other.timeout
 }
 
 /// Opens the journal of a file. If the tree has other limits than the file's, a file with its text
