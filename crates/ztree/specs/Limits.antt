@@ -1,7 +1,7 @@
 -- The limits of a tree. They are chosen when it begins. The source is the ZooKeeper Administrator's
 -- Guide, "Advanced Configuration" (minSessionTimeout, maxSessionTimeout: 2 and 20 ticks unless
 -- chosen). The other limits are this project's.
-use Rattle.std.specs.Prelude.{ℕ, ◌<◌, ◌≤◌}
+use Rattle.std.specs.Prelude.{◌<◌, ◌≤◌}
 use Rattle.ztree.specs.declared.limits.TreeLimits.{TreeLimits}
 use Rattle.ztree.specs.declared.limits.TheConstants.{MAX_NODES, MAX_SESSIONS, MAX_TIMEOUT, MIN_TIMEOUT, MOST_NODES, MOST_SESSIONS, MOST_TIMEOUT}
 
