@@ -1,4 +1,5 @@
--- Laws of runs of calls from the initial tree. Each is the contract of a function in `src/laws.rt`.
+-- Laws of runs of calls from an initial tree, within any limits. Each is the contract of a function
+-- in `src/laws.rt`.
 use Rattle.std.specs.Prelude.{◌≡◌, ℕ, ◌<◌, ◌+◌, Bool, true, false, ◌&&◌, ◌||◌, List, [], ◌∷◌, ◌++◌, Some, Result, Ok, Err, if◌then◌else◌, nat_lt}
 use Rattle.std.specs.List.{IsDistinct}
 use Rattle.std.specs.Ordering.{eq_by_cmp}
@@ -65,7 +66,7 @@ pub record IsOlder (zxid : ℕ) (n : Node) : Type 0 where
   pub mzxid : n.mzxid < zxid
   pub pzxid : n.pzxid < zxid
 
--- after any calls from the initial tree, the zxid of a change is greater than every zxid in the
+-- after any calls from an initial tree, the zxid of a change is greater than every zxid in the
 -- tree before it
 abbrev pub ZxidsRise : Type 0
 ZxidsRise =

@@ -16,7 +16,7 @@ use Rattle.zcalls.specs.Part.{node_has}
 use Rattle.zcalls.specs.Step.{step, is_exhausted, stale_next}
 use Rattle.zcalls.specs.CallRuns.{after_calls, is_success}
 
--- after any calls from the initial tree the tree is lawful, so each owner of a node is a live
+-- after any calls from an initial tree the tree is lawful, so each owner of a node is a live
 -- session
 abbrev pub TreesAreLawful : Type 0
 TreesAreLawful =
@@ -82,7 +82,7 @@ abbrev pub NeverCloses : ℕ → ℕ → List (ℕ × Update) → Type 0
 NeverCloses client id [] = Unit {0}
 NeverCloses client id (call ∷ calls) = (call.0 ≡ client → call.1 ≡ Close id → ⊥) × NeverCloses client id calls
 
--- After any calls from the initial tree, a session that its client doesn't close is alive. That
+-- After any calls from an initial tree, a session that its client doesn't close is alive. That
 -- holds while it has had fewer ticks than its timeout since its open or last ping.
 abbrev pub LivesItsTimeout : Type 0
 LivesItsTimeout =

@@ -43,7 +43,7 @@ SetPutsOff =
     (t : Tree) (client : ℕ) (set : ToSet) (stat : Stat)
     → (step t client (SetData set)).1 ≡ reply.Set stat → IsPutOff t.time set.path (step t client (SetData set)).0
 
--- after any calls from the initial tree, no session owns a node with a TTL or a container: it is
+-- after any calls from an initial tree, no session owns a node with a TTL or a container: it is
 -- never an ephemeral
 abbrev pub NobodyOwnsTheTimed : Type 0
 NobodyOwnsTheTimed =

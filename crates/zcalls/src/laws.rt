@@ -110,8 +110,8 @@ pub fn nobody_owns_the_timed()
     ensures { NobodyOwnsTheTimed }
 {}
 
-/// A node without an owner, such as one with a TTL or a container, disappears only by a delete of it
-/// or a tick.
+/// A node without an owner, such as one with a TTL or a container, disappears only by a delete of
+/// it or a tick.
 pub fn the_unowned_last()
     ensures { LastsUntilRemoved }
 {}

@@ -12,6 +12,6 @@ pub const MAX_COUNTER: u64 = 2147483647;
 /// The greatest call number.
 pub const MAX_CALL_NUMBER: u64 = (1 << 62) - 1;
 
-/// The most times that one change raises a counter of one node: by the end of a session that owns as
-/// many nodes as a tree can have.
+/// The most times that one change raises a counter of one node: by the end of a session that owns
+/// as many nodes as a tree can have.
 pub const MAX_RAISES: u64 = 1 << 21;

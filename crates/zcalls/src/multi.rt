@@ -26,8 +26,8 @@ impl Multi {
     ghost use Rattle.std.specs.Prelude.{◌≡◌, ◌≤◌, ◌<◌, IfOk, OnOk, IfErr, ◌⊎◌, length};
     ghost use Rattle.zcalls.specs.declared.limits.TheConstants.{MAX_PARTS, MOST_PARTS};
 
-    /// Makes a multi of the profile from its parts. Returns them unchanged as the error if there are
-    /// none or more than 64.
+    /// Makes a multi of the profile from its parts. Returns them unchanged as the error if there
+    /// are none or more than 64.
     pub fn new(parts: Vec<Part>) -> Result<Multi, Vec<Part>>
         ensures multi { IfOk result (λ multi. multi ≡ parts.items) }
         ensures fits { OnOk result (length parts.items ≤ MAX_PARTS) }
