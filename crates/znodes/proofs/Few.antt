@@ -51,8 +51,7 @@ module _ (m : Items Row) (ids : IdsByPath) (owners : OwnerLists) (kept : IsLinke
   ids-apart (e ∷ es) s all =
       let parts = both_parts (below_all path_cmp e.0 es) (is_sorted path_cmp es) s in
       let later = λ (q : Path) (id : Id) (found : find path_cmp q es ≡ Some id). all q id (found_behind paths_total same_path e es parts.0 q id found) in
-      let first : get ids e.0 ≡ Some e.1 = all e.0 e.1 (rw (tied_itself paths_total e.0) refl) in
-      (
+      let first : get ids e.0 ≡ Some e.1 = all e.0 e.1 (rw (tied_itself paths_total e.0) refl) in (
         NotIn-from e.1 (ids_in es) (λ has.
             let other = found-in es parts.1 e.1 has in
             let same : other.0 ≡ e.0 = only-path m ids owners kept other.0 e.0 e.1 (later other.0 e.1 other.1) first in

@@ -1,5 +1,5 @@
 -- The keys of a map's entries that pass a test, from an unordered list of them.
-use Rattle.std.proofs.Common.{◌≡◌, Bool, ◌&&◌, true, false, cond, List, [], ◌∷◌, map, Option, Some, None, refl, sym, ap, subst, ◌∙◌}
+use Rattle.std.proofs.Common.{◌≡◌, Bool, ◌&&◌, ◌||◌, true, false, cond, List, [], ◌∷◌, map, Option, Some, None, refl, sym, ap, subst, ◌∙◌}
 use lib.Dec.{T}
 use Rattle.std.specs.Prelude.{is_some, IsPermutation, IsSorted}
 use Rattle.std.specs.declared.cmp.Ordering.{Ordering}
@@ -65,7 +65,7 @@ module _ {K X : Type 0} (R : K → K → Ordering) (o : IsTotalOrder R) (same : 
   all_apart k [] none = tt
   all_apart k (q ∷ ks) none = by (eq_by_cmp R k q) refl (all_apart k ks) none
     where
-      by : (b : Bool) → eq_by_cmp R k q ≡ b → (list_any (eq_by_cmp R k) ks ≡ false → AllByRecursion (λ p. eq_by_cmp R k p ≡ false) ks) → cond b true (list_any (eq_by_cmp R k) ks) ≡ false → AllByRecursion (λ q. eq_by_cmp R k q ≡ false) (q ∷ ks)
+      by : (b : Bool) → eq_by_cmp R k q ≡ b → (list_any (eq_by_cmp R k) ks ≡ false → AllByRecursion (λ p. eq_by_cmp R k p ≡ false) ks) → (b || list_any (eq_by_cmp R k) ks) ≡ false → AllByRecursion (λ q. eq_by_cmp R k q ≡ false) (q ∷ ks)
       by true is further e = cc
       by false is further e = (is, further e)
 

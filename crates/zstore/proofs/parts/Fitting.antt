@@ -18,12 +18,12 @@ use Rattle.zstore.specs.support.Timeouts.{HasTimeoutWithin}
 -- what holds of all keys holds of one that is found
 all_found : {X : Type 0} (P : ℕ → Type 0) (es : List (ℕ × X)) → AllByRecursion P (keys_of es) → (id : ℕ) (x : X) → find nat_cmp id es ≡ Some x → P id
 all_found P [] all id x found = absurd (none_some x found)
-all_found P (e ∷ es) all id x found = by (nat_cmp id e.0) refl found
+all_found P (e ∷ es) all id x found = by (nat_cmp id e.0) refl (all_found P es all.1 id x) found
   where
-    by : (r : Ordering) → nat_cmp id e.0 ≡ r → cond (is_eq r) (Some e.1) (find nat_cmp id es) ≡ Some x → P id
-    by Less is e = all_found P es all.1 id x e
-    by Greater is e = all_found P es all.1 id x e
-    by Equal is e = subst P (sym (nat_cmp-IsAntisymmetric id _ is)) all.0
+    by : (r : Ordering) → nat_cmp id e.0 ≡ r → (find nat_cmp id es ≡ Some x → P id) → cond (is_eq r) (Some e.1) (find nat_cmp id es) ≡ Some x → P id
+    by Less is further e = further e
+    by Greater is further e = further e
+    by Equal is further e = subst P (sym (nat_cmp-IsAntisymmetric id _ is)) all.0
 
 -- where each session's timeout is within the limit, all are
 pub all_within : (sessions : Sessions) (most : ℕ) → AllByRecursion (HasTimeoutWithin sessions most) (keys sessions) → AllSessions (λ id s. s.timeout ≤ most) sessions

@@ -12,7 +12,7 @@ use Rattle.ztree.specs.declared.limits.TreeLimits.{TreeLimits}
 use Rattle.ztree.specs.Limits.{AreLimits}
 use Rattle.ztree.specs.declared.node.Node.{Node}
 use Rattle.ztree.specs.declared.session.Session.{Session}
-use Rattle.ztree.specs.Tree.{Path, Nodes, parent_of, has_node}
+use Rattle.ztree.specs.Tree.{Path, Nodes, parent_of, has_node, with_change_at}
 use Rattle.ztree.specs.Lawful.{IsLawful, IsPersistent}
 use Rattle.ztree.proofs.Sorted.{paths_total, same_path}
 use Rattle.ztree.proofs.Maps.{none_some, has_some, is_there, get-insert-here, get-inserted, len-insert-most}

@@ -1,4 +1,4 @@
-use Rattle.std.proofs.Common.{◌≡◌, ◌≤◌, refl, sym, ap, ◌∙◌}
+use Rattle.std.proofs.Common.{◌≡◌, ◌≤◌, refl, sym, ap, ◌∙◌, arith}
 use mathlib.Core.Path.{subst}
 use Rattle.std.specs.FinMap.{insert}
 use Rattle.ztree.specs.Tree.{parent_of}

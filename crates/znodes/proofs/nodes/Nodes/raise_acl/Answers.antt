@@ -1,4 +1,4 @@
-use Rattle.std.proofs.Common.{◌≤◌, refl, sym, ap, ◌∙◌}
+use Rattle.std.proofs.Common.{◌≤◌, refl, sym, ap, ◌∙◌, arith}
 use mathlib.Core.Path.{subst}
 use Rattle.std.specs.Option.{option_copied_mut}
 use Rattle.ztree.specs.Tree.{with_acl, with_change_at}

@@ -13,7 +13,7 @@ stop-requires c =
     let s = c.self.inside in
     let path = some_there (path_of c.args.self.now c.args.id) c.requires.live in
     changed_held s.nodes c.raise_acl.new.self s.sessions s.time s.zxid s.limits (notes_of s.log) c.self.invariant
-    path.0 with_acl (c.raise_acl.ensures path.0 (ap (λ (h : StoreView). path_of h c.args.id) c.self.view_is ∙ path.1))
+    path.0 with_acl (c.raise_acl.ensures.written path.0 (ap (λ (h : StoreView). path_of h c.args.id) c.self.view_is ∙ path.1))
 
 pub invariant_of-self : goal.invariant_of-self
 invariant_of-self c =
@@ -21,7 +21,7 @@ invariant_of-self c =
     let path = some_there (path_of c.args.self.now c.args.id) c.requires.live in
     rw (c.stop.ensures.off, c.stop.ensures.nodes)
     (changed_stored s.nodes c.raise_acl.new.self s.sessions s.time s.zxid s.limits (notes_of s.log) c.self.invariant
-    path.0 with_acl (c.raise_acl.ensures path.0 (ap (λ (h : StoreView). path_of h c.args.id) c.self.view_is ∙ path.1))
+    path.0 with_acl (c.raise_acl.ensures.written path.0 (ap (λ (h : StoreView). path_of h c.args.id) c.self.view_is ∙ path.1))
     (λ m. (refl, refl)))
 
 pub returns-clause-tree : goal.returns-clause-tree
@@ -29,5 +29,5 @@ returns-clause-tree c = λ path at.
     let s = c.self.inside in
     let view = c.self.view_is in
     let tree : NodesView → Tree = λ v. tree_of v.nodes s.sessions s.time s.zxid s.limits in
-    ap tree c.stop.ensures.nodes ∙ ap tree (c.raise_acl.ensures path (ap (λ (h : StoreView). path_of h c.args.id) view ∙ at))
+    ap tree c.stop.ensures.nodes ∙ ap tree (c.raise_acl.ensures.written path (ap (λ (h : StoreView). path_of h c.args.id) view ∙ at))
     ∙ ap (λ (h : StoreView). with_acl_at h.tree path) view
