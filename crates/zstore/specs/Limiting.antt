@@ -1,5 +1,5 @@
 -- Why a tree doesn't fit within limits. The limits are this project's.
-use Rattle.std.specs.Prelude.{◌≡◌, ℕ, ◌<◌, ⊥, Some}
+use Rattle.std.specs.Prelude.{◌≡◌, ℕ, ◌<◌, Some}
 use Rattle.std.specs.FinMap as finite
 use Rattle.ztree.specs.declared.limits.TreeLimits.{TreeLimits}
 use Rattle.ztree.specs.declared.session.Session.{Session}
