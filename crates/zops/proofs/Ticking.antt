@@ -19,6 +19,7 @@ use Rattle.zcalls.proofs.Ends.{RoomForEnds, few-leaves, room_before, all_ended-r
 use Rattle.zcalls.specs.declared.limits.TheConstants.{MAX_RAISES}
 use Rattle.zcalls.specs.Bounds.{IsBounded}
 use Rattle.zcalls.specs.Step.{due_next, stale_next}
+use Rattle.zcalls.proofs.Timed.{few_nodes}
 use Rattle.ztree.proofs.LawfulEnd.{due_above}
 use Rattle.zops.specs.support.Ready.{KeepsLeft, CanRemove}
 
@@ -93,7 +94,7 @@ ticking h mid now due ids lawful at due_now stale_now ended still =
       count = removed-count h mid (t.time + 1) ids (due_next t) lawful above stale tree still;
       room = λ bounded small.
           removed-room h mid (t.time + 1) ids (due_next t) lawful above stale tree still (MAX_RAISES * t.zxid + MAX_RAISES) (omega (arith, small))
-          (all_ended-room (MAX_RAISES * t.zxid + MAX_RAISES) (due_next t) t (room_before (MAX_RAISES * t.zxid) t.nodes bounded.counters lawful.few_nodes));
+          (all_ended-room (MAX_RAISES * t.zxid + MAX_RAISES) (due_next t) t (room_before (MAX_RAISES * t.zxid) t.nodes bounded.counters (few_nodes t lawful)));
       gone = λ left removed.
           removed stale.paths (can_remove h mid (t.time + 1) ids (due_next t) lawful above stale tree still).named
           ∙ removed-tree h mid (t.time + 1) ids (due_next t) lawful above stale tree still;

@@ -27,8 +27,11 @@ pub use limits::MAX_APPLIED;
 pub use machine::Machine;
 pub use restoring::Restoring;
 pub use zcalls::{
-    Call, CallNumber, Change, ChangeReply, Check, Create, Delete, Entry, Expected, Kind, MAX_PARTS, MOST_PARTS,
-    Multi, Names, Part, PartReply, Query, Refusal, Replies, Reply, SetAcl, SetData, SharedEntry, Update,
+    Call, CallNumber, Change, ChangeReply, Check, Create, Delete, Entry, Expected, Kind, MAX_PARTS,
+    MOST_PARTS, Multi, Names, Part, PartReply, Query, Refusal, Replies, Reply, SetAcl, SetData,
+    SharedEntry, Update,
 };
 pub use zstore::{LimitFault, RestoreFault};
-pub use ztree::{ClientId, Data, DataFault, Node, Session, SessionId, Stat, Term, TreeLimits, Ttl, Zxid};
+pub use ztree::{
+    ClientId, Data, DataFault, Node, Session, SessionId, Stat, Term, TreeLimits, Ttl, Zxid,
+};

@@ -14,8 +14,9 @@ impl Machine {
     pub fn set_limits(&mut self, limits: TreeLimits) -> Result<(), LimitFault>
         requires whole { self.old.is_broken ≡ false }
         ensures set { OnOk result (self.new ≡ record self.old {
-            state = with_plain self.old.state
-                (with_limits self.old.state.service.plain limits) }) }
+          state = with_plain self.old.state
+              (with_limits self.old.state.service.plain limits);
+        }) }
         ensures fits { OnOk result (FitsWithin self.old.state.service.plain limits) }
         ensures fault { IfErr result (IsFaultOf self.old.state.service.plain limits) }
         ensures err { OnErr result (self.new ≡ self.old) }

@@ -71,6 +71,7 @@ pub(crate) fn ping(store: &mut Store, client: ClientId, session: SessionId) -> R
     ensures done { (store.new.tree, result) ≡ update_result store.old.tree client (Ping session) }
     ensures left { StaysBounded store.old store.new }
 {
+    store.keeps_lawful();
     if !store.keep_alive(client, session) {
         return Reply::Refused(Refusal::SessionGone);
     }

@@ -17,8 +17,8 @@ returns-then-has_other_acl-clause-stopped c =
     let other = sym (c.has_other_acl.ensures c.args.set.now.path c.in-Some.ensures.found) ∙ c.if-has_other_acl.true in
     stale-unless_other (has_other_acl c.args.set.now.version) _ _ other
 
-pub returns-in-Some-clause-done : goal.returns-in-Some-clause-done
-returns-in-Some-clause-done c =
+pub returns-clause-done : goal.returns-clause-done
+returns-clause-done c =
     let set = c.args.set.now in
     let t = c.args.store.now.tree in
     let fresh = sym (c.has_other_acl.ensures set.path c.in-Some.ensures.found) ∙ c.if-has_other_acl.false in

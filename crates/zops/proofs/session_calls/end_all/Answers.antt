@@ -8,6 +8,7 @@ use Rattle.ztree.specs.Tree.{Tree, parent_of, has_node}
 use Rattle.ztree.specs.Sessions.{without_session, without_sessions}
 use Rattle.zcalls.specs.declared.limits.TheConstants.{MAX_RAISES}
 use Rattle.zcalls.proofs.Ends.{RoomForEnds, AreLive, room_before, ended-room, few_ephemerals, ended-ends, due_live}
+use Rattle.zcalls.proofs.Timed.{few_nodes}
 use Rattle.zops.proofs.session_calls.end_all.Goals as goal
 
 pub loop-id-init : goal.loop-id-init
@@ -16,7 +17,7 @@ loop-id-init c =
     let all = c.into_iter-id-iterator.ensures.into_iter_gives.0 in
     record {
       did = ap (without_sessions t) (sym all);
-      room = room_before (MAX_RAISES * t.zxid) t.nodes c.requires.ready.steady.bounded.counters c.keeps_lawful.ensures.few_nodes;
+      room = room_before (MAX_RAISES * t.zxid) t.nodes c.requires.ready.steady.bounded.counters (few_nodes t c.keeps_lawful.ensures);
       zxid = refl;
       live = subst (AreLive t.sessions) (sym (all ∙ c.requires.due)) (due_live t.sessions (t.time + 1));
       still = λ id path at there. at;

@@ -7,11 +7,11 @@ use Rattle.zops.proofs.machine.Machine.within.Goals as goal
 
 pub invariant_of-result : goal.invariant_of-result
 invariant_of-result c = record {
-  bounded = subst IsBounded (sym c.in_ok-store.ensures.opening) (opening_bounded c.args.limits c.requires);
+  bounded = subst IsBounded (sym c.in_ok-store.ensures.opening) (opening_bounded c.args.limits);
   applied_few = omega arith;
   given_few = omega (arith, c.in_ok-store.ensures.given);
   dated = λ whole. subst AllDated (sym c.in_ok-store.ensures.opening) (opening-dated c.args.limits);
 }
 
 pub returns-clause-bounded : goal.returns-clause-bounded
-returns-clause-bounded c = subst IsBounded (sym c.in_ok-store.ensures.opening) (opening_bounded c.args.limits c.requires)
+returns-clause-bounded c = subst IsBounded (sym c.in_ok-store.ensures.opening) (opening_bounded c.args.limits)
