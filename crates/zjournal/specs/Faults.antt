@@ -36,7 +36,8 @@ HasOtherWord file = (given : ℕ) × (rest : List ℕ) × Begins (version_of Run
 
 -- the other word is the older program's
 abbrev pub IsOlder : List ℕ → Type 0
-IsOlder file = (given : ℕ) × (rest : List ℕ) × Begins (version_of Running) given rest file × (take 12 rest ≡ older_word)
+IsOlder file = (given : ℕ) × (rest : List ℕ) × Begins (version_of Running) given rest file
+    × (take 12 rest ≡ older_word)
 
 -- the head isn't as its format has it: in version 1 it has a word, or it doesn't end
 abbrev pub HasOtherHead : ℕ → List ℕ → Type 0

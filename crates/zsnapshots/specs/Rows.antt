@@ -63,7 +63,8 @@ header_of f = record {
 
 unfoldable pub header_text : Form Header
 header_text =
-    fields (both clocks (both limits totals)) (λ h. (clocks_of h, (h.limits, totals_of h))) header_of
+    fields (both clocks (both limits totals)) (λ h. (clocks_of h, (h.limits, totals_of h)))
+    header_of
 
 -- ---- nodes
 

@@ -1,8 +1,8 @@
 //! A message in transit.
 //!
 //! # Why
-//! A frame is in memory as a whole, at both ends, and a state may be far longer than a frame. So the
-//! state comes after the frame, row by row.
+//! A frame is in memory as a whole, at both ends, and a state may be far longer. So the state comes
+//! after the frame, row by row.
 
 use zprotocol::{Message, Process};
 
