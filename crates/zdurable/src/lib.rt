@@ -34,10 +34,10 @@ mod kept;
 pub mod laws;
 mod looking;
 mod opened;
-mod opening;
 mod restored;
 mod rows;
 mod stored;
+mod within;
 mod writing;
 
 pub use compacted::Compacted;
