@@ -186,8 +186,8 @@ pub(crate) fn set(store: &mut Store, set: &SetData) -> Result<ChangeReply, Stop>
     }
 }
 
-/// Counts a write of a node's access control list, and gives up the savepoint. On an error the store
-/// is unchanged.
+/// Counts a write of a node's access control list, and gives up the savepoint. On an error the
+/// store is unchanged.
 pub(crate) fn set_acl(store: &mut Store, set: &SetAcl) -> Result<ChangeReply, Stop>
     requires ready { IsReadyForPart store.old }
     ensures done { IfOk result (Gives (acl_step store.old.tree set.now) store.new) }

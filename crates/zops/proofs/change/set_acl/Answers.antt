@@ -1,6 +1,6 @@
 use Rattle.std.proofs.Common.{Ok, ap, sym, ◌∙◌}
 use Rattle.std.specs.FinMap as finite
-use Rattle.ztree.specs.Tree.{stat_at, with_acl_at}
+use Rattle.ztree.specs.Tree.{stat_at}
 use Rattle.zcalls.specs.declared.change.ChangeReply.TheVariants.{Set}
 use Rattle.zcalls.specs.Part.{acl_step, has_other_acl}
 use Rattle.zcalls.proofs.Tables.{node_there}

@@ -8,7 +8,7 @@ use Rattle.zcalls.specs.Bounds.{IsBounded}
 use Rattle.zcalls.specs.support.Alone.{ChangesNodesAlone}
 use Rattle.zcalls.proofs.Bounds.{IsWithinAll, raised_bounded}
 use Rattle.zcalls.proofs.Leaving.{Leaves}
-use Rattle.zops.specs.support.Ready.{IsReadyForPart, StaysBounded}
+use Rattle.zops.specs.support.Ready.{StaysBounded}
 use Rattle.zops.specs.support.Stops.{IsStop}
 use Rattle.zops.specs.support.Steps.{Gives}
 use Rattle.zops.proofs.Changing.{Changed, of_change, of_acl, one_of, acl_changed, has_next, ready, step-change}
