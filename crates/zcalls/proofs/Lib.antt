@@ -28,5 +28,5 @@ pub mod Folds
 pub mod Traced
 pub mod Versions
 pub mod Numbers
-mod LimitsStay
+pub mod LimitsStay
 mod AclWrites

@@ -1,12 +1,20 @@
--- The invariant of a machine whose tree gets other limits.
-use Rattle.std.proofs.Common.{◌≡◌, ℕ, Bool, Ok, Err, Result, sym, subst, arith}
+-- A machine whose tree gets other limits: its invariant, and what calls leave after that.
+use Rattle.std.proofs.Common.{◌≡◌, ℕ, Bool, List, [], ◌∷◌, Ok, Err, Result, refl, sym, subst, ◌∙◌, arith}
 use Rattle.std.specs.Prelude.{OnOk, OnErr}
 use Rattle.ztree.specs.declared.limits.TreeLimits.{TreeLimits}
 use Rattle.ztree.specs.Tree.{Tree}
 use Rattle.zstore.specs.StoreView.{StoreView, KeepsIds}
 use Rattle.zstore.specs.declared.limit_fault.LimitFault.{LimitFault}
 use Rattle.zstore.specs.Restored.{with_limits, FitsWithin}
+use Rattle.zstore.proofs.parts.Fitting.{lawful_within}
+use Rattle.zcalls.specs.declared.call.Update.{Update}
 use Rattle.zcalls.specs.Bounds.{IsBounded}
+use Rattle.zcalls.specs.CallRuns.{after_calls}
+use Rattle.zcalls.specs.Step.{step}
+use Rattle.zcalls.proofs.LawfulParts.{IsGood}
+use Rattle.zcalls.proofs.LawfulCalls.{step-good}
+use Rattle.zcalls.proofs.LimitsStay.{limits_stay}
+use Rattle.zops.specs.LimitsLaws.{CallsStayWithin}
 use Rattle.zops.specs.Restored.{AllDated}
 use Rattle.zops.specs.support.Ready.{IsSound}
 
@@ -36,3 +44,23 @@ limited-sound old new applied is_broken limits (Ok u) before tree same fits err 
     }
 limited-sound old new applied is_broken limits (Err fault) before tree same fits err =
     subst (λ (s : StoreView). IsSound s applied is_broken) (sym err) before
+
+-- a good tree fits within its own limits
+good-fits : (u : Tree) (limits : TreeLimits) → IsGood u → u.limits ≡ limits → FitsWithin u limits
+good-fits u limits good is = subst (FitsWithin u) is (record {
+  allowed = good.0.allowed;
+  nodes = good.0.few_nodes;
+  sessions = good.0.few_sessions;
+  timeouts = λ id s e. (good.1 id s e).most;
+})
+
+still_fits : (calls : List (ℕ × Update)) (u : Tree) (limits : TreeLimits) → IsGood u → u.limits ≡ limits → FitsWithin (after_calls u calls) limits
+still_fits [] u limits good is = good-fits u limits good is
+still_fits (call ∷ calls) u limits good is =
+    still_fits calls (step u call.0 call.1).0 limits (step-good u call.0 call.1 good)
+    (limits_stay u call.0 call.1 ∙ is)
+
+pub calls_stay_within : CallsStayWithin
+calls_stay_within t limits calls lawful bounded fits =
+    still_fits calls (with_limits t limits) limits
+    (lawful_within t limits lawful fits, (limited-bounded t limits bounded fits).sessions) refl
