@@ -1,5 +1,5 @@
 -- A service that is opened, and what a fault of a put is.
-use Rattle.std.proofs.Common.{◌≡◌, ◌⊎◌, inl, inr, ℕ, Bool, true, false, List, [], refl, sym, ap, subst, ◌∙◌}
+use Rattle.std.proofs.Common.{◌≡◌, ◌⊎◌, inl, inr, ℕ, Bool, true, false, List, [], Result, Ok, Err, IfOk, IfErr, refl, sym, ap, subst, ◌∙◌}
 use Rattle.ztree.specs.declared.limits.TreeLimits.{TreeLimits}
 use Rattle.ztree.specs.Tree.{Tree}
 use Rattle.zstore.specs.Restored.{with_limits}
@@ -7,6 +7,7 @@ use Rattle.zjournal.specs.Device.{LeavesOnly}
 use Rattle.zjournal.specs.Journal.{IsAtRest, Represents}
 use Rattle.zjournal.specs.Journal as journal
 use Rattle.zjournal.specs.Scan.{joined}
+use Rattle.zjournal.specs.declared.journal.Journal.{Journal}
 use Rattle.zjournal.specs.declared.fault.PutError.{PutError}
 use Rattle.zjournal.specs.declared.fault.PutError.TheVariants as put
 use Rattle.zjournal.proofs.Moments.{joined_runs, weaker}
@@ -170,11 +171,48 @@ not_of_reading (opening.Renewal e) such is = is
 
 -- ---- the journal
 
+-- what holds of a value holds of each result that has it
+pub if_ok : {T E : Type 0} (r : Result T E) (P Q : T → Type 0) → ((x : T) → P x → Q x) → IfOk r P → IfOk r Q
+if_ok (Ok x) P Q f p = f x p
+if_ok (Err e) P Q f p = p
+
+pub if_err : {T E : Type 0} (r : Result T E) (P Q : E → Type 0) → ((e : E) → P e → Q e) → IfErr r P → IfErr r Q
+if_err (Ok x) P Q f p = p
+if_err (Err e) P Q f p = f e p
+
 -- the old batches, or the tree's text: by the flag of an opening
-pub old_or : (servers m : ℕ) → m ≡ servers → (batches : List (List ℕ)) (t : Tree) (file : List ℕ) → IsOldOrTree m batches t file
-    → IsFoundOr true servers batches t file
-old_or servers m is batches t file (inl keeps) = inl (subst (λ k. Represents k batches file) is (inl keeps))
-old_or servers m is batches t file (inr keeps) = inr (subst (λ k. KeepsTree k t file) is keeps)
+represents_or : (is_other : Bool) (servers m : ℕ) → m ≡ servers → (batches : List (List ℕ)) (t : Tree) (file : List ℕ) → Represents m batches file
+    → IsFoundOr is_other servers batches t file
+represents_or false servers m is batches t file stands = subst (λ k. Represents k batches file) is stands
+represents_or true servers m is batches t file stands = inl (subst (λ k. Represents k batches file) is stands)
+
+old_or : (is_other : Bool) → is_other ≡ true → (servers m : ℕ) → m ≡ servers → (batches : List (List ℕ)) (t : Tree) (file : List ℕ)
+    → IsOldOrTree m batches t file → IsFoundOr is_other servers batches t file
+old_or is_other other servers m is batches t file (inl keeps) =
+    represents_or is_other servers m is batches t file (inl keeps)
+old_or is_other other servers m is batches t file (inr keeps) =
+    subst (λ (b : Bool). IsFoundOr b servers batches t file) (sym other) (inr (subst (λ k. KeepsTree k t file) is keeps))
+
+-- a journal that is opened, and whose file may then be replaced
+module _ {D : Type 0} (moment : D → ℕ) (left_since : D → ℕ → List ℕ → Type 0) (old mid : D) (servers m : ℕ) (is : m ≡ servers) (batches : List (List ℕ))
+    (t : Tree) (is_other : Bool) (run : LeavesOnly moment left_since old mid (Represents m batches)) where
+  pub opened_leaves : LeavesOnly moment left_since old mid (IsFoundOr is_other servers batches t)
+  opened_leaves =
+      weaker moment left_since old mid (Represents m batches) (IsFoundOr is_other servers batches t) run
+      (represents_or is_other servers m is batches t)
+
+  pub renewed_leaves : (new : D) → is_other ≡ true → LeavesOnly moment left_since mid new (IsOldOrTree m batches t)
+      → LeavesOnly moment left_since old new (IsFoundOr is_other servers batches t)
+  renewed_leaves new other more =
+      joined_runs moment left_since old mid new (IsFoundOr is_other servers batches t) opened_leaves
+      (weaker moment left_since mid new (IsOldOrTree m batches t) (IsFoundOr is_other servers batches t) more
+      (old_or is_other other servers m is batches t))
+
+-- a journal that is at rest with some batches is so with those of its file
+pub rest_of : {D : Type 0} (seen : D → List ℕ) (may_leave : D → List ℕ → Type 0) (m : ℕ) (file : List ℕ) (it : Journal D) (some batches : List (List ℕ))
+    → Represents m some file → Represents m batches file → IsAtRest seen may_leave m some it → IsAtRest seen may_leave m batches it
+rest_of seen may_leave m file it some batches first second rest =
+    subst (λ bs. IsAtRest seen may_leave m bs it) (files_have_one_reading m file some batches first second) rest
 
 -- a text of this fault is that of the file
 pub such_read : (fault : ReadFault) (servers n : ℕ) (file text : List ℕ) → n ≡ servers → (read : List (List ℕ))

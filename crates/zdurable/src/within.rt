@@ -5,7 +5,7 @@
 //! unchanged. A tree with other limits is written at once: its snapshot is where a file has limits,
 //! and what is appended to it acts within them.
 
-ghost use Rattle.std.specs.Prelude.{◌≡◌, ◌≢◌, true, false, List, ℕ, IfErr, IfOk};
+ghost use Rattle.std.specs.Prelude.{◌≡◌, ◌≢◌, ◌<◌, true, false, List, ℕ, IfErr, IfOk};
 ghost use Rattle.zstore.specs.Restored.{with_limits};
 ghost use Rattle.zjournal.specs.Device.{LeavesOnly, Only};
 ghost use Rattle.zjournal.specs.Journal.{IsAtRest, Represents, device_of};
