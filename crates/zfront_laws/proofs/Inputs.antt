@@ -8,7 +8,7 @@ use Rattle.zconnections.specs.buffers.Streams as streams
 use Rattle.zconnections.specs.attachments.Attachments.{touched_ids}
 use Rattle.ztree_service.proofs.log_lemmas.Incarnations.{leads_more}
 use Rattle.zconnections.specs.Tables as tables
-use Rattle.zfront.specs.Front.{FrontView, asked, watched}
+use Rattle.zfront.specs.Front.{FrontView, asked}
 use Rattle.zfront.specs.Inputs as inputs
 use Rattle.zfront.specs.Inputs.{without_first}
 use Rattle.zfront.specs.Restoring.{beginning}
@@ -21,6 +21,7 @@ use Rattle.zfront_laws.specs.Runs.{Step, Takes, Sent, Took, KeepsFew, Does, Runs
 use Rattle.zfront_laws.specs.Seats.{EveryFrontIsSeated}
 use Rattle.zfront_laws.proofs.Calling.{makes}
 use Rattle.zfront_laws.proofs.Coming.{comes, empties, handles_all}
+use Rattle.zfront_laws.proofs.Ending.{tick_calls_end}
 use Rattle.zfront_laws.proofs.Held.{held-insert, held-remove}
 use Rattle.zfront_laws.proofs.Cached.{ends_kept, opens_kept, rests_kept}
 use Rattle.zfront_laws.proofs.Lighter.{as_many, none_more, unmoved}
@@ -31,7 +32,8 @@ use Rattle.zfront_laws.proofs.Steps.{Goes, both, retabled, same, takes}
 ticks : (old new : FrontView) → Ticks old new → Goes [] (done_by (tick_calls (touched_ids old.tables.attachments)) old) old new
 ticks old new has =
     let calls = tick_calls (touched_ids old.tables.attachments) in
-    makes calls (rested (asked calls old)).tables old new (as_many (held_of old.tables.streams), rests_kept old.tables) (watched old) has
+    makes calls (rested (asked calls old)).tables old new (as_many (held_of old.tables.streams), rests_kept old.tables)
+    (λ fine. tick_calls_end (touched_ids old.tables.attachments) old.tree fine.can) has
 
 takes_input : (input : InputView) (old new : FrontView) → KeepsFew old → (does : inputs.Does input old new)
     → Goes [] (input_log input old new does) old new

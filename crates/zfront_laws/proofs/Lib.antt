@@ -11,6 +11,7 @@ pub mod Working
 pub mod Rising
 pub mod Starts
 mod Living
+pub mod Ending
 pub mod Steps
 pub mod Calling
 pub mod Serving

@@ -1,6 +1,7 @@
 -- A step at greetings and at requests.
 use Rattle.std.proofs.Common.{◌≡◌, ◌≢◌, ◌⊎◌, inl, inr, ◌∙◌, ℕ, ℤ, ◌+◌, ◌≤◌, Bool, true, false, List, [], ◌∷◌, Option, None, Some, Result}
 use Rattle.std.proofs.Common.{Ok, Err, refl, sym, ap, subst, arith}
+use Rattle.std.specs.List.{AllByRecursion}
 use Rattle.std.specs.Prelude.{pos, negsuc, nat_eq, unwrap_or, if◌then◌else◌}
 use Rattle.std.specs.Cmp.{nat_cmp_total}
 use Rattle.std.specs.FinMap.{get, insert, contains_key, nat_cmp-IsAntisymmetric}
@@ -19,6 +20,8 @@ use Rattle.zjute.specs.declared.connecting.ConnectRequest.{ConnectRequest}
 use Rattle.zjute.specs.declared.request.Request.{Request}
 use Rattle.zrequests.specs.Asking.{Meaning}
 use Rattle.zrequests.specs.Requests.{calls_in}
+use Rattle.zrequests.specs.Laws.{CallIsFor}
+use Rattle.zrequests.proofs.SessionCalls.{calls_are_for_their_session}
 use Rattle.zrequests.specs.Timeouts.{millis_reported, ticks_asked}
 use Rattle.zrequests.specs.declared.fault.Unasked.TheVariants.{Refused, Memory}
 use Rattle.zresponses.specs.declared.answer.Answer.{Answer}
@@ -36,7 +39,7 @@ use Rattle.zconnections.specs.Tables.{TablesView, closed, connection_of, moved, 
 use Rattle.zresponses.specs.effects.Frames.{response_frame}
 use Rattle.zresponses.specs.effects.Greeting.{came_back, given, is_ahead, session_reported, turned_away}
 use Rattle.zresponses.specs.effects.Replying.{replied}
-use Rattle.zfront.specs.Front.{FrontView, with_tables, asked, watched}
+use Rattle.zfront.specs.Front.{FrontView, with_tables, asked}
 use Rattle.zfront.specs.Greeting.{opening, opened, with_session, returned, greeted_by, greeted}
 use Rattle.zfront.specs.Requests.{touched_by, with_answer, Tells, Acts, ActsOr, Requests, Serves, request_in}
 use Rattle.zfront.specs.Walks.{walked}
@@ -44,6 +47,7 @@ use Rattle.zfront_laws.specs.Logs.{done_by, greeting_calls, meant, request_calls
 use Rattle.zfront_laws.specs.Seats.{IsSeated}
 use Rattle.zfront_laws.proofs.Calling.{made, makes}
 use Rattle.zfront_laws.proofs.Changes.{replies_to, says, sends}
+use Rattle.zfront_laws.proofs.Ending.{own_calls_end}
 use Rattle.zfront_laws.proofs.Cached.{closes_kept, touched_kept}
 use Rattle.zfront_laws.proofs.Lighter.{Lighter, as_many, carries_lighter, closes, moves, phase_lighter}
 use Rattle.zfront_laws.proofs.Rising.{new_id, sessions_last, step_adds}
@@ -60,18 +64,19 @@ tells answer c r old new is =
     retabled (replied (told old.clock.base old.tree.zxid) c r.xid answer old.tables) old new is
     (replies_to Lighter carries_lighter (told old.clock.base old.tree.zxid) c r.xid answer old.tables)
 
-acts : (meaning : Meaning (List Call)) (c : ℕ) (r : Request) (old new : FrontView) → Acts meaning c r old new
-    → Goes [] (done_by (meant meaning) old) old new
-acts (Err (Refused code)) c r old new is = tells (refused_answer code r.asked) c r old new is
-acts (Err Memory) c r old new is = absurd is
-acts (Ok calls) c r old new has =
-    makes calls (with_answer calls c r old).tables old new (working.answered_by Lighter carries_lighter calls c r old) (watched old) has
+acts : (meaning : Meaning (List Call)) (session : ℕ) → ((calls : List Call) → meaning ≡ Ok calls → AllByRecursion (CallIsFor session) calls)
+    → (c : ℕ) (r : Request) (old new : FrontView) → Acts meaning c r old new → Goes [] (done_by (meant meaning) old) old new
+acts (Err (Refused code)) session for c r old new is = tells (refused_answer code r.asked) c r old new is
+acts (Err Memory) session for c r old new is = absurd is
+acts (Ok calls) session for c r old new has =
+    makes calls (with_answer calls c r old).tables old new (working.answered_by Lighter carries_lighter calls c r old)
+    (λ fine. own_calls_end session calls (for calls refl) old.tree) has
 
 acts_or : (walk : Option Answer) (meaning : Meaning (List Call)) → ((answer : Answer) → walk ≡ Some answer → meant meaning ≡ [])
-    → (c : ℕ) (r : Request) (old new : FrontView) → ActsOr walk meaning c r old new → Goes [] (done_by (meant meaning) old) old new
-acts_or (Some answer) meaning nothing c r old new is =
+    → (session : ℕ) → ((calls : List Call) → meaning ≡ Ok calls → AllByRecursion (CallIsFor session) calls) → (c : ℕ) (r : Request) (old new : FrontView) → ActsOr walk meaning c r old new → Goes [] (done_by (meant meaning) old) old new
+acts_or (Some answer) meaning nothing session for c r old new is =
     subst (λ calls. Goes [] (done_by calls old) old new) (sym (nothing answer refl)) (tells answer c r old new is)
-acts_or None meaning nothing c r old new has = acts meaning c r old new has
+acts_or None meaning nothing session for c r old new has = acts meaning session for c r old new has
 
 requests : (read : Result Request Fault) (session c : ℕ) (old new : FrontView) → Requests read session c old new
     → Goes [] (done_by (request_calls read session old) old) old new
@@ -80,7 +85,7 @@ requests (Ok r) session c old new has =
     let middle = touched_by session old in
     both (retabled middle.tables old middle refl (as_many (held_of old.tables.streams), touched_kept session old.tables))
     (acts_or (walked session r.asked old.tree) (calls_in old.clock.terms session r.asked)
-    (walks_call_nothing old.clock.terms session r.asked old.tree) c r middle new has)
+    (walks_call_nothing old.clock.terms session r.asked old.tree) session (calls_are_for_their_session old.clock.terms session r.asked) c r middle new has)
 
 pub serves : (bytes : List ℕ) (session c : ℕ) (old new : FrontView) → Serves bytes session c old new
     → Goes [] (done_by (request_calls (request_in old.clock.base bytes) session old) old) old new

@@ -23,6 +23,7 @@ pub mod Again
 pub mod Adding
 pub mod Wished
 pub mod Watched
+pub mod Doomed
 pub mod Looking
 pub mod Told
 pub mod Tidying

@@ -45,7 +45,7 @@ use Rattle.zresponses.specs.effects.Replying.{absorbed_all, replied}
 use Rattle.zresponses.specs.effects.Watching.{granted_all, first_fault}
 use Rattle.zresponses.specs.effects.Wishes.{wishes}
 use Rattle.zfront.specs.declared.limits.TheConstants.{MAX_KEPT}
-use Rattle.zfront.specs.Front.{FrontView, with_tables, asked, replies_to, watched}
+use Rattle.zfront.specs.Front.{FrontView, with_tables, asked, replies_to}
 use Rattle.zfront.specs.Greeting.{opening, opened, with_session, returned, greeted_by, greeted}
 use Rattle.zfront.specs.Inputs as inputs
 use Rattle.zfront.specs.Reading.{HandlesIn, Handles, HandlesAll, Reads, is_too_long, kept, keeps, Keeps}
@@ -108,7 +108,7 @@ module _ (c d : ℕ) (other : d ≢ c) where
   makes calls r old new has =
       let middle = with_answer calls d r old in
       front.both c old middle new (answers old.clock (now_of (asked calls old).tree) r calls (replies_to calls old) old.tables)
-      (front.tidies c calls (replies_to calls old) (watched old) middle new has)
+      (front.tidies c calls old middle new has)
 
   tells : (answer : Answer) (r : Request) (old new : FrontView) → Tells answer d r old new → Calm c old.tables new.tables
   tells answer r old new is =
@@ -291,7 +291,7 @@ module _ (c : ℕ) where
       front.both c old middle new
       (table.alike c old.tables middle.tables refl (free-attachments c old.tables (all_rested old.tables.attachments)
       (rests_alike old.tables.attachments).0))
-      (front.tidies c calls (replies_to calls old) (watched old) middle new has)
+      (front.tidies c calls old middle new has)
 
   pub ticks : (old new : FrontView) → Ticks old new → Calm c old.tables new.tables
   ticks old new has = ticks_by (tick_calls (touched_ids old.tables.attachments)) old new has

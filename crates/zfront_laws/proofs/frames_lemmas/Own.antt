@@ -24,7 +24,7 @@ use Rattle.zresponses.specs.effects.Replying.{absorbed_all, replied}
 use Rattle.zresponses.specs.effects.Watching.{IsFaultOf, granted_all, first_fault}
 use Rattle.zresponses.specs.effects.Wishes.{wishes}
 use Rattle.zresponses.specs.Stats.{told}
-use Rattle.zfront.specs.Front.{FrontView, asked, replies_to, watched}
+use Rattle.zfront.specs.Front.{FrontView, asked, replies_to}
 use Rattle.zfront.specs.Reading.{HandlesIn, Handles, HandlesAll}
 use Rattle.zfront.specs.Requests.{touched_by, with_answer, Tells, Acts, ActsOr, Requests, request_in}
 use Rattle.zfront.specs.Walks.{walked}
@@ -134,7 +134,7 @@ module _ (c : ℕ) where
           subst (λ (l : Log). Answered old.clock old.secret session tree l (bytes ∷ []) (followed one.0 talk)) (append-nil log)
           (answered_both old.clock old.secret session tree log [] (bytes ∷ []) [] one.0 talk one.1
           (answered_calm old.clock old.secret session speaking_then (tree_behind tree log) [] talk calm) (λ ends. refl)))
-          (front.tidies c calls (replies_to calls old) (watched old) middle new makes)
+          (front.tidies c calls old middle new makes)
 
       acts_or : (walk : Option Answer) (meaning : Meaning (List Call)) (old new : FrontView) → request_in old.clock.base bytes ≡ Ok r
           → walked session r.asked old.tree ≡ walk → calls_in old.clock.terms session r.asked ≡ meaning → speaks (phase_of old.tables.streams c) ≡ true → Free c old.tables

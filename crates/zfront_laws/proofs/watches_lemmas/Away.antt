@@ -1,22 +1,28 @@
 -- Nodes that a close or a tick has nothing to do with stay as they are.
 use Rattle.std.proofs.Common.{◌≡◌, ◌≢◌, ◌∙◌, ◌+◌, ℕ, Bool, true, false, List, [], ◌∷◌, Option, Some, None, refl, sym, ap, inl, inr}
-use Rattle.std.specs.Prelude.{◌⊎◌, if◌then◌else◌}
-use Rattle.std.specs.List.{AllByRecursion}
+use Rattle.std.specs.Prelude.{◌⊎◌, ◌||◌, if◌then◌else◌}
+use Rattle.std.specs.Cmp.{nat_cmp_total}
+use Rattle.std.specs.FinMap.{nat_cmp-IsAntisymmetric}
+use Rattle.std.specs.List.{list_any}
+use Rattle.std.specs.Ordering.{eq_by_cmp, nat_cmp}
+use Rattle.std.proofs.Math.Bool.{or-true}
+use Rattle.zpath.specs.Grammar.{path_cmp}
 use Rattle.std.specs.Option.{option_map, option_map_or}
 use Rattle.std.specs.FinMap as finite
 use Rattle.ztree.specs.declared.node.Node.{Node}
+use Rattle.ztree.specs.declared.session.Session.{Session}
 use Rattle.ztree.specs.Tree.{Tree, Path, Nodes, parent_of, ephemerals, without_node, without_child, with_next_zxid}
 use Rattle.ztree.specs.Sessions.{without_nodes, without_session, without_sessions}
 use Rattle.ztree.proofs.Ephemerals.{ephemerals-dropped, first_is_there}
-use Rattle.ztree.proofs.Maps.{none_some, get-remove-elsewhere}
+use Rattle.ztree.proofs.Maps.{none_some, get-remove-elsewhere, tied}
 use Rattle.ztree.proofs.Nodes.{get-insert-other}
 use Rattle.ztree.proofs.Sorted.{paths_total, same_path}
-use Rattle.zcalls.specs.Lists.{Among}
 use Rattle.zcalls.specs.declared.call.Update.TheVariants.{Close, Tick}
 use Rattle.zcalls.specs.declared.refusal.Refusal.TheVariants.{SessionGone, Exhausted}
 use Rattle.zcalls.specs.declared.reply.Reply.{Reply}
 use Rattle.zcalls.specs.declared.reply.Reply.TheVariants as reply
 use Rattle.zcalls.specs.Part.{is_gone}
+use Rattle.zcalls.proofs.Owners.{is_own}
 use Rattle.zcalls.specs.Step.{step, update_result, after_tick, counted_if, is_busy, is_exhausted, due_next, stale_next}
 use Rattle.zwatches.specs.changes.Laws.{but_children, data_at}
 use Rattle.zfront_laws.proofs.watches_lemmas.Holding.{same_owner}
@@ -63,10 +69,13 @@ module _ (path : Path) where
           get-insert-other fewer (parent_of at) (without_child (t.zxid + 1) n) path far.1
           ∙ get-remove-elsewhere paths_total same_path t.nodes at path far.0
 
-  all_far : (paths : List Path) (t : Tree) → AllByRecursion (IsFar path) paths
+  -- one after the other
+  all_far : (paths : List Path) (t : Tree) → ((at : Path) → list_any (eq_by_cmp path_cmp at) paths ≡ true → IsFar path at)
       → finite.get (without_nodes t paths).nodes path ≡ finite.get t.nodes path
   all_far [] t far = refl
-  all_far (at ∷ paths) t far = all_far paths (without_node t at) far.1 ∙ dropped_far t at far.0
+  all_far (at ∷ paths) t far =
+      all_far paths (without_node t at) (λ q among. far q (ap (λ b. eq_by_cmp path_cmp q at || b) among ∙ or-true (eq_by_cmp path_cmp q at)))
+      ∙ dropped_far t at (far at (ap (λ b. b || list_any (eq_by_cmp path_cmp at) paths) (tied paths_total same_path at)))
 
   -- nodes of one session
   owned_far : (id : ℕ) (paths : List Path) (t : Tree) → ephemerals t.nodes id ≡ paths → ((at : Path) → Owns t.nodes id at → IsFar path at)
@@ -78,32 +87,48 @@ module _ (path : Path) where
       ∙ dropped_far t at (far at (first_is_there id t.nodes at paths is))
 
   -- and of several
-  ended_far : (ids : List ℕ) (t : Tree) → ((id : ℕ) (at : Path) → Among id ids → Owns t.nodes id at → IsFar path at)
+  ended_far : (ids : List ℕ) (t : Tree)
+      → ((id : ℕ) (at : Path) → list_any (eq_by_cmp nat_cmp id) ids ≡ true → Owns t.nodes id at → IsFar path at)
       → finite.get (without_sessions t ids).nodes path ≡ finite.get t.nodes path
   ended_far [] t far = refl
   ended_far (first ∷ ids) t far =
       let u = without_session t first in
       ended_far ids u
-      (λ id at among owns. far id at (inr among)
+      (λ id at among owns.
+      far id at (ap (λ b. eq_by_cmp nat_cmp id first || b) among ∙ or-true (eq_by_cmp nat_cmp id first))
       (owned_before (t.zxid + 1) t.nodes u.nodes at id (all_dropped (ephemerals t.nodes first) t at) owns))
-      ∙ owned_far first (ephemerals t.nodes first) t refl (λ at owns. far first at (inl refl) owns)
+      ∙ owned_far first (ephemerals t.nodes first) t refl
+      (λ at owns. far first at (ap (λ b. b || list_any (eq_by_cmp nat_cmp first) ids) (tied nat_cmp_total nat_cmp-IsAntisymmetric first)) owns)
 
   -- ---- a close and a tick
 
-  pub close_leaves : (t : Tree) (id : ℕ) → ((at : Path) → Owns t.nodes id at → IsFar path at)
+  abbrev closed : Tree → ℕ → Tree × Reply
+  closed t id = (with_next_zxid (without_session t id), reply.Closed)
+
+  closed_by : (t : Tree) (id : ℕ) → ((s : Session) → finite.get t.sessions id ≡ Some s → (at : Path) → Owns t.nodes id at → IsFar path at)
+      → (gone : Bool) → is_gone t.sessions 0 id ≡ gone
+      → finite.get (if gone then (t, reply.Refused SessionGone) else closed t id).0.nodes path
+      ≡ finite.get t.nodes path
+  closed_by t id far true is = refl
+  closed_by t id far false is =
+      let own = is_own t.sessions 0 id is in
+      owned_far id (ephemerals t.nodes id) t refl (far own.session own.there)
+
+  pub close_leaves : (t : Tree) (id : ℕ) → ((s : Session) → finite.get t.sessions id ≡ Some s → (at : Path) → Owns t.nodes id at → IsFar path at)
       → finite.get (step t 0 (Close id)).0.nodes path ≡ finite.get t.nodes path
   unfolding step
   close_leaves t id far =
       left_by path t (reply.Refused Exhausted) (update_result t 0 (Close id)) (is_exhausted t (Close id))
-      (left_by path t (reply.Refused SessionGone) (with_next_zxid (without_session t id), reply.Closed) (is_gone t.sessions 0 id)
-      (owned_far id (ephemerals t.nodes id) t refl far))
+      (closed_by t id far (is_gone t.sessions 0 id) refl)
 
   counted_leaves : (b : Bool) (u : Tree) → finite.get (counted_if b u).nodes path ≡ finite.get u.nodes path
   counted_leaves true u = refl
   counted_leaves false u = refl
 
-  pub tick_leaves : (t : Tree) → ((id : ℕ) (at : Path) → Among id (due_next t) → Owns t.nodes id at → IsFar path at)
-      → AllByRecursion (IsFar path) (stale_next t) → finite.get (step t 0 Tick).0.nodes path ≡ finite.get t.nodes path
+  pub tick_leaves : (t : Tree)
+      → ((id : ℕ) (at : Path) → list_any (eq_by_cmp nat_cmp id) (due_next t) ≡ true → Owns t.nodes id at → IsFar path at)
+      → ((at : Path) → list_any (eq_by_cmp path_cmp at) (stale_next t) ≡ true → IsFar path at)
+      → finite.get (step t 0 Tick).0.nodes path ≡ finite.get t.nodes path
   unfolding step
   tick_leaves t ends stale =
       left_by path t (reply.Refused Exhausted) (update_result t 0 Tick) (is_exhausted t Tick)

@@ -6,6 +6,7 @@ use Rattle.std.specs.Prelude.{◌⊎◌, ◌||◌, is_some, map}
 use Rattle.std.specs.List.{AllByRecursion, list_any}
 use Rattle.std.specs.FinMap as finite
 use Rattle.std.specs.Option.{option_map, option_map_or}
+use Rattle.std.specs.Ordering.{eq_by_cmp, nat_cmp}
 use Rattle.std.proofs.lemmas.List.{append-nil}
 use Rattle.ztree.specs.declared.node.Node.{Node}
 use Rattle.ztree.specs.Lawful.{IsLawful, IsOwner}
@@ -43,17 +44,20 @@ there_read f (Some n) = refl
 
 -- ---- sessions that ended are swept
 
--- a session that is gone made a node
-abbrev pub Gone : FrontView → Type 0
-Gone v = (id : ℕ) × (finite.get v.tree.sessions id ≡ None) × (made_one v.tables.attachments id ≡ true)
+-- one of these sessions is gone, and made a node
+abbrev pub Gone : List ℕ → FrontView → Type 0
+Gone ids v = (id : ℕ) × (finite.get v.tree.sessions id ≡ None) × (list_any (eq_by_cmp nat_cmp id) ids ≡ true)
+    × (made_one v.tables.attachments id ≡ true)
 
 -- why a look gets due
-becomes_due : (reported : List Reply) (v : FrontView) → (list_any takes_nodes reported ≡ true) ⊎ Gone v → took_unnamed reported v ≡ true
-becomes_due reported v (inl some) = ap (λ b. b || some_made_one v.tables.attachments (gone_from v)) some
-becomes_due reported v (inr (id, none, made)) =
-    ap (λ b. list_any takes_nodes reported || b) (gone_made v.tree.sessions v.tables.attachments id none made) ∙ or-true (list_any takes_nodes reported)
+becomes_due : (reported : List Reply) (ids : List ℕ) (v : FrontView) → (list_any takes_nodes reported ≡ true) ⊎ Gone ids v
+    → took_unnamed reported ids v ≡ true
+becomes_due reported ids v (inl some) = ap (λ b. b || some_made_one v.tables.attachments (gone_from ids v)) some
+becomes_due reported ids v (inr (id, none, listed, made)) =
+    ap (λ b. list_any takes_nodes reported || b) (gone_made v.tree.sessions ids v.tables.attachments id none listed made)
+    ∙ or-true (list_any takes_nodes reported)
 
-owned_there : (m : Sessions) (id : ℕ) → IsOwner m id → (id ≡ 0) ⊎ (finite.contains_key m id ≡ true)
+pub owned_there : (m : Sessions) (id : ℕ) → IsOwner m id → (id ≡ 0) ⊎ (finite.contains_key m id ≡ true)
 owned_there m id (inl nobody) = inl nobody
 owned_there m id (inr there) = inr there
 
@@ -162,10 +166,10 @@ module _ (old v : FrontView) (paths : List Path) (covers : Covers old v.tree pat
   }
 
 -- what calls took away since the earlier front, and why a look gets due then
-abbrev pub Lost : FrontView → FrontView → Bool → Type 0
-Lost old v took =
+abbrev pub Lost : FrontView → List ℕ → FrontView → Bool → Type 0
+Lost old ids v took =
     (v.tree.nodes ≡ old.tree.nodes)
-    ⊎ (((path : Path) → Loses v.tree.zxid old.tree.nodes v.tree.nodes path) × ((took ≡ true) ⊎ Gone v))
+    ⊎ (((path : Path) → Loses v.tree.zxid old.tree.nodes v.tree.nodes path) × ((took ≡ true) ⊎ Gone ids v))
 
 looks_if : {Asks : Asking} (due : Bool) (old v : FrontView) (paths : List Path) → Covers old v.tree paths → (s : Scene) → AtIf (Some old) v s
     → (v.tree.nodes ≡ old.tree.nodes) ⊎ (((path : Path) → Loses v.tree.zxid old.tree.nodes v.tree.nodes path) × (due ≡ true))
@@ -185,14 +189,14 @@ looks_if true old v paths covers s there (inl same) =
 looks_if true old v paths covers s there (inr (loses, due)) = looks_by old v paths covers s loses there
 
 -- after calls that ended sessions
-pub tidies : {Asks : Asking} (reported : List Reply) (old v : FrontView) (paths : List Path) → Covers old v.tree paths → (s : Scene)
-    → AtIf (Some old) v s → Lost old v (list_any takes_nodes reported) → Reaches Asks (tidied_if true reported paths v) s []
-tidies reported old v paths covers s there lost =
-    still (Some old) None (swept v) (tidied_if true reported paths v) s []
-    (sweeps (Some old) (gone_from v) v s (all_gone v.tree.sessions v.tables.attachments) there)
-    (λ next here. looks_if (took_unnamed reported v) old (swept v) paths covers next here (due lost))
+pub tidies : {Asks : Asking} (reported : List Reply) (ids : List ℕ) (old v : FrontView) (paths : List Path) → Covers old v.tree paths → (s : Scene)
+    → AtIf (Some old) v s → Lost old ids v (list_any takes_nodes reported) → Reaches Asks (tidied_if true reported ids paths v) s []
+tidies reported ids old v paths covers s there lost =
+    still (Some old) None (swept ids v) (tidied_if true reported ids paths v) s []
+    (sweeps (Some old) (gone_from ids v) v s (all_gone v.tree.sessions ids) there)
+    (λ next here. looks_if (took_unnamed reported ids v) old (swept ids v) paths covers next here (due lost))
   where
-    due : Lost old v (list_any takes_nodes reported)
-        → (v.tree.nodes ≡ old.tree.nodes) ⊎ (((path : Path) → Loses v.tree.zxid old.tree.nodes v.tree.nodes path) × (took_unnamed reported v ≡ true))
+    due : Lost old ids v (list_any takes_nodes reported)
+        → (v.tree.nodes ≡ old.tree.nodes) ⊎ (((path : Path) → Loses v.tree.zxid old.tree.nodes v.tree.nodes path) × (took_unnamed reported ids v ≡ true))
     due (inl same) = inl same
-    due (inr (loses, why)) = inr (loses, becomes_due reported v why)
+    due (inr (loses, why)) = inr (loses, becomes_due reported ids v why)
