@@ -24,7 +24,7 @@ use Rattle.zwatches.specs.declared.watch.Watch.{Watch}
 use Rattle.zwatches.specs.Watches.{Watches}
 use Rattle.zwatches.specs.Events.{fires, is_awaited}
 use Rattle.zwatches.proofs.Order.{watches_total, same_watch}
-use Rattle.zfront.specs.Front.{FrontView, watched}
+use Rattle.zfront.specs.Front.{FrontView}
 use Rattle.zfront_laws.proofs.watches_lemmas.Standing.{In}
 
 -- ---- what is among them
