@@ -1,5 +1,5 @@
 -- The counts of the nodes, where one node comes, goes or is changed; and that they fit.
-use Rattle.std.proofs.Common.{◌≡◌, ◌≢◌, ◌⊎◌, inl, inr, ℕ, ◌+◌, ◌*◌, ◌<◌, ◌≤◌, Bool, true, false, cond, List, [], ◌∷◌, length, Option, Some, None, refl, sym, ap, subst, ◌∙◌, arith}
+use Rattle.std.proofs.Common.{◌≡◌, ◌≢◌, ◌⊎◌, inl, inr, ℕ, ◌+◌, ◌*◌, ◌≤◌, Bool, true, false, cond, List, [], ◌∷◌, length, Some, None, refl, sym, ap, subst, ◌∙◌, arith}
 use Rattle.std.specs.Prelude.{◌==◌}
 use Rattle.std.specs.FinMap as finite
 use Rattle.std.specs.FinMap.{get, insert, remove, entries, len-entries, get-empty}
@@ -7,7 +7,7 @@ use Rattle.zpath.specs.Grammar.{path_cmp}
 use Rattle.ztree.specs.declared.limits.TheConstants.{MOST_DATA}
 use Rattle.ztree.specs.declared.node.Node.{Node}
 use Rattle.ztree.specs.Tree.{Path, Nodes, with_change_at}
-use Rattle.ztree.specs.Counts.{sum_of, one_if_owned, size_of, owned_count, data_count}
+use Rattle.ztree.specs.Counts.{sum_of, one_if_owned, size_of}
 use Rattle.ztree.proofs.Maps as maps
 use Rattle.ztree.proofs.Nodes.{changed_at-some}
 use Rattle.ztree.proofs.Sorted.{paths_total, same_path}

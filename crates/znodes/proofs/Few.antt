@@ -1,5 +1,5 @@
 -- How many rows there are: each node has its own, and the calls that move rows add none.
-use Rattle.std.proofs.Common.{◌≡◌, ◌≢◌, ◌⊎◌, inl, inr, ℕ, suc, ◌<◌, ◌≤◌, Bool, true, false, List, [], ◌∷◌, map, length, Option, Some, None, IsSome, is_some, refl, sym, ap, subst, ◌∙◌, arith}
+use Rattle.std.proofs.Common.{◌≡◌, ◌≢◌, ◌⊎◌, inl, inr, suc, ◌≤◌, List, [], ◌∷◌, map, length, Option, Some, None, IsSome, is_some, refl, sym, ap, subst, ◌∙◌, arith}
 use lib.Dec.{T}
 use Rattle.std.specs.Option.{option_map}
 use Rattle.std.specs.Cmp.{tied_itself}
@@ -9,7 +9,7 @@ use Rattle.std.specs.FinMap.Entries.{below_all}
 use Rattle.zpath.specs.Grammar.{path_cmp}
 use Rattle.zslots.specs.declared.id.Id.{Id}
 use Rattle.zslots.specs.SlotsView.{Items}
-use Rattle.zslots.specs.Ids.{Ids, IsIn, NotIn, NoTwo, id_cmp}
+use Rattle.zslots.specs.Ids.{Ids, IsIn, NoTwo, id_cmp}
 use Rattle.zslots.proofs.Listing.{same_domain}
 use Rattle.zslots.proofs.Maps.{id_cmp_total, id_cmp_same, same_or_other}
 use Rattle.zslots.proofs.Members.{NotIn-from, length-within}

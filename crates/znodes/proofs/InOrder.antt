@@ -1,5 +1,5 @@
 -- The keys of a map's entries that pass a test, from an unordered list of them.
-use Rattle.std.proofs.Common.{◌≡◌, Bool, ◌&&◌, ◌||◌, true, false, cond, List, [], ◌∷◌, map, Option, Some, None, refl, sym, ap, subst, ◌∙◌}
+use Rattle.std.proofs.Common.{◌≡◌, Bool, ◌&&◌, ◌||◌, true, false, cond, List, [], ◌∷◌, map, Some, None, refl, sym, ap, subst, ◌∙◌}
 use lib.Dec.{T}
 use Rattle.std.specs.Prelude.{is_some, IsPermutation, IsSorted}
 use Rattle.std.specs.declared.cmp.Ordering.{Ordering}
@@ -8,8 +8,7 @@ use Rattle.std.specs.Option.{option_map_or}
 use Rattle.std.specs.List.{list_any, filter_map, cons_option, AllByRecursion, IsDistinct}
 use Rattle.std.specs.Cmp.{IsTotalOrder}
 use Rattle.std.specs.Map.{keys_of}
-use Rattle.std.specs.FinMap as finite
-use Rattle.std.specs.FinMap.{FinMap, IsAntisymmetric, get, entries, keys, find, is_sorted, entries_sorted, from_entries, from_sorted, get-from_entries, get-from_sorted, entries-from_sorted}
+use Rattle.std.specs.FinMap.{FinMap, IsAntisymmetric, get, entries, is_sorted, entries_sorted, from_entries, from_sorted, get-from_entries, get-from_sorted, entries-from_sorted}
 use Rattle.std.specs.FinMap.Entries.{below_all, is_some-find}
 use Rattle.zslots.proofs.Listing.{sorted_keys, same_domain}
 use Rattle.ztree.specs.Laws.{NoneTwice}

@@ -1,19 +1,19 @@
 -- The paths of an owner's list, once sorted, are those of the nodes that the owner owns; and so for
 -- the nodes that a tick removes.
-use Rattle.std.proofs.Common.{◌≡◌, ℕ, ◌<◌, Bool, true, false, List, [], Option, Some, None, IsSome, IfSome, refl, sym, ap, subst, ◌∙◌, arith}
-use Rattle.std.specs.Prelude.{◌==◌, ◌↔◌, IsPermutation, IsSorted}
-use Rattle.std.specs.Option.{option_map, option_map_or, option_and_then}
+use Rattle.std.proofs.Common.{◌≡◌, ℕ, ◌<◌, true, false, List, [], Option, Some, None, IsSome, IfSome, refl, sym, ap, subst, ◌∙◌, arith}
+use Rattle.std.specs.Prelude.{◌==◌, ◌↔◌, IsPermutation}
+use Rattle.std.specs.Option.{option_map_or, option_and_then}
 use Rattle.std.specs.Cmp.{unsigned_Decides}
 use Rattle.std.specs.FinMap.{get}
 use Rattle.zpath.specs.Grammar.{path_cmp}
 use Rattle.zslots.specs.declared.id.Id.{Id}
 use Rattle.zslots.specs.declared.list.List.{List as IdList}
-use Rattle.zslots.specs.Ids.{Ids, IsIn, NoTwo}
+use Rattle.zslots.specs.Ids.{Ids, IsIn}
 use Rattle.zslots.specs.Lists.{IsList}
 use Rattle.zslots.specs.SlotsView.{Items}
 use Rattle.zslots.specs.Families.{key_at}
 use Rattle.ztree.specs.declared.node.Node.{Node}
-use Rattle.ztree.specs.Tree.{Path, Nodes, ephemerals}
+use Rattle.ztree.specs.Tree.{Path, ephemerals}
 use Rattle.ztree.specs.Stale.{is_stale, stale_nodes}
 use Rattle.ztree.specs.Laws.{has_path, is_owned_at}
 use Rattle.ztree.proofs.Maps.{same_some, none_some}

@@ -1,5 +1,5 @@
 -- Which Ids name the nodes that a tick removes, from the list of the nodes that ticks may remove.
-use Rattle.std.proofs.Common.{◌≡◌, ◌≢◌, inl, inr, ℕ, Bool, true, false, ◌&&◌, ◌||◌, cond, List, [], ◌∷◌, length, Option, Some, None, refl, sym, ap, ◌∙◌}
+use Rattle.std.proofs.Common.{◌≡◌, ◌≢◌, inl, inr, ℕ, Bool, true, false, ◌&&◌, cond, [], ◌∷◌, length, Option, Some, None, refl, sym, ap, ◌∙◌}
 use mathlib.Core.Path.{subst}
 use Rattle.std.specs.Prelude.{◌==◌, ◌↔◌}
 use mathlib.Core.Bool.{true≢false}
@@ -17,21 +17,17 @@ use Rattle.ztree.specs.Tree.{Path, children}
 use Rattle.ztree.specs.Stale.{may_end, is_over, is_due, is_stale, is_stale_at}
 use Rattle.ztree.specs.declared.term.Term.{Term}
 use Rattle.ztree.specs.declared.term.Term.TheVariants.{Unlimited, Timed, Container}
-use Rattle.zpath.specs.Grammar.{path_cmp}
-use Rattle.std.specs.Ordering.{eq_by_cmp}
-use Rattle.zslots.proofs.Members.{never_both}
-use Rattle.ztree.specs.Laws.{has_path, NoneTwice}
-use Rattle.ztree.proofs.Sorted.{paths_total, same_path}
-use Rattle.ztree.proofs.Maps.{same_some, tied, tied_same}
+use Rattle.ztree.specs.Laws.{has_path}
+use Rattle.ztree.proofs.Maps.{same_some}
 use Rattle.ztree.proofs.StaleGone.{both}
 use Rattle.znodes.specs.declared.row.Row.{Row}
 use Rattle.znodes.specs.declared.nodes.Nodes.TheInside.{Inside}
-use Rattle.znodes.specs.NodesView.{NodesView, AreAt, AreStale, path_of}
+use Rattle.znodes.specs.NodesView.{NodesView, AreStale}
 use Rattle.znodes.specs.support.Rows.{Key, IsLinked, HasTimed, timed_by, timed_key, timed_links}
 use Rattle.znodes.specs.support.Fields.{view_of}
 use Rattle.znodes.specs.support.Reading.{if_live, live_at, is_stale_row, IsStale, AreStaleIds, stale_of}
 use Rattle.znodes.proofs.Found.{live_node, found_row}
-use Rattle.znodes.proofs.Linked.{live_key, and-then, parent-named}
+use Rattle.znodes.proofs.Linked.{live_key, and-then}
 use Rattle.znodes.proofs.Siblings.{children-count, both_ways}
 use Rattle.znodes.proofs.Shown.{live_parts, path_of-live, path-same, no_path, own_list}
 use Rattle.znodes.proofs.Mortal.{an_end}

@@ -1,11 +1,10 @@
 -- The sum of a number of each node, where one node comes, goes or is changed.
-use Rattle.std.proofs.Common.{◌≡◌, ℕ, ◌+◌, ◌≤◌, Bool, true, false, not, cond, List, [], ◌∷◌, length, Option, Some, None, refl, sym, ap, ◌∙◌, arith}
+use Rattle.std.proofs.Common.{◌≡◌, ℕ, ◌+◌, ◌≤◌, not, cond, List, [], ◌∷◌, Some, None, refl, sym, ap, ◌∙◌, arith}
 use lib.Dec.{T}
 use Rattle.std.specs.declared.cmp.Ordering.{Ordering}
 use Rattle.std.specs.declared.cmp.Ordering.TheVariants.{Less, Equal, Greater}
 use Rattle.std.specs.Ordering.{is_eq}
 use Rattle.std.specs.Cmp.{tied_itself}
-use Rattle.std.specs.FinMap as finite
 use Rattle.std.specs.FinMap.{get, insert, remove, entries, entries_sorted, get-entries, entries-insert, find, put, is_sorted}
 use Rattle.std.specs.FinMap.Entries.{below_all, where_key, by_order}
 use Rattle.zpath.specs.Grammar.{path_cmp}

@@ -1,9 +1,7 @@
 -- The paths that different Ids name: each path is there once.
-use Rattle.std.proofs.Common.{◌≡◌, inl, inr, Bool, true, false, ◌||◌, List, [], ◌∷◌, Option, Some, None, refl, sym, ap, ◌∙◌}
+use Rattle.std.proofs.Common.{◌≡◌, inl, inr, Bool, true, false, ◌||◌, List, [], ◌∷◌, Some, refl, sym, ap, ◌∙◌}
 use mathlib.Core.Path.{subst}
-use Rattle.std.specs.Option.{option_map}
 use Rattle.std.specs.Ordering.{eq_by_cmp}
-use Rattle.std.specs.FinMap.{get}
 use Rattle.zpath.specs.Grammar.{path_cmp}
 use Rattle.zslots.specs.declared.id.Id.{Id}
 use Rattle.zslots.specs.Ids.{Ids, IsIn, NotIn, NoTwo}
@@ -12,7 +10,6 @@ use Rattle.ztree.specs.Tree.{Path}
 use Rattle.ztree.specs.Laws.{has_path, NoneTwice}
 use Rattle.ztree.proofs.Sorted.{paths_total, same_path}
 use Rattle.ztree.proofs.Maps.{same_some, tied, tied_same}
-use Rattle.znodes.specs.declared.row.Row.{Row}
 use Rattle.znodes.specs.declared.nodes.Nodes.TheInside.{Inside}
 use Rattle.znodes.specs.NodesView.{NodesView, AreAt, path_of}
 use Rattle.znodes.specs.support.Rows.{IsLinked}

@@ -1,8 +1,9 @@
 //! What is counted of the nodes.
 //!
 //! # Why
-//! Each change keeps the counts, so to tell them costs nothing. The bytes of all data stay far below
-//! 2^64: there are at most 2^32 rows, and each has at most 2^20 bytes.
+//! Each change keeps the counts, so to tell them costs nothing. The bytes of all data stay far
+//! below 2^64: there are at most 2^32 rows, and each has at most 2^20 bytes. `add` looks at the
+//! number of rows for this.
 
 ghost use Rattle.std.specs.Prelude.{◌≡◌, ◌≤◌, length};
 ghost use Rattle.ztree.specs.declared.limits.TheConstants.{MOST_DATA};

@@ -61,8 +61,8 @@ impl Nodes {
         Some(row.children.len())
     }
 
-    /// Returns the paths of the nodes that a session owns, in their order; or `Memory`. One that may
-    /// not own nodes owns none. The cost depends on the number of these nodes.
+    /// Returns the paths of the nodes that a session owns, in their order; or `Memory`. One that
+    /// may not own nodes owns none. The cost depends on the number of these nodes.
     pub fn owned(&self, owner: u64) -> Result<Vec<Path>, Memory>
         ensures owned { IfOk result (λ paths. 0 < owner → IsSome (get self.now.owners owner)
             → paths.items ≡ ephemerals self.now.nodes owner) }

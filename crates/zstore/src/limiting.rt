@@ -12,8 +12,9 @@ use crate::store::Store;
 use ztree::{SessionId, TreeLimits};
 
 impl Store {
-    /// Sets the limits of the tree, and gives up the savepoint. Refuses limits within which the tree
-    /// doesn't fit, and says which one and what it needs. If they are refused, nothing has changed.
+    /// Sets the limits of the tree, and gives up the savepoint. Refuses limits within which the
+    /// tree doesn't fit, and says which one and what it needs. If they are refused, nothing has
+    /// changed.
     pub fn set_limits(&mut self, limits: TreeLimits) -> Result<(), LimitFault>
         ensures tree { OnOk result (self.new.tree ≡ with_limits self.old.tree limits) }
         ensures same { OnOk result (KeepsIds self.old self.new) }

@@ -61,9 +61,11 @@ AreOwnedIds m list found = (ids : Ids) → IsList fellow_links m list ids → fo
 -- these are the paths of the rows of an owner's list, in their order; without a list there are none
 abbrev pub AreOwnedPaths : Items Row → Option (IdList 1) → List Path → Type 0
 AreOwnedPaths m None paths = paths ≡ []
-AreOwnedPaths m (Some list) paths = (ids : Ids) → IsList fellow_links m list ids → AreSorted m ids paths
+AreOwnedPaths m (Some list) paths =
+    (ids : Ids) → IsList fellow_links m list ids → AreSorted m ids paths
 
--- a tick removes the node of the row that an Id names, if it is in the tree: it is due, and has no children
+-- a tick removes the node of the row that an Id names, if it is in the tree: it is due, and has no
+-- children
 abbrev pub is_stale_row : Items Row → ℕ → Id → Bool
 is_stale_row m tick id =
     option_map_or (λ (r : Row). is_due tick r.node && (r.children.len == 0)) (get m id) false

@@ -1,14 +1,12 @@
 -- What is found of all sessions: that the tree fits within limits, and is lawful within them.
-use Rattle.std.proofs.Common.{◌≡◌, ℕ, ◌≤◌, Bool, true, false, cond, List, [], ◌∷◌, Option, Some, None, refl, sym, ap, subst, ◌∙◌}
+use Rattle.std.proofs.Common.{◌≡◌, ℕ, ◌≤◌, cond, List, [], ◌∷◌, Some, refl, sym, subst, ◌∙◌}
 use Rattle.std.specs.declared.cmp.Ordering.{Ordering}
 use Rattle.std.specs.declared.cmp.Ordering.TheVariants.{Less, Equal, Greater}
 use Rattle.std.specs.Ordering.{is_eq, nat_cmp}
 use Rattle.std.specs.List.{AllByRecursion}
 use Rattle.std.specs.Map.{keys_of}
-use Rattle.std.specs.FinMap as finite
-use Rattle.std.specs.FinMap.{get, find, keys, entries, get-entries, nat_cmp-IsAntisymmetric}
+use Rattle.std.specs.FinMap.{find, keys, entries, get-entries, nat_cmp-IsAntisymmetric}
 use Rattle.ztree.specs.declared.limits.TreeLimits.{TreeLimits}
-use Rattle.ztree.specs.declared.session.Session.{Session}
 use Rattle.ztree.specs.Tree.{Tree, Sessions}
 use Rattle.ztree.specs.Lawful.{AllSessions, IsLawful}
 use Rattle.ztree.proofs.Maps.{none_some}

@@ -1,4 +1,4 @@
-use Rattle.std.proofs.Common.{[], ◌∷◌, ◌++◌, sym, subst, ◌∙◌, arith}
+use Rattle.std.proofs.Common.{[], ◌∷◌, ◌++◌, sym, subst, arith}
 use Rattle.zslots.specs.support.Walk.{IsWalk}
 use Rattle.zslots.specs.Ids.{Ids}
 use Rattle.zslots.proofs.ListMoves.{list-one}

@@ -1,4 +1,4 @@
-use Rattle.std.proofs.Common.{◌≡◌, length}
+use Rattle.std.proofs.Common.{length}
 use Rattle.zslots.specs.support.Walk.{walk, IsWalk}
 use Rattle.znodes.specs.support.Rows.{fellow_links}
 use Rattle.znodes.proofs.paths.owned_ids.Given as goal

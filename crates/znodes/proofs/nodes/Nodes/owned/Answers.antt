@@ -1,10 +1,7 @@
-use Rattle.std.proofs.Common.{◌≡◌, [], Some, None, IsSome, IfSome, refl, sym, ap, subst, ◌∙◌}
+use Rattle.std.proofs.Common.{refl, subst}
 use Rattle.std.specs.Result.{IfOk}
-use Rattle.std.specs.Prelude.{Result, Ok, Err, Option}
-use Rattle.zslots.specs.Ids.{Ids}
-use Rattle.zslots.specs.Lists.{IsList}
+use Rattle.std.specs.Prelude.{Result, Ok, Err}
 use Rattle.znodes.specs.support.OwnerLists.{list_of}
-use Rattle.znodes.specs.support.Rows.{fellow_links}
 use Rattle.znodes.specs.support.Reading.{AreOwnedPaths}
 use Rattle.znodes.proofs.OwnedPaths.{owned-family, owned-some, owned-gone, owned-sorted}
 use Rattle.znodes.proofs.nodes.Nodes.owned.Goals as goal

@@ -1,4 +1,4 @@
-use Rattle.std.proofs.Common.{refl, sym, ap, ◌∙◌}
+use Rattle.std.proofs.Common.{refl, ap, ◌∙◌}
 use Rattle.zslots.proofs.Items.{some_there}
 use Rattle.ztree.specs.Tree.{Tree, with_acl, with_acl_at}
 use Rattle.zstore.specs.StoreView.{StoreView, path_of}

@@ -1,4 +1,4 @@
-use Rattle.std.proofs.Common.{◌≤◌, sym, ap, subst, arith}
+use Rattle.std.proofs.Common.{◌≤◌, refl, sym, ap, subst, arith}
 use Rattle.std.specs.FinMap as finite
 use Rattle.ztree.specs.Lawful.{AllSessions}
 use Rattle.zstore.specs.StoreView.{StoreView}
@@ -25,7 +25,7 @@ invariant_of-self c =
     let all = c.sessions.ensures in
     let few = c.if-sessions-limits.false in
     let fits : FitsWithin (tree_of s.nodes.nodes s.sessions s.time s.zxid s.limits) c.args.limits = record {
-      allowed = c.if-not-is_allowed.ensures.yes;
+      allowed = c.if-not-is_allowed.ensures.yes refl;
       nodes = omega (arith, nodes, many, most);
       sessions = omega (arith, sessions, all, few);
       timeouts =
