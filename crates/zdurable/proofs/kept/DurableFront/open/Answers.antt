@@ -1,4 +1,4 @@
-use Rattle.std.proofs.Common.{◌≡◌, ◌∙◌, true, refl, ap, arith}
+use Rattle.std.proofs.Common.{◌≡◌, ◌∙◌, true, refl, ap}
 use Rattle.zjournal.specs.Journal.{device_of}
 use Rattle.zjournal.proofs.Moments.{weaker}
 use Rattle.zstore.specs.Restored.{with_limits}
@@ -16,7 +16,7 @@ returns-in-Ok-open_within-clause-serving g c =
       alloc = c.args.alloc;
       front = c.in-Ok-restored.front;
       journal = c.in-Ok-open_within.journal;
-      shortened = c.measure_if.result;
+      shortened = c.measure_if-shortened.result;
       is_open = true;
     } in
     let keeps = c.in-Ok.ensures.keeps in
@@ -27,7 +27,7 @@ returns-in-Ok-open_within-clause-serving g c =
     (g.D.Device.seen c.args.device) c.in-Ok.it.found.tree.tree c.args.limits kept keeps.batches keeps.stands keeps.text front opened.1 opened.3
     c.in-Ok-open_within.ensures.open (g.D.Device.seen c.look.new.device) c.look.ensures.seen c.service.result.now.tree
     (c.service.ensures ∙ ap (λ (v : ServerView). v.front.tree) front) c.in-Ok-limited.it.1 limited.says opened.0 opened.2 opened.4
-    c.measure_if.ensures in
+    c.measure_if-shortened.ensures in
     (is.0, is.1)
 
 pub returns-in-Ok-open_within-clause-sound : goal.returns-in-Ok-open_within-clause-sound
@@ -37,7 +37,7 @@ returns-in-Ok-open_within-clause-sound g c is_open =
       alloc = c.args.alloc;
       front = c.in-Ok-restored.front;
       journal = c.in-Ok-open_within.journal;
-      shortened = c.measure_if.result;
+      shortened = c.measure_if-shortened.result;
       is_open = true;
     } in
     let keeps = c.in-Ok.ensures.keeps in
@@ -48,7 +48,7 @@ returns-in-Ok-open_within-clause-sound g c is_open =
     (g.D.Device.seen c.args.device) c.in-Ok.it.found.tree.tree c.args.limits kept keeps.batches keeps.stands keeps.text front opened.1 opened.3
     c.in-Ok-open_within.ensures.open (g.D.Device.seen c.look.new.device) c.look.ensures.seen c.service.result.now.tree
     (c.service.ensures ∙ ap (λ (v : ServerView). v.front.tree) front) c.in-Ok-limited.it.1 limited.says opened.0 opened.2 opened.4
-    c.measure_if.ensures in
+    c.measure_if-shortened.ensures in
     (c.args.servers, is.0.next, with_limits is.0.found c.args.limits, is.0.serving)
 
 pub returns-in-Ok-open_within-clause-any_moment : goal.returns-in-Ok-open_within-clause-any_moment
@@ -61,8 +61,8 @@ returns-in-Ok-open_within-clause-any_moment g c batches found stands text =
     c.service.result.now.tree (c.service.ensures ∙ ap (λ (v : ServerView). v.front.tree) front) c.in-Ok-limited.it.1 limited.says
     (g.D.Device.seen c.look.new.device) c.look.ensures.seen batches stands text (c.in-Ok-open_within.ensures.any_moment batches)
 
-pub returns-clause-any_moment_err : goal.returns-clause-any_moment_err
-returns-clause-any_moment_err g c batches found stands text =
+pub returns-in-Err-open_within-clause-any_moment_err : goal.returns-in-Err-open_within-clause-any_moment_err
+returns-in-Err-open_within-clause-any_moment_err g c batches found stands text =
     let limited = c.in-Ok-limited.ensures in
     let front = c.in-Ok-restored.ensures
     ∙ ap (λ (it : LocalTreeView). restored c.args.watches c.args.secret c.args.terms c.args.now_ms it.tree) limited.tree in
@@ -86,8 +86,8 @@ returns-in-Err-restored-clause-any_moment_err g c batches found stands text =
     reading_leaves g.D.Device.moment g.D.Device.left_since c.args.device c.look.new.device c.look.new.device (g.D.Device.seen c.args.device)
     c.look.ensures.any_moment c.args.servers found c.args.limits batches stands
 
-pub returns-clause-untouched : goal.returns-clause-untouched
-returns-clause-untouched g c of_content =
+pub returns-in-Err-open_within-clause-untouched : goal.returns-in-Err-open_within-clause-untouched
+returns-in-Err-open_within-clause-untouched g c of_content =
     let left = c.in-Err-open_within.ensures.untouched of_content in (
       left.0 ∙ c.look.ensures.seen,
       read_then g.D.Device.moment g.D.Device.left_since c.args.device c.look.new.device c.in-Err-open_within.device
@@ -98,12 +98,8 @@ returns-clause-untouched g c of_content =
           (λ file. file ≡ g.D.Device.seen c.args.device) left.1 (λ file is. is ∙ c.look.ensures.seen)),
     )
 
-pub returns-clause-failed : goal.returns-clause-failed
-returns-clause-failed g c is =
-    omega (arith, c.in-Err-open_within.ensures.failed is, c.look.ensures.faults)
-
-pub returns-clause-fault : goal.returns-clause-fault
-returns-clause-fault g c =
+pub returns-in-Err-open_within-clause-fault : goal.returns-in-Err-open_within-clause-fault
+returns-in-Err-open_within-clause-fault g c =
     such_opening c.args.limits c.args.servers (g.D.Device.seen c.look.new.device) (g.D.Device.seen c.args.device) c.in-Ok.it.found.tree.tree
     c.look.ensures.seen c.in-Ok.ensures.keeps c.in-Ok-limited.it.1 c.in-Ok-limited.ensures.says c.in-Err-open_within.fault
     c.in-Err-open_within.ensures.fault
