@@ -229,6 +229,27 @@ module _ {D : Type 0} (moment : D → ℕ) (left_since : D → ℕ → List ℕ 
   read_then P holds run =
       joined_runs moment left_since old mid new P (weaker moment left_since old mid (λ c. c ≡ file) P read (λ c is. subst P (sym is) holds)) run
 
+  -- it is opened with chosen limits
+  pub opening_leaves : (servers : ℕ) (found other : Tree) (limits : TreeLimits) → FileKeeps servers found file → (served : Tree)
+      → served ≡ with_limits found limits → (is_other : Bool) → SaysOther is_other found limits → (now : List ℕ) → now ≡ file
+      → (batches : List (List ℕ)) → Represents servers batches file → IsTextOf other (joined batches)
+      → (Represents servers batches now → LeavesOnly moment left_since mid new (IsFoundOr is_other servers batches served))
+      → LeavesOnly moment left_since old new (IsFoundOrWithin servers batches other limits)
+  opening_leaves servers found other limits keeps served served_is is_other says now same batches stands text more =
+      let one = one_tree servers file found other keeps batches stands text in
+      read_then (IsFoundOrWithin servers batches other limits) (inl stands)
+      (weaker moment left_since mid new (IsFoundOr is_other servers batches served) (IsFoundOrWithin servers batches other limits)
+      (more (subst (Represents servers batches) (sym same) stands))
+      (found_or is_other servers batches other served limits (subst (λ (u : Tree). SaysOther is_other u limits) one says)
+      (served_is ∙ ap (λ (u : Tree). with_limits u limits) one)))
+
+  -- it is only read
+  pub reading_leaves : (servers : ℕ) (other : Tree) (limits : TreeLimits) (batches : List (List ℕ)) → Represents servers batches file
+      → LeavesOnly moment left_since old mid (IsFoundOrWithin servers batches other limits)
+  reading_leaves servers other limits batches stands =
+      weaker moment left_since old mid (λ c. c ≡ file) (IsFoundOrWithin servers batches other limits) read
+      (λ c is. inl (subst (Represents servers batches) (sym is) stands))
+
 -- where nothing was made, nothing is taken
 pub none_taken : (v : FrontView) → v.made ≡ [] → v ≡ all_taken v
 none_taken v none i = record v { made = none i }
