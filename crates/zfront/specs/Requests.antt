@@ -16,7 +16,7 @@ use Rattle.zconnections.specs.attachments.Attachments.{touched, with_changed}
 use Rattle.zconnections.specs.Tables.{closed}
 use Rattle.zresponses.specs.effects.Answering.{answered, now_of}
 use Rattle.zresponses.specs.effects.Replying.{replied}
-use Rattle.zfront.specs.Front.{FrontView, with_tables, asked, replies_to, tidied, watched}
+use Rattle.zfront.specs.Front.{FrontView, with_tables, asked, replies_to, tidied_of}
 use Rattle.zfront.specs.Walks.{walked}
 
 -- the flag of the request's session is set
@@ -32,7 +32,7 @@ with_answer calls c r v =
 
 -- the same, and ended sessions are removed
 abbrev pub Makes : List Call → ℕ → Request → FrontView → FrontView → Type 0
-Makes calls c r old new = new ≡ tidied calls (replies_to calls old) (watched old) (with_answer calls c r old)
+Makes calls c r old new = new ≡ tidied_of calls old (with_answer calls c r old)
 
 -- an answer is sent without a call
 abbrev pub Tells : Answer → ℕ → Request → FrontView → FrontView → Type 0

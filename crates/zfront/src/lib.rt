@@ -15,6 +15,7 @@
 
 mod asking;
 mod beginning;
+mod ends;
 mod front;
 mod greeting;
 mod inner;

@@ -79,10 +79,11 @@ impl<T: TreeService> Inner<T> {
     fn make(&mut self, calls: &[Call], request: &Request, connection: u32) -> Result<(), Memory>
         ensures { OnOk result (Makes calls.now connection request.now self.old self.new) }
     {
-        let paths = self.watched_before(calls)?;
+        let ids = self.ending(calls)?;
+        let paths = self.watched(calls, &ids)?;
         let replies = self.ask(calls)?;
         self.answer(calls, request, connection, &replies)?;
-        self.tidy(calls, &replies, &paths)
+        self.tidy(calls, &replies, &ids, &paths)
     }
 
     // Sends the answer to a request whose calls were made.
