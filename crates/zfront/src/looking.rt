@@ -4,8 +4,8 @@
 //!
 //! No reply names what a tick or the end of a session deletes. A mirror of all ephemeral nodes,
 //! parents and TTLs would be a second tree to prove. So before such a call the front notes which
-//! nodes the service may remove, and which of these and of their parents are watched. It checks them
-//! after the call, and only when nodes may be gone.
+//! nodes the service may remove, and which of these and of their parents are watched. It checks
+//! them after the call, and only when nodes may be gone.
 //!
 //! The check is made in the same input, so no flag says that one is due. Its queries are outside
 //! the log: they change nothing, and no client gets their replies.

@@ -130,8 +130,8 @@ pub fn ends_of_sessions()
         → tidied (Update (Ping 7) ∷ []) rs ids paths v ≡ v }
 {}
 
-/// What calls may end: a close its own session and the nodes of it, and a tick the sessions that are
-/// due and the nodes that are stale.
+/// What calls may end: a close its own session and the nodes of it, and a tick the sessions that
+/// are due and the nodes that are stale.
 pub fn what_calls_may_end()
     ensures close { (t : Tree) → ended_by t (Update (Close 7)) ≡ 7 ∷ [] }
     ensures tick { (t : Tree) → ended_by t (Update Tick) ≡ due_next t }

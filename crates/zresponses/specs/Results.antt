@@ -36,8 +36,8 @@ refused_results count number why =
     replicate (number - 1) (result_of.Error code.Ok)
     ++ result_of.Error why ∷ replicate (count - number) (result_of.Error code.RuntimeInconsistency)
 
--- the code of the part that the tree refused: that with which it is refused at once by these terms, if
--- it is, and else the tree's
+-- the code of the part that the tree refused: that with which it is refused at once by these terms,
+-- if it is, and else the tree's
 abbrev pub part_code : Terms → List AskedPart → ℕ → Refusal → Code
 part_code terms asked number refusal =
     unwrap_or (option_and_then (refused_in terms) (slice_get asked (number - 1))) (code_of refusal)

@@ -27,8 +27,8 @@ told base zxid = long_of (base + zxid)
 abbrev pub millis_at : Clock → ℕ → ℕ
 millis_at clock ticks = clock.started + ticks * clock.terms.tick
 
--- the stat for a client. The owner of a container is a mark of the tree, its highest bit, and clients
--- are told none
+-- the stat for a client. The owner of a container is a mark of the tree, its highest bit, and
+-- clients are told none
 abbrev pub stat_reported : Clock → Stat → ReportedStat
 stat_reported clock s = record {
   czxid = told clock.base s.czxid;

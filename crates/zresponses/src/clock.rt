@@ -9,8 +9,8 @@
 use zrequests::Terms;
 use ztree::Zxid;
 
-/// The terms of the server, how ticks become milliseconds since 1970, and how zxids become those that
-/// clients are told.
+/// The terms of the server, how ticks become milliseconds since 1970, and how zxids become those
+/// that clients are told.
 #[derive(Clone, Copy, Debug, PartialEq, Eq)]
 pub struct Clock {
     /// What the server accepts in requests, and the length of a tick.

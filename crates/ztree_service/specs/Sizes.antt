@@ -15,6 +15,7 @@ counts_of t = record {
   bytes = data_count t.nodes;
 }
 
--- the paths of the nodes that a session owns, in order; a session that the tree doesn't have owns none
+-- the paths of the nodes that a session owns, in order; a session that the tree doesn't have owns
+-- none
 abbrev pub owned_by : Tree → ℕ → List Path
 owned_by t session = if is_some (finite.get t.sessions session) then ephemerals t.nodes session else []

@@ -37,7 +37,7 @@ fn rooted(alloc: Global, machine: &Machine) -> Result<Restoring, Memory>
     requires settled { IsSettled (tree_in machine.now) }
     ensures { IfOk result (λ r. (root : Node) × (get (tree_in machine.now).nodes [] ≡ Some root)
         × (r ≡ rooted_machine root (tree_in machine.now).time (tree_in machine.now).zxid 0
-            (tree_in machine.now).limits)) }
+        (tree_in machine.now).limits)) }
 {
     let Some(root) = machine.node(&Path::root()) else {
         unreachable!()

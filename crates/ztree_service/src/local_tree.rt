@@ -123,8 +123,8 @@ impl LocalTree {
         Ok(self.machine()?.limits())
     }
 
-    /// Sets the limits of its tree. Refuses limits within which the tree doesn't fit, and says which
-    /// one and what it needs. If they are refused, nothing has changed.
+    /// Sets the limits of its tree. Refuses limits within which the tree doesn't fit, and says
+    /// which one and what it needs. If they are refused, nothing has changed.
     pub fn set_limits(&mut self, limits: TreeLimits) -> Result<(), LimitFault>
         requires whole { self.old.is_broken ≡ false }
         ensures set { OnOk result

@@ -63,8 +63,8 @@ pub trait TreeService {
     fn stale(&self) -> Result<Vec<Path>, Memory>
         ensures { IfOk result (λ paths. paths.items ≡ stale_next (tree self.now)) };
 
-    /// Returns the paths of the nodes that a session owns, in order. A session that isn't there owns
-    /// none. The cost depends on the number of these nodes.
+    /// Returns the paths of the nodes that a session owns, in order. A session that isn't there
+    /// owns none. The cost depends on the number of these nodes.
     fn owned(&self, session: SessionId) -> Result<Vec<Path>, Memory>
         ensures { IfOk result (λ paths. paths.items ≡ owned_by (tree self.now) session) };
 

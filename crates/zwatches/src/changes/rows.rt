@@ -38,8 +38,8 @@ pub fn events_of_multis()
         ≡ gone_a_b ++ written_a_b }
 {}
 
-/// Calls without events: refused ones, writes of an access control list, and those whose reply shows
-/// no changed node.
+/// Calls without events: refused ones, writes of an access control list, and those whose reply
+/// shows no changed node.
 pub fn calls_without_events()
     ensures refused { events_of (act.Create create_a_b) (reply.Refused NoNode) ≡ [] }
     ensures refused_multi { events_of (act.Multi (part.SetData set_a_b ∷ []))
