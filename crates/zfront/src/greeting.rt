@@ -57,8 +57,8 @@ impl<T: TreeService> Inner<T> {
         connection: u32,
         replies: &[Reply],
     ) -> Result<(), Memory>
-        ensures { OnOk result (self.new ≡ with_tables (opened self.old.clock.terms.tick self.old.secret
-            greeting.now connection replies.now self.old.tables) self.old) }
+        ensures { OnOk result (self.new ≡ with_tables (opened self.old.clock.terms.tick
+            self.old.secret greeting.now connection replies.now self.old.tables) self.old) }
     {
         match replies {
             [Reply::Opened(id, ticks), ..] => {
