@@ -1,7 +1,5 @@
-use Rattle.std.proofs.Common.{refl, sym, subst, Bool, List, ℕ}
-use Rattle.zjournal.specs.Device.{LeavesOnly}
+use Rattle.std.proofs.Common.{refl, sym, subst, Bool}
 use Rattle.zjournal.specs.Journal.{IsAtRest, Represents, device_of}
-use Rattle.zdurable.specs.Compaction.{IsOldOrTree}
 use Rattle.zdurable.specs.support.Opening.{AreNext}
 use Rattle.zdurable.proofs.Opening.{if_err, if_ok, opened_leaves, renewed_leaves, rest_of}
 use Rattle.zdurable.proofs.within.open_within.Goals as goal
