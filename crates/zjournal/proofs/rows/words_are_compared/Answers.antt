@@ -1,4 +1,4 @@
-use Rattle.std.proofs.Common.{ℕ, List, [], ◌∷◌, ◌++◌, codes, get_or, take, drop, refl, sym, ◌∙◌, ap, arith}
+use Rattle.std.proofs.Common.{ℕ, List, [], ◌∷◌, ◌++◌, codes, get_or, take, drop, refl, ◌∙◌, ap, arith}
 use Rattle.zjournal.proofs.rows.words_are_compared.Goals as goal
 
 pub returns-clause-older : goal.returns-clause-older
