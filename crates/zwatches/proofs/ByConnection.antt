@@ -1,5 +1,5 @@
 -- The paths of each connection, after a change of one connection's.
-use Rattle.std.proofs.Common.{◌≡◌, ℕ, Bool, true, false, cond, not, ◌&&◌, ◌||◌, List, Option, None, refl, sym, ap, ◌∙◌}
+use Rattle.std.proofs.Common.{◌≡◌, ℕ, Bool, true, false, cond, not, ◌&&◌, ◌||◌, List, Option, refl, sym, ap, ◌∙◌}
 use Rattle.std.specs.Ordering.{eq_by_cmp, nat_cmp}
 use Rattle.std.specs.Cmp.{Equal-is, eq_by_cmp_equiv, nat_cmp_total}
 use Rattle.std.specs.FinMap.{nat_cmp-IsAntisymmetric}
@@ -62,26 +62,3 @@ module _ (old new : Rows) (k : ℕ) (found : Option (BTreeSet Path))
           ∙ both (is_at (path_cmp at) q) (has_path old k q)
           ∙ (λ i. not ((eq_by_cmp_equiv paths_total).symm at q i) && has_path old (sym (number_same c e) i) q)
       by false e = refl
-
-  -- none are left
-  pub paths_taken : found ≡ None → (c : ℕ) (q : Path) → has_path new c q ≡ (not (eq_by_cmp nat_cmp c k) && has_path old c q)
-  paths_taken none c q = after c q ∙ by (eq_by_cmp nat_cmp c k)
-    where
-      by : (b : Bool) → cond b (one_of found keys (eq_by_cmp path_cmp q)) (has_path old c q) ≡ (not b && has_path old c q)
-      by true = ap (λ (o : Option (BTreeSet Path)). one_of o keys (eq_by_cmp path_cmp q)) none
-      by false = refl
-
--- where there is none to be removed
-pub none_removed : (old new : Rows) (k : ℕ) (at : Path) → ((c : ℕ) (q : Path) → has_path new c q ≡ has_path old c q) → ((q : Path) → has_path old k q ≡ false)
-    → (c : ℕ) (q : Path) → has_path new c q ≡ (not (eq_by_cmp nat_cmp c k && eq_by_cmp path_cmp q at) && has_path old c q)
-none_removed old new k at same none c q = same c q ∙ by (eq_by_cmp nat_cmp c k) refl
-  where
-    no : (b : Bool) → (b && false) ≡ false
-    no true = refl
-    no false = refl
-
-    by : (b : Bool) → eq_by_cmp nat_cmp c k ≡ b → has_path old c q ≡ (not (b && eq_by_cmp path_cmp q at) && has_path old c q)
-    by true e =
-        let gone : has_path old c q ≡ false = ap (λ (d : ℕ). has_path old d q) (nat_cmp-IsAntisymmetric c k ((Equal-is (nat_cmp c k)).0 e)) ∙ none q in
-        gone ∙ sym (ap (λ b. not (eq_by_cmp path_cmp q at) && b) gone ∙ no (not (eq_by_cmp path_cmp q at)))
-    by false e = refl

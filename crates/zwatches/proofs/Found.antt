@@ -49,10 +49,6 @@ pub kept_found : (rows : Rows) (table : Watches) (test : Watch → Bool) → Are
 kept_found rows table test = fewer_found rows table (retain table test)
     (λ q there. (both_true (contains table q) (test q) (sym (contains-kept table test q) ∙ there)).0)
 
--- the same paths
-pub same_found : (rows new : Rows) (table : Watches) → ((c : ℕ) (q : Path) → has_path new c q ≡ has_path rows c q) → AreFound rows table → AreFound new table
-same_found rows new table same are w there = same w.connection w.path ∙ are w there
-
 -- a path more
 pub path_found : (rows new : Rows) (table : Watches) (connection : ℕ) (path : Path)
     → ((c : ℕ) (q : Path) → has_path new c q ≡ ((eq_by_cmp nat_cmp c connection && eq_by_cmp path_cmp q path) || has_path rows c q))
@@ -104,16 +100,6 @@ path_unneeded rows new table connection path none less are w there =
 pub record IsWithout (table : Watches) (connection : ℕ) (left : List Path) (now : Watches) : Type 0 where
   pub own : (w : Watch) → contains now w ≡ true → eqb w.connection connection ≡ true → list_any (eq_by_cmp path_cmp w.path) left ≡ true
   pub others : (w : Watch) → eqb w.connection connection ≡ false → contains now w ≡ contains table w
-
-pub begins_without : (rows : Rows) (table : Watches) (connection : ℕ) (left : List Path) → AreFound rows table
-    → ((q : Path) → list_any (eq_by_cmp path_cmp q) left ≡ has_path rows connection q) → IsWithout table connection left table
-begins_without rows table connection left are is = record {
-  own = λ w there own.
-      is w.path
-      ∙ ap (λ (c : ℕ). has_path rows c w.path) (sym (eqb-true w.connection connection own))
-      ∙ are w there;
-  others = λ w other. refl;
-}
 
 pub goes_without : (table now new : Watches) (connection : ℕ) (path : Path) (before left : List Path) → before ≡ path ∷ left
     → IsWithout table connection before now → new ≡ without_meant now connection type.Any path → IsWithout table connection left new
@@ -175,13 +161,6 @@ share-without table connection = ap len none ∙ len-empty watch_cmp
         ∙ ap (λ b. b && eqb q.connection connection) (contains-kept table (λ w. not (eqb w.connection connection)) q)
         ∙ never (contains table q) (eqb q.connection connection)
         ∙ sym (contains-empty watch_cmp q))
-
--- and the others are found without its paths
-pub others_found : (rows new : Rows) (table : Watches) (connection : ℕ)
-    → ((c : ℕ) (q : Path) → has_path new c q ≡ (not (eq_by_cmp nat_cmp c connection) && has_path rows c q)) → AreFound rows table → AreFound new (without table connection)
-others_found rows new table connection less are w there =
-    let both = both_true (contains table w) (not (eqb w.connection connection)) (sym (contains-kept table (λ v. not (eqb v.connection connection)) w) ∙ there) in
-    less w.connection w.path ∙ (λ i. (ap not (number_is w.connection connection) ∙ both.1) i && are w both.0 i)
 
 -- a connection without paths has no watches
 pub all_others : (rows : Rows) (table : Watches) (connection : ℕ) → ((q : Path) → has_path rows connection q ≡ false) → AreFound rows table → table ≡ without table connection

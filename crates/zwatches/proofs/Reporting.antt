@@ -3,7 +3,6 @@ use Rattle.std.proofs.Common.{◌≡◌, ℕ, Bool, true, false, cond, eqb, ◌&
 use Rattle.std.specs.declared.cmp.Ordering.{Ordering}
 use Rattle.std.specs.declared.cmp.Ordering.TheVariants.{Less, Equal, Greater}
 use Rattle.std.specs.Ordering.{eq_by_cmp, is_eq, nat_cmp, ordering_then}
-use Rattle.std.proofs.Math.Bool.{or-false}
 use Rattle.std.specs.Cmp.{Equal-is, both_ways, eq_by_cmp_equiv}
 use Rattle.std.specs.List.{filter, list_any, dedup}
 use Rattle.std.specs.List.Sorted.{IsSorted, IsPermutation}
@@ -225,9 +224,6 @@ reported_lists table event path none all numbers empty adds lists = subst (λ s.
         ∙ waiting_is table event path q)
 
 -- those who wait at some positions are added, and then those at others
-pub adds_none : (table : Watches) (old : List ℕ) → AddsWaiting table old old []
-adds_none table old q = sym (or-false (list_any (eq_by_cmp nat_cmp q) old))
-
 pub adds_both : (table : Watches) (old mid new : List ℕ) (first more : List Place) → AddsWaiting table old mid first → AddsWaiting table mid new more
     → AddsWaiting table old new (first ++ more)
 adds_both table old mid new first more one two q =

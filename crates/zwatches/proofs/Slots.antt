@@ -1,9 +1,7 @@
 -- The slots of a kind.
-use Rattle.std.proofs.Common.{◌≡◌, ℕ, zero, suc, Bool, true, false, not, ◌&&◌, ◌||◌, List, [], ◌∷◌, ◌++◌, Option, None, Some, refl, sym, ap, ◌∙◌, arith}
-use Rattle.std.proofs.Math.Bool.{or-false}
+use Rattle.std.proofs.Common.{◌≡◌, ℕ, zero, suc, Bool, true, false, not, ◌&&◌, List, Option, None, Some, refl, sym, ap, ◌∙◌, arith}
 use Rattle.std.specs.Prelude.{is_some}
 use Rattle.std.specs.Map.Iter.{TakesFirst}
-use Rattle.std.proofs.lemmas.List.Folds.{list_any-append}
 use Rattle.std.specs.declared.cmp.Ordering.{Ordering}
 use Rattle.std.specs.declared.cmp.Ordering.TheVariants.{Less, Equal, Greater}
 use Rattle.std.specs.declared.ops.Bound.TheVariants.{Included}
@@ -16,7 +14,6 @@ use Rattle.zwatches.specs.declared.kind.Kind.TheVariants.{Data, Missing, Childre
 use Rattle.zwatches.specs.declared.slot.Slot.{Slot}
 use Rattle.zwatches.specs.Watches.{kind_number}
 use Rattle.zwatches.specs.support.Nested.{end_of, is_of, slot, slot_cmp}
-use Rattle.zwatches.specs.support.Groups.{among}
 use Rattle.zwatches.proofs.Reporting.{any_filter, any_same, filter_same}
 
 -- no connection is below the first
@@ -127,26 +124,3 @@ first_of {A} shows kind slots some first left is takes =
     by : (o : Option A) → TakesFirst shows some o left → is_some o ≡ list_any (λ (s : Slot). true) some
     by None takes = sym (ap (list_any (λ (s : Slot). true)) takes.0)
     by (Some x) takes = sym (ap (list_any (λ (s : Slot). true)) takes)
-
--- one more connection is told
-pub told_more : (q : ℕ) (old new : List ℕ) (before left : List Slot) (s : Slot) (all : Bool) → new ≡ old ++ s.connection ∷ [] → before ≡ s ∷ left
-    → (among old q || list_any (λ (s : Slot). eq_by_cmp nat_cmp q s.connection) before) ≡ all
-    → (among new q || list_any (λ (s : Slot). eq_by_cmp nat_cmp q s.connection) left) ≡ all
-told_more q old new before left s all is here so_far =
-    ap (λ xs. among xs q || list_any (λ (s : Slot). eq_by_cmp nat_cmp q s.connection) left) is
-    ∙ ap (λ b. b || list_any (λ (s : Slot). eq_by_cmp nat_cmp q s.connection) left) (list_any-append (eq_by_cmp nat_cmp q) old (s.connection ∷ []))
-    ∙ joined (among old q) (eq_by_cmp nat_cmp q s.connection) (list_any (λ (s : Slot). eq_by_cmp nat_cmp q s.connection) left)
-    ∙ ap (λ ss. among old q || list_any (λ (s : Slot). eq_by_cmp nat_cmp q s.connection) ss) (sym here)
-    ∙ so_far
-  where
-    joined : (a b c : Bool) → ((a || (b || false)) || c) ≡ (a || (b || c))
-    joined true b c = refl
-    joined false true c = refl
-    joined false false c = refl
-
-pub told_all : (q : ℕ) (told : List ℕ) (left : List Slot) (all : Bool) → left ≡ []
-    → (among told q || list_any (λ (s : Slot). eq_by_cmp nat_cmp q s.connection) left) ≡ all → among told q ≡ all
-told_all q told left all none so_far =
-    sym (or-false (among told q))
-    ∙ ap (λ ss. among told q || list_any (λ (s : Slot). eq_by_cmp nat_cmp q s.connection) ss) (sym none)
-    ∙ so_far

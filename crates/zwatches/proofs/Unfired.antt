@@ -1,12 +1,11 @@
 -- The table once watches have fired.
-use Rattle.std.proofs.Common.{◌≡◌, ℕ, ◌+◌, ◌<◌, ◌≤◌, Bool, true, false, not, ◌&&◌, ◌||◌, List, [], ◌∷◌, length, take, get_or, refl, sym, ap, ◌∙◌}
+use Rattle.std.proofs.Common.{◌≡◌, ℕ, ◌+◌, ◌<◌, Bool, true, false, not, ◌&&◌, ◌||◌, List, [], ◌∷◌, length, take, get_or, refl, sym, ap, ◌∙◌}
 use Rattle.std.specs.declared.cmp.Ordering.{Ordering}
 use Rattle.std.specs.declared.cmp.Ordering.TheVariants.{Less, Equal, Greater}
 use Rattle.std.specs.Ordering.{eq_by_cmp, is_eq, nat_cmp, ordering_then}
 use Rattle.std.specs.Cmp.{eq_by_cmp_equiv, nat_cmp_total}
 use Rattle.std.specs.List.{list_any}
 use Rattle.std.specs.FinSet.{FinSet, contains, remove, retain, contains-from_list, contains-remove, same_set}
-use Rattle.std.proofs.lemmas.List.{take_all}
 use Rattle.std.proofs.lemmas.List.Folds.{list_any_more}
 use Rattle.zjute.specs.declared.event.EventKind.{EventKind}
 use Rattle.zwatches.specs.declared.kind.Kind.{Kind}
@@ -67,11 +66,6 @@ one_less table now connections i c path kind within here is = same_set watches_t
     by false true true listed = refl
     by false true false listed = refl
     by false false own listed = refl
-
--- those of all
-pub all_less : (table now : Watches) (connections : List ℕ) (i : ℕ) (places : List Place) → length connections ≤ i
-    → now ≡ retain table (is_left (take i connections) places) → now ≡ retain table (is_left connections places)
-all_less table now connections i places over is = is ∙ ap (λ cs. retain table (is_left cs places)) (take_all i connections over)
 
 -- ---- at one position after the other
 
