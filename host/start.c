@@ -127,7 +127,7 @@ static const char USAGE[] =
     "  --nodes N                the nodes of its tree, 1 to 2097152 (1048576)\n"
     "  --sessions N             its sessions, 1 to 1048576 (65536)\n"
     "  --max-session TICKS      the longest timeout of a session, 2 to 1048576 ticks (20)\n"
-    "  --data-bytes N           the bytes of a node's data, 1 to 1048576 (1048487)\n"
+    "  --data-bytes N           the bytes of a node's data, 1 to 1048487 (1048487)\n"
     "  --parts N                the parts of a multi, 1 to 1024 (1000)\n"
     "  --metrics ADDRESS:PORT   where Prometheus reads what it counts (nowhere)\n"
     "  --program PROGRAM        the program that it starts: zk_serve\n"
@@ -201,7 +201,7 @@ struct words understood(char **words) {
         {.name = "--nodes", .number = &found.nodes, .least = 1, .most = 2097152},
         {.name = "--sessions", .number = &found.sessions, .least = 1, .most = 1048576},
         {.name = "--max-session", .number = &found.longest, .least = 2, .most = 1048576},
-        {.name = "--data-bytes", .number = &found.bytes, .least = 1, .most = 1048576},
+        {.name = "--data-bytes", .number = &found.bytes, .least = 1, .most = 1048487},
         {.name = "--parts", .number = &found.parts, .least = 1, .most = 1024},
         {.name = "--tick", .number = &found.tick, .least = 10, .most = 3600000}};
     const struct place *const end = places + (found.task ? 2 : sizeof places / sizeof *places);

@@ -72,7 +72,7 @@ OPTIONS = {
         "--metrics": address, "--auth": folder, "--connections": number(1, 10**6),
         "--watches": number(1, 10**9), "--watches-each": number(1, 10**9),
         "--nodes": number(1, 1 << 21), "--sessions": number(1, 1 << 20),
-        "--max-session": number(2, 1 << 20), "--data-bytes": number(1, 1 << 20),
+        "--max-session": number(2, 1 << 20), "--data-bytes": number(1, 1048487),
         "--parts": number(1, 1024),
         "--journal": number(1, 1048576), "--sync": str,
     },

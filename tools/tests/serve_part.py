@@ -34,7 +34,7 @@ BAD_WORDS = (
     f"--tick {'9' * 20}", "--tick 1e3", "--sync often", "--journal 0", "--listen", "--data ",
     "--tick 2000 ", "--connections 0", "--watches 0", "--watches 9 --watches-each 10",
     "--nodes 0", "--nodes 2097153", "--sessions 0", "--sessions 1048577", "--max-session 1",
-    "--max-session 1048577", "--data-bytes 0", "--data-bytes 1048577", "--parts 0", "--parts 1025",
+    "--max-session 1048577", "--data-bytes 0", "--data-bytes 1048488", "--parts 0", "--parts 1025",
     *(f"--listen {it}" for it in (
         "2181", "127.0.0.1", "127.0.0.1:", ":1", "127.0.0.1:65536", "127.0.0.1:-1", "999.0.0.1:1",
         "somewhere:1", "::1:2181", "[::g]:1", "[]:1", "1" * 999 + ":1")),

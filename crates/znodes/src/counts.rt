@@ -2,7 +2,7 @@
 //!
 //! # Why
 //! Each change keeps the counts, so to tell them costs nothing. The bytes of all data stay far
-//! below 2^64: there are at most 2^32 rows, and each has at most 2^20 bytes. `add` looks at the
+//! below 2^64: there are at most 2^32 rows, and each has less than 2^20 bytes. `add` looks at the
 //! number of rows for this.
 
 ghost use Rattle.std.specs.Prelude.{◌≡◌, ◌≤◌, length};

@@ -43,8 +43,9 @@ impl TreeLimits {
 /// The greatest size of a znode's data in the profile, in bytes.
 pub const MAX_DATA: usize = 65_536;
 
-/// The greatest size of a znode's data that a server can be set to, in bytes.
-pub const MOST_DATA: usize = 1 << 20;
+/// The greatest size of a znode's data that a server can be set to, in bytes. A response to getData
+/// has 88 bytes beside it, and a frame of ZooKeeper has at most 1,048,575 (`jute.maxbuffer`).
+pub const MOST_DATA: usize = 1_048_487;
 
 /// The greatest number of znodes in a tree of the profile, the root included.
 pub const MAX_NODES: usize = 4096;

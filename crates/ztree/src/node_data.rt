@@ -14,7 +14,7 @@ use std::marker::Model;
 use std::sync::Arc;
 use thiserror::Error;
 
-/// A znode's data: at most 2^20 bytes, read and written as a whole.
+/// A znode's data: at most 1,048,487 bytes, read and written as a whole.
 // All copies share the bytes. Empty data takes no allocation.
 #[derive(Debug, Drop)]
 pub struct Data {

@@ -125,7 +125,7 @@ pub fn limits_are_numbers()
     ensures sessions { MAX_SESSIONS ≡ 1024 }
     ensures least_timeout { MIN_TIMEOUT ≡ 2 }
     ensures greatest_timeout { MAX_TIMEOUT ≡ 20 }
-    ensures most_data { MOST_DATA ≡ 1048576 }
+    ensures most_data { MOST_DATA ≡ 1048487 }
     ensures most_nodes { MOST_NODES ≡ 2097152 }
     ensures most_sessions { MOST_SESSIONS ≡ 1048576 }
     ensures most_timeout { MOST_TIMEOUT ≡ 1048576 }
