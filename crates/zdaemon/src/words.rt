@@ -40,9 +40,10 @@ pub struct FolderSettings {
 /// Reads `NAME - SHARED`, for a server in memory. Or reads
 /// `NAME FOLDER batch|never SERVERS JOURNAL SHARED`: also the number in the head of the folder's
 /// journal, and from how many MiB on it is compacted. Shared are the words
-/// `TICK TIME WATCHES EACH NODES SESSIONS TIMEOUT BYTES PARTS`: the milliseconds of a tick, and the
-/// time; how many watches there may be, of all connections together and of each; the limits of the
-/// tree; the bytes of a node's data, and the parts of a multi. All else is `BadWords`.
+/// `TICK TIME WATCHES EACH NODES SESSIONS TIMEOUT BYTES PARTS`. The first two are the milliseconds
+/// of a tick, and the time. The next two say how many watches there may be, of all connections
+/// together and of each. Then come the limits of the tree, the bytes of a node's data, and the parts
+/// of a multi. All else is `BadWords`.
 pub fn hosted_settings(words: &[&str]) -> Result<HostedSettings, WordsFault>
     ensures ok { IfOk result (IsAsked (texts_of words.now)) }
     ensures tree { IfOk result (λ asked. AreLimits asked.tree) }
